@@ -1,6 +1,7 @@
 -- A text's procedures have small numbers, kinds of numbers, and arrays with lengths.
-use Rattle.std.proofs.Common.{◌≡◌, ℕ, ◌^◌, ◌<◌, ◌&&◌, Bool, true, false, List, Contains, Option, Some, None, subst}
-use Rattle.std.proofs.Common.{arith, refl, if◌then◌else◌}
+use Rattle.std.proofs.Common.{Bool, inl, inr, ◌≡◌, ℕ, ◌^◌, ◌<◌, ◌&&◌, true, List, Contains, Option, Some, None, subst}
+use Rattle.std.proofs.Common.{arith, refl}
+use Rattle.std.proofs.lemmas.Bool.{cases_Bool}
 use Rattle.std.proofs.lemmas.Bool.Decides.{nat_tests}
 use Rattle.std.proofs.lemmas.List.Elements.{All-contains, All-from_recursion}
 use Rattle.std.proofs.lemmas.Option.{none-some, same_Some}
@@ -16,28 +17,26 @@ use Rattle.syntax.specs.declared.token.TokenKind.TheVariants as token
 use Rattle.syntax.specs.declared.token.Keyword.TheVariants.{Uint8 as Uint8Word, Uint16 as Uint16Word}
 use Rattle.syntax.specs.declared.token.Keyword.TheVariants.{Uint32 as Uint32Word}
 use Rattle.syntax.specs.declared.token.Suffix.{Suffix}
-use Rattle.syntax.specs.declared.token.Suffix.TheVariants.{U8, U16, U32}
+use Rattle.syntax.specs.declared.token.Suffix.TheVariants.{U8}
 use Rattle.syntax.specs.Grammar.{conversion_of, suffix_kind, amount_of, is_length, length_of, ExprAt, a_number}
-use Rattle.syntax.specs.Grammar.{a_true, a_false, a_name, an_element, in_brackets, a_conversion, a_select, a_prefix}
-use Rattle.syntax.specs.Grammar.{a_rotation, a_binary, MoreExprs, no_more, one_more, SomeExprs, some_exprs, Arguments}
-use Rattle.syntax.specs.Grammar.{no_arguments, some_arguments, Call, a_call, RightSide, a_call_value, a_value}
-use Rattle.syntax.specs.Grammar.{Mutable, no_mut, a_mut, ArrayType, an_array_type, FirstValues, no_values}
-use Rattle.syntax.specs.Grammar.{some_values, Statement, a_declaration, an_array, an_assignment}
-use Rattle.syntax.specs.Grammar.{an_element_assignment, a_call_statement, a_conditional_statement, a_loop}
-use Rattle.syntax.specs.Grammar.{Conditional, a_conditional, Statements, no_statement, one_statement, Block, a_block}
-use Rattle.syntax.specs.Grammar.{Otherwise, no_else, an_else, an_else_if, Parameter, a_word, a_fixed_array}
-use Rattle.syntax.specs.Grammar.{a_mutable_array, MoreParameters, no_more_parameters, one_more_parameter, Parameters}
-use Rattle.syntax.specs.Grammar.{no_parameters, some_parameters, ResultType, a_void, a_type, BodyEnd, no_return}
-use Rattle.syntax.specs.Grammar.{a_return, Exported, not_exported, an_export, Procedure, a_procedure, Procedures}
-use Rattle.syntax.specs.Grammar.{no_procedure, one_procedure, IsProgram, a_program as a_program_rule}
+use Rattle.syntax.specs.Grammar.{an_element, in_brackets, a_conversion, a_select, a_prefix, a_rotation, a_binary}
+use Rattle.syntax.specs.Grammar.{MoreExprs, no_more, one_more, SomeExprs, some_exprs, Arguments, no_arguments}
+use Rattle.syntax.specs.Grammar.{some_arguments, Call, a_call, RightSide, a_call_value, a_value, Mutable, no_mut, a_mut}
+use Rattle.syntax.specs.Grammar.{ArrayType, an_array_type, FirstValues, no_values, some_values, Statement}
+use Rattle.syntax.specs.Grammar.{a_declaration, an_array, an_assignment, an_element_assignment, a_call_statement}
+use Rattle.syntax.specs.Grammar.{a_conditional_statement, a_loop, Conditional, a_conditional, Statements, no_statement}
+use Rattle.syntax.specs.Grammar.{one_statement, Block, a_block, Otherwise, no_else, an_else, an_else_if, Parameter}
+use Rattle.syntax.specs.Grammar.{a_word, a_fixed_array, a_mutable_array, MoreParameters, no_more_parameters}
+use Rattle.syntax.specs.Grammar.{one_more_parameter, Parameters, no_parameters, some_parameters, ResultType, a_void}
+use Rattle.syntax.specs.Grammar.{a_type, BodyEnd, no_return, a_return, Exported, not_exported, an_export, Procedure}
+use Rattle.syntax.specs.Grammar.{a_procedure, Procedures, no_procedure, one_procedure, a_program as a_program_rule}
 use Rattle.language.specs.Grammatical.{IsNumberKind, IsArrayLength, AreSmall, AreAllSmall, IsSmallRight}
 use Rattle.language.specs.Grammatical.{AreSmallValues, IsPlain, ArePlain, HasForm, IsSmallReturn, IsGrammatical}
 use Rattle.syntax.specs.Lexeme.{Lexeme}
 use Rattle.syntax.specs.Reading.{Reads, by_tokens, Answers, a_program, accepted}
 use Rattle.syntax.specs.Spelling as spelling
 use Rattle.syntax.specs.Spelling.{Spells}
-use Rattle.syntax.specs.Tokens.{Ending, LexesFrom, at_end, past_space, past_token, at_bad_number}
-use Rattle.syntax.specs.Tokens.{at_unknown_character}
+use Rattle.syntax.specs.Tokens.{Ending, LexesFrom, past_space, past_token}
 use Rattle.language.specs.Tree.{ExprTree, CallTree, RightTree, StatementTree, BlockTree, ParameterTree, ReturnTree}
 use Rattle.language.specs.Tree.{ProcedureTree, ProgramTree}
 
@@ -59,23 +58,19 @@ small_piece _ _ _ = tt
 
 small_tokens : {place : Place} {text : List ℕ} {tokens : List Lexeme} {end : Ending} → LexesFrom place text tokens end
     → SmallTokens tokens
-small_tokens at_end = tt
 small_tokens (past_space begins more) = small_tokens more
 small_tokens (past_token {spelling = front} {kind = kind} begins more) =
     (small_piece (piece.Token kind) front begins.spelled, small_tokens more)
-small_tokens (at_bad_number begins) = tt
-small_tokens (at_unknown_character none) = tt
+small_tokens _ = tt
 
 suffix_number : (suffix : Option Suffix) → IsNumberKind (suffix_kind suffix)
 suffix_number (Some U8) = tt
-suffix_number (Some U16) = tt
-suffix_number (Some U32) = tt
-suffix_number None = tt
+suffix_number _ = tt
 
 conversion_number : (t : TokenKind) (kind : Kind) → conversion_of t ≡ Some kind → IsNumberKind kind
-conversion_number (token.Keyword Uint8Word) kind h = subst (λ (k : Kind). IsNumberKind k) (same_Some _ _ h) tt
-conversion_number (token.Keyword Uint16Word) kind h = subst (λ (k : Kind). IsNumberKind k) (same_Some _ _ h) tt
-conversion_number (token.Keyword Uint32Word) kind h = subst (λ (k : Kind). IsNumberKind k) (same_Some _ _ h) tt
+conversion_number (token.Keyword Uint8Word) kind h = rw (← same_Some _ _ h) tt
+conversion_number (token.Keyword Uint16Word) kind h = rw (← same_Some _ _ h) tt
+conversion_number (token.Keyword Uint32Word) kind h = rw (← same_Some _ _ h) tt
 conversion_number (token.Keyword _) kind h = absurd (none-some _ h)
 conversion_number _ kind h = absurd (none-some _ h)
 
@@ -87,40 +82,34 @@ amount_small _ n h small = absurd (none-some _ h)
 between : (n : ℕ) → (nat_le 1 n && nat_le n most_elements) ≡ true → IsArrayLength n
 between n e = record { some = grind (arith, nat_tests); few = grind (arith, nat_tests) }
 
-length_within : (b : Bool) (m n : ℕ) → is_length m ≡ b → (if b then Some m else None) ≡ Some n → IsArrayLength n
-length_within true m n is e = subst IsArrayLength (same_Some _ _ e) (between m is)
-length_within false m n is e = absurd (none-some _ e)
-
 length_bounds : (t : TokenKind) (n : ℕ) → length_of t ≡ Some n → IsArrayLength n
-length_bounds (token.Number m None) n h = length_within (is_length m) m n refl h
+length_bounds (token.Number m None) n h = elim (cases_Bool (is_length m)) [
+  | inl is ↦ rw (← same_Some _ _ (rw is at h)) (between m is)
+  | inr is ↦ absurd (none-some _ (rw is at h))
+]
 length_bounds (token.Number m (Some _)) n h = absurd (none-some _ h)
 length_bounds _ n h = absurd (none-some _ h)
 
 small_expr : {level : ℕ} {tokens rest : List Lexeme} {tree : ExprTree} → ExprAt level tokens tree rest
     → SmallTokens tokens → AreSmall tree × SmallTokens rest
-small_expr (a_number {suffix =
-    suffix} is) small = ((subst (λ (k : TokenKind). IsSmallToken k) is small.0, suffix_number suffix), small.1)
-small_expr (a_true is) small = (tt, small.1)
-small_expr (a_false is) small = (tt, small.1)
-small_expr (a_name is) small = (tt, small.1)
+small_expr (a_number {suffix = suffix} is) small = ((rw is at small.0, suffix_number suffix), small.1)
 small_expr (an_element is opens in_index closes) small = let a = small_expr in_index small.1.1 in (a.0, a.1.1)
 small_expr (in_brackets is middle is') small = let m = small_expr middle small.1 in (m.0, m.1.1)
 small_expr (a_conversion is opens middle closes) small =
     let m = small_expr middle small.1.1 in ((conversion_number _ _ is, m.0), m.1.1)
 small_expr (a_select i j one k two l three m) small =
-    let a = small_expr one small.1.1 in let b = small_expr two a.1.1 in let c = small_expr three b.1.1 in (
-      (
-        a.0,
-        b.0,
-        c.0,
-      ),
-      c.1.1,
-    )
+    let a = small_expr one small.1.1 in
+    let b = small_expr two a.1.1 in
+    let c = small_expr three b.1.1 in
+    ((a.0, b.0, c.0), c.1.1)
 small_expr (a_prefix is middle) small = small_expr middle small.1
 small_expr (a_rotation is below one is_amount) small =
     let a = small_expr one small in ((a.0, amount_small _ _ is_amount a.1.1.0), a.1.1.1)
 small_expr (a_binary is below one two) small =
-    let a = small_expr one small in let b = small_expr two a.1.1 in ((a.0, b.0), b.1)
+    let a = small_expr one small in
+    let b = small_expr two a.1.1 in
+    ((a.0, b.0), b.1)
+small_expr _ small = (tt, small.1)
 
 small_more : {end : TokenKind} {tokens rest : List Lexeme} {trees : List ExprTree} → MoreExprs end tokens trees rest
     → SmallTokens tokens → AreAllSmall trees × SmallTokens rest
@@ -170,30 +159,33 @@ mutual
   plain_statement : {tokens rest : List Lexeme} {tree : StatementTree} → Statement tokens tree rest
       → SmallTokens tokens → IsPlain tree × SmallTokens rest
   plain_statement (a_declaration is_label is_mutable is_kind is_name is_equals in_right ends) small =
-      let a = small_mutable is_mutable small.1 in let b = small_right in_right a.1.1.1 in (b.0, b.1.1)
+      let a = small_right in_right (small_mutable is_mutable small.1).1.1.1 in
+      (a.0, a.1.1)
   plain_statement (an_array is_label is_mutable in_type is_name in_values ends) small =
-      let a = small_array in_type (small_mutable is_mutable small.1) in let b = small_values in_values a.1.1 in (
-        (
-          a.0,
-          b.0,
-        ),
-        b.1.1,
-      )
+      let a = small_array in_type (small_mutable is_mutable small.1) in
+      let b = small_values in_values a.1.1 in
+      ((a.0, b.0), b.1.1)
   plain_statement (an_assignment is_name is_equals in_right ends) small =
       let a = small_right in_right small.1.1 in (a.0, a.1.1)
   plain_statement (an_element_assignment is opens in_index closes is_equals in_right ends) small =
-      let a = small_expr in_index small.1.1 in let b = small_right in_right a.1.1.1 in ((a.0, b.0), b.1.1)
+      let a = small_expr in_index small.1.1 in
+      let b = small_right in_right a.1.1.1 in
+      ((a.0, b.0), b.1.1)
   plain_statement (a_call_statement in_call ends) small = let a = small_call in_call small in (a.0, a.1.1)
   plain_statement (a_conditional_statement h) small = plain_conditional h small
   plain_statement (a_loop is opens is_word is_name is_from in_low is_to in_high closes in_body) small =
-      let a = small_expr in_low small.1.1.1.1.1 in let b = small_expr in_high a.1.1 in let d = plain_body in_body
-      b.1.1 in ((a.0, b.0, d.0), d.1)
+      let a = small_expr in_low small.1.1.1.1.1 in
+      let b = small_expr in_high a.1.1 in
+      let d = plain_body in_body b.1.1 in
+      ((a.0, b.0, d.0), d.1)
 
   plain_conditional : {tokens rest : List Lexeme} {tree : StatementTree} → Conditional tokens tree rest
       → SmallTokens tokens → IsPlain tree × SmallTokens rest
   plain_conditional (a_conditional is_if opens in_condition closes in_arm in_others) small =
-      let a = small_expr in_condition small.1.1 in let b = plain_body in_arm a.1.1 in let d = plain_otherwise
-      in_others b.1 in ((a.0, b.0, d.0), d.1)
+      let a = small_expr in_condition small.1.1 in
+      let b = plain_body in_arm a.1.1 in
+      let d = plain_otherwise in_others b.1 in
+      ((a.0, b.0, d.0), d.1)
 
   plain_block : {tokens rest : List Lexeme} {trees : BlockTree} → Statements tokens trees rest → SmallTokens tokens
       → ArePlain trees × SmallTokens rest
@@ -266,15 +258,11 @@ small_return (a_return is h ends closes) small =
 a_grammatical : {tokens rest : List Lexeme} {tree : ProcedureTree} → Procedure tokens tree rest → SmallTokens tokens
     → IsGrammatical tree × SmallTokens rest
 a_grammatical (a_procedure is_export is_result is_name opens ps opens' ss in_end) small =
-    let s = small_result is_result (small_export is_export small) in let a = all_parameters ps s.1.1 in let b =
-    plain_block ss a.1.1 in let d = small_return in_end b.1 in (
-      record {
-        parameters = a.0;
-        body = b.0;
-        returned = d.0;
-      },
-      d.1,
-    )
+    let s = small_result is_result (small_export is_export small) in
+    let a = all_parameters ps s.1.1 in
+    let b = plain_block ss a.1.1 in
+    let d = small_return in_end b.1 in
+    (record { parameters = a.0; body = b.0; returned = d.0 }, d.1)
 
 abbrev AreGrammatical : List ProcedureTree → Type 0
 AreGrammatical trees = AllByRecursion IsGrammatical trees
@@ -286,18 +274,13 @@ all_grammatical (one_procedure one more) small =
     let a = a_grammatical one small in
     (a.0, all_grammatical more a.1)
 
-a_grammatical_program : {tokens : List Lexeme} {program : ProgramTree} → IsProgram tokens program → SmallTokens tokens
-    → AreGrammatical program.procedures
-a_grammatical_program (a_program_rule h) small = all_grammatical h small
-
-answered : {tokens : List Lexeme} {end : Ending} (program : ProgramTree) → Answers tokens end (accepted program)
+answered : {tokens : List Lexeme} {end : Ending} {program : ProgramTree} → Answers tokens end (accepted program)
     → SmallTokens tokens → AreGrammatical program.procedures
-answered program (a_program tokens place tree is within) small = a_grammatical_program is small
+answered (a_program _ _ _ (a_program_rule h) within) small = all_grammatical h small
 
 pub read_text : (text : List ℕ) (program : ProgramTree) → Reads text (accepted program)
     → AreGrammatical program.procedures
-read_text text program (by_tokens short lexes answers) =
-    answered program answers (small_tokens lexes)
+read_text text program (by_tokens short lexes answers) = answered answers (small_tokens lexes)
 
 -- the procedures of a text are as the grammar has them
 pub grammatical : (text : List ℕ) (program : ProgramTree) (p : ProcedureTree) → Reads text (accepted program)
