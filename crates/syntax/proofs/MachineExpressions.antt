@@ -1,6 +1,7 @@
 -- The machine reads each expression, each list of expressions, each call and each right side, to its tree.
-use Rattle.std.proofs.Common.{◌≡◌, ℕ, ◌+◌, ◌<◌, ◌≤◌, Bool, true, false, List, [], ◌∷◌, ◌++◌, Option, Some, None, refl}
-use Rattle.std.proofs.Common.{sym, subst, ap, ◌∙◌, arith, if◌then◌else◌, append_assoc}
+use Rattle.std.proofs.Common.{◌≡◌, ℕ, ◌+◌, ◌<◌, ◌≤◌, false, List, [], ◌∷◌, ◌++◌, Option, Some, None, refl}
+use Rattle.std.proofs.Common.{inl, inr, sym, subst, ap, ◌∙◌, arith, if◌then◌else◌, append_assoc}
+use Rattle.std.proofs.lemmas.Bool.{cases_Bool}
 use Rattle.std.proofs.lemmas.Bool.Decides.{nat_tests}
 use Rattle.std.proofs.lemmas.List.{append-nil}
 use Rattle.std.proofs.lemmas.Option.{same_Some}
@@ -307,16 +308,15 @@ arguments-moves k (some_arguments {list} is) h =
 right-expr : {last : State} {rest : List Lexeme} (ts : List Lexeme) (k : RightTree → State) → Front ts
     → Moves (expr 1 (λ e. k (tree.computed e))) ts last rest → Moves (right k) ts last rest
 right-expr [] k front h = absurd front
-right-expr {last} {rest} (t ∷ ts) k front h = by (fits token.Name t.kind) refl
-  where
-    by : (b : Bool) → fits token.Name t.kind ≡ b → Moves (right k) (t ∷ ts) last rest
-    by false e = other-moves e h
-    by true e =
-        let is = kind-fits token.Name t.kind e in
-        let begun = operand-step 1 (λ e. k (tree.computed e)) t by_name (ap begins_of is) in
-        either-moves is (other-moves (front.2 is) (record {
-          same = sym (ap (option_and_then (λ n. run n ts)) begun) ∙ h.same;
-        }))
+right-expr (t ∷ ts) k front h = elim (cases_Bool (fits token.Name t.kind)) [
+  | inl e ↦
+      let is = kind-fits token.Name t.kind e in
+      let begun = operand-step 1 (λ e. k (tree.computed e)) t by_name (ap begins_of is) in
+      either-moves is (other-moves (front.2 is) (record {
+        same = sym (ap (option_and_then (λ n. run n ts)) begun) ∙ h.same;
+      }))
+  | inr e ↦ other-moves e h
+]
 
 right-moves : {ts tail rest : List Lexeme} {r : RightTree} {last : State} (k : RightTree → State)
     → RightSide ts r tail → Stops 1 tail → Moves (k r) tail last rest → Moves (right k) ts last rest

@@ -1,7 +1,8 @@
 -- What the machine's tables say of a token's kind.
 use Rattle.std.proofs.Common.{◌≡◌, ◌≤◌, ◌<◌, ◌↔◌, ◌&&◌, nat_eq, Bool, true, false, Option}
-use Rattle.std.proofs.Common.{Some, None, refl, sym, subst, ap, ap₂, ◌∙◌, arith, eqb-true, eq-eqb}
+use Rattle.std.proofs.Common.{inl, inr, Some, None, refl, sym, subst, ap, ap₂, ◌∙◌, arith, eqb-true, eq-eqb}
 use Rattle.std.specs.Str.{bytes_eq}
+use Rattle.std.proofs.lemmas.Bool.{cases_Bool}
 use Rattle.std.proofs.lemmas.Slice.Eq.{bytes_eq-Decides}
 use Rattle.syntax.specs.Spelling.{keyword_text, sign_text, suffix_text}
 use Rattle.syntax.proofs.TokenLaws.{keyword_unique, sign_unique}
@@ -22,10 +23,8 @@ use Rattle.language.specs.declared.signature.Kind.{Kind}
 use Rattle.language.specs.declared.signature.Label.{Label}
 use Rattle.syntax.specs.declared.token.TokenKind.{TokenKind}
 use Rattle.syntax.specs.declared.token.TokenKind.TheVariants as token
-use Rattle.syntax.specs.declared.token.Keyword.TheVariants.{True, False}
-use Rattle.syntax.specs.declared.token.Keyword.TheVariants.{If, For, Select}
-use Rattle.syntax.specs.declared.token.Sign.TheVariants.{RotateLeft, OpenRound, CloseRound, OpenCurly, CloseCurly}
-use Rattle.syntax.specs.declared.token.Sign.TheVariants.{OpenSquare, CloseSquare, Comma, Semicolon, Assign}
+use Rattle.syntax.specs.declared.token.Keyword.TheVariants.{True, False, If, For, Select}
+use Rattle.syntax.specs.declared.token.Sign.TheVariants.{RotateLeft, OpenRound, OpenSquare}
 use Rattle.language.specs.declared.operators.BinaryOperator.{BinaryOperator}
 use Rattle.language.specs.declared.operators.BinaryOperator.TheVariants as operator
 use Rattle.language.specs.declared.operators.PrefixOperator.{PrefixOperator}
@@ -60,11 +59,10 @@ fits-kind what kind e = ap (fits what) e ∙ fits-itself what
 -- what `==` answers
 pub fits-equal : (what kind : TokenKind) (b : Bool) → (b ≡ true) ↔ (what ≡ kind) → b ≡ fits what kind
 fits-equal what kind true h = sym (fits-kind what kind (sym (h.0 refl)))
-fits-equal what kind false h = by (fits what kind) refl
-  where
-    by : (b : Bool) → fits what kind ≡ b → false ≡ b
-    by false e = refl
-    by true e = h.1 (sym (kind-fits what kind e))
+fits-equal what kind false h = elim (cases_Bool (fits what kind)) [
+  | inl is ↦ h.1 (sym (kind-fits what kind is)) ∙ sym is
+  | inr is ↦ sym is
+]
 
 -- what holds of a value that is there
 abbrev pub Holds : {A : Type 0} → (A → Type 0) → Option A → Type 0
@@ -175,8 +173,7 @@ Bars kind = (fits (token.Sign sign.OpenSquare) kind ≡ false) × (fits (token.S
 -- what has an entry in a table is nothing that has none
 pub unlike : {A : Type 0} (table : TokenKind → Option A) (what : TokenKind) → table what ≡ None
     → {kind : TokenKind} {x : A} → table kind ≡ Some x → fits what kind ≡ false
-unlike table what none {kind} {x} is = by (fits what kind) refl
-  where
-    by : (b : Bool) → fits what kind ≡ b → b ≡ false
-    by false e = refl
-    by true e = let found : None ≡ Some x = sym none ∙ ap table (sym (kind-fits what kind e)) ∙ is in cc
+unlike table what none {kind} {x} is = elim (cases_Bool (fits what kind)) [
+  | inl same ↦ (let found : None ≡ Some x = sym none ∙ ap table (sym (kind-fits what kind same)) ∙ is in cc)
+  | inr other ↦ other
+]

@@ -1,7 +1,8 @@
 -- What the machine reads is in the grammar, and each state can be finished.
 use Rattle.std.proofs.Common.{◌≡◌, ℕ, ◌≤◌, Bool, true, false, ◌&&◌, List, [], ◌∷◌, ◌++◌, Option, Some, None, refl, sym}
-use Rattle.std.proofs.Common.{subst, ap, ◌∙◌, arith, if◌then◌else◌, append_assoc}
+use Rattle.std.proofs.Common.{inl, inr, subst, ap, ◌∙◌, arith, if◌then◌else◌, append_assoc}
 use Rattle.std.proofs.lemmas.List.{append-nil}
+use Rattle.std.proofs.lemmas.Bool.{cases_Bool}
 use Rattle.std.proofs.lemmas.Bool.Decides.{nat_tests}
 use Rattle.std.proofs.lemmas.Option.{same_Some}
 use Rattle.std.specs.Prelude.{nat_le}
@@ -16,11 +17,10 @@ use Rattle.syntax.specs.declared.token.TokenKind.TheVariants as token
 use Rattle.syntax.specs.declared.token.Keyword.TheVariants.{Public, Bool as BoolWord}
 use Rattle.syntax.specs.declared.token.Sign.TheVariants.{CloseRound}
 use Rattle.language.specs.declared.typing.WordType.{WordType}
-use Rattle.syntax.specs.Grammar.{label_of, word_of, length_of, amount_of, ExprAt, a_number}
-use Rattle.syntax.specs.Grammar.{a_true, a_false, a_name, an_element, in_brackets, a_conversion, a_select, a_prefix}
-use Rattle.syntax.specs.Grammar.{a_rotation, a_binary, no_more, one_more, an_array_type, no_statement, one_statement}
-use Rattle.syntax.specs.Grammar.{no_else, Statement, MoreParameters, Parameter, a_word, a_fixed_array}
-use Rattle.syntax.specs.Grammar.{a_mutable_array, no_more_parameters}
+use Rattle.syntax.specs.Grammar.{label_of, word_of, length_of, amount_of, ExprAt, a_number, a_true, a_false, a_name}
+use Rattle.syntax.specs.Grammar.{an_element, in_brackets, a_conversion, a_select, a_prefix, a_rotation, a_binary}
+use Rattle.syntax.specs.Grammar.{no_more, one_more, an_array_type, no_statement, one_statement, no_else, Statement}
+use Rattle.syntax.specs.Grammar.{MoreParameters, Parameter, a_word, a_fixed_array, a_mutable_array, no_more_parameters}
 use Rattle.syntax.specs.Grammar.{one_more_parameter, Parameters, no_parameters, some_parameters, ResultType, a_void}
 use Rattle.syntax.specs.Grammar.{a_type, BodyEnd, no_return, a_return, Exported, not_exported, an_export, Procedure}
 use Rattle.syntax.specs.Grammar.{a_procedure, no_procedure, one_procedure, IsProgram, a_program, IsBeginning}
@@ -126,16 +126,15 @@ procedure-from-finishes export result k is_export is_result (with_token {t = t} 
 after-token : {G : Type 0} {p : ProgramTree} {next : State} {ts : List Lexeme} (what : TokenKind) (t : Lexeme)
     (x : State) (o : Option State) → (if fits what t.kind then Some x else o) ≡ Some next → Finishes p next ts
     → (t.kind ≡ what → Finishes p x ts → G) → (o ≡ Some next → G) → G
-after-token {G} {p} {next} {ts} what t x o e h taken other = by (fits what t.kind) refl e
-  where
-    by : (b : Bool) → fits what t.kind ≡ b → (if b then Some x else o) ≡ Some next → G
-    by true is e = taken (kind-fits what t.kind is) (subst (λ s. Finishes p s ts) (sym (same_Some _ _ e)) h)
-    by false is e = other e
+after-token what t x o e h taken other = elim (cases_Bool (fits what t.kind)) [
+  | inl is ↦ taken (kind-fits what t.kind is) (rw (same_Some _ _ (rw is at e)) h)
+  | inr is ↦ other (rw is at e)
+]
 
 after-map : {A G : Type 0} {p : ProgramTree} {next : State} {ts : List Lexeme} (f : A → State) (o : Option A)
     → option_map f o ≡ Some next → Finishes p next ts → ((x : A) → o ≡ Some x → Finishes p (f x) ts → G) → G
 after-map f None e h k = cc
-after-map {p = p} {ts = ts} f (Some x) e h k = k x refl (subst (λ s. Finishes p s ts) (sym (same_Some _ _ e)) h)
+after-map f (Some x) e h k = k x refl (rw (same_Some _ _ e) h)
 
 -- the first token of a result's type
 result-step : {p : ProgramTree} {ts : List Lexeme} (k : Option WordType → State) (t : Lexeme) (next : State)
@@ -163,8 +162,7 @@ after-start : {G : Type 0} {p : ProgramTree} {next : State} {ts : List Lexeme} (
     (k : StatementTree → State) (other : Option State) → started o t k other ≡ Some next → Finishes p next ts
     → ((start : Start) → o ≡ Some start → Finishes p (statement start t k) ts → G) → (other ≡ Some next → G) → G
 after-start None t k other e h taken left = left e
-after-start {p = p} {ts = ts} (Some start) t k other e h taken left =
-    taken start refl (subst (λ s. Finishes p s ts) (sym (same_Some _ _ e)) h)
+after-start (Some start) t k other e h taken left = taken start refl (rw (same_Some _ _ e) h)
 
 after-joint : {G : Type 0} {p : ProgramTree} {next : State} {ts : List Lexeme} (o : Option Link) (place : Place)
     (level : ℕ) (left : ExprTree) (k : ExprTree → State) (other : Option State)
@@ -172,8 +170,7 @@ after-joint : {G : Type 0} {p : ProgramTree} {next : State} {ts : List Lexeme} (
     → ((link : Link) → o ≡ Some link → Finishes p (linked link place level left k) ts → G)
     → (other ≡ Some next → G) → G
 after-joint None place level left k other e h taken ends = ends e
-after-joint {p = p} {ts = ts} (Some link) place level left k other e h taken ends =
-    taken link refl (subst (λ s. Finishes p s ts) (sym (same_Some _ _ e)) h)
+after-joint (Some link) place level left k other e h taken ends = taken link refl (rw (same_Some _ _ e) h)
 
 within_some : (level top : ℕ) (o : Option Link) (link : Link) → within level top o ≡ Some link
     → (o ≡ Some link) × (level ≤ link_level link) × (link_left_level link ≤ top)
@@ -335,7 +332,7 @@ and_then_some f (Some x) y e = (x, refl, e)
 
 run-finishes : {p : ProgramTree} {ts : List Lexeme} (front : List Lexeme) (s next : State) → run s front ≡ Some next
     → Finishes p next ts → Finishes p s (front ++ ts)
-run-finishes {p = p} {ts} [] s next e h = subst (λ x. Finishes p x ts) (sym (same_Some _ _ e)) h
+run-finishes [] s next e h = rw (same_Some _ _ e) h
 run-finishes (t ∷ front) s next e h =
     let w = and_then_some (λ x. run x front) (step s t) next e in
     step-finishes s t w.0 w.1 (run-finishes front w.0 next w.2 h)

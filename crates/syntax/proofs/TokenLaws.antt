@@ -22,8 +22,7 @@ use Rattle.syntax.specs.Lexeme.{Lexeme}
 use Rattle.syntax.specs.Spelling.{Spells, blank, comment, keyword, name, number, bad_number, sign, keyword_text}
 use Rattle.syntax.specs.Spelling.{sign_text, is_blank, is_word_byte, is_name_or_keyword, is_number_or_bad, IsNumber}
 use Rattle.syntax.specs.Tokens.{BeginsWith, BeginsWithNone, Ending, LexesFrom, at_end, past_space, past_token}
-use Rattle.syntax.specs.Tokens.{at_bad_number}
-use Rattle.syntax.specs.Tokens.{at_unknown_character, place_after, OneList}
+use Rattle.syntax.specs.Tokens.{at_bad_number, at_unknown_character, place_after, OneList}
 use Rattle.syntax.proofs.TokenBytes.{blank_is_no_word_byte}
 use Rattle.syntax.proofs.TokenRuns.{and_true}
 use Rattle.syntax.proofs.TokenNumbers.{number_unique}
@@ -71,11 +70,7 @@ name_sort : (bytes : List ℕ) → is_name_or_keyword bytes ≡ true → sort by
 name_sort [] e = absurd (cc)
 name_sort (b ∷ bytes) e =
     let both = and_true _ _ e in
-    let word : is_word_byte b ≡ true = (and_true _ _ both.1).0 in
-    let no_digit : is_ascii_digit b ≡ false = from_not (is_ascii_digit b) both.0 in
-    ap (λ v. cond v (cond (is_ascii_digit b) 1 2)
-    (cond (is_blank b) 0 (cond (starts_with nat_eq (b ∷ bytes) (codes "//")) 0 3))) word
-    ∙ ap (λ v. cond v 1 2) no_digit
+    rw ((and_true (is_word_byte b) _ both.1).0, from_not (is_ascii_digit b) both.0)
   where
     from_not : (v : Bool) → not v ≡ true → v ≡ false
     from_not true h = absurd (cc)
@@ -84,17 +79,11 @@ name_sort (b ∷ bytes) e =
 number_sort : (bytes : List ℕ) → is_number_or_bad bytes ≡ true → sort bytes ≡ 1
 number_sort [] e = absurd (cc)
 number_sort (b ∷ bytes) e =
-    let both = and_true _ _ e in
-    let word : is_word_byte b ≡ true = (and_true _ _ both.1).0 in
-    ap (λ v. cond v (cond (is_ascii_digit b) 1 2)
-    (cond (is_blank b) 0 (cond (starts_with nat_eq (b ∷ bytes) (codes "//")) 0 3))) word
-    ∙ ap (λ v. cond v 1 2) both.0
+    let both = and_true (is_ascii_digit b) _ e in
+    rw ((and_true (is_word_byte b) _ both.1).0, both.0)
 
 blank_sort : (b : ℕ) → is_blank b ≡ true → sort (b ∷ []) ≡ 0
-blank_sort b e =
-    ap (λ v. cond v (cond (is_ascii_digit b) 1 2)
-    (cond (is_blank b) 0 (cond (starts_with nat_eq (b ∷ []) (codes "//")) 0 3))) (blank_is_no_word_byte b e)
-    ∙ ap (λ v. cond v 0 (cond (starts_with nat_eq (b ∷ []) (codes "//")) 0 3)) e
+blank_sort b e = rw (blank_is_no_word_byte b e, e)
 
 keyword_sort : (word : Keyword) → sort (keyword_text word) ≡ 2
 keyword_sort word = elim word as (λ w. sort (keyword_text w) ≡ 2) [ Export ↦ refl | _ ↦ refl ]
@@ -154,12 +143,7 @@ spelled_some {piece} {bytes} h = some bytes (sort_is h) (small h)
   where
     small : {p : Piece} {b : List ℕ} (g : Spells p b) → sort_by_rule g < 4
     small (blank b e) = omega arith
-    small (comment b e) = omega arith
-    small (keyword w) = omega arith
-    small (name b e f) = omega arith
-    small (number b v s e f) = omega arith
-    small (bad_number b e f) = omega arith
-    small (sign m) = omega arith
+    small _ = omega arith
 
     some : {n : ℕ} (b : List ℕ) → sort b ≡ n → n < 4 → 0 < length b
     some [] e lt = absurd (omega arith)

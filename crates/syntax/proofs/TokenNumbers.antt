@@ -1,6 +1,7 @@
 -- A number is cut in one way only into its digits and its suffix.
 use Rattle.std.proofs.Common.{◌≡◌, ℕ, ◌<◌, ◌≤◌, Bool, true, false, List, [], ◌∷◌, length, get_or, Option, Some, None}
-use Rattle.std.proofs.Common.{refl, sym, ap, ◌∙◌, subst, arith, eqb-true, ⊎_elim}
+use Rattle.std.proofs.Common.{inl, inr, refl, sym, ap, ◌∙◌, subst, arith, eqb-true, ⊎_elim}
+use Rattle.std.proofs.lemmas.Bool.{cases_Bool}
 use Rattle.std.specs.Prelude.{not, ◌&&◌}
 use Rattle.std.specs.Char.{digit_value, is_ascii_digit}
 use Rattle.std.specs.List.{find, list_any, list_all}
@@ -14,12 +15,10 @@ use Rattle.syntax.specs.private.Splitting.{IsEmptyOrBeginsWith, SplitsAtFirst, i
 use Rattle.syntax.proofs.TokenRuns.{run_unique}
 
 digit_is_no_u : (radix c : ℕ) → radix ≤ 16 → digit_value c < radix → is_suffix_letter c ≡ false
-digit_is_no_u radix c small digit = by (is_suffix_letter c) refl
-  where
-    by : (v : Bool) → is_suffix_letter c ≡ v → is_suffix_letter c ≡ false
-    by true e = absurd (let is : c ≡ 117 = eqb-true c 117 e in let value : digit_value c ≡ 30 = ap digit_value is in
-        omega arith)
-    by false e = e
+digit_is_no_u radix c small digit = elim (cases_Bool (is_suffix_letter c)) [
+  | inl is ↦ absurd (let value : digit_value c ≡ 30 = ap digit_value (eqb-true c 117 is) in omega arith)
+  | inr is ↦ is
+]
 
 digits_no_u : (radix : ℕ) (digits : List ℕ) → radix ≤ 16 → AllDigits radix digits
     → list_any is_suffix_letter digits ≡ false
@@ -37,8 +36,7 @@ written_no_u digits value written =
 suffix_begins : (suffix : Option Suffix) → IsEmptyOrBeginsWith is_suffix_letter (suffix_text suffix)
 suffix_begins None = tt
 suffix_begins (Some U8) = refl
-suffix_begins (Some U16) = refl
-suffix_begins (Some U32) = refl
+suffix_begins (Some _) = refl
 
 -- the digits end before the first `u`
 pub number_cut : (word digits tail : List ℕ) → SplitsAtFirst is_suffix_letter word digits tail
@@ -70,10 +68,8 @@ abbrev suffix_named : List ℕ → Option (Option Suffix)
 suffix_named text = find (λ suffix. bytes_eq text (suffix_text suffix)) suffixes
 
 pub suffix_found : (suffix : Option Suffix) → suffix_named (suffix_text suffix) ≡ Some suffix
-suffix_found None = refl
 suffix_found (Some U8) = refl
-suffix_found (Some U16) = refl
-suffix_found (Some U32) = refl
+suffix_found _ = refl
 
 pub suffix_unique : (a b : Option Suffix) → suffix_text a ≡ suffix_text b → a ≡ b
 suffix_unique a b e =
@@ -102,7 +98,5 @@ pub number_unique : (word : List ℕ) (v w : ℕ) (r s : Option Suffix) → IsNu
 number_unique word v w r s n m =
     let cut = run_unique is_suffix_letter n.digits m.digits (suffix_text r) (suffix_text s)
     (written_no_u n.digits v n.written) (written_no_u m.digits w m.written) (suffix_begins r) (suffix_begins s)
-    (sym n.parts ∙ m.parts) in (
-      value_unique n.digits v w n.written (subst (λ l. WritesValue l w) (sym cut.0) m.written),
-      suffix_unique r s cut.1,
-    )
+    (sym n.parts ∙ m.parts) in
+    (value_unique n.digits v w n.written (rw cut.0 m.written), suffix_unique r s cut.1)

@@ -8,8 +8,7 @@ use Rattle.syntax.specs.declared.token.Sign.{Sign}
 use Rattle.syntax.specs.declared.token.Sign.TheVariants.{RotateLeft, Slash}
 use Rattle.syntax.specs.declared.lexer.piece.Piece.{Piece}
 use Rattle.syntax.specs.Spelling.{Spells, blank, comment, keyword, name, number, bad_number, sign, keyword_text}
-use Rattle.syntax.specs.Spelling.{sign_text, is_blank, is_line_feed, is_word_byte, is_name_or_keyword}
-use Rattle.syntax.specs.Spelling.{is_number_or_bad}
+use Rattle.syntax.specs.Spelling.{sign_text, is_blank, is_line_feed, is_word_byte, is_name_or_keyword, is_number_or_bad}
 use Rattle.syntax.specs.private.Splitting.{is_no_word_byte, IsEmptyOrBeginsWith}
 use Rattle.syntax.proofs.TokenBytes.{blank_is_no_word_byte}
 use Rattle.syntax.proofs.TokenRuns.{or_false, and_true, run_longest}
@@ -24,11 +23,11 @@ pub keyword_is_word : (word : Keyword) → is_name_or_keyword (keyword_text word
 keyword_is_word word = elim word as (λ w. is_name_or_keyword (keyword_text w) ≡ true) [ Export ↦ refl | _ ↦ refl ]
 
 name_shape : (bytes : List ℕ) → is_name_or_keyword bytes ≡ true → Shape bytes
-name_shape [] e = absurd (cc)
+name_shape [] e = cc
 name_shape (b ∷ bytes) e = a_word b bytes (and_true _ _ e).1
 
 number_shape : (bytes : List ℕ) → is_number_or_bad bytes ≡ true → Shape bytes
-number_shape [] e = absurd (cc)
+number_shape [] e = cc
 number_shape (b ∷ bytes) e = a_word b bytes (and_true _ _ e).1
 
 pub shape_of : {piece : Piece} {bytes : List ℕ} → Spells piece bytes → Shape bytes

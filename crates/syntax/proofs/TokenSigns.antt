@@ -5,7 +5,9 @@ use Rattle.std.specs.Prelude.{nat_eq, nat_le, ◌&&◌}
 use Rattle.std.specs.List.{find, position_or_len, slice_get, starts_with}
 use Rattle.std.specs.Str.{bytes_eq}
 use Rattle.std.proofs.lemmas.Slice.Eq.{starts_is}
+use Rattle.std.proofs.lemmas.Bool.{cases_Bool}
 use Rattle.std.proofs.lemmas.Bool.Decides.{Decides-eqb}
+use Rattle.std.proofs.lemmas.Option.{same_Some}
 use Rattle.syntax.specs.declared.token.Sign.{Sign}
 use Rattle.syntax.specs.declared.token.Sign.TheVariants.{RotateLeft}
 use Rattle.syntax.specs.declared.lexer.sign.TheConstants.{SIGNS}
@@ -32,13 +34,10 @@ falls_below (s ∷ signs) most f (suc i) mark e =
 module _ {A : Type 0} (test : A → Bool) where
   find_head : (s : A) (signs : List A) (found : A) → find test (s ∷ signs) ≡ Some found
       → ((test s ≡ true) × (s ≡ found)) ⊎ ((test s ≡ false) × (find test signs ≡ Some found))
-  find_head s signs found e = by (test s) refl
-    where
-      by : (v : Bool) → test s ≡ v → ((test s ≡ true) × (s ≡ found))
-          ⊎ ((test s ≡ false) × (find test signs ≡ Some found))
-      by true v =
-          inl (v, (let same : Some s ≡ Some found = sym (ap (λ b. cond b (Some s) (find test signs)) v) ∙ e in cc))
-      by false v = inr (v, sym (ap (λ b. cond b (Some s) (find test signs)) v) ∙ e)
+  find_head s signs found e = elim (cases_Bool (test s)) [
+    | inl holds ↦ inl (holds, same_Some _ _ (rw holds at e))
+    | inr fails ↦ inr (fails, rw fails at e)
+  ]
 
   pub find_passes : (signs : List A) (found : A) → find test signs ≡ Some found → test found ≡ true
   find_passes [] found e = absurd (cc)
