@@ -1,7 +1,6 @@
 mod Below
 pub mod CodeLines
 pub mod LeakLaws
-pub mod LeakedLemmas
 pub mod Pieces
 pub mod Written
 pub mod PublicListings

@@ -1,10 +1,9 @@
-use Rattle.std.proofs.Common.{List, Option, true, ap, ◌∙◌, sym, subst}
+use Rattle.std.proofs.Common.{List, true, ap, ◌∙◌}
 use Rattle.std.specs.Prelude.{slice_get}
 use Rattle.rv_machine.specs.declared.observation.Observation.{Observation}
 use Rattle.rv_machine.specs.Harts.{state_of}
 use Rattle.rv_machine.specs.Recording.{kept}
 use Rattle.rv_machine.specs.Regions.{code_of}
-use Rattle.rv_machine.specs.Turned.{Turned}
 use Rattle.listing.proofs.Below.{turn_made}
 use Rattle.listing.proofs.turns.turn.Goals as goal
 
@@ -17,6 +16,6 @@ returns g c =
     let seen = turn.2.0 in
     let list = turn.2.2 ∙ ap (λ (xs : List Observation). kept true xs seen) c.new-recorder.ensures.empty in
     let first = c.first.ensures ∙ ap (λ (xs : List Observation). slice_get xs 0) list in
-    subst (λ (o : Option Observation). Turned code s o c.step-stop.result t) (sym first)
+    rw first
     (turn_made code s t turn.0 c.step-stop.result seen turn.1 turn.2.1
     (c.step-stop.ensures.ready 0 c.new-recorder.ensures.ready))
