@@ -1,5 +1,5 @@
 -- What an answer of the parser says; and what holds where a call succeeds.
-use Rattle.std.proofs.Common.{◌≡◌, List, Option, None, Some, Result, Ok, Err, IfOk, sym, ◌∙◌, inl, inr}
+use Rattle.std.proofs.Common.{◌≡◌, List, Option, Some, Result, Ok, Err, IfOk, sym, ◌∙◌, inl, inr}
 use Rattle.std.proofs.lemmas.Option.{none-some}
 use Rattle.language.specs.FirstViolation.{IsFirst, IsRefusedFor}
 use Rattle.language.specs.declared.refusal.Refusal.{Refusal}

@@ -1,22 +1,20 @@
 -- The parts of a procedure: together they are the whole, and counts of the called procedures give the counts of the
 -- parts.
-use Rattle.std.proofs.Common.{◌≡◌, ℕ, ◌+◌, ◌*◌, List, [], ◌∷◌, ◌++◌, map, max, Option, None, Some, refl, sym, ap, ap₂}
-use Rattle.std.proofs.Common.{◌∙◌, arith}
+use Rattle.std.proofs.Common.{◌≡◌, ℕ, ◌+◌, ◌*◌, List, [], ◌∷◌, ◌++◌, map, max, Option, None, Some, refl, ap, ap₂, arith}
 use Rattle.std.proofs.lemmas.List.{map-append}
 use Rattle.inline.specs.Counts.{AreCountsTo}
 use Rattle.language.specs.Size.{Extents, nodes_of, bodies_of, declared_bytes, block_nodes, block_words, block_bodies}
 use Rattle.language.specs.Size.{parameter_words, return_nodes, statement_nodes, statement_bodies}
 use Rattle.language.specs.Tree.{BlockTree, nothing, first, StatementTree, ParameterTree, ProcedureTree, ReturnTree}
 use Rattle.explanations.specs.statement_costs.Costs.{counted_part, greatest_of, parameter_part, parts, place_of}
-use Rattle.explanations.specs.statement_costs.Costs.{return_parts}
-use Rattle.explanations.specs.statement_costs.Costs.{statement_cost, statement_parts, sum_of, whole}
+use Rattle.explanations.specs.statement_costs.Costs.{return_parts, statement_cost, statement_parts, sum_of, whole}
 use Rattle.explanations.specs.statement_costs.Counts.{counted, most_counted}
 use Rattle.explanations.specs.declared.statement_costs.costs.Limit.{Limit}
 use Rattle.explanations.specs.declared.statement_costs.costs.Limit.TheVariants.{Nodes, Bodies, DeclaredBytes}
 use Rattle.explanations.specs.declared.statement_costs.costs.Part.{Part}
 use Rattle.explanations.proofs.statement_costs_lemmas.Below.{block_alike, statement_alike}
 
-sum_append : (ps qs : List Part) → sum_of (ps ++ qs) ≡ sum_of ps + sum_of qs
+pub sum_append : (ps qs : List Part) → sum_of (ps ++ qs) ≡ sum_of ps + sum_of qs
 sum_append [] qs = omega arith
 sum_append (p ∷ ps) qs = omega (arith, sum_append ps qs)
 
@@ -39,14 +37,12 @@ parameters_together : (ps : List ParameterTree) → sum_of (map parameter_part p
 parameters_together [] = refl
 parameters_together (p ∷ ps) = omega (arith, parameters_together ps)
 
-return_together : (r : Option ReturnTree) → sum_of (return_parts r) ≡ return_nodes r
+pub return_together : (r : Option ReturnTree) → sum_of (return_parts r) ≡ return_nodes r
 return_together None = refl
 return_together (Some r) = omega arith
 
 pub nodes_whole : (extents : Extents) (p : ProcedureTree) → sum_of (parts Nodes extents p) ≡ nodes_of extents p
-nodes_whole extents p =
-    sum_append (statement_parts Nodes extents p.body) (return_parts p.returned)
-    ∙ ap₂ ◌+◌ (nodes_together extents p.body) (return_together p.returned)
+nodes_whole extents p = simp (sum_append, nodes_together extents p.body, return_together)
 
 pub bodies_whole : (extents : Extents) (p : ProcedureTree)
     → 1 + greatest_of (parts Bodies extents p) ≡ bodies_of extents p
@@ -55,10 +51,7 @@ bodies_whole extents p = ap (λ n. 1 + n) (bodies_together extents p.body)
 pub bytes_whole : (extents : Extents) (p : ProcedureTree)
     → sum_of (parts DeclaredBytes extents p) ≡ declared_bytes extents p
 bytes_whole extents p =
-    let sum = sum_append (map parameter_part p.parameters) (statement_parts DeclaredBytes extents p.body) in
-    let front = parameters_together p.parameters in
-    let back = words_together extents p.body in
-    omega (arith, sum, front, back)
+    simp sum_append (omega (arith, parameters_together p.parameters, words_together extents p.body))
 
 -- parts by counts are parts by what they count
 module _ (counts extents : Extents) (same : AreCountsTo most_counted counts extents) where
@@ -83,13 +76,6 @@ module _ (counts extents : Extents) (same : AreCountsTo most_counted counts exte
 
   pub parts_same : (limit : Limit) (p : ProcedureTree)
       → map counted_part (parts limit counts p) ≡ map counted_part (parts limit extents p)
-  parts_same Nodes p =
-      map-append counted_part (statement_parts Nodes counts p.body) (return_parts p.returned)
-      ∙ ap (λ (ps : List Part). ps ++ map counted_part (return_parts p.returned)) (statements_same Nodes p.body)
-      ∙ sym (map-append counted_part (statement_parts Nodes extents p.body) (return_parts p.returned))
+  parts_same Nodes p = simp (map-append, statements_same Nodes p.body)
   parts_same Bodies p = statements_same Bodies p.body
-  parts_same DeclaredBytes p =
-      map-append counted_part (map parameter_part p.parameters) (statement_parts DeclaredBytes counts p.body)
-      ∙ ap (λ (ps : List Part). map counted_part (map parameter_part p.parameters) ++ ps)
-      (statements_same DeclaredBytes p.body)
-      ∙ sym (map-append counted_part (map parameter_part p.parameters) (statement_parts DeclaredBytes extents p.body))
+  parts_same DeclaredBytes p = simp (map-append, statements_same DeclaredBytes p.body)

@@ -1,8 +1,6 @@
 -- The export is that of the program; a pass before that refuses the program has found a violation.
-use Rattle.std.specs.Prelude.{◌≡◌, None, Some}
+use Rattle.std.specs.Prelude.{None, Some}
 use Rattle.std.proofs.Common.{[], sym, ap, ◌∙◌}
-use Rattle.std.specs.Option.{option_map}
-use Rattle.inline.specs.Flat.{FlatProgram}
 use Rattle.inline.specs.Numbering.{flattened}
 use Rattle.language.specs.Meaning.{exported}
 use Rattle.language.specs.Tree.{program_tree}

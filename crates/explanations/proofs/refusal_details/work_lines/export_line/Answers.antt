@@ -1,4 +1,4 @@
-use Rattle.std.proofs.Common.{map, sym, ap, subst, ◌≡◌, ◌∙◌}
+use Rattle.std.proofs.Common.{◌∙◌}
 use Rattle.explanations.proofs.refusal_details.work_lines.export_line.Goals as goal
 
 pub measured_work-requires : goal.measured_work-requires
