@@ -1,26 +1,22 @@
 -- What is counted of the export is what its work costs.
-use Rattle.std.proofs.Common.{◌≡◌, ◌≤◌, ℕ, ◌+◌, List, [], ◌∷◌, ◌++◌, take, drop, fold, length, map, None, Option, sym}
-use Rattle.std.proofs.Common.{ap, ◌∙◌, refl, arith}
+use Rattle.std.proofs.Common.{◌≡◌, ◌≤◌, ℕ, List, fold, length, map, None, refl, arith}
 use Rattle.std.proofs.lemmas.List.{map-append}
 use Rattle.std.proofs.lemmas.List.Sums.{fold-append}
 use Rattle.inline.specs.declared.flat.FlatStatement.{FlatStatement}
 use Rattle.inline.specs.Flat.{FlatProgram, flat_block}
-use Rattle.inline.specs.FlatSize.{body_nodes, value_nodes}
 use Rattle.inline.specs.Kept.{IsFlat}
 use Rattle.inline.specs.Numbering.{callables, flattened, parameter_names}
 use Rattle.intervals.specs.Ranges.{turns_of}
-use Rattle.intervals.specs.Work.{body_work}
 use Rattle.language.specs.Tree.{BlockTree, nothing, first, ProcedureTree}
-use Rattle.explanations.specs.statement_costs.Costs.{costlier, costliest, counted_part, place_of, return_parts}
+use Rattle.explanations.specs.statement_costs.Costs.{costlier, costliest, counted_part, return_parts}
 use Rattle.explanations.specs.statement_costs.Counts.{counted, most_counted}
-use Rattle.explanations.specs.declared.statement_costs.costs.Part.{Part}
 use Rattle.explanations.proofs.statement_work_lemmas.Callees.{all_alike, count}
 use Rattle.explanations.proofs.statement_work_lemmas.Counts.{statement_same}
 use Rattle.explanations.proofs.statement_work_lemmas.Splits.{fewer_than_nodes, pieces_are_parts}
 use Rattle.explanations.specs.statement_work.Inlined.{AreCountsOf}
-use Rattle.explanations.specs.statement_work.Lengths.{Lengths, lengths_of, statement_length}
+use Rattle.explanations.specs.statement_work.Lengths.{Lengths, lengths_of}
 use Rattle.explanations.specs.statement_work.Pieces.{pieces}
-use Rattle.explanations.specs.statement_work.WorkCosts.{statement_parts, work_parts}
+use Rattle.explanations.specs.statement_work.WorkCosts.{work_parts}
 use Rattle.word.specs.declared.profile.Profile.{Profile}
 
 -- counts of the lengths give the same pieces
@@ -29,19 +25,11 @@ pieces_same : (turns : List ℕ) (counts lengths : Lengths) → AreCountsOf coun
     → pieces turns counts left b ≡ pieces turns lengths left b
 pieces_same turns counts lengths same nothing left = refl
 pieces_same turns counts lengths same (first s rest) left =
-    let long = statement_same counts lengths same s in
-    let piece : ℕ → Part = λ k. record { place = place_of s; cost = body_work turns (flat_block (take k left)) } in
-    ap (λ k. piece k ∷ pieces turns counts (drop k left) rest) long
-    ∙ ap (λ ps. piece (counted (statement_length lengths s)) ∷ ps)
-    (pieces_same turns counts lengths same rest (drop (counted (statement_length lengths s)) left))
+    rw (statement_same counts lengths same s, pieces_same turns counts lengths same rest)
 
 -- a body within the limits has no more statements than can be counted
 few_statements : (p : FlatProgram) → IsFlat p → count p.body ≤ most_counted
-few_statements p kept =
-    let few = kept.sized.nodes in
-    let all = kept.sized.counted in
-    let own = fewer_than_nodes p.body in
-    omega (arith, few, all, own)
+few_statements p kept = omega (arith, kept.sized.nodes, kept.sized.counted, fewer_than_nodes p.body)
 
 pub most_of_parts : (profile : Profile) (before : List ProcedureTree) (p : ProcedureTree) (turns : List ℕ)
     (counts : Lengths) (body : List FlatStatement)
@@ -52,16 +40,7 @@ pub most_of_parts : (profile : Profile) (before : List ProcedureTree) (p : Proce
     (map counted_part (return_parts p.returned))
     ≡ costliest (map counted_part (work_parts before p))
 most_of_parts profile before p turns counts body same worked is kept =
-    let known = callables before in
-    let start = length p.parameters in
-    let own = pieces_same turns counts (lengths_of before) same p.body body in
-    let parts = pieces_are_parts turns (lengths_of before) known (all_alike before) p.body (parameter_names p) start
-    body is (few_statements (flattened profile before p) kept) in
-    let back = map counted_part (return_parts p.returned) in
-    let front = ap (λ ts. statement_parts ts known (parameter_names p) start p.body) worked in
-    sym (fold-append costlier None (map counted_part (pieces turns counts body p.body)) back)
-    ∙ ap (λ ps. fold costlier None (map counted_part ps ++ back)) (own ∙ (parts ∙ front))
-    ∙ ap (fold costlier None)
-    (sym
-    (map-append counted_part (statement_parts (turns_of (flattened profile before p)) known
-    (parameter_names p) start p.body) (return_parts p.returned)))
+    let few = few_statements (flattened profile before p) kept in
+    let parts = pieces_are_parts turns (lengths_of before) (callables before) (all_alike before) p.body
+    (parameter_names p) (length p.parameters) body is few in
+    simp (pieces_same turns counts (lengths_of before) same, parts, map-append, fold-append) (rw worked)

@@ -1,4 +1,4 @@
-use Rattle.std.proofs.Common.{None, ◌+◌, fold, map, ap, ap₂, subst, sym, ◌∙◌}
+use Rattle.std.proofs.Common.{None, ◌+◌, fold, map, ap, ap₂, subst, ◌∙◌}
 use Rattle.inline.specs.Flat.{FlatProgram}
 use Rattle.inline.specs.FlatSize.{value_nodes}
 use Rattle.inline.specs.Kept.{IsFlat}

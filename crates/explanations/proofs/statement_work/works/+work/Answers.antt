@@ -11,38 +11,31 @@ work_of-returns-in-Branch t c =
     let turns = c.args.turns.now in
     let whole = branch_work turns c.args.statement.now _ c.in-Branch.condition c.in-Branch.accepted
     c.in-Branch.otherwise c.in-Branch.is in
-    let one = ap (λ xs. body_work turns (flat_block xs)) c.as_slice-in-Branch.ensures.value in
-    let other = ap (λ xs. body_work turns (flat_block xs)) c.as_slice-in-Branch-2.ensures.value in
-    omega (
+    simp (whole, ← c.as_slice-in-Branch.ensures.value, ← c.as_slice-in-Branch-2.ensures.value)
+    (omega (
       arith,
-      whole,
-      one,
-      other,
       c.nodes_in-in-Branch.ensures,
       c.work_of_all.ensures,
       c.work_of_all-in-Branch.ensures,
       c.saturating_add-in-Branch.ensures,
       c.saturating_add-in-Branch-2.ensures,
       c.saturating_add-in-Branch-3.ensures,
-    )
+    ))
 
 pub work_of-returns-in-Loop : goal.work_of-returns-in-Loop
 work_of-returns-in-Loop t c =
     let turns = c.args.turns.now in
     let whole = loop_work turns c.args.statement.now c.in-Loop.counter c.in-Loop.low c.in-Loop.high c.in-Loop.body
     c.in-Loop.is in
-    let one = ap (λ xs. (slice_index turns c.in-Loop.counter + 1) * (1 + body_work turns (flat_block xs)))
-    c.as_slice-in-Loop.ensures.value in
-    omega (
+    simp (whole, ← c.as_slice-in-Loop.ensures.value)
+    (omega (
       arith,
-      whole,
-      one,
       c.nodes_in-in-Loop.ensures,
       c.nodes_in-in-Loop-2.ensures,
       c.work_of_turns.ensures,
       c.saturating_add-in-Loop.ensures,
       c.saturating_add-in-Loop-2.ensures,
-    )
+    ))
 
 pub work_of_turns-returns : goal.work_of_turns-returns
 work_of_turns-returns t c =
