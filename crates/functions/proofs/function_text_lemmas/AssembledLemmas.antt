@@ -1,5 +1,5 @@
 -- The parts of a text for an assembler, put behind one another.
-use Rattle.std.proofs.Common.{◌≡◌, ℕ, List, [], ◌++◌, codes, ap, ◌∙◌}
+use Rattle.std.proofs.Common.{◌≡◌, ℕ, List, [], ◌++◌, codes}
 use Rattle.codegen.specs.Anywhere.{body_words}
 use Rattle.linked_calls.specs.Sections.{enter_sections, leave_sections}
 use Rattle.functions.specs.function_text.AssemblerText.{ListsWords, IsAssemblerText, head_lines, tail_lines}
@@ -17,10 +17,5 @@ pub assembled : (f : Parts) (start headed entered embodied left whole : List ℕ
 assembled f start headed entered embodied left whole empty head enter body leave tail = record {
   body = body.0;
   listed = body.1;
-  whole =
-      tail ∙ ap (λ (t : List ℕ). t ++ tail_lines f)
-      (leave ∙ ap (λ (t : List ℕ). t ++ sections_lines f.image (leave_sections f.image))
-      (body.2 ∙ ap (λ (t : List ℕ). t ++ (title_line (codes "the body") ++ body.0))
-      (enter ∙ ap (λ (t : List ℕ). t ++ sections_lines f.image (enter_sections f.image))
-      (head ∙ ap (λ (t : List ℕ). t ++ head_lines f) empty))));
+  whole = simp (tail, leave, body.2, enter, head, empty);
 }
