@@ -3,4 +3,4 @@ pub use Rattle.hepurita.proofs.AnswerLemmas.{fits}
 pub use Rattle.hepurita.proofs.BuiltLemmas.{refusal_of_text}
 pub use Rattle.hepurita.proofs.JudgementLemmas.{one_export}
 pub use Rattle.hepurita.proofs.OneImage.{one_build}
-pub use Rattle.listing.proofs.Pieces.{put-more, where_ok}
+pub use Rattle.listing.proofs.Pieces.{where_ok}
