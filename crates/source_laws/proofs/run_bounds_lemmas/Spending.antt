@@ -128,7 +128,7 @@ module _ (ps : List ProcedureTree) where
           let tree = passed_block names n p.parameters c.arguments in
           fits
           (ticked (then_within (passed_spends s words) (λ vs is.
-          let held = reached (passed_comes scope names ready.types s passed_are small n ready.linked m shows)
+          let held = reached (passed_comes passed_are small ready.linked m shows)
           (passed s words).ends (λ e d. passed-worked s words e d) vs is in
           then_within (inside_within (counted.good.spends own own_types start (begun s p.parameters c.arguments vs)
           (after_all m tree) entered.linked (λ text x there. held [] text x refl there)))
@@ -199,7 +199,7 @@ module _ (ps : List ProcedureTree) where
         names n ready calls plain s m shows =
         let held = value_in m (term names index) ∷ [] in
         let began = flat.with_value m n held in
-        let next = ready_later n (n + 1) (omega arith) ready in
+        let next = ready_later {m = n + 1} (omega arith) ready in
         let shown = shows_kept names s m began shows (λ name x there. let low = ready.linked.below name x there in
         with_value-other m n x.number held (λ z. omega arith)) in
         fits
@@ -231,7 +231,7 @@ module _ (ps : List ProcedureTree) where
         (block_spends other names k next calls plain.2 s m shows) (v == 0) in
         fits
         (ticked (then_within (value_spends s condition) (λ c is.
-        let same = reached ((means scope names ready.types n ready.linked has plain.0).value s m shows)
+        let same = reached ((means ready.linked has plain.0).value s m shows)
         (value s condition).ends (λ e d. value-worked s condition e d) c is in
         subst (λ (w : Word). IsWithin (if not (w.value == 0) then run_all (runnables ps) s accepted
         else run_all (runnables ps) s otherwise) (if v == 0
@@ -269,9 +269,9 @@ module _ (ps : List ProcedureTree) where
         let all = turns_spend turn step count names each keeps (b - a) a s m shows in
         fits
         (ticked (then_within (value_spends s low) (λ u is. then_within (value_spends s high) (λ w is'.
-        let first = reached ((means scope names ready.types n ready.linked one plain.0).value s m shows)
+        let first = reached ((means ready.linked one plain.0).value s m shows)
         (value s low).ends (λ e d. value-worked s low e d) u is in
-        let second = reached ((means scope names ready.types n ready.linked other plain.1).value s m shows)
+        let second = reached ((means ready.linked other plain.1).value s m shows)
         (value s high).ends (λ e d. value-worked s high e d) w is' in
         subst (λ (y : Word). IsWithin (turns (y.value - u.value) u.value turn s) most) (sym second)
         (subst (λ (x : Word). IsWithin (turns (b - x.value) x.value turn s) most) (sym first) all)))))
@@ -289,8 +289,8 @@ module _ (ps : List ProcedureTree) where
         let more = block (callables ps) later_names (n + numbers_taken (callables ps) statement) rest in
         fits
         (then_within (statement_spends here names n ready calls plain.0 s m shows) (λ t is.
-        let good = reached (same_end ps here names n ready plain.0 s m shows) (run (runnables ps) s statement).ends
+        let good = reached (same_end here ready plain.0 s m shows) (run (runnables ps) s statement).ends
         (λ e d. statement-worked ps s statement e d) t is in
-        block_spends there later_names _ (ready_after ps here names n ready)
+        block_spends there later_names _ (ready_after here ready)
         (callable_after ps (IsCallable HasBound ps) here calls) plain.1 t (after_all m tree) good))
         (omega (arith, evaluated_chain tree more m))
