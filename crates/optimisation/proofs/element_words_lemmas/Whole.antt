@@ -4,10 +4,11 @@ use Rattle.std.proofs.Common.{◌++◌, map, drop, length, replicate, Option, No
 use Rattle.std.proofs.Common.{get_or, slice_index, refl, sym, ap, ap₂, ◌∙◌, arith, take as first_of}
 use Rattle.std.specs.Prelude.{nat_lt}
 use Rattle.std.proofs.lemmas.List.{length-map, length-replicate, length-take, take-append-le}
-use Rattle.std.proofs.lemmas.Option.{none-some, slice_get-get_or, slice_get_within}
+use Rattle.std.proofs.lemmas.Option.{none-some, same_Some, slice_get-get_or, slice_get_within}
+use Rattle.language.proofs.arguments_lemmas.FaultLemmas.{length-AreWithin}
 use Rattle.language.specs.arguments.Within.{AreWithin}
 use Rattle.inline.specs.declared.flat.FlatVariable.{FlatVariable}
-use Rattle.inline.specs.Flat.{counter_type, TermTree, word_as, array_as, declaration_of}
+use Rattle.inline.specs.Flat.{counter_type, TermTree, word_as, array_as, declaration_of, numbers_in}
 use Rattle.inline.specs.FlatMeaning.{Values, given, array_of, arrays_from}
 use Rattle.inline.specs.FlatSize.{declared_words}
 use Rattle.inline.specs.Limits.{most_variable_bytes}
@@ -24,7 +25,6 @@ use Rattle.optimisation.specs.element_words.private.Parts.{Parts, part_of, candi
 use Rattle.optimisation.specs.element_words.private.Plan.{WordPlan, room_beside, used_parts, plan_of, split_by}
 use Rattle.optimisation.specs.element_words.private.Plan.{split_program}
 use Rattle.optimisation.specs.element_words.private.Splitting.{split, split_all}
-use Rattle.optimisation.proofs.constants_lemmas.Held.{given_behind}
 use Rattle.optimisation.proofs.element_words_lemmas.PartLemmas.{IsBelow, below_itself, IsArray, found_array}
 use Rattle.optimisation.proofs.element_words_lemmas.PartLemmas.{candidate_is, are_numbered, made, within_room}
 use Rattle.optimisation.proofs.element_words_lemmas.PartLemmas.{words-append, one_word_each, IsSplitting, no_splitting}
@@ -43,11 +43,15 @@ use Rattle.optimisation.proofs.over_lemmas.Whole.{is_replaced}
 
 -- What the variables hold at first.
 
-within_count : (params : List Param) (args : List Arg) → AreWithin params args → length args ≡ length params
-within_count [] [] within = refl
-within_count [] (arg ∷ args) within = absurd within
-within_count (p ∷ params) [] within = absurd within
-within_count (p ∷ params) (arg ∷ args) within = ap suc (within_count params args within.1)
+-- behind the arguments there are zeros
+given_behind : (declared : List FlatVariable) (args : List Arg) (x : ℕ) (d : FlatVariable) → length args ≤ x
+    → slice_get declared x ≡ Some d → given declared args x ≡ replicate (numbers_in d.elements) 0
+given_behind [] args x d few is = absurd (none-some d is)
+given_behind (e ∷ declared) [] zero d few is =
+    ap (λ (f : FlatVariable). replicate (numbers_in f.elements) 0) (same_Some e d is)
+given_behind (e ∷ declared) (arg ∷ args) zero d few is = absurd (omega arith)
+given_behind (e ∷ declared) [] (suc x) d few is = given_behind declared [] x d (omega arith) is
+given_behind (e ∷ declared) (arg ∷ args) (suc x) d few is = given_behind declared args x d (omega arith) is
 
 given_front : (declared more : List FlatVariable) (args : List Arg) (y : ℕ) (d : FlatVariable)
     → slice_get declared y ≡ Some d → given (declared ++ more) args y ≡ given declared args y
@@ -88,7 +92,7 @@ module _ (p : StraightProgram) (is_straight : IsStraight p) (parts : Parts)
 
   module _ (args : List Arg) (within : AreWithin p.parameters args) where
     few : length args ≡ length p.parameters
-    few = within_count p.parameters args within
+    few = length-AreWithin p.parameters args within
 
     starts : AreBeside (InStep p.declared new parts is_splitting) (start p args) (start made_of args)
     starts = record {
