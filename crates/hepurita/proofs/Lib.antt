@@ -20,7 +20,6 @@ pub mod OneImage
 pub mod SomeLemmas
 pub mod BaseLemmas
 pub mod Compiler
-pub mod LightBodies
 pub mod RangePlaces
 pub mod EvalLemmas
 pub mod CallLemmas
