@@ -4,7 +4,7 @@ use Rattle.codegen.specs.Bases.{AreBases}
 use Rattle.hepurita.specs.Bases.{code_base, frame_base, most_images, code_distance, frame_distance}
 use Rattle.hepurita.specs.Compiled.{IsCompiled}
 use Rattle.hepurita.specs.Built.{JudgesProgram, accepts}
-use Rattle.hepurita.proofs.JudgementLemmas.{few_nodes, small_of}
+use Rattle.hepurita.proofs.JudgementLemmas.{few_of, of_accepted}
 use Rattle.codegen.specs.image_fields.Fields.{Fields}
 use Rattle.language.specs.Size.{extents_of, nodes_of}
 use Rattle.language.specs.Tree.{ProcedureTree, ProgramTree}
@@ -14,15 +14,12 @@ use Rattle.word.specs.declared.profile.Profile.{Profile}
 pub standard_bases : (program : ProgramTree) (before : List ProcedureTree) (p : ProcedureTree) (image : Fields)
     (k : ℕ) → IsCompiled program before p image → nodes_of (extents_of before) p ≤ most_nodes → k < most_images
     → AreBases image (code_base + code_distance * k) (frame_base + frame_distance * k)
-standard_bases program before p image k is small below =
-    let words = is.word_count in
-    let size = is.frame_size in
-    record {
-      code_aligned = omega arith;
-      frame_aligned = omega arith;
-      code_ends = omega (arith, words, small, below);
-      frame_ends = omega (arith, size, below);
-    }
+standard_bases program before p image k is small below = record {
+  code_aligned = omega arith;
+  frame_aligned = omega arith;
+  code_ends = omega (arith, is.word_count);
+  frame_ends = omega (arith, is.frame_size);
+}
 
 -- so they serve the image of an accepted program's export
 pub bases_of : (profile : Profile) (program : ProgramTree) (before : List ProcedureTree) (export : ProcedureTree)
@@ -30,5 +27,5 @@ pub bases_of : (profile : Profile) (program : ProgramTree) (before : List Proced
     → IsCompiled program before export image → (k : ℕ) → k < most_images
     → AreBases image (code_base + code_distance * k) (frame_base + frame_distance * k)
 bases_of profile program before export image judged compiled k below =
-    standard_bases program before export image k compiled
-    (few_nodes profile program before export (small_of profile program program before export judged)) below
+    let small = (of_accepted profile program program before export judged).0 in
+    standard_bases program before export image k compiled (few_of before export small.sized).nodes below

@@ -1,7 +1,5 @@
 -- What `eval` answers for an accepted text: its one outcome.
-use Rattle.std.proofs.Common.{◌≡◌, ◌++◌, ℕ, ◌≤◌, ◌||◌, Bool, true, false, nat_lt, List, length, map, Option, None, Ok}
-use Rattle.std.proofs.Common.{refl, sym, ap, ◌∙◌, arith}
-use Rattle.std.proofs.lemmas.Bool.Decides.{nat_tests}
+use Rattle.std.proofs.Common.{◌≡◌, ℕ, ◌≤◌, List, map, Option, None, Ok, ap, subst, ◌∙◌}
 use Rattle.language.specs.arguments.Faults.{fault_of}
 use Rattle.language.specs.arguments.Within.{AreWithin}
 use Rattle.language.specs.declared.arguments.fault.ArgumentFault.{ArgumentFault}
@@ -11,37 +9,19 @@ use Rattle.hepurita.proofs.Below.{accepted_is_safe}
 use Rattle.intervals.specs.Limits.{most_work}
 use Rattle.language.specs.Evaluation.{program_run}
 use Rattle.language.specs.Results.{Results}
-use Rattle.language.specs.Size.{bodies_of, declared_bytes, extents_of, nodes_of, size_violations}
 use Rattle.language.specs.Tree.{ProcedureTree, ProgramTree}
-use Rattle.language.specs.Types.{at, when}
-use Rattle.language.specs.Limits.{most_bodies, most_declared_bytes, most_nodes}
-use Rattle.language.specs.declared.rule.Rule.TheVariants.{InlinedSize, DeclaredBytes}
 use Rattle.language.specs.declared.signature.Param.{Param}
 use Rattle.language.specs.declared.values.Arg.{Arg}
 use Rattle.source_laws.proofs.run_bounds_lemmas.Answered.{answered}
+use Rattle.source_laws.specs.source_work.SourceWork.{source_work}
 use Rattle.source_eval.specs.Answer.{answer, judged_answer, found_params, params_of}
-use Rattle.word.specs.declared.place.Place.{Place}
 use Rattle.hepurita.specs.Built.{Judges, accepts, readable, fine}
 use Rattle.hepurita.specs.Compiled.{Means}
 use Rattle.hepurita.proofs.AnswerLemmas.{Faultless}
+use Rattle.hepurita.proofs.JudgementLemmas.{few_of}
 use Rattle.hepurita.proofs.TheoremLemmas.{flat_typed, safe_means, within_work}
-use Rattle.hepurita.proofs.GrammaticalExports.{grammatical_export, same_violations}
+use Rattle.hepurita.proofs.GrammaticalExports.{grammatical_export, same_work}
 use Rattle.word.specs.declared.profile.Profile.{Profile}
-
--- an export that passes no limit on size opens no more bodies than allowed
-few_bodies : (place : Place) (many deep large : Bool)
-    → length (at place (when (many || deep) InlinedSize ++ when large DeclaredBytes)) ≡ 0 → deep ≡ false
-few_bodies place true deep large none = absurd (omega (arith, none))
-few_bodies place false true large none = absurd (omega (arith, none))
-few_bodies place false false large none = refl
-
-bodies_fit : (before : List ProcedureTree) (export : ProcedureTree) → length (size_violations before export) ≡ 0
-    → bodies_of (extents_of before) export ≤ most_bodies
-bodies_fit before export none =
-    let e = few_bodies export.place (nat_lt most_nodes (nodes_of (extents_of before) export))
-    (nat_lt most_bodies (bodies_of (extents_of before) export))
-    (nat_lt most_declared_bytes (declared_bytes (extents_of before) export)) none in
-    grind (arith, nat_tests, e)
 
 -- arguments without a fault are answered by the run
 judged : (program : ProgramTree) (args : List Arg) (budget : ℕ) (params : List Param) → params_of program ≡ params
@@ -64,12 +44,11 @@ evaluated faultless profile text program before export args budget (readable rea
     let flat = flattened profile before export in
     let typed = flat_typed profile program before export plain small in
     let safe = accepted_is_safe flat typed in_range in
-    let work =
-    within_work flat (ap (λ vs. length vs) (sym (same_violations profile program before export plain small))
-    ∙ in_time) in
+    let work = subst (λ n. n ≤ most_work) (same_work profile program before export plain small)
+    (within_work export.place (source_work before export) in_time) in
     let params = map param_of export.parameters in
     let run = answered profile program before export args budget is.typed is.is_export parts.0 parts.1 typed
-    (bodies_fit before export small.sized) in_range work within enough in (
+    (few_of before export small.sized).bodies in_range work within enough in (
       outcome_of flat args,
       safe_means profile program before export plain small safe args within,
       judged program args budget params (ap found_params is.is_export) ((faultless params args).1 within) ∙ run,

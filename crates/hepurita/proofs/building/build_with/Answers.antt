@@ -1,11 +1,11 @@
+use Rattle.std.proofs.Common.{◌∙◌}
 use Rattle.std.proofs.lemmas.Result.{err_from_is_err_and, IfOk-weaker}
 use Rattle.language.specs.Tree.{program_tree}
 use Rattle.hepurita.specs.Built.{readable}
 use Rattle.hepurita.proofs.BuiltLemmas.{refusal_of_text, refusal_of_program}
 use Rattle.hepurita.proofs.BaseLemmas.{bases_of}
 use Rattle.hepurita.proofs.OneImage.{ok_both}
-use Rattle.hepurita.proofs.TheoremLemmas.{judged_compiled}
-use Rattle.hepurita.proofs.Compiler.{observed_as}
+use Rattle.hepurita.proofs.TheoremLemmas.{texts_compiled}
 use Rattle.hepurita.proofs.building.build_with.Goals as goal
 
 pub returns-in_err-program-clause-refused : goal.returns-in_err-program-clause-refused
@@ -27,22 +27,20 @@ pub returns-clause-accepted : goal.returns-clause-accepted
 returns-clause-accepted c =
     let program = program_tree c.in_ok-program.program in
     let made = c.in_ok-code.ensures.accepted in
-    let judged = readable c.in_ok-program.ensures.accepted made.2 in
-    let compiled = judged_compiled c.args.profile c.args.text.now program made.0 made.1 made.3.0 c.in_ok-code.code
-    judged made.3.1 made.3.2 in
+    let compiled = texts_compiled c.args.profile c.args.text.now program made.0 made.1 made.3.0 c.in_ok-code.code
+    c.in_ok-program.ensures.accepted made.2 made.3.1 made.3.2 in
     IfOk-weaker c.write.result _ _ (λ bytes h. record {
       program = program;
       before = made.0;
       export = made.1;
       image = c.in_ok-code.code;
-      judged = judged;
-      observed = observed_as c.args.profile made.0 made.1 made.3.0 c.in_ok-code.code made.3.1 made.3.2;
+      judged = readable c.in_ok-program.ensures.accepted made.2;
+      observed = made.3.2.profile ∙ made.3.1.profile;
       exact = made.4;
       allowed = c.in_ok-code.ensures.allowed;
       are_bytes = h.1;
       spelled = h.0;
       compiled = compiled;
-      bases =
-          bases_of c.args.profile program made.0 made.1 c.in_ok-code.code made.2 compiled;
+      bases = bases_of c.args.profile program made.0 made.1 c.in_ok-code.code made.2 compiled;
     })
     (ok_both c.write.result _ _ c.write.ensures.spelled c.write.ensures.bytes)
