@@ -1,6 +1,7 @@
 -- A number and its bytes determine each other.
 use Rattle.std.proofs.Common.{◌≡◌, ℕ, zero, suc, ◌+◌, ◌*◌, ◌/◌, ◌%◌, ◌^◌, ◌<◌, ◌≤◌, List, [], ◌∷◌, ◌++◌, length}
 use Rattle.std.proofs.Common.{get_or, drop, refl, sym, ap, ◌∙◌, arith}
+use Rattle.std.proofs.ByRecursion.{All-from_get_or}
 use Rattle.std.proofs.Math.Nat.{div-div-eq-div-mul, mod-lt, pow-succ'}
 use Rattle.std.specs.Int.{byte_at, bytes_low_first}
 use Rattle.byteorder.specs.Endian.{little_bytes, little_number}
@@ -10,18 +11,12 @@ use Rattle.hepurita.specs.image.Reading.{AreBytes}
 -- ---- bytes, one by one
 
 pub all_bytes : (bytes : List ℕ) → ((i : ℕ) → get_or bytes i 0 < 256) → AreBytes bytes
-all_bytes [] each = tt
-all_bytes (b ∷ bytes) each = (each 0, all_bytes bytes (λ i. each (suc i)))
+all_bytes bytes each = All-from_get_or (λ byte. byte < 256) bytes 0 (λ i inside. each i)
 
 each_byte : (bytes : List ℕ) → AreBytes bytes → (i : ℕ) → get_or bytes i 0 < 256
 each_byte [] all i = omega arith
 each_byte (b ∷ bytes) all zero = all.0
 each_byte (b ∷ bytes) all (suc i) = each_byte bytes all.1 i
-
-pub bytes_behind : (n : ℕ) (bytes : List ℕ) → AreBytes bytes → AreBytes (drop n bytes)
-bytes_behind zero bytes all = all
-bytes_behind (suc n) [] all = tt
-bytes_behind (suc n) (b ∷ bytes) all = bytes_behind n bytes all.1
 
 pub front_bytes : (xs ys : List ℕ) → AreBytes (xs ++ ys) → AreBytes xs
 front_bytes [] ys all = tt
@@ -30,10 +25,6 @@ front_bytes (x ∷ xs) ys all = (all.0, front_bytes xs ys all.1)
 pub back_bytes : (xs ys : List ℕ) → AreBytes (xs ++ ys) → AreBytes ys
 back_bytes [] ys all = all
 back_bytes (x ∷ xs) ys all = back_bytes xs ys all.1
-
-pub both_bytes : (xs ys : List ℕ) → AreBytes xs → AreBytes ys → AreBytes (xs ++ ys)
-both_bytes [] ys one other = other
-both_bytes (x ∷ xs) ys one other = (one.0, both_bytes xs ys one.1 other)
 
 -- ---- the bytes of a number
 

@@ -2,13 +2,13 @@
 use Rattle.std.proofs.Common.{◌≡◌, ℕ, zero, suc, ◌^◌, ◌<◌, true, ltb, refl, arith}
 use Rattle.std.proofs.lemmas.Bool.Decides.{nat_tests}
 use Rattle.language.specs.declared.signature.Form.{Form}
-use Rattle.language.specs.declared.signature.Form.TheVariants.{SingleWord, FixedArray, MutableArray}
+use Rattle.language.specs.declared.signature.Form.TheVariants.{SingleWord}
 use Rattle.language.specs.declared.signature.Kind.{Kind}
-use Rattle.language.specs.declared.signature.Kind.TheVariants.{Boolean, Uint8, Uint16, Uint32}
+use Rattle.language.specs.declared.signature.Kind.TheVariants.{Boolean}
 use Rattle.language.specs.declared.signature.Label.{Label}
-use Rattle.language.specs.declared.signature.Label.TheVariants.{Public, Secret}
+use Rattle.language.specs.declared.signature.Label.TheVariants.{Public}
 use Rattle.word.specs.declared.profile.Profile.{Profile}
-use Rattle.word.specs.declared.profile.Profile.TheVariants.{P1, P2}
+use Rattle.word.specs.declared.profile.Profile.TheVariants.{P1}
 use Rattle.hepurita.specs.image.Reading.{coded_form, coded_kind, coded_label, is_profile, numbered_profile, row}
 use Rattle.hepurita.specs.declared.image.field.Field.{Field}
 use Rattle.hepurita.specs.declared.image.field.Field.TheVariants as fields
@@ -22,22 +22,19 @@ pub record IsCode {A : Type 0} (kind : Field) (coded : ℕ → A) (code : ℕ) (
 
 pub kind_is : (kind : Kind) → IsCode fields.Kind coded_kind (kind_code kind) kind
 kind_is Boolean = record { fits = omega arith; is_allowed = refl; stands = refl }
-kind_is Uint8 = record { fits = omega arith; is_allowed = refl; stands = refl }
-kind_is Uint16 = record { fits = omega arith; is_allowed = refl; stands = refl }
-kind_is Uint32 = record { fits = omega arith; is_allowed = refl; stands = refl }
+kind_is kind = record { fits = omega arith; is_allowed = refl; stands = refl }
 
 pub label_is : (label : Label) → IsCode fields.Label coded_label (label_code label) label
 label_is Public = record { fits = omega arith; is_allowed = refl; stands = refl }
-label_is Secret = record { fits = omega arith; is_allowed = refl; stands = refl }
+label_is label = record { fits = omega arith; is_allowed = refl; stands = refl }
 
 pub form_is : (form : Form) → IsCode fields.Form coded_form (form_code form) form
 form_is SingleWord = record { fits = omega arith; is_allowed = refl; stands = refl }
-form_is FixedArray = record { fits = omega arith; is_allowed = refl; stands = refl }
-form_is MutableArray = record { fits = omega arith; is_allowed = refl; stands = refl }
+form_is form = record { fits = omega arith; is_allowed = refl; stands = refl }
 
 pub profile_is : (profile : Profile) → IsCode fields.Profile numbered_profile (profile_number profile) profile
 profile_is P1 = record { fits = omega arith; is_allowed = refl; stands = refl }
-profile_is P2 = record { fits = omega arith; is_allowed = refl; stands = refl }
+profile_is profile = record { fits = omega arith; is_allowed = refl; stands = refl }
 
 -- a code is that of what it stands for
 

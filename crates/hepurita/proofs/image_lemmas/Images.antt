@@ -6,19 +6,17 @@ use Rattle.std.proofs.lemmas.Bool.Decides.{nat_tests}
 use Rattle.std.proofs.lemmas.List.{append-nil}
 use Rattle.std.specs.List.{AllByRecursion, flat_map}
 use Rattle.std.specs.Prelude.{IfSome, nat_le, nat_lt, ◌&&◌}
-use Rattle.hepurita.specs.image.Format.{Format, ends}
+use Rattle.hepurita.specs.image.Format.{Format}
 use Rattle.hepurita.specs.image.Limits.{format_version, magic_number}
 use Rattle.hepurita.specs.image.Reading.{coded_form, coded_kind, coded_label, flagged_format, image_format}
-use Rattle.hepurita.specs.image.Reading.{is_frame_size}
-use Rattle.hepurita.specs.image.Reading.{is_offset, layout_end, numbered_profile, one, result_format, slot_format}
-use Rattle.hepurita.specs.image.Reading.{slots_format, words_format}
+use Rattle.hepurita.specs.image.Reading.{is_frame_size, is_offset, layout_end, numbered_profile, one, result_format}
+use Rattle.hepurita.specs.image.Reading.{slot_format, slots_format, words_format}
 use Rattle.hepurita.specs.declared.image.field.Field.TheVariants as fields
 use Rattle.hepurita.specs.image.private.Spelling.{form_code, kind_code, label_code, profile_number, spelled}
-use Rattle.hepurita.specs.image.private.Spelling.{spelled_result}
-use Rattle.hepurita.specs.image.private.Spelling.{spelled_slot, spelling}
+use Rattle.hepurita.specs.image.private.Spelling.{spelled_result, spelled_slot, spelling}
 use Rattle.hepurita.proofs.image_lemmas.Codes.{form_back, form_is, kind_back, kind_is, label_back, label_is}
 use Rattle.hepurita.proofs.image_lemmas.Codes.{profile_back, profile_is}
-use Rattle.hepurita.proofs.image_lemmas.Texts.{Front, IsRead, IsText, IsWritten, behind, number}
+use Rattle.hepurita.proofs.image_lemmas.Texts.{Front, IsRead, IsText, IsWritten, and_then, behind, number}
 use Rattle.codegen.specs.image_fields.Fields.{AreSlots, Fields, IsImage, IsResultSlot, IsSlot, is_length, result_end}
 use Rattle.codegen.specs.image_fields.Fields.{slot_end, slots_end}
 use Rattle.codegen.specs.image_fields.Limits.{most_frame_bytes}
@@ -33,8 +31,7 @@ use Rattle.word.specs.declared.profile.Profile.{Profile}
 
 length_fits : (form : Form) (n : ℕ) → is_length form n ≡ true → n < 256 ^ 2
 length_fits SingleWord n is = grind (arith, nat_tests)
-length_fits FixedArray n is = grind (arith, nat_tests)
-length_fits MutableArray n is = grind (arith, nat_tests)
+length_fits form n is = grind (arith, nat_tests)
 
 record IsAbove (low n : ℕ) : Type 0 where
   aligned : n % 4 ≡ 0
@@ -75,35 +72,17 @@ slot_written low slot next rest image h follows =
     let kind = kind_is slot.param.kind in
     let label = label_is slot.param.label in
     let form = form_is slot.param.form in
-    let offset = spelled (fields.Offset 0) slot.offset ++ rest in
-    let count = spelled (fields.Length slot.param.form) slot.param.length ++ offset in
-    let after_label = spelled fields.Form (form_code slot.param.form) ++ count in
-    let after_kind = spelled fields.Label (label_code slot.param.label) ++ after_label in (
-      number (kind_code slot.param.kind) after_kind kind.fits kind.is_allowed,
-      (
-        number (label_code slot.param.label) after_label label.fits label.is_allowed,
-        (
-          number (form_code slot.param.form) count form.fits form.is_allowed,
-          (
-            number slot.param.length offset (length_fits slot.param.form slot.param.length h.length)
-                (rw form.stands h.length),
-            (
-              number slot.offset rest h.fits (is_offset_at low slot.offset h.aligned h.above),
-              rw (kind.stands, label.stands, form.stands) follows,
-            ),
-          ),
-        ),
-      ),
-    )
+    and_then (number (kind_code slot.param.kind) _ kind.fits kind.is_allowed)
+    (and_then (number (label_code slot.param.label) _ label.fits label.is_allowed)
+    (and_then (number (form_code slot.param.form) _ form.fits form.is_allowed)
+    (and_then (number slot.param.length _ (length_fits slot.param.form slot.param.length h.length)
+    (rw form.stands h.length))
+    (and_then (number slot.offset _ h.fits (is_offset_at low slot.offset h.aligned h.above))
+    (rw (kind.stands, label.stands, form.stands) follows)))))
 
 slot_read : (low : ℕ) → IsRead (IsSlot low) spelled_slot (slot_format low)
 unfolding slot_format
-slot_read low next bytes image h =
-    let kind = h.0 in
-    let label = h.1.0 in
-    let form = h.1.1.0 in
-    let count = h.1.1.1.0 in
-    let offset = h.1.1.1.1.0 in
+slot_read low next bytes image (kind, (label, (form, (count, (offset, follows))))) =
     let above = offset_is low offset.n offset.is_allowed in
     let param : Param = record {
       kind = coded_kind kind.n;
@@ -111,24 +90,22 @@ slot_read low next bytes image h =
       form = coded_form form.n;
       length = count.n;
     } in
-    let slot : Slot = record { param = param; offset = offset.n } in
-    let parts : bytes ≡ spelled_slot slot ++ offset.rest =
-    rw (
-      sym (kind_back kind.n kind.is_allowed),
-      sym (label_back label.n label.is_allowed),
-      sym (form_back form.n form.is_allowed),
-    )
-    (kind.parts ∙ behind (spelled fields.Kind kind.n)
-    (label.parts ∙ behind (spelled fields.Label label.n)
-    (form.parts ∙ behind (spelled fields.Form form.n)
-    (count.parts ∙ behind (spelled (fields.Length param.form) count.n) offset.parts)))) in
-    let fact : IsSlot low slot = record {
-      length = count.is_allowed;
-      aligned = above.aligned;
-      above = above.above;
-      fits = offset.fits;
-    } in
-    record { value = slot; rest = offset.rest; is = fact; parts = parts; follows = h.1.1.1.1.1 }
+    record {
+      value = record { param = param; offset = offset.n };
+      rest = offset.rest;
+      is = record { length = count.is_allowed; aligned = above.aligned; above = above.above; fits = offset.fits };
+      parts = rw (
+        kind.parts,
+        label.parts,
+        form.parts,
+        count.parts,
+        offset.parts,
+        sym (kind_back kind.n kind.is_allowed),
+        sym (label_back label.n label.is_allowed),
+        sym (form_back form.n form.is_allowed),
+      );
+      follows = follows;
+    }
 
 slots_written : (low : ℕ)
     → IsWritten (AreSlots low) (flat_map spelled_slot) (λ slots. slots_format (length slots) low)
@@ -163,20 +140,11 @@ result_written low None next rest image h follows = (number 0 rest (omega arith)
 result_written low (Some slot) next rest image h follows =
     let kind = kind_is slot.kind in
     let label = label_is slot.label in
-    let offset = spelled (fields.Offset 0) slot.offset ++ rest in
-    let after_kind = spelled fields.Label (label_code slot.label) ++ offset in (
-      number 1 (spelled fields.Kind (kind_code slot.kind) ++ after_kind) (omega arith) refl,
-      (
-        number (kind_code slot.kind) after_kind kind.fits kind.is_allowed,
-        (
-          number (label_code slot.label) offset label.fits label.is_allowed,
-          (
-            number slot.offset rest h.fits (is_offset_at low slot.offset h.aligned h.above),
-            rw (kind.stands, label.stands) follows,
-          ),
-        ),
-      ),
-    )
+    and_then (number 1 _ (omega arith) refl)
+    (and_then (number (kind_code slot.kind) _ kind.fits kind.is_allowed)
+    (and_then (number (label_code slot.label) _ label.fits label.is_allowed)
+    (and_then (number slot.offset _ h.fits (is_offset_at low slot.offset h.aligned h.above))
+    (rw (kind.stands, label.stands) follows))))
 
 result_read : (low : ℕ) → IsRead (λ returned. IfSome returned (IsResultSlot low)) spelled_result (result_format low)
 unfolding result_format
@@ -186,27 +154,23 @@ result_read low next bytes image h = by h.0.n h.0.rest h.0.parts h.0.is_allowed 
         → bytes ≡ spelled fields.HasResult flag ++ rest → nat_lt flag 2 ≡ true
         → IsText (flagged_format low flag next) rest image
         → Front (λ returned. IfSome returned (IsResultSlot low)) spelled_result next bytes image
-    by zero rest flagged is follows = record {
-      value = None;
-      rest = rest;
-      is = tt;
-      parts = flagged;
-      follows = follows;
-    }
-    by (suc zero) rest flagged is follows =
-        let kind = follows.0 in
-        let label = follows.1.0 in
-        let offset = follows.1.1.0 in
+    by zero rest flagged is follows = record { value = None; rest = rest; is = tt; parts = flagged; follows = follows }
+    by (suc zero) rest flagged is (kind, (label, (offset, follows))) =
         let above = offset_is low offset.n offset.is_allowed in
-        let slot : ResultSlot = record { kind = coded_kind kind.n; label = coded_label label.n; offset = offset.n } in
-        let parts : bytes ≡ spelled_result (Some slot) ++ offset.rest =
-        rw (sym (kind_back kind.n kind.is_allowed), sym (label_back label.n label.is_allowed))
-        (flagged ∙ behind (spelled fields.HasResult 1)
-        (kind.parts ∙ behind (spelled fields.Kind kind.n)
-        (label.parts ∙ behind (spelled fields.Label label.n) offset.parts))) in
-        let fact : IsResultSlot low slot =
-        record { aligned = above.aligned; above = above.above; fits = offset.fits } in
-        record { value = Some slot; rest = offset.rest; is = fact; parts = parts; follows = follows.1.1.1 }
+        record {
+          value = Some (record { kind = coded_kind kind.n; label = coded_label label.n; offset = offset.n });
+          rest = offset.rest;
+          is = record { aligned = above.aligned; above = above.above; fits = offset.fits };
+          parts = rw (
+            flagged,
+            kind.parts,
+            label.parts,
+            offset.parts,
+            sym (kind_back kind.n kind.is_allowed),
+            sym (label_back label.n label.is_allowed),
+          );
+          follows = follows;
+        }
     by (suc (suc n)) rest flagged is follows = absurd (grind (arith, nat_tests))
 
 -- ---- code words
@@ -221,6 +185,13 @@ words_written (word ∷ words) next rest image h follows = (
   number word (flat_map (spelled fields.Word) words ++ rest) h.0 refl,
   words_written words (λ others. next (word ∷ others)) rest image h.1 follows,
 )
+
+last_words : (words : List ℕ) (next : List ℕ → Format) (image : Fields) → AreWords words
+    → IsText (next words) [] image
+    → IsText (words_format (length words) next) (flat_map (spelled fields.Word) words) image
+last_words words next image h follows =
+    subst (λ (bytes : List ℕ). IsText (words_format (length words) next) bytes image)
+    (append-nil (flat_map (spelled fields.Word) words)) (words_written words next [] image h follows)
 
 words_read : (n : ℕ)
     → IsRead (λ words. (length words ≡ n) × AreWords words) (flat_map (spelled fields.Word)) (words_format n)
@@ -242,9 +213,7 @@ words_read (suc n) next bytes image h =
 slots_end_above : (low : ℕ) (slots : List Slot) → AreSlots low slots → low ≤ slots_end low slots
 slots_end_above low [] h = omega arith
 slots_end_above low (slot ∷ slots) h =
-    let others = slots_end_above (slot_end slot) slots h.1 in
-    let here = h.0.above in
-    omega (arith, others, here)
+    omega (arith, slots_end_above (slot_end slot) slots h.1, h.0.above)
 
 abbrev AreInside : ℕ → List Slot → Type 0
 AreInside frame = AllByRecursion (λ slot. slot_end slot ≤ frame)
@@ -254,8 +223,7 @@ all_inside : (low frame : ℕ) (slots : List Slot) → AreSlots low slots → sl
     → AreInside frame slots
 all_inside low frame [] h le = tt
 all_inside low frame (slot ∷ slots) h le =
-    let above = slots_end_above (slot_end slot) slots h.1 in
-    (omega (arith, above, le), all_inside (slot_end slot) frame slots h.1 le)
+    (omega (arith, slots_end_above (slot_end slot) slots h.1), all_inside (slot_end slot) frame slots h.1 le)
 
 -- and where each does, the last does
 last_inside : (low frame : ℕ) (slots : List Slot) → low ≤ frame → AreInside frame slots → slots_end low slots ≤ frame
@@ -269,7 +237,7 @@ module _ (low frame : ℕ) where
   layout_end_above : (returned : Option ResultSlot) → IfSome returned (IsResultSlot low)
       → low ≤ layout_end low returned
   layout_end_above None h = omega arith
-  layout_end_above (Some slot) h = let here = h.above in omega (arith, here)
+  layout_end_above (Some slot) h = omega (arith, h.above)
 
   result_inside : (returned : Option ResultSlot) → layout_end low returned ≤ frame → IsInside returned
   result_inside None le = tt
@@ -281,27 +249,6 @@ module _ (low frame : ℕ) where
 
 -- ---- all fields
 
--- what follows the words, and the result, after the profile that its number gives
-module _ (profile : Profile) (slots : List Slot) where
-  abbrev after_words : Option ResultSlot → ℕ → ℕ → List ℕ → Format
-  after_words returned frame steps words =
-      let known = numbered_profile (profile_number profile) in
-      ends (record {
-        profile = known;
-        slots = slots;
-        returned = returned;
-        frame_bytes = frame;
-        max_steps = steps;
-        words = words;
-      })
-
-  abbrev after_result : Option ResultSlot → Format
-  after_result returned =
-      one (fields.FrameBytes (layout_end (slots_end 0 slots) returned)) (λ frame.
-      one fields.MaxSteps (λ steps.
-      one fields.WordCount (λ count.
-      words_format count (after_words returned frame steps))))
-
 pub image_written : (image : Fields) → IsImage image → IsText image_format (spelling image) image
 unfolding image_format
 image_written image h =
@@ -310,66 +257,31 @@ image_written image h =
     let last = layout_end low image.returned in
     let slots_inside = last_inside 0 image.frame_bytes image.slots (omega arith) h.slots_inside in
     let inside = layout_inside low image.frame_bytes image.returned slots_inside h.returned_inside in
-    let few : length image.slots < 256 ^ 2 = let most = h.count in omega (arith, most) in
-    let frame : image.frame_bytes < 256 ^ 4 = let most = h.frame_size in omega (arith, most) in
-    let steps : image.max_steps < 256 ^ 8 = let most = h.steps in omega (arith, most) in
-    let count : length image.words < 256 ^ 4 = let most = h.word_count in omega (arith, most) in
-    let after_count = after_words image.profile image.slots image.returned image.frame_bytes image.max_steps in
-    let words = flat_map (spelled fields.Word) image.words in
-    let at_count = spelled fields.WordCount (length image.words) ++ words in
-    let at_steps = spelled fields.MaxSteps image.max_steps ++ at_count in
-    let at_frame = spelled (fields.FrameBytes 0) image.frame_bytes ++ at_steps in
-    let at_result = spelled_result image.returned ++ at_frame in
-    let at_slots = flat_map spelled_slot image.slots ++ at_result in
-    let at_few = spelled fields.ParameterCount (length image.slots) ++ at_slots in
-    let at_profile = spelled fields.Profile (profile_number image.profile) ++ at_few in
-    let ended = words_written image.words after_count [] image h.words (refl, rw profile.stands refl) in (
-      number magic_number (spelled fields.Version format_version ++ at_profile) (omega arith) refl,
-      (
-        number format_version at_profile (omega arith) refl,
-        (
-          number (profile_number image.profile) at_few profile.fits profile.is_allowed,
-          (
-            number (length image.slots) at_slots few (le-leb _ _ h.count),
-            slots_written 0 image.slots
-                (λ slots. result_format (slots_end 0 slots) (after_result image.profile slots)) at_result
-                image h.slots
-                (result_written low image.returned (after_result image.profile image.slots) at_frame image
-                h.returned (
-                  number image.frame_bytes at_steps frame
-                      (is_frame_at last image.frame_bytes h.frame_aligned h.frame_size inside),
-                  (
-                    number image.max_steps at_count steps (range h.some_step h.steps),
-                    (
-                      number (length image.words) words count (range h.some_word h.word_count),
-                      subst (λ (bytes : List ℕ). IsText (words_format (length image.words) after_count) bytes image)
-                          (append-nil words) ended,
-                    ),
-                  ),
-                )),
-          ),
-        ),
-      ),
-    )
+    and_then (number magic_number _ (omega arith) refl)
+    (and_then (number format_version _ (omega arith) refl)
+    (and_then (number (profile_number image.profile) _ profile.fits profile.is_allowed)
+    (and_then (number (length image.slots) _ (omega (arith, h.count)) (le-leb _ _ h.count))
+    (slots_written 0 image.slots _ _ image h.slots
+    (result_written low image.returned _ _ image h.returned
+    (and_then (number image.frame_bytes _ (omega (arith, h.frame_size))
+    (is_frame_at last image.frame_bytes h.frame_aligned h.frame_size inside))
+    (and_then (number image.max_steps _ (omega (arith, h.steps)) (range h.some_step h.steps))
+    (and_then (number (length image.words) _ (omega (arith, h.word_count)) (range h.some_word h.word_count))
+    (last_words image.words _ image h.words (refl, rw profile.stands))))))))))
 
 pub image_read : (bytes : List ℕ) (image : Fields) → IsText image_format bytes image
     → IsImage image × (bytes ≡ spelling image)
 unfolding image_format
-image_read bytes image h =
-    let magic = h.0 in
-    let version = h.1.0 in
-    let profile = h.1.1.0 in
-    let few = h.1.1.1.0 in
-    let slots = slots_read few.n 0 _ few.rest image h.1.1.1.1 in
+image_read bytes image (magic, (version, (profile, (few, of_slots)))) =
+    let slots = slots_read few.n 0 _ few.rest image of_slots in
     let low = slots_end 0 slots.value in
     let returned = result_read low _ slots.rest image slots.follows in
     let frame = returned.follows.0 in
     let steps = returned.follows.1.0 in
     let count = returned.follows.1.1.0 in
     let words = words_read count.n _ count.rest image returned.follows.1.1.1 in
-    let known = numbered_profile profile.n in
     let made : Fields = record {
-      profile = known;
+      profile = numbered_profile profile.n;
       slots = slots.value;
       returned = returned.value;
       frame_bytes = frame.n;
@@ -377,8 +289,7 @@ image_read bytes image h =
       words = words.value;
     } in
     let fine = frame_is (layout_end low returned.value) frame.n frame.is_allowed in
-    let above = layout_end_above low frame.n returned.value returned.is in
-    let inside : low ≤ frame.n = let most = fine.above in omega (arith, above, most) in
+    let inside : low ≤ frame.n = omega (arith, layout_end_above low frame.n returned.value returned.is, fine.above) in
     let fact : IsImage made = record {
       count = rw slots.is.0 (leb-true _ _ few.is_allowed);
       slots = slots.is.1;

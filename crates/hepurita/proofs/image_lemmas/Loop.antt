@@ -1,7 +1,6 @@
 -- Reading items one after another, as a loop does.
-use Rattle.std.proofs.Common.{◌≡◌, ℕ, zero, suc, ◌-◌, ◌+◌, ◌≤◌, ◌<◌, List, [], ◌∷◌, ◌++◌, Result, Ok, Err, refl, sym}
-use Rattle.std.proofs.Common.{ap, subst, ◌∙◌, append_assoc, arith}
-use Rattle.std.proofs.Math.Path.{fun_ext}
+use Rattle.std.proofs.Common.{◌≡◌, ℕ, zero, suc, ◌-◌, ◌+◌, ◌≤◌, ◌<◌, List, [], ◌∷◌, ◌++◌, Result, Ok, Err, refl}
+use Rattle.std.proofs.Common.{append_assoc, arith}
 use Rattle.std.proofs.lemmas.List.{append-nil}
 use Rattle.std.specs.Result.{IsErrAnd}
 use Rattle.hepurita.specs.image.Format.{Format}
@@ -19,7 +18,7 @@ pub passed : {T : Type 0} (format later : Format) (next : T
     → Leads format next r old new
 passed format later next (Ok x) fault old mid new h same is = absurd h
 passed format later next (Err e) fault old mid new h same is =
-    subst (λ f. FaultIs f (ahead format old)) (sym h) (subst (FaultIs fault) (sym same) is)
+    rw (h, same) is
 
 -- A format of so many items: of none, and of one and the others. What an item has to be may depend on what stands
 -- before.
@@ -49,17 +48,12 @@ module _ {A S : Type 0} {each : S → (A → Format) → Format} {after : A → 
       ≡ each s (λ item. left count (i + 1) (after item) (front ++ item ∷ []) next)
   one_more count i s front next lt =
       let k : count - i ≡ suc (count - (i + 1)) = omega arith in
-      ap (λ n. many n s (λ items. next (front ++ items))) k
-      ∙ r.some (count - (i + 1)) s (λ items. next (front ++ items))
-      ∙ ap (each s)
-      (fun_ext (λ item. ap (many (count - (i + 1)) (after item))
-      (fun_ext (λ items. ap next (sym (append_assoc front (item ∷ []) items))))))
+      rw (k, r.some (count - (i + 1)) s (λ items. next (front ++ items))) (simp append_assoc)
 
   pub goes_on : (count i : ℕ) (s : S) (front : List A) (next : List A → Format) (item : A) (old new : Reader)
       → i < count → ((k : A → Format) → ahead (each s k) old ≡ ahead (k item) new)
       → ahead (left count i s front next) old ≡ ahead (left count (i + 1) (after item) (front ++ item ∷ []) next) new
-  goes_on count i s front next item old new lt leads =
-      ap (λ format. ahead format old) (one_more count i s front next lt) ∙ leads _
+  goes_on count i s front next item old new lt leads = rw (one_more count i s front next lt) (leads _)
 
   pub fails : (count i : ℕ) (s : S) (front : List A) (next : List A → Format) (fault : ImageFault) (old : Reader)
       → i < count → ((k : A → Format) → FaultIs fault (ahead (each s k) old))
@@ -70,5 +64,4 @@ module _ {A S : Type 0} {each : S → (A → Format) → Format} {after : A → 
       → count ≤ i → ahead (left count i s front next) old ≡ ahead (next front) old
   is_done count i s front next old le =
       let k : count - i ≡ 0 = omega arith in
-      let all = λ (items : List A). next (front ++ items) in
-      ap (λ format. ahead format old) (ap (λ n. many n s all) k ∙ r.none s all ∙ ap next (append-nil front))
+      rw (k, r.none s (λ items. next (front ++ items)), append-nil front)

@@ -1,6 +1,7 @@
 -- Bytes by a format: what is read of them, and which numbers they are, determine each other.
 use Rattle.std.proofs.Common.{◌≡◌, ℕ, ◌^◌, ◌<◌, Bool, true, false, cond, ltb, List, [], ◌++◌, length, drop, Result}
 use Rattle.std.proofs.Common.{Ok, Err, refl, sym, ap, append_assoc, length-append, arith}
+use Rattle.std.proofs.ByRecursion.{All-append, All-drop}
 use Rattle.std.proofs.lemmas.Bool.{eqb-true, ltb-false, le-ltb}
 use Rattle.std.proofs.lemmas.List.{drop_at, nil_from_length}
 use Rattle.byteorder.specs.Endian.{little_bytes, little_number}
@@ -9,7 +10,7 @@ use Rattle.hepurita.specs.image.Format.{Format, ends, field, read_by}
 use Rattle.hepurita.specs.image.Reading.{AreBytes}
 use Rattle.hepurita.specs.declared.image.fault.ImageFault.{ImageFault}
 use Rattle.codegen.specs.image_fields.Fields.{Fields}
-use Rattle.hepurita.proofs.image_lemmas.Bytes.{both_bytes, bytes_behind, number_back, number_bytes, number_fits}
+use Rattle.hepurita.proofs.image_lemmas.Bytes.{number_back, number_bytes, number_fits}
 
 -- a number that is allowed stands in the first bytes
 pub record Number (size : ℕ) (allowed : ℕ → Bool) (bytes : List ℕ) : Type 0 where
@@ -22,6 +23,10 @@ pub record Number (size : ℕ) (allowed : ℕ → Bool) (bytes : List ℕ) : Typ
 abbrev pub number : {size : ℕ} {allowed : ℕ → Bool} (n : ℕ) (rest : List ℕ)
     → n < 256 ^ size → allowed n ≡ true → Number size allowed (little_bytes size n ++ rest)
 number n rest fits is = record { n = n; rest = rest; parts = refl; fits = fits; is_allowed = is }
+
+-- such a number, and what stands behind it
+pub and_then : {A : Type 0} {B : A → Type 0} (first : A) → B first → (x : A) × B x
+and_then first then = (first, then)
 
 -- all of the bytes are numbers that a format allows, one after another, and say these fields
 abbrev pub IsText : Format → List ℕ → Fields → Type 0
@@ -73,7 +78,7 @@ pub text_bytes : (format : Format) (bytes : List ℕ) (image : Fields) → IsTex
 text_bytes (ends fields) bytes image h = rw h.0 tt
 text_bytes (field rule size allowed next) bytes image h =
     let x = h.0 in
-    rw x.parts (both_bytes (little_bytes size x.n) x.rest (number_bytes 0 size x.n)
+    rw x.parts (All-append (λ byte. byte < 256) (little_bytes size x.n) x.rest (number_bytes 0 size x.n)
     (text_bytes (next x.n) x.rest image h.1))
 
 refused : {b : Bool} (e : ImageFault) {r : Result Fields ImageFault} {image : Fields}
@@ -107,4 +112,4 @@ read_text total (field rule size allowed next) bytes image all h =
     let rest = drop size bytes in
     let first : Number size allowed bytes =
     record { n = n; rest = rest; parts = sym parts; fits = number_fits size bytes all; is_allowed = fine.0 } in
-    (first, read_text total (next n) rest image (bytes_behind size bytes all) fine.1)
+    (first, read_text total (next n) rest image (All-drop (λ byte. byte < 256) size bytes all) fine.1)
