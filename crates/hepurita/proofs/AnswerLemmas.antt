@@ -1,11 +1,8 @@
 -- What is answered for a compiled image at the standard bases.
-use Rattle.std.proofs.Common.{◌≡◌, ◌≢◌, ◌↔◌, inl, inr, ℕ, ◌==◌, ◌&&◌, Bool, true, false, List, [], length, slice_get}
-use Rattle.std.proofs.Common.{Option, None, Some, Result, Ok, if◌then◌else◌, refl, sym, ap, subst, ◌∙◌, arith}
-use Rattle.std.specs.Option.{option_map}
-use Rattle.std.proofs.lemmas.Bool.Decides.{Decides-eqb}
-use Rattle.language.specs.arguments.Faults.{fault_of, count_fault}
+use Rattle.std.proofs.Common.{◌≡◌, ◌≢◌, ◌↔◌, inl, inr, ℕ, Bool, true, List, [], length, slice_get, None, Result, Ok}
+use Rattle.std.proofs.Common.{eq-eqb, refl, sym, ap, subst, ◌∙◌, arith}
+use Rattle.language.specs.arguments.Faults.{fault_of}
 use Rattle.language.specs.arguments.Within.{AreWithin}
-use Rattle.language.specs.declared.arguments.fault.ArgumentFault.{ArgumentFault}
 use Rattle.codegen.specs.image_fields.Fields.{Fields}
 use Rattle.hepurita.specs.image.Reading.{Spells}
 use Rattle.rv_machine.specs.Entries.{Entry, entries_of, Compares}
@@ -17,8 +14,7 @@ use Rattle.rv_machine.specs.Recording.{kept}
 use Rattle.hepurita.proofs.Below.{Ran-halts}
 use Rattle.rv_machine.specs.declared.observation.Observation.{Observation}
 use Rattle.rv_machine.specs.declared.stops.Stop.{Stop}
-use Rattle.rv_machine.specs.declared.stops.Stop.TheVariants.{Ecall, Break, Illegal, AccessFault, Misaligned, Budget}
-use Rattle.rv_machine.specs.declared.stops.Stop.TheVariants.{RecorderRefused}
+use Rattle.rv_machine.specs.declared.stops.Stop.TheVariants.{Ecall, RecorderRefused}
 use Rattle.language.specs.arguments.Agreement.{Agree}
 use Rattle.language.specs.arguments.PublicResults.{AgreeInPublic}
 use Rattle.hepurita.specs.Bases.{code_base, frame_base}
@@ -33,8 +29,7 @@ use Rattle.language.specs.Tree.{ProcedureTree, ProgramTree}
 use Rattle.hepurita.specs.declared.fault.RunFault.{RunFault}
 use Rattle.hepurita.specs.Answers.{Builds, IsTheOutcome, IsSame}
 use Rattle.hepurita.specs.Executed.{Executed, answer_at, refused, out_of_memory, ran}
-use Rattle.language.specs.arguments.Faults.{shifted}
-use Rattle.hepurita.specs.Paired.{Paired, Observed, pair_fault, first_of}
+use Rattle.hepurita.specs.Paired.{Paired, Observed, pair_fault}
 use Rattle.hepurita.specs.Paired as pairs
 use Rattle.hepurita.specs.declared.optimised.Optimisation.{Optimisation}
 use Rattle.hepurita.proofs.JudgementLemmas.{one_export}
@@ -56,7 +51,7 @@ pub record Fits (program : ProgramTree) (before : List ProcedureTree) (export : 
   pub compiled : IsCompiled program before export image
   pub bases : AreBases image code_base frame_base
 
-same_fields : (bytes : List ℕ) (f g : Fields) → Spells bytes f → Spells bytes g → f ≡ g
+pub same_fields : (bytes : List ℕ) (f g : Fields) → Spells bytes f → Spells bytes g → f ≡ g
 same_fields bytes f g one other =
     let both = sym one ∙ other in
     cc
@@ -69,18 +64,12 @@ fits one optimisation profile text bytes program before export image is =
     let same = one_export profile one text built.program program built.before before built.export export built.judged
     is.judged in
     let images : built.image ≡ image = same_fields bytes built.image image built.spelled is.spelled in
-    let compiled : IsCompiled program before export image =
-    subst (λ (f : Fields). IsCompiled program before export f) images
-    (subst (λ (p : ProcedureTree). IsCompiled program before p built.image) same.2
-    (subst (λ (front : List ProcedureTree). IsCompiled program front built.export built.image) same.1
-    (subst (λ (p : ProgramTree). IsCompiled p built.before built.export built.image) same.0 built.compiled))) in
     record {
-      compiled = compiled;
-      bases =
-          subst (λ (f : Fields). AreBases f code_base frame_base) images (built.bases 0 (omega arith));
+      compiled = rw (same.0, same.1, same.2, images) at built.compiled;
+      bases = subst (λ (f : Fields). AreBases f code_base frame_base) images (built.bases 0 (omega arith));
     }
 
-module _ (program : ProgramTree) (before : List ProcedureTree) (export : ProcedureTree) (image : Fields)
+module _ {program : ProgramTree} {before : List ProcedureTree} {export : ProcedureTree} {image : Fields}
     (is : Fits program before export image) where
   -- the run on arguments
   pub run_on : (args : List Arg) → AreWithin (params_of image) args → RunsTo program image code_base frame_base args
@@ -103,21 +92,14 @@ module _ (program : ProgramTree) (before : List ProcedureTree) (export : Procedu
       → (keeps : Bool) (list after : List Observation) (end : State) (stop : Stop)
       → Ran (code_at code_base image) keeps image.max_steps (loaded_at code_base frame_base image args) list stop end
       after → IsTheOutcome program args (answer_at frame_base image stop end.bytes)
+  outcome_at args within keeps list after end RecorderRefused run = inr refl
   outcome_at args within keeps list after end Ecall run =
       let ended = is_run args within keeps list after Ecall end run (λ h. cc) in
       subst (λ (t : State). Means program args (results_in frame_base image t.bytes)) (sym ended.1)
       (run_on args within).outcome
-  outcome_at args within keeps list after end Break run = let ended =
-      (is_run args within keeps list after Break end run (λ h. cc)).0 in cc
-  outcome_at args within keeps list after end Illegal run = let ended =
-      (is_run args within keeps list after Illegal end run (λ h. cc)).0 in cc
-  outcome_at args within keeps list after end AccessFault run = let ended =
-      (is_run args within keeps list after AccessFault end run (λ h. cc)).0 in cc
-  outcome_at args within keeps list after end Misaligned run = let ended =
-      (is_run args within keeps list after Misaligned end run (λ h. cc)).0 in cc
-  outcome_at args within keeps list after end Budget run = let ended =
-      (is_run args within keeps list after Budget end run (λ h. cc)).0 in cc
-  outcome_at args within keeps list after end RecorderRefused run = inr refl
+  outcome_at args within keeps list after end stop run =
+      let ended = (is_run args within keeps list after stop end run (λ h. cc)).0 in
+      cc
 
   pub the_outcome : Faultless
       → (args : List Arg) (keeps : Bool) (list after : List Observation) (answer : Result Results RunFault)
@@ -142,12 +124,7 @@ module _ (program : ProgramTree) (before : List ProcedureTree) (export : Procedu
       let ended = is_run args within keeps list after Ecall end run (λ h. cc) in
       let there : outcome ≡ results_in frame_base image end.bytes = cc in
       (there ∙ ap (λ (t : State). results_in frame_base image t.bytes) ended.1, ended.2)
-  left_at args within keeps list after end outcome Break run answered = cc
-  left_at args within keeps list after end outcome Illegal run answered = cc
-  left_at args within keeps list after end outcome AccessFault run answered = cc
-  left_at args within keeps list after end outcome Misaligned run answered = cc
-  left_at args within keeps list after end outcome Budget run answered = cc
-  left_at args within keeps list after end outcome RecorderRefused run answered = cc
+  left_at args within keeps list after end outcome stop run answered = cc
 
   pub left : (args : List Arg) (keeps : Bool) (list after : List Observation) (outcome : Results)
       (within : AreWithin (params_of image) args) → Executed image args keeps list (Ok outcome) after
@@ -186,12 +163,11 @@ module _ (program : ProgramTree) (before : List ProcedureTree) (export : Procedu
         → Executed image one keeps list (Ok x) after → Executed image other keeps list (Ok y) after'
         → AgreeInPublic (params_of image) export.result x y
     public_results keeps list after after' x y first second =
-        subst (λ (r : Results). AgreeInPublic (params_of image) export.result r y)
-        (sym (left one keeps list after x agree.one_within first).0)
-        (subst (λ (r : Results). AgreeInPublic (params_of image) export.result
-        (results_in frame_base image (run_on one agree.one_within).run.end.bytes) r)
-        (sym (left other keeps list after' y agree.other_within second).0)
-        (is.compiled.public_results both_runs))
+        rw (
+          (left one keeps list after x agree.one_within first).0,
+          (left other keeps list after' y agree.other_within second).0,
+        )
+        (is.compiled.public_results both_runs)
 
     -- what is observed of a run is what it shows
     seen_of : (args : List Arg) (within : AreWithin (params_of image) args) (list : List Observation)
@@ -205,22 +181,15 @@ module _ (program : ProgramTree) (before : List ProcedureTree) (export : Procedu
     compares_same list list' Same e h = refl
     compares_same list list' (Differ place) e h = absurd (h.there (ap (λ (l : List Entry). slice_get l place) e))
 
-    no_fault : (b c : Bool) (count : ℕ) (f g : Option ArgumentFault) → b ≡ true → c ≡ true → f ≡ None → g ≡ None
-        → (if b && c then first_of f (option_map (shifted count) g) else Some count_fault) ≡ None
-    no_fault true true count None None h k m n = refl
-    no_fault true true count None (Some g) h k m n = cc
-    no_fault true true count (Some f) g h k m n = cc
-    no_fault true false count f g h k m n = cc
-    no_fault false c count f g h k m n = cc
-
     no_pair_fault : Faultless → OneForEach → pair_fault (params_of image) one other ≡ None
     no_pair_fault faultless count =
         let params = params_of image in
-        no_fault (length one == length params) (length other == length params) (length params) (fault_of params one)
-        (fault_of params other)
-        ((Decides-eqb (length one) (length params)).1 (count params one agree.one_within))
-        ((Decides-eqb (length other) (length params)).1 (count params other agree.other_within))
-        ((faultless params one).1 agree.one_within) ((faultless params other).1 agree.other_within)
+        rw (
+          (faultless params one).1 agree.one_within,
+          (faultless params other).1 agree.other_within,
+          eq-eqb (length one) (length params) (count params one agree.one_within),
+          eq-eqb (length other) (length params) (count params other agree.other_within),
+        )
 
     pub the_same : Faultless → OneForEach → (answer : Result Pairing RunFault) → Paired image one other answer
         → IsSame answer

@@ -1,11 +1,9 @@
 -- Two calls on the same values agree.
-use Rattle.std.proofs.Common.{◌≡◌, ◌≢◌, inl, inr, ℕ, Bool, true, false, List, [], ◌∷◌, ◌++◌, Option, Some, Result, Ok}
-use Rattle.std.proofs.Common.{Err, map, refl, sym, ap, subst, ◌∙◌, append-nil}
-use Rattle.std.proofs.lemmas.Option.{none-some, same_Some}
-use Rattle.language.specs.arguments.Faults.{fault_of}
+use Rattle.std.proofs.Common.{◌≡◌, ◌≢◌, inl, inr, ℕ, Bool, true, false, List, [], ◌∷◌, ◌++◌, Some, Result, Ok}
+use Rattle.std.proofs.Common.{Err, map, refl, sym, ap, ◌∙◌, append-nil}
+use Rattle.std.proofs.lemmas.Option.{same_Some}
 use Rattle.language.specs.arguments.Within.{AreWithin, HasShape, words_of}
 use Rattle.language.specs.declared.arguments.fault.ArgumentFault.{ArgumentFault}
-use Rattle.codegen.specs.Loaded.{params_of}
 use Rattle.codegen.specs.image_fields.Fields.{Fields}
 use Rattle.language.specs.Results.{Results}
 use Rattle.language.specs.declared.signature.Form.{Form}
@@ -20,21 +18,16 @@ use Rattle.rv_machine.specs.declared.observation.Observation.{Observation}
 use Rattle.rv_machine.specs.declared.pairing.Pairing.{Pairing}
 use Rattle.rv_machine.specs.declared.pairing.Pairing.TheVariants.{Same, Differ}
 use Rattle.rv_machine.specs.declared.stops.Stop.{Stop}
-use Rattle.rv_machine.specs.declared.stops.Stop.TheVariants.{Ecall, Break, Illegal, AccessFault, Misaligned, Budget}
 use Rattle.rv_machine.specs.declared.stops.Stop.TheVariants.{RecorderRefused}
 use Rattle.hepurita.proofs.Below.{differ-apart, first-unique, Runs-determined, Ran-determined, Ran-beginning}
 use Rattle.hepurita.specs.Bases.{frame_base}
 use Rattle.hepurita.specs.Executed.{Executed, refused, out_of_memory, ran, answer_at, WantsMemory}
-use Rattle.hepurita.specs.Paired.{Paired, Observed, pair_fault}
+use Rattle.hepurita.specs.Paired.{Paired, Observed}
 use Rattle.hepurita.specs.Paired as pairs
 use Rattle.hepurita.specs.declared.fault.RunFault.{RunFault}
 use Rattle.hepurita.specs.declared.fault.RunFault.TheVariants.{Argument, Memory}
 
 -- ---- execute
-
-one_fault : (one other : ArgumentFault) (found : Option ArgumentFault) → found ≡ Some one → found ≡ Some other
-    → one ≡ other
-one_fault one other found is also = same_Some one other (sym is ∙ also)
 
 -- a run that does not want memory was not cut short
 not_cut : (image : Fields) (stop : Stop) (end : State) (answer : Result Results RunFault)
@@ -45,19 +38,9 @@ not_cut image stop end answer is calm cut =
 -- and one that does was
 cut : (image : Fields) (stop : Stop) (end : State) (answer : Result Results RunFault)
     → answer ≡ answer_at frame_base image stop end.bytes → WantsMemory answer → stop ≡ RecorderRefused
-cut image Ecall end answer is (inl wants) = cc
-cut image Ecall end answer is (inr wants) = cc
-cut image Break end answer is (inl wants) = cc
-cut image Break end answer is (inr wants) = cc
-cut image Illegal end answer is (inl wants) = cc
-cut image Illegal end answer is (inr wants) = cc
-cut image AccessFault end answer is (inl wants) = cc
-cut image AccessFault end answer is (inr wants) = cc
-cut image Misaligned end answer is (inl wants) = cc
-cut image Misaligned end answer is (inr wants) = cc
-cut image Budget end answer is (inl wants) = cc
-cut image Budget end answer is (inr wants) = cc
 cut image RecorderRefused end answer is wants = refl
+cut image stop end answer is (inl wants) = cc
+cut image stop end answer is (inr wants) = cc
 
 -- nothing was taken yet
 begins : (keeps : Bool) (list seen : List Observation)
@@ -68,20 +51,12 @@ begins false list seen = ([], sym (append-nil list))
 pub one_execution : (image : Fields) (args : List Arg) (keeps : Bool) (list one other : List Observation)
     (a b : Result Results RunFault) → Executed image args keeps list a one → Executed image args keeps list b other
     → (WantsMemory a → ⊥) → (WantsMemory b → ⊥) → (a ≡ b) × (one ≡ other)
-one_execution image args keeps list one other a b (refused {fault} is) (refused {fault = fault'} also) calm calm' = (
-  ap (λ (f : ArgumentFault). Err (Argument f.rule f.index))
-      (one_fault fault fault' (fault_of (params_of image) args) is also),
-  refl,
-)
-one_execution image args keeps list one other a b (refused is) (out_of_memory none) calm calm' =
-    absurd (calm' (inl refl))
-one_execution image args keeps list one other a b (refused is) (ran none run answered) calm calm' =
-    absurd (none-some _ (sym none ∙ is))
+one_execution image args keeps list one other a b (refused {fault} is) (refused {fault = fault'} also) calm calm' =
+    (ap (λ (f : ArgumentFault). Err (Argument f.rule f.index)) (same_Some fault fault' (sym is ∙ also)), refl)
 one_execution image args keeps list one other a b (out_of_memory none) then calm calm' = absurd (calm (inl refl))
-one_execution image args keeps list one other a b (ran none run answered) (refused is) calm calm' =
-    absurd (none-some _ (sym none ∙ is))
-one_execution image args keeps list one other a b (ran none run answered) (out_of_memory none') calm calm' =
-    absurd (calm' (inl refl))
+one_execution image args keeps list one other a b then (out_of_memory none) calm calm' = absurd (calm' (inl refl))
+one_execution image args keeps list one other a b (refused is) (ran none run answered) calm calm' = cc
+one_execution image args keeps list one other a b (ran none run answered) (refused is) calm calm' = cc
 one_execution image args keeps list one other a b (ran {stop} {end} none run answered)
     (ran {stop = stop'} {end = end'} none' run' answered') calm calm' =
     let same = Ran-determined keeps list run run' (not_cut image stop end a answered calm)
@@ -98,12 +73,9 @@ pub begun_execution : (image : Fields) (args : List Arg) (keeps : Bool) (list on
 begun_execution image args keeps list one other a b (out_of_memory none) then calm wants = absurd (calm (inl refl))
 begun_execution image args keeps list one other a b (refused is) (refused also) calm wants =
     ([], sym (append-nil list))
-begun_execution image args keeps list one other a b (refused is) (out_of_memory none) calm wants =
-    absurd (none-some _ (sym none ∙ is))
-begun_execution image args keeps list one other a b (refused is) (ran none run answered) calm wants =
-    absurd (none-some _ (sym none ∙ is))
-begun_execution image args keeps list one other a b (ran none run answered) (refused is) calm wants =
-    absurd (none-some _ (sym none ∙ is))
+begun_execution image args keeps list one other a b (refused is) (out_of_memory none) calm wants = cc
+begun_execution image args keeps list one other a b (refused is) (ran none run answered) calm wants = cc
+begun_execution image args keeps list one other a b (ran none run answered) (refused is) calm wants = cc
 begun_execution image args keeps list one other a b (ran none run answered) (out_of_memory none') calm wants =
     let more = begins keeps list run.0 in
     (more.0, run.2 ∙ more.1)
@@ -130,24 +102,16 @@ one_answer one other (Differ place) (Differ place') first also =
 pub one_comparison : (image : Fields) (one other : List Arg) (a b : Result Pairing RunFault)
     → Paired image one other a → Paired image one other b → a ≢ Err Memory → b ≢ Err Memory → a ≡ b
 one_comparison image one other a b (pairs.refused {fault} is) (pairs.refused {fault = fault'} also) calm calm' =
-    ap (λ (f : ArgumentFault). Err (Argument f.rule f.index))
-    (one_fault fault fault' (pair_fault (params_of image) one other) is also)
-one_comparison image one other a b (pairs.refused is) (pairs.out_of_memory none) calm calm' = absurd (calm' refl)
-one_comparison image one other a b (pairs.refused is) (pairs.compared none seen seen' compares) calm calm' =
-    absurd (none-some _ (sym none ∙ is))
+    ap (λ (f : ArgumentFault). Err (Argument f.rule f.index)) (same_Some fault fault' (sym is ∙ also))
 one_comparison image one other a b (pairs.out_of_memory none) then calm calm' = absurd (calm refl)
-one_comparison image one other a b (pairs.compared none seen seen' compares) (pairs.refused is) calm calm' =
-    absurd (none-some _ (sym none ∙ is))
-one_comparison image one other a b (pairs.compared none seen seen' compares) (pairs.out_of_memory none') calm calm' =
-    absurd (calm' refl)
+one_comparison image one other a b then (pairs.out_of_memory none) calm calm' = absurd (calm' refl)
+one_comparison image one other a b (pairs.refused is) (pairs.compared none shown shown' compares) calm calm' = cc
+one_comparison image one other a b (pairs.compared none shown shown' compares) (pairs.refused is) calm calm' = cc
 one_comparison image one other a b (pairs.compared {seen = s} {seen' = t} {pairing = p} none shown shown' compares)
     (pairs.compared {seen = u} {seen' = v} {pairing = q} none' other_shown other_shown' compares') calm calm' =
-    let left : s ≡ u = one_list image one s u shown other_shown in
-    let right : t ≡ v = one_list image other t v shown' other_shown' in
-    let there : Compares (entries_of u) (entries_of v) p =
-    subst (λ (l : List Observation). Compares (entries_of u) (entries_of l) p) right
-    (subst (λ (l : List Observation). Compares (entries_of l) (entries_of t) p) left compares) in
-    ap Ok (one_answer (entries_of u) (entries_of v) p q there compares')
+    let left = one_list image one s u shown other_shown in
+    let right = one_list image other t v shown' other_shown' in
+    ap Ok (one_answer (entries_of u) (entries_of v) p q (rw (left, right) at compares) compares')
 
 -- ---- read_args
 

@@ -1,7 +1,7 @@
 -- A run that is cut off is a beginning of the run that halts.
 use Rattle.std.specs.Prelude.{◌⊎◌}
 use Rattle.std.proofs.Common.{◌≡◌, ◌≢◌, inl, inr, ℕ, suc, ◌<◌, ◌≤◌, List, ◌∷◌, ◌++◌, length, length-append, take}
-use Rattle.std.proofs.Common.{refl, sym, ap, subst, ◌∙◌, ⊎_elim, arith}
+use Rattle.std.proofs.Common.{refl, sym, ap, subst, ◌∙◌, arith}
 use Rattle.std.proofs.lemmas.List.{take_all}
 use Rattle.language.specs.arguments.Agreement.{Agree}
 use Rattle.language.specs.arguments.Within.{AreWithin}
@@ -30,11 +30,12 @@ as_many_shown (turns turn rest) = ap suc (as_many_shown rest)
 few_shown : {code : Code} {n : ℕ} {s t : State} {seen : List Observation} {stop : Stop} → Halts code n s seen stop t
     → length seen ≤ n
 few_shown {code} (halts {n = n} {seen = seen} {last = last} {list = list} {stop = stop} {t = t} first end is) =
-    let all = ap length is ∙ length-append seen last in
-    let many = as_many_shown first in
-    let brief = (turn_stops code t last stop end).1 in
-    let few : length list ≤ suc n = omega (arith, all, many, brief) in
-    few
+    omega (
+      arith,
+      ap length is ∙ length-append seen last,
+      as_many_shown first,
+      (turn_stops code t last stop end).1,
+    )
 
 -- turns from a state whose later turn stops are no more than those before it, and show a beginning
 turns_begin : {code : Code} {m n : ℕ} {s t u : State} {a b last : List Observation} {stop : Stop} → Leads code m s a t
@@ -47,8 +48,7 @@ turns_begin {code} {u = u} {last = last} (turns {n = m} {o = o} {seen = a} {t = 
     let same : s'' ≡ s' = cc in
     let head : p ≡ o = cc in
     let more = turns_begin rest end (subst (λ x. Leads code n x b u) same then) in
-    let within = more.0 in
-    (omega (arith, within), ap (λ x. x ∷ b) head ∙ ap (λ xs. o ∷ xs) more.1)
+    (omega (arith, more.0), ap (λ x. x ∷ b) head ∙ ap (λ xs. o ∷ xs) more.1)
 
 -- what a run is that was given so many turns, where the run that halts takes this many and shows this
 record Begun (n given : ℕ) (whole : List Observation) (stop : Stop) (end : State) (seen : List Observation)
@@ -61,50 +61,41 @@ begun : {code : Code} {n given : ℕ} {s end now : State} {whole seen : List Obs
     → Begun n given whole stop end seen other now
 begun {given = given} {whole = whole} halting (halted within halting') calm =
     let same = Halts-determined halting' halting in
-    let few = few_shown halting in
-    let turns_same = same.0 in
     record {
-      shown = same.1 ∙ sym (take_all given whole (omega (arith, few, turns_same, within)));
+      shown = same.1 ∙ sym (take_all given whole (omega (arith, few_shown halting, same.0)));
       ended = inl (same.2, same.3);
     }
 begun halting (cut_short within first end shows) calm = absurd (calm refl)
 begun {given = given} (halts {n = n} {seen = seen} {last = last} first end is) (spent all) calm =
     let both = turns_begin first end all in
-    let within = both.0 in
-    record {
-      shown = both.1 ∙ ap (take given) (sym is);
-      ended = inr (refl, omega (arith, within));
-    }
+    record { shown = both.1 ∙ ap (take given) (sym is); ended = inr (refl, omega (arith, both.0)) }
 
-module _ (program : ProgramTree) (before : List ProcedureTree) (export : ProcedureTree) (image : Fields)
+module _ {program : ProgramTree} {before : List ProcedureTree} {export : ProcedureTree} {image : Fields}
     (is : Fits program before export image) where
   begun_on : (args : List Arg) (within : AreWithin (params_of image) args) (given : ℕ) (seen : List Observation)
       (stop : Stop) (end : State) → RunsFor given image args seen stop end
-      → (let to = run_on program before export image is args within in
+      → (let to = run_on is args within in
       Begun to.run.turns given to.run.seen Ecall to.run.end seen stop end)
   begun_on args within given seen stop end run =
-      begun (run_on program before export image is args within).run.halts run.0 run.1
+      begun (run_on is args within).run.halts run.0 run.1
 
   pub right_so_far : (args : List Arg) (given : ℕ) (seen : List Observation) (stop : Stop) (end : State)
       → AreWithin (params_of image) args → RunsFor given image args seen stop end
       → IsRightSoFar program image args given stop end
   right_so_far args given seen stop end within run =
-      let to = run_on program before export image is args within in
-      let steps = to.within_steps in
-      ⊎_elim
-      (λ (it : (stop ≡ Ecall) × (end ≡ to.run.end)).
-      inl (
-        it.0,
-        subst (λ (t : State). Means program args (results_in frame_base image t.bytes)) (sym it.1)
-            to.outcome,
-      ))
-      (λ (it : (stop ≡ Budget) × (given < to.run.turns)). let fewer = it.1 in inr (it.0, omega (arith, fewer, steps)))
-      (begun_on args within given seen stop end run).ended
+      let to = run_on is args within in
+      elim ((begun_on args within given seen stop end run).ended) [
+        | inl it ↦ inl (
+          it.0,
+          subst (λ (t : State). Means program args (results_in frame_base image t.bytes)) (sym it.1) to.outcome,
+        )
+        | inr it ↦ inr (it.0, omega (arith, it.1, to.within_steps))
+      ]
 
   pub same_so_far : (one other : List Arg) (given : ℕ) (seen seen' : List Observation) (stop stop' : Stop)
       (end end' : State) → Agree (params_of image) one other → RunsFor given image one seen stop end
       → RunsFor given image other seen' stop' end' → seen ≡ seen'
   same_so_far one other given seen seen' stop stop' end end' agree run run' =
       (begun_on one agree.one_within given seen stop end run).shown
-      ∙ ap (take given) (same_shown program before export image is one other agree)
+      ∙ ap (take given) (same_shown is one other agree)
       ∙ sym (begun_on other agree.other_within given seen' stop' end' run').shown

@@ -1,5 +1,5 @@
 -- What is answered to arguments, case by case.
-use Rattle.std.proofs.Common.{◌≡◌, ℕ, Bool, List, Some, None, Result, Err, sym, subst}
+use Rattle.std.proofs.Common.{◌≡◌, ℕ, Bool, List, Some, None, Result, Err}
 use Rattle.language.specs.arguments.Faults.{fault_of}
 use Rattle.language.specs.declared.arguments.fault.ArgumentFault.{ArgumentFault}
 use Rattle.codegen.specs.image_fields.Fields.{Fields}
@@ -19,15 +19,13 @@ use Rattle.hepurita.specs.Executed.{Executed, refused, out_of_memory, ran, answe
 pub memory_executed : (image : Fields) (args : List Arg) (keeps : Bool) (list : List Observation)
     (r : Result Results RunFault) → fault_of (params_of image) args ≡ None → r ≡ Err Memory
     → Executed image args keeps list r list
-memory_executed image args keeps list r none is =
-    subst (λ (x : Result Results RunFault). Executed image args keeps list x list) (sym is) (out_of_memory none)
+memory_executed image args keeps list r none is = rw is (out_of_memory none)
 
 -- the first fault
 pub refused_executed : (image : Fields) (args : List Arg) (keeps : Bool) (list : List Observation)
     (fault : ArgumentFault) (e : RunFault) → e ≡ Argument fault.rule fault.index
     → fault_of (params_of image) args ≡ Some fault → Executed image args keeps list (Err e) list
-refused_executed image args keeps list fault e is first =
-    subst (λ (x : RunFault). Executed image args keeps list (Err x) list) (sym is) (refused first)
+refused_executed image args keeps list fault e is first = rw is (refused first)
 
 -- a run
 pub ran_executed : (image : Fields) (args : List Arg) (keeps : Bool) (list after : List Observation)
@@ -36,8 +34,4 @@ pub ran_executed : (image : Fields) (args : List Arg) (keeps : Bool) (list after
     → s ≡ loaded_at code_base frame_base image args → Ran code keeps steps s list stop t after
     → r ≡ answer_at frame_base image stop t.bytes → Executed image args keeps list r after
 ran_executed image args keeps list after r code steps s t stop none code_is steps_is s_is run answer =
-    ran none
-    (subst (λ (x : State). Ran (code_at code_base image) keeps image.max_steps x list stop t after) s_is
-    (subst (λ (x : ℕ). Ran (code_at code_base image) keeps x s list stop t after) steps_is
-    (subst (λ (x : Code). Ran x keeps steps s list stop t after) code_is run)))
-    answer
+    ran none (rw (code_is, steps_is, s_is) at run) answer

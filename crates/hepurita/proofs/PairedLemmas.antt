@@ -1,5 +1,5 @@
 -- What is answered to two lists of arguments, case by case.
-use Rattle.std.proofs.Common.{◌≡◌, ℕ, List, Some, None, Result, Err, sym, subst}
+use Rattle.std.proofs.Common.{◌≡◌, ℕ, List, Some, None, Result, Err}
 use Rattle.language.specs.declared.arguments.fault.ArgumentFault.{ArgumentFault}
 use Rattle.codegen.specs.image_fields.Fields.{Fields}
 use Rattle.rv_machine.specs.Leakage.{IsShown}
@@ -15,22 +15,17 @@ use Rattle.hepurita.specs.Paired.{Observed, Paired, pair_fault, refused, out_of_
 
 pub memory_paired : (image : Fields) (one other : List Arg) (r : Result Pairing RunFault)
     → pair_fault (params_of image) one other ≡ None → r ≡ Err Memory → Paired image one other r
-memory_paired image one other r none is =
-    subst (λ (x : Result Pairing RunFault). Paired image one other x) (sym is) (out_of_memory none)
+memory_paired image one other r none is = rw is (out_of_memory none)
 
 pub refused_paired : (image : Fields) (one other : List Arg) (fault : ArgumentFault) (e : RunFault)
     → e ≡ Argument fault.rule fault.index → pair_fault (params_of image) one other ≡ Some fault
     → Paired image one other (Err e)
-refused_paired image one other fault e is first =
-    subst (λ (x : RunFault). Paired image one other (Err x)) (sym is) (refused first)
+refused_paired image one other fault e is first = rw is (refused first)
 
 -- what a run shows as it was loaded
 pub observed_from : (image : Fields) (args : List Arg) (code : Code) (steps : ℕ) (s : State) (seen : List Observation)
     → code ≡ code_at code_base image → steps ≡ image.max_steps → s ≡ loaded_at code_base frame_base image args
     → IsShown code steps s seen → Observed image args seen
 observed_from image args code steps s seen code_is steps_is s_is shown =
-    let there =
-    subst (λ (x : State). IsShown (code_at code_base image) image.max_steps x seen) s_is
-    (subst (λ (x : ℕ). IsShown (code_at code_base image) x s seen) steps_is
-    (subst (λ (x : Code). IsShown x steps s seen) code_is shown)) in
+    let there = rw (code_is, steps_is, s_is) at shown in
     (there.0, (there.1, (there.2, there.3)))

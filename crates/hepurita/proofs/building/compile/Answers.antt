@@ -1,12 +1,8 @@
-use Rattle.std.proofs.Common.{◌≡◌, inl, length, subst, ap, ◌∙◌}
+use Rattle.std.proofs.Common.{inl, length, ap, ◌∙◌}
 use Rattle.std.proofs.lemmas.Result.{err_from_is_err_and, IfOk-weaker, IfErr-weaker}
 use Rattle.branch_removal.specs.Exact.{straight_of}
-use Rattle.branch_removal.specs.Removed.{IsRemoved}
-use Rattle.inline.specs.Flat.{FlatProgram}
 use Rattle.inline.specs.Numbering.{flattened}
-use Rattle.intervals.specs.Ranged.{RangedProgram}
-use Rattle.intervals.specs.Ranges.{range_violations}
-use Rattle.intervals.specs.Work.{ranged, work_violations}
+use Rattle.intervals.specs.Work.{ranged}
 use Rattle.language.specs.Tree.{program_tree}
 use Rattle.hepurita.specs.Built.{fine}
 use Rattle.hepurita.specs.Exact.{code_for, image_for}
@@ -36,24 +32,17 @@ unfolding image_for
 returns-clause-accepted c =
     let made = c.in_ok-flat.ensures.accepted in
     let is = c.in_ok-ranged.ensures.accepted ∙ ap ranged made.3 in
-    let in_range = subst (λ (f : FlatProgram). length (range_violations f) ≡ 0) made.3
-    c.in_ok-ranged.ensures.in_range in
+    let in_range = rw made.3 at c.in_ok-ranged.ensures.in_range in
     let plain = grammatical_export c.requires.read.0 (program_tree c.args.program.now) c.requires.read.1 in
     let one = same_violations c.args.profile (program_tree c.args.program.now) made.0 made.1 plain made.2 in
-    let in_time = ap (λ vs. length vs) one
-    ∙ subst (λ (f : FlatProgram). length (work_violations f) ≡ 0) made.3 c.in_ok-ranged.ensures.worked in
-    let removed = subst (λ (r : RangedProgram). IsRemoved r c.in_ok-straight.straight) is
-    c.in_ok-straight.ensures.removed in
+    let in_time = ap (λ vs. length vs) one ∙ (rw made.3 at c.in_ok-ranged.ensures.worked) in
+    let removed = rw is at c.in_ok-straight.ensures.removed in
     let straight = c.in_ok-straight.ensures.exact ∙ ap straight_of is in
     IfOk-weaker c.code_for.result _ _ (λ code both. (
       made.0,
       made.1,
       fine made.2 in_range in_time,
-      (
-        both.0.source,
-        both.0.stands (ranged (flattened c.args.profile made.0 made.1)) removed,
-        both.0.generated,
-      ),
+      (both.0.source, both.0.stands (ranged (flattened c.args.profile made.0 made.1)) removed, both.0.generated),
       both.1 ∙ ap (code_for c.args.optimisation) straight,
     ))
     (ok_both c.code_for.result _ _ c.code_for.ensures.generated c.code_for.ensures.exact)

@@ -1,22 +1,20 @@
-use Rattle.std.proofs.Common.{Err, ap, sym, ◌∙◌, arith}
+use Rattle.std.proofs.Common.{sym, ◌∙◌, arith}
 use Rattle.std.proofs.lemmas.Result.{err_from_is_err_and}
 use Rattle.rv_machine.specs.Harts.{state_of}
 use Rattle.rv_machine.specs.Paged.{paged_bytes}
 use Rattle.rv_machine.specs.Regions.{code_of}
-use Rattle.hepurita.specs.Paired.{compared}
-use Rattle.hepurita.proofs.PairedLemmas.{memory_paired, refused_paired, observed_from}
+use Rattle.hepurita.specs.Paired.{compared, out_of_memory, refused}
+use Rattle.hepurita.proofs.PairedLemmas.{observed_from}
 use Rattle.hepurita.proofs.comparing.pair.Goals as goal
 
 pub returns-in-Some : goal.returns-in-Some
 returns-in-Some c =
-    refused_paired c.args.image.now c.args.one.now c.args.other.now c.in-Some.fault c.from.result c.from.ensures
-    (sym c.fault_of_both.ensures.first ∙ c.in-Some.is)
+    rw c.from.ensures (refused (sym c.fault_of_both.ensures.first ∙ c.in-Some.is))
 
 pub returns-in_err-code : goal.returns-in_err-code
 returns-in_err-code c =
     let p = err_from_is_err_and c.from_residual.result c.from_residual.ensures.1 in
-    memory_paired c.args.image.now c.args.one.now c.args.other.now c.from_residual.result
-    (sym c.fault_of_both.ensures.first ∙ c.in_default.is) (p.1 ∙ ap Err p.2)
+    rw (p.1, p.2) (out_of_memory (sym c.fault_of_both.ensures.first ∙ c.in_default.is))
 
 pub load-requires : goal.load-requires
 load-requires c = (c.fault_of_both.ensures.within c.in_default.is).0
@@ -24,8 +22,7 @@ load-requires c = (c.fault_of_both.ensures.within c.in_default.is).0
 pub returns-in_err-one : goal.returns-in_err-one
 returns-in_err-one c =
     let p = err_from_is_err_and c.from_residual-in_err-one.result c.from_residual-in_err-one.ensures.1 in
-    memory_paired c.args.image.now c.args.one.now c.args.other.now c.from_residual-in_err-one.result
-    (sym c.fault_of_both.ensures.first ∙ c.in_default.is) (p.1 ∙ ap Err p.2)
+    rw (p.1, p.2) (out_of_memory (sym c.fault_of_both.ensures.first ∙ c.in_default.is))
 
 pub load-requires-2 : goal.load-requires-2
 load-requires-2 c = (c.fault_of_both.ensures.within c.in_default.is).1
@@ -33,8 +30,7 @@ load-requires-2 c = (c.fault_of_both.ensures.within c.in_default.is).1
 pub returns-in_err-other : goal.returns-in_err-other
 returns-in_err-other c =
     let p = err_from_is_err_and c.from_residual-in_err-other.result c.from_residual-in_err-other.ensures.1 in
-    memory_paired c.args.image.now c.args.one.now c.args.other.now c.from_residual-in_err-other.result
-    (sym c.fault_of_both.ensures.first ∙ c.in_default.is) (p.1 ∙ ap Err p.2)
+    rw (p.1, p.2) (out_of_memory (sym c.fault_of_both.ensures.first ∙ c.in_default.is))
 
 pub compare-requires : goal.compare-requires
 compare-requires c = omega (arith, c.in_ok-one.ensures.steps, c.fault_of_both.ensures.allowed.steps)

@@ -1,37 +1,30 @@
-use Rattle.std.proofs.Common.{Err, ap, sym, ◌∙◌, arith}
+use Rattle.std.proofs.Common.{sym, ◌∙◌, arith}
 use Rattle.std.proofs.lemmas.Result.{err_from_is_err_and}
 use Rattle.rv_machine.specs.Harts.{state_of}
 use Rattle.rv_machine.specs.Paged.{paged_bytes}
 use Rattle.rv_machine.specs.Regions.{code_of}
-use Rattle.hepurita.proofs.ExecutedLemmas.{memory_executed, refused_executed, ran_executed}
+use Rattle.hepurita.specs.Executed.{refused, out_of_memory}
+use Rattle.hepurita.proofs.ExecutedLemmas.{ran_executed}
 use Rattle.hepurita.proofs.executing.execute.Goals as goal
 
 pub returns-in-Some-clause-executed : goal.returns-in-Some-clause-executed
 returns-in-Some-clause-executed g c =
-    refused_executed c.args.image.now c.args.args.now g.R.Recorder.KEEPS (g.R.Recorder.list c.args.recorder.now)
-    c.in-Some.fault c.from.result c.from.ensures
-    (sym c.first_fault.ensures.first ∙ c.in-Some.is)
+    rw c.from.ensures (refused (sym c.first_fault.ensures.first ∙ c.in-Some.is))
 
 pub returns-in_err-code-clause-executed : goal.returns-in_err-code-clause-executed
 returns-in_err-code-clause-executed g c =
     let p = err_from_is_err_and c.from_residual.result c.from_residual.ensures.1 in
-    memory_executed c.args.image.now c.args.args.now g.R.Recorder.KEEPS (g.R.Recorder.list c.args.recorder.now)
-    c.from_residual.result
-    (sym c.first_fault.ensures.first ∙ c.in_default.is) (p.1 ∙ ap Err p.2)
+    rw (p.1, p.2) (out_of_memory (sym c.first_fault.ensures.first ∙ c.in_default.is))
 
 pub returns-in_err-space-clause-executed : goal.returns-in_err-space-clause-executed
 returns-in_err-space-clause-executed g c =
     let p = err_from_is_err_and c.from_residual-in_err-space.result c.from_residual-in_err-space.ensures.1 in
-    memory_executed c.args.image.now c.args.args.now g.R.Recorder.KEEPS (g.R.Recorder.list c.args.recorder.now)
-    c.from_residual-in_err-space.result
-    (sym c.first_fault.ensures.first ∙ c.in_default.is) (p.1 ∙ ap Err p.2)
+    rw (p.1, p.2) (out_of_memory (sym c.first_fault.ensures.first ∙ c.in_default.is))
 
 pub returns-in_err-loaded-clause-executed : goal.returns-in_err-loaded-clause-executed
 returns-in_err-loaded-clause-executed g c =
     let p = err_from_is_err_and c.from_residual-in_err-loaded.result c.from_residual-in_err-loaded.ensures.1 in
-    memory_executed c.args.image.now c.args.args.now g.R.Recorder.KEEPS (g.R.Recorder.list c.args.recorder.now)
-    c.from_residual-in_err-loaded.result
-    (sym c.first_fault.ensures.first ∙ c.in_default.is) (p.1 ∙ ap Err p.2)
+    rw (p.1, p.2) (out_of_memory (sym c.first_fault.ensures.first ∙ c.in_default.is))
 
 pub returns-clause-executed : goal.returns-clause-executed
 returns-clause-executed g c =

@@ -1,8 +1,6 @@
-use Rattle.std.proofs.Common.{ap, subst, ◌∙◌, ◌≡◌, length}
+use Rattle.std.proofs.Common.{ap, ◌∙◌, length}
 use Rattle.std.proofs.lemmas.Result.{err_from_is_err_and}
 use Rattle.inline.specs.Flat.{FlatProgram}
-use Rattle.intervals.specs.Ranges.{range_violations}
-use Rattle.intervals.specs.Work.{work_violations}
 use Rattle.language.specs.Tree.{program_tree}
 use Rattle.hepurita.specs.Built.{fine, readable}
 use Rattle.hepurita.proofs.BuiltLemmas.{refusal_of_text, refusal_of_program, refusal_of_ranges}
@@ -35,13 +33,11 @@ returns-in_err-_ranged-clause-refused c =
 pub returns-clause-accepted : goal.returns-clause-accepted
 returns-clause-accepted c =
     let made = c.in_ok-flat.ensures.accepted in
-    let in_range = subst (λ (f : FlatProgram). length (range_violations f) ≡ 0) made.3
-    c.in_ok-_ranged.ensures.in_range in
+    let in_range = rw made.3 at c.in_ok-_ranged.ensures.in_range in
     let plain = grammatical_export c.args.text.now (program_tree c.in_ok-program.program)
     c.in_ok-program.ensures.accepted in
     let one = same_violations c.args.profile (program_tree c.in_ok-program.program) made.0 made.1 plain made.2 in
-    let in_time = ap (λ vs. length vs) one
-    ∙ subst (λ (f : FlatProgram). length (work_violations f) ≡ 0) made.3 c.in_ok-_ranged.ensures.worked in
+    let in_time = ap (λ vs. length vs) one ∙ (rw made.3 at c.in_ok-_ranged.ensures.worked) in
     let params = c.in_ok-params.ensures.items_if_clones_equal (λ x y h. h) ∙ c.parameters.ensures
     ∙ ap (λ (flat : FlatProgram). flat.parameters) made.3 in
     let returned = c.returned.ensures ∙ ap (λ (flat : FlatProgram). flat.returned) made.3 in

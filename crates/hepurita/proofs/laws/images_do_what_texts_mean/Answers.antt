@@ -4,26 +4,22 @@ use Rattle.hepurita.proofs.laws.images_do_what_texts_mean.Goals as goal
 pub returns-clause-outcome : goal.returns-clause-outcome
 returns-clause-outcome c = λ optimisation profile text bytes program before export image args keeps list after
     answer builds.
-    the_outcome program before export image
-    (fits c.one_answer_for_a_text.ensures optimisation profile text bytes program before export image builds)
-    c.faultless_arguments.ensures.none args keeps list after answer
+    the_outcome (fits c.one_answer_for_a_text.ensures optimisation profile text bytes program before export image
+    builds) c.faultless_arguments.ensures.none args keeps list after answer
 
 pub returns-clause-same : goal.returns-clause-same
 returns-clause-same c = λ optimisation profile text bytes program before export image one other answer builds agree.
-    the_same program before export image
-    (fits c.one_answer_for_a_text.ensures optimisation profile text bytes program before export image builds)
-    one other agree c.faultless_arguments.ensures.none c.faultless_arguments.ensures.count answer
+    the_same (fits c.one_answer_for_a_text.ensures optimisation profile text bytes program before export image
+    builds) one other agree c.faultless_arguments.ensures.none c.faultless_arguments.ensures.count answer
 
 pub returns-clause-shown : goal.returns-clause-shown
 returns-clause-shown c = λ optimisation profile text bytes program before export image one other keeps list after
     after' a b builds agree.
-    one_list program before export image
-    (fits c.one_answer_for_a_text.ensures optimisation profile text bytes program before export image builds)
-    one other agree keeps list after after' a b
+    one_list (fits c.one_answer_for_a_text.ensures optimisation profile text bytes program before export image
+    builds) one other agree keeps list after after' a b
 
 pub returns-clause-public : goal.returns-clause-public
 returns-clause-public c = λ optimisation profile text bytes program before export image one other keeps list after
     after' a b builds agree.
-    public_results program before export image
-    (fits c.one_answer_for_a_text.ensures optimisation profile text bytes program before export image builds)
-    one other agree keeps list after after' a b
+    public_results (fits c.one_answer_for_a_text.ensures optimisation profile text bytes program before export image
+    builds) one other agree keeps list after after' a b
