@@ -1,17 +1,17 @@
 -- Where the data is, before and after stores.
 use Rattle.std.proofs.Common.{◌≡◌, ℕ, ◌+◌, ◌*◌, ◌<◌, ◌≤◌, Bool, true, ◌&&◌, nat_le, nat_lt, List, length, Some, None}
-use Rattle.std.proofs.Common.{cond, is_some, refl, sym, ap, subst, ◌∙◌, arith}
+use Rattle.std.proofs.Common.{cond, is_some, ap, ◌∙◌, arith}
 use Rattle.std.proofs.lemmas.Bool.Decides.{nat_tests}
 use Rattle.language.specs.arguments.Within.{HasShape}
-use Rattle.codegen.specs.image_fields.Fields.{slot_end, slot_bytes}
+use Rattle.codegen.specs.image_fields.Fields.{slot_bytes, slot_end}
 use Rattle.codegen.specs.declared.image_fields.slot.Slot.{Slot}
 use Rattle.rv_machine.specs.Bytes.{ByteMap, number_at, zeros}
 use Rattle.hepurita.proofs.Below.{is_some-with_number}
 use Rattle.language.specs.Size.{element_bytes, array_words}
 use Rattle.language.specs.declared.signature.Form.{Form}
-use Rattle.language.specs.declared.signature.Form.TheVariants.{SingleWord, FixedArray, MutableArray}
+use Rattle.language.specs.declared.signature.Form.TheVariants.{SingleWord}
 use Rattle.language.specs.declared.signature.Kind.{Kind}
-use Rattle.language.specs.declared.signature.Kind.TheVariants.{Boolean, Uint8, Uint16, Uint32}
+use Rattle.language.specs.declared.signature.Kind.TheVariants.{Boolean}
 use Rattle.language.specs.declared.values.Arg.{Arg}
 use Rattle.language.specs.declared.values.Arg.TheVariants.{Word, Array}
 use Rattle.codegen.specs.Loaded.{with_argument}
@@ -25,53 +25,43 @@ within base n a low high = grind (arith, nat_tests)
 pub zeros_there : (base n x : ℕ) → base ≤ x → x < base + n → is_some (zeros base n x) ≡ true
 zeros_there base n x low high = ap (λ (b : Bool). is_some {T = ℕ} (cond b (Some 0) None)) (within base n x low high)
 
--- an argument that is a word has a word's slot
-pub word_shape : (form : Form) (n w : ℕ) → HasShape form n (Word w) → form ≡ SingleWord
-word_shape SingleWord n w shape = refl
-word_shape FixedArray n w shape = absurd shape
-word_shape MutableArray n w shape = absurd shape
-
--- which takes four bytes
-pub end_of_word : (slot : Slot) → slot.param.form ≡ SingleWord → slot_end slot ≡ slot.offset + 4
-end_of_word slot is = ap (λ form. slot.offset + slot_bytes form slot.param.kind slot.param.length) is
+-- an argument that is a word lies in its slot
+pub word_within : (form : Form) (kind : Kind) (n w : ℕ) → HasShape form n (Word w) → 4 ≤ slot_bytes form kind n
+word_within SingleWord kind n w shape = omega arith
+word_within form kind n w shape = absurd shape
 
 pub bytes_within : (kind : Kind) (n : ℕ) → element_bytes kind * n ≤ 4 * array_words kind n
 bytes_within Boolean n = omega arith
-bytes_within Uint8 n = omega arith
-bytes_within Uint16 n = omega arith
-bytes_within Uint32 n = omega arith
+bytes_within kind n = omega arith
 
 -- an array lies in its slot
 pub elements_within : (form : Form) (kind : Kind) (n : ℕ) (words : List ℕ) → HasShape form n (Array words)
     → element_bytes kind * length words ≤ slot_bytes form kind n
 elements_within SingleWord kind n words shape = absurd shape
-elements_within FixedArray kind n words shape = let fits = bytes_within kind n in
-    subst (λ m. element_bytes kind * m ≤ slot_bytes FixedArray kind n) (sym shape) fits
-elements_within MutableArray kind n words shape = let fits = bytes_within kind n in
-    subst (λ m. element_bytes kind * m ≤ slot_bytes MutableArray kind n) (sym shape) fits
+elements_within form kind n words shape = rw shape (bytes_within kind n)
 
-module _ (frame : ℕ) (bytes : ByteMap) (slot : Slot) (holds : HoldsSlot frame bytes slot) where
+module _ (frame : ℕ) (bytes : ByteMap) (slot : Slot)
+    (there : (x : ℕ) → frame + slot.offset ≤ x → x < frame + slot_end slot → is_some (bytes x) ≡ true) where
   pub word_there : (w : ℕ) → HasShape slot.param.form slot.param.length (Word w)
       → is_some (number_at bytes 4 (frame + slot.offset)) ≡ true
   word_there w shape =
-      let end = end_of_word slot (word_shape slot.param.form slot.param.length w shape) in
-      number_there bytes 4 (frame + slot.offset) (λ x low high. holds.data_there x low (omega (arith, end)))
-
-  pub array_there : (words : List ℕ) → HasShape slot.param.form slot.param.length (Array words) → (x : ℕ)
-      → frame + slot.offset ≤ x → x < frame + slot.offset + element_bytes slot.param.kind * length words
-      → is_some (bytes x) ≡ true
-  array_there words shape x low high =
-      let fits = elements_within slot.param.form slot.param.kind slot.param.length words shape in
-      holds.data_there x low (omega (arith, fits, high))
+      let fits = word_within slot.param.form slot.param.kind slot.param.length w shape in
+      number_there bytes 4 (frame + slot.offset) (λ x low high. there x low (omega arith))
 
   -- an argument's store changes no place of the data
-  pub is_some-with_argument : (arg : Arg) → HasShape slot.param.form slot.param.length arg → (x : ℕ)
+  pub argument_extent : (arg : Arg) → HasShape slot.param.form slot.param.length arg → (x : ℕ)
       → is_some (with_argument frame bytes slot arg x) ≡ is_some (bytes x)
-  is_some-with_argument (Word word) shape x =
+  argument_extent (Word word) shape x =
       is_some-with_number bytes 4 (frame + slot.offset) word x (word_there word shape)
-  is_some-with_argument (Array words) shape x =
+  argument_extent (Array words) shape x =
+      let fits = elements_within slot.param.form slot.param.kind slot.param.length words shape in
       is_some-with_numbers bytes (element_bytes slot.param.kind) (frame + slot.offset) words
-      (array_there words shape) x
+      (λ y low high. there y low (omega arith)) x
+
+pub is_some-with_argument : (frame : ℕ) (bytes : ByteMap) (slot : Slot) → HoldsSlot frame bytes slot → (arg : Arg)
+    → HasShape slot.param.form slot.param.length arg → (x : ℕ)
+    → is_some (with_argument frame bytes slot arg x) ≡ is_some (bytes x)
+is_some-with_argument frame bytes slot holds = argument_extent frame bytes slot holds.data_there
 
 -- a slot's bytes stay data
 pub HoldsSlot-same : (frame : ℕ) (old new : ByteMap) (slot : Slot) → ((x : ℕ) → is_some (new x) ≡ is_some (old x))

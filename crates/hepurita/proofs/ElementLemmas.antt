@@ -1,19 +1,18 @@
 -- Numbers one after another: those that are put, and those that are read.
-use Rattle.std.proofs.Common.{◌≡◌, ℕ, zero, suc, ◌+◌, ◌*◌, ◌<◌, ◌≤◌, true, ◌&&◌, Option, Some, None, List, [], ◌∷◌}
-use Rattle.std.proofs.Common.{◌++◌, length, drop, slice_index_or, is_some, unwrap_or, refl, sym, ap, ◌∙◌, arith}
-use Rattle.std.proofs.Common.{drop-cons, add-one}
+use Rattle.std.proofs.Common.{◌≡◌, ℕ, zero, suc, ◌+◌, ◌*◌, ◌<◌, ◌≤◌, true, ◌&&◌, Option, Some, List, [], ◌∷◌, ◌++◌}
+use Rattle.std.proofs.Common.{length, drop, slice_index_or, is_some, unwrap_or, refl, sym, ap, ◌∙◌, arith, drop-cons}
+use Rattle.std.proofs.Common.{add-one}
 use Rattle.std.proofs.Math.Nat.{mul-suc}
 use Rattle.rv_machine.specs.Bytes.{ByteMap, joined, number_at, with_number}
 use Rattle.hepurita.proofs.Below.{number_at-suc, number_at-zero, is_some-with_number}
 use Rattle.rv_machine.specs.Sizes.{byte_count}
 use Rattle.rv_machine.specs.declared.memory.Size.{Size}
-use Rattle.rv_machine.specs.declared.memory.Size.TheVariants.{Byte, Half, Word}
+use Rattle.rv_machine.specs.declared.memory.Size.TheVariants.{Byte}
 use Rattle.codegen.specs.Loaded.{with_numbers, numbers_at}
 
 is_some-joined : (a b : Option ℕ) → is_some (joined a b) ≡ (is_some a && is_some b)
 is_some-joined (Some x) (Some y) = refl
-is_some-joined (Some x) None = refl
-is_some-joined None b = refl
+is_some-joined a b = refl
 
 -- a number is data where each of its bytes is
 pub number_there : (bytes : ByteMap) (n a : ℕ) → ((x : ℕ) → a ≤ x → x < a + n → is_some (bytes x) ≡ true)
@@ -27,15 +26,13 @@ number_there bytes (suc n) a there =
 -- a number with a place below the count ends not after them all
 pub ends_within : (size : Size) (i n at bound : ℕ) → i < n → at + byte_count size * n ≤ bound
     → at + byte_count size * i + byte_count size ≤ bound
-ends_within Byte i n at bound below within = omega (arith, below, within)
-ends_within Half i n at bound below within = omega (arith, below, within)
-ends_within Word i n at bound below within = omega (arith, below, within)
+ends_within Byte i n at bound below within = omega arith
+ends_within size i n at bound below within = omega arith
 
 -- where the next number is
 pub next_place : (at size i : ℕ) → at + size * i + size ≡ at + size * (i + 1)
 next_place at size i =
-    let step = mul-suc size i in
-    let first : at + size * i + size ≡ at + size * suc i = omega (arith, step) in
+    let first : at + size * i + size ≡ at + size * suc i = omega (arith, mul-suc size i) in
     first ∙ ap (λ n. at + size * n) (sym (add-one i))
 
 -- putting what is left begins with the next number
@@ -54,8 +51,7 @@ one_more : (bytes : ByteMap) (size at n : ℕ)
     ≡ numbers_at bytes size at (suc n)
 one_more bytes size at zero = ap (λ a. unwrap_or (number_at bytes size a) 0 ∷ []) (omega arith)
 one_more bytes size at (suc n) =
-    let step = mul-suc size n in
-    let place : at + size * suc n ≡ at + size + size * n = omega (arith, step) in
+    let place : at + size * suc n ≡ at + size + size * n = omega (arith, mul-suc size n) in
     ap (λ (rest : List ℕ). unwrap_or (number_at bytes size at) 0 ∷ rest)
     (ap (λ a. numbers_at bytes size (at + size) n ++ unwrap_or (number_at bytes size a) 0 ∷ []) place
     ∙ one_more bytes size (at + size) n)
@@ -72,9 +68,7 @@ pub is_some-with_numbers : (bytes : ByteMap) (size at : ℕ) (numbers : List ℕ
 is_some-with_numbers bytes size at [] there x = refl
 is_some-with_numbers bytes size at (v ∷ vs) there x =
     let all = mul-suc size (length vs) in
-    let first : (y : ℕ) → is_some (with_number bytes size at v y) ≡ is_some (bytes y) =
-    λ y. is_some-with_number bytes size at v y
-    (number_there bytes size at (λ z low high. there z low (omega (arith, high, all)))) in
-    is_some-with_numbers (with_number bytes size at v) size (at + size) vs (λ y low high. first y
-    ∙ there y (omega (arith, low)) (omega (arith, high, all))) x
-    ∙ first x
+    let first = λ (y : ℕ). is_some-with_number bytes size at v y
+    (number_there bytes size at (λ z low high. there z low (omega arith))) in
+    is_some-with_numbers (with_number bytes size at v) size (at + size) vs
+    (λ y low high. first y ∙ there y (omega arith) (omega arith)) x ∙ first x

@@ -1,9 +1,9 @@
 -- Slots inside the frame, and arguments put into them one after another.
-use Rattle.std.proofs.Common.{◌≡◌, ℕ, zero, suc, ◌+◌, ◌^◌, ◌<◌, ◌≤◌, List, [], ◌∷◌, length, map, drop, slice_index_or}
-use Rattle.std.proofs.Common.{refl, sym, ap, ◌∙◌, arith, drop-cons, add-one}
+use Rattle.std.proofs.Common.{◌≡◌, ℕ, zero, suc, ◌+◌, ◌-◌, ◌^◌, ◌<◌, ◌≤◌, List, [], ◌∷◌, length, map, drop, get_or}
+use Rattle.std.proofs.Common.{slice_index_or, is_some, true, refl, sym, ap, ◌∙◌, arith, drop-cons, add-one}
 use Rattle.std.specs.List.{AllByRecursion}
 use Rattle.language.specs.arguments.Within.{AreWithin, HasShape}
-use Rattle.codegen.specs.image_fields.Fields.{slot_end}
+use Rattle.codegen.specs.image_fields.Fields.{slot_end, slots_end}
 use Rattle.codegen.specs.declared.image_fields.slot.Slot.{Slot}
 use Rattle.rv_machine.specs.Bytes.{ByteMap, zeros}
 use Rattle.rv_machine.specs.Machine.{State}
@@ -16,26 +16,28 @@ use Rattle.codegen.specs.Loaded.{with_argument, with_arguments}
 use Rattle.hepurita.specs.Frames.{HoldsSlot}
 use Rattle.hepurita.proofs.DataLemmas.{zeros_there}
 
--- each slot of an image lies in its frame
+-- each slot of an image lies in its frame, where that is data
+pub slots_held : (frame bytes : ℕ) (there : ByteMap) (slots : List Slot)
+    → AllByRecursion (λ slot. slot_end slot ≤ bytes) slots → frame + bytes < 2 ^ 32
+    → ((x : ℕ) → frame ≤ x → x < frame + bytes → is_some (there x) ≡ true)
+    → AllByRecursion (HoldsSlot frame there) slots
+slots_held frame bytes there [] inside below holds = tt
+slots_held frame bytes there (slot ∷ slots) inside below holds =
+    let first : slot_end slot ≤ bytes = inside.0 in (
+      record { below = omega arith; data_there = λ x low high. holds x (omega arith) (omega arith) },
+      slots_held frame bytes there slots inside.1 below holds,
+    )
+
 pub slots_hold : (frame bytes : ℕ) (slots : List Slot) → AllByRecursion (λ slot. slot_end slot ≤ bytes) slots
     → frame + bytes < 2 ^ 32 → AllByRecursion (HoldsSlot frame (zeros frame bytes)) slots
-slots_hold frame bytes [] inside below = tt
-slots_hold frame bytes (slot ∷ slots) inside below =
-    let first : slot_end slot ≤ bytes = inside.0 in (
-      record {
-        below = omega (arith, first);
-        data_there =
-            λ x low high. zeros_there frame bytes x (omega arith) (omega (arith, first));
-      },
-      slots_hold frame bytes slots inside.1 below,
-    )
+slots_hold frame bytes slots inside below =
+    slots_held frame bytes (zeros frame bytes) slots inside below (zeros_there frame bytes)
 
 -- one argument for each parameter
 pub length-within : (params : List Param) (args : List Arg) → AreWithin params args → length args ≡ length params
 length-within [] [] within = refl
-length-within [] (arg ∷ args) within = absurd within
-length-within (param ∷ params) [] within = absurd within
 length-within (param ∷ params) (arg ∷ args) within = ap suc (length-within params args within.1)
+length-within params args within = absurd within
 
 -- each argument has its parameter's shape
 pub shape_at : (slots : List Slot) (args : List Arg) (i : ℕ) (slot : Slot) (arg : Arg)
@@ -59,6 +61,15 @@ with_arguments-next frame bytes slots args i slot arg below below' =
     ∙ (ap (λ (a : List Arg). with_arguments frame bytes (slice_index_or slots i slot ∷ drop (suc i) slots) a)
     (drop-cons args i arg below')
     ∙ ap (λ (k : ℕ). with_arguments frame next (drop k slots) (drop k args)) (sym (add-one i)))
+
+-- slots end where the last of them does
+pub slots_end_at_last : (low : ℕ) (d : Slot) (slots : List Slot) → 1 ≤ length slots
+    → slot_end (get_or slots (length slots - 1) d) ≡ slots_end low slots
+slots_end_at_last low d [] h = absurd (omega arith)
+slots_end_at_last low d (slot ∷ []) h = refl
+slots_end_at_last low d (slot ∷ next ∷ slots) h =
+    let k : length (slot ∷ next ∷ slots) - 1 ≡ suc (length (next ∷ slots) - 1) = omega arith in
+    rw k (slots_end_at_last (slot_end slot) d (next ∷ slots) (omega arith))
 
 -- what stands where there is no slot
 abbrev pub no_slot : Slot

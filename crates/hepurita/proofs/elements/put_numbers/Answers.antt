@@ -1,8 +1,7 @@
-use Rattle.std.proofs.Common.{◌≡◌, ◌+◌, ◌*◌, drop, is_some, sym, ap, ◌∙◌, arith, slice_index_or, length}
-use Rattle.rv_machine.specs.Bytes.{ByteMap, number_at, with_number}
+use Rattle.std.proofs.Common.{◌≡◌, ◌+◌, ◌*◌, is_some, sym, ap, ◌∙◌, arith, slice_index_or, length}
+use Rattle.rv_machine.specs.Bytes.{number_at, with_number}
 use Rattle.rv_machine.specs.Sizes.{byte_count}
 use Rattle.hepurita.proofs.Below.{is_some-with_number}
-use Rattle.codegen.specs.Loaded.{with_numbers}
 use Rattle.hepurita.proofs.ElementLemmas.{ends_within, next_place, number_there, with_numbers-next}
 use Rattle.hepurita.proofs.elements.put_numbers.Goals as goal
 
@@ -23,13 +22,9 @@ loop-index-preserved g c =
     c.store.ensures.stored (c.store.ensures.answer ∙ (ap (λ a. is_some (number_at old size a)) same ∙ there))
     ∙ ap (λ a. with_number old size a number) same in
     record {
-      rest =
-          ap (λ (b : ByteMap). with_numbers b size (c.args.at + size * (i + 1)) (drop (i + 1) c.args.numbers.now))
-          stored
-          ∙ (ap (λ a. with_numbers (with_number old size place number) size a (drop (i + 1) c.args.numbers.now))
-          (sym low)
-          ∙ (sym (with_numbers-next old size place c.args.numbers.now i 0 c.loop-index-test.true)
-          ∙ c.loop-index.invariant.rest));
-      data_there = λ x. ap (λ (b : ByteMap). is_some (b x)) stored
-          ∙ (is_some-with_number old size place number x there ∙ c.loop-index.invariant.data_there x);
+      rest = rw (stored, sym low)
+          (sym (with_numbers-next old size place c.args.numbers.now i 0 c.loop-index-test.true)
+          ∙ c.loop-index.invariant.rest);
+      data_there = λ x. rw stored
+          (is_some-with_number old size place number x there ∙ c.loop-index.invariant.data_there x);
     }

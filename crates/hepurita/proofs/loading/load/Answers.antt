@@ -1,4 +1,4 @@
-use Rattle.std.proofs.Common.{List, length, All, ap, sym, subst, ◌∙◌, arith}
+use Rattle.std.proofs.Common.{List, length, ap, sym, ◌∙◌, arith}
 use Rattle.std.proofs.lemmas.List.{length-map}
 use Rattle.std.proofs.lemmas.List.Elements.{All-from_recursion}
 use Rattle.codegen.specs.declared.image_fields.slot.Slot.{Slot}
@@ -23,11 +23,9 @@ pub put_arguments-requires-clause-data : goal.put_arguments-requires-clause-data
 put_arguments-requires-clause-data c =
     let image = c.args.image.now in
     let allowed = c.slots.ensures.allowed in
-    let held = All-from_recursion (HoldsSlot frame_base (zeros frame_base image.frame_bytes)) image.slots
-    (slots_hold frame_base image.frame_bytes image.slots allowed.slots_inside (omega (arith, allowed.frame_size))) in
-    subst (λ (xs : List Slot). All (HoldsSlot frame_base (paged_bytes c.in_ok-memory.memory)) xs)
-    (sym c.slots.ensures.slots)
-    (subst (λ (b : ByteMap). All (HoldsSlot frame_base b) image.slots) (sym c.in_ok-memory.ensures) held)
+    rw (c.slots.ensures.slots, c.in_ok-memory.ensures)
+    (All-from_recursion (HoldsSlot frame_base (zeros frame_base image.frame_bytes)) image.slots
+    (slots_hold frame_base image.frame_bytes image.slots allowed.slots_inside (omega (arith, allowed.frame_size))))
 
 pub returns-clause-state : goal.returns-clause-state
 returns-clause-state c =

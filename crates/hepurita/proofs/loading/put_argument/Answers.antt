@@ -13,7 +13,7 @@ returns-in-Word g c =
     let shape : HasShape slot.param.form slot.param.length (Word c.in-Word.word) =
     subst (HasShape slot.param.form slot.param.length) c.in-Word.is c.requires.shape in
     c.store.ensures.stored (c.store.ensures.answer
-    ∙ word_there c.args.frame bytes slot c.requires.data c.in-Word.word shape)
+    ∙ word_there c.args.frame bytes slot c.requires.data.data_there c.in-Word.word shape)
     ∙ sym (ap (λ (arg : Arg). with_argument c.args.frame bytes slot arg) c.in-Word.is)
 
 pub overflow_add-at : goal.overflow_add-at

@@ -9,8 +9,8 @@ returns-clause-generated c =
     if_some_weaker made _ _ (λ code is. record {
       source = is.source;
       stands = λ ranged removed.
-          is.stands ranged (c.replaced_is_removed.ensures ranged c.args.straight.now c.in_ok-without_loops.without_loops removed
-          c.in_ok-without_loops.ensures.replaced);
+          is.stands ranged (c.replaced_is_removed.ensures ranged c.args.straight.now
+          c.in_ok-without_loops.without_loops removed c.in_ok-without_loops.ensures.replaced);
       generated = is.generated;
     }) there)
     c.finished.ensures.generated

@@ -1,9 +1,7 @@
-use Rattle.std.proofs.Common.{◌≡◌, ℕ, List, [], ◌∷◌, suc, ◌++◌, ◌+◌, All, length, map, sym, ap, subst, ◌∙◌}
-use Rattle.std.proofs.Common.{append_assoc, arith}
+use Rattle.std.proofs.Common.{◌≡◌, ◌∷◌, suc, ◌+◌, length, ap, ◌∙◌, append_assoc, arith}
 use Rattle.std.specs.Vec.Iter.{into_iter_items}
 use Rattle.codegen.specs.Loaded.{numbers_at}
-use Rattle.hepurita.specs.declared.results.ArraySpace.{ArraySpace}
-use Rattle.hepurita.specs.Frames.{HasSpace, elements_in}
+use Rattle.hepurita.specs.Frames.{elements_in}
 use Rattle.hepurita.proofs.results.arrays.Goals as goal
 
 pub loop-one-preserved : goal.loop-one-preserved
@@ -13,29 +11,20 @@ loop-one-preserved g c =
     let left = into_iter_items c.next.new.self in
     let bytes = g.M.Memory.bytes c.args.memory.now in
     let steps : into_iter_items at.one-iterator ≡ one ∷ left = c.in-Some.ensures.steps.0 in
-    let gone = c.in-Some.ensures.steps.1 in
-    let short = ap length steps in
-    let all : All (HasSpace c.args.image.now.frame_bytes) (one ∷ left) =
-    subst (All (HasSpace c.args.image.now.frame_bytes)) steps at.invariant.each in
+    let all = rw steps at at.invariant.each in
     let words : c.new.result ≡ elements_in c.args.frame bytes one.slot =
     c.new.ensures
     ∙ (c.numbers-words.ensures
     ∙ ap (λ n. numbers_at bytes n (c.args.frame + one.slot.offset) one.slot.param.length)
     c.element_size-size.ensures) in
     record {
-      rest =
-          ap (λ (xs : List (List ℕ)). xs ++ map (λ x. elements_in c.args.frame bytes x.slot) left)
-          (c.push_reserved.ensures.items ∙ ap (λ (w : List ℕ). at.arrays.items ++ w ∷ []) words)
-          ∙ (append_assoc at.arrays.items (elements_in c.args.frame bytes one.slot ∷ [])
-          (map (λ x. elements_in c.args.frame bytes x.slot) left)
-          ∙ (ap (λ (xs : List ArraySpace). at.arrays.items ++ map (λ x. elements_in c.args.frame bytes x.slot) xs)
-          (sym steps) ∙ at.invariant.rest));
+      rest = rw (c.push_reserved.ensures.items, words, append_assoc) (rw steps at at.invariant.rest);
       each = λ k d below. all (suc k) d (omega (arith, below));
-      len = omega (arith, at.invariant.len, gone, short);
+      len = omega (arith, at.invariant.len, c.in-Some.ensures.steps.1, ap length steps);
       enough = omega (
         arith,
         at.invariant.enough,
-        gone,
+        c.in-Some.ensures.steps.1,
         c.push_reserved.ensures.len,
         c.push_reserved.ensures.capacity,
       );

@@ -1,16 +1,16 @@
-use Rattle.std.proofs.Common.{rules, ◌≡◌, ◌≢◌, ℕ, List, [], ◌∷◌, ◌+◌, ◌≤◌, ◌++◌, All, drop, map, slice_index_or}
-use Rattle.std.proofs.Common.{is_ok, sym, ap, subst, ◌∙◌}
+use Rattle.std.proofs.Common.{rules, ◌≡◌, ◌≢◌, List, [], ◌∷◌, ◌+◌, ◌≤◌, ◌++◌, drop, slice_index_or, is_ok, sym, ap}
+use Rattle.std.proofs.Common.{subst, ◌∙◌}
 use Rattle.std.specs.List.{AllByRecursion}
 use Rattle.std.proofs.ResultArms.{chosen}
-use Rattle.std.proofs.lemmas.List.Elements.{All-from_recursion}
+use Rattle.std.proofs.lemmas.List.Elements.{All-from_recursion, All-push}
 use Rattle.codegen.specs.image_fields.Fields.{slot_end}
 use Rattle.codegen.specs.declared.image_fields.slot.Slot.{Slot}
 use Rattle.language.specs.declared.signature.Form.TheVariants.{MutableArray}
 use Rattle.codegen.specs.Loaded.{arrays_in}
 use Rattle.hepurita.specs.declared.results.ArraySpace.{ArraySpace}
-use Rattle.hepurita.specs.Frames.{HasSpace, elements_in}
+use Rattle.hepurita.specs.Frames.{HasSpace}
 use Rattle.hepurita.proofs.LoadLemmas.{no_slot}
-use Rattle.hepurita.proofs.SpaceLemmas.{array_inside, space_more, past_other, past_array, in_order_more}
+use Rattle.hepurita.proofs.SpaceLemmas.{array_inside, past_other, past_array, in_order_more}
 use Rattle.hepurita.proofs.results.result_space.Goals as goal
 use Rattle.hepurita.proofs.results.result_space.Goals.{then-eq+in_ok-words+in_ok-push, else-eq}
 
@@ -31,29 +31,26 @@ loop-slot-preserved c =
           let pushed : c.if-eq.each.items ≡ c.loop-slot.each.items ++ one ∷ [] = ap (λ v. v.items) w.each-is
           ∙ chosen _ _ _ _ w.push.ensures.items (ap is_ok w.in_ok-push.was) in
           record {
-            each = subst (All (HasSpace bound)) (sym pushed)
-                (space_more bound c.loop-slot.each.items one c.loop-slot.invariant.each
+            each = rw pushed
+                (All-push (HasSpace bound) c.loop-slot.each.items one c.loop-slot.invariant.each
                 (record {
                   inside = array_inside bound slot is inside;
                   empty = w.in_ok-words.ensures.items;
                   enough = w.in_ok-words.ensures.capacity;
                 }));
-            in_order = λ frame bytes. ap (λ (xs : List ArraySpace). map (λ x. elements_in frame bytes x.slot) xs
-                ++ arrays_in frame bytes (drop (i + 1) slots)) pushed
-                ∙ in_order_more frame bytes c.loop-slot.each.items one (arrays_in frame bytes (drop i slots))
+            in_order = λ frame bytes. rw pushed
+                (in_order_more frame bytes c.loop-slot.each.items one (arrays_in frame bytes (drop i slots))
                 (arrays_in frame bytes (drop (i + 1) slots)) (arrays_in frame bytes c.args.image.now.slots)
                 (past_array frame bytes slots i no_slot c.loop-slot-test.true is)
-                (c.loop-slot.invariant.in_order frame bytes);
+                (c.loop-slot.invariant.in_order frame bytes));
           }
       | else-eq w ↦
           let other : slot.param.form ≢ MutableArray = search (rules, w.if-eq.ensures, c.eq.ensures) in
           let same : c.if-eq.each.items ≡ c.loop-slot.each.items = ap (λ v. v.items) w.each-is in
           record {
-            each = subst (All (HasSpace bound)) (sym same) c.loop-slot.invariant.each;
-            in_order = λ frame bytes. ap (λ (xs : List ArraySpace). map (λ x. elements_in frame bytes x.slot) xs
-                ++ arrays_in frame bytes (drop (i + 1) slots)) same
-                ∙ (ap (λ (after : List (List ℕ)). map (λ x. elements_in frame bytes x.slot) c.loop-slot.each.items
-                ++ after) (sym (past_other frame bytes slots i no_slot c.loop-slot-test.true other))
-                ∙ c.loop-slot.invariant.in_order frame bytes);
+            each = rw same c.loop-slot.invariant.each;
+            in_order = λ frame bytes. rw
+                (same, sym (past_other frame bytes slots i no_slot c.loop-slot-test.true other))
+                (c.loop-slot.invariant.in_order frame bytes);
           }
     ]
