@@ -19,9 +19,12 @@ pub number_there : (bytes : ByteMap) (n a : ℕ) → ((x : ℕ) → a ≤ x → 
     → is_some (number_at bytes n a) ≡ true
 number_there bytes zero a there = ap is_some (number_at-zero bytes a)
 number_there bytes (suc n) a there =
-    ap is_some (number_at-suc bytes n a) ∙ (is_some-joined (bytes a) (number_at bytes n (a + 1))
-    ∙ (ap (λ b. b && is_some (number_at bytes n (a + 1))) (there a (omega arith) (omega arith))
-    ∙ number_there bytes n (a + 1) (λ x low high. there x (omega arith) (omega arith))))
+    rw (
+      number_at-suc bytes n a,
+      is_some-joined (bytes a) (number_at bytes n (a + 1)),
+      there a (omega arith) (omega arith),
+    )
+    (number_there bytes n (a + 1) (λ x low high. there x (omega arith) (omega arith)))
 
 -- a number with a place below the count ends not after them all
 pub ends_within : (size : Size) (i n at bound : ℕ) → i < n → at + byte_count size * n ≤ bound
@@ -41,9 +44,7 @@ pub with_numbers-next : (bytes : ByteMap) (size at : ℕ) (numbers : List ℕ) (
     ≡ with_numbers (with_number bytes size at (slice_index_or numbers i number)) size (at + size)
     (drop (i + 1) numbers)
 with_numbers-next bytes size at numbers i number below =
-    ap (λ (left : List ℕ). with_numbers bytes size at left) (drop-cons numbers i number below)
-    ∙ ap (λ n. with_numbers (with_number bytes size at (slice_index_or numbers i number)) size (at + size)
-    (drop n numbers)) (sym (add-one i))
+    rw (add-one i, drop-cons numbers i number below)
 
 -- a number more at the end
 one_more : (bytes : ByteMap) (size at n : ℕ)
@@ -52,9 +53,7 @@ one_more : (bytes : ByteMap) (size at n : ℕ)
 one_more bytes size at zero = ap (λ a. unwrap_or (number_at bytes size a) 0 ∷ []) (omega arith)
 one_more bytes size at (suc n) =
     let place : at + size * suc n ≡ at + size + size * n = omega (arith, mul-suc size n) in
-    ap (λ (rest : List ℕ). unwrap_or (number_at bytes size at) 0 ∷ rest)
-    (ap (λ a. numbers_at bytes size (at + size) n ++ unwrap_or (number_at bytes size a) 0 ∷ []) place
-    ∙ one_more bytes size (at + size) n)
+    rw (place, one_more bytes size (at + size) n)
 
 pub numbers_at-more : (bytes : ByteMap) (size at n : ℕ)
     → numbers_at bytes size at n ++ unwrap_or (number_at bytes size (at + size * n)) 0 ∷ []

@@ -1,8 +1,7 @@
 -- What `eval` answers for an accepted text: its one outcome.
-use Rattle.std.proofs.Common.{◌≡◌, ℕ, ◌≤◌, List, map, Option, None, Ok, ap, subst, ◌∙◌}
+use Rattle.std.proofs.Common.{◌≡◌, ℕ, ◌≤◌, List, map, None, Ok, ap, subst, ◌∙◌}
 use Rattle.language.specs.arguments.Faults.{fault_of}
 use Rattle.language.specs.arguments.Within.{AreWithin}
-use Rattle.language.specs.declared.arguments.fault.ArgumentFault.{ArgumentFault}
 use Rattle.inline.specs.FlatMeaning.{outcome_of}
 use Rattle.inline.specs.Numbering.{flattened, param_of}
 use Rattle.hepurita.proofs.Below.{accepted_is_safe}
@@ -28,8 +27,7 @@ judged : (program : ProgramTree) (args : List Arg) (budget : ℕ) (params : List
     → fault_of params args ≡ None
     → answer program args budget ≡ judged_answer None (program_run program args) budget
 judged program args budget params same none =
-    ap (λ (fault : Option ArgumentFault). judged_answer fault (program_run program args) budget)
-    (ap (λ ps. fault_of ps args) same ∙ none)
+    rw (same, none)
 
 pub evaluated : Faultless
     → (profile : Profile) (text : List ℕ) (program : ProgramTree) (before : List ProcedureTree)

@@ -1,6 +1,6 @@
 -- Slots inside the frame, and arguments put into them one after another.
 use Rattle.std.proofs.Common.{◌≡◌, ℕ, zero, suc, ◌+◌, ◌-◌, ◌^◌, ◌<◌, ◌≤◌, List, [], ◌∷◌, length, map, drop, get_or}
-use Rattle.std.proofs.Common.{slice_index_or, is_some, true, refl, sym, ap, ◌∙◌, arith, drop-cons, add-one}
+use Rattle.std.proofs.Common.{slice_index_or, is_some, true, refl, ap, arith, drop-cons, add-one}
 use Rattle.std.specs.List.{AllByRecursion}
 use Rattle.language.specs.arguments.Within.{AreWithin, HasShape}
 use Rattle.codegen.specs.image_fields.Fields.{slot_end, slots_end}
@@ -56,11 +56,7 @@ pub with_arguments-next : (frame : ℕ) (bytes : ByteMap) (slots : List Slot) (a
     ≡ with_arguments frame (with_argument frame bytes (slice_index_or slots i slot) (slice_index_or args i arg))
     (drop (i + 1) slots) (drop (i + 1) args)
 with_arguments-next frame bytes slots args i slot arg below below' =
-    let next = with_argument frame bytes (slice_index_or slots i slot) (slice_index_or args i arg) in
-    ap (λ (s : List Slot). with_arguments frame bytes s (drop i args)) (drop-cons slots i slot below)
-    ∙ (ap (λ (a : List Arg). with_arguments frame bytes (slice_index_or slots i slot ∷ drop (suc i) slots) a)
-    (drop-cons args i arg below')
-    ∙ ap (λ (k : ℕ). with_arguments frame next (drop k slots) (drop k args)) (sym (add-one i)))
+    rw (add-one i, drop-cons slots i slot below, drop-cons args i arg below')
 
 -- slots end where the last of them does
 pub slots_end_at_last : (low : ℕ) (d : Slot) (slots : List Slot) → 1 ≤ length slots

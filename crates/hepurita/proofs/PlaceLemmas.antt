@@ -25,8 +25,7 @@ module _ (w : Place → ℕ) where
       → in_procedures w (before ++ q ∷ []) ≡ 0
   behind [] q h k = omega (arith, h, k)
   behind (p ∷ before) q h k =
-      let rest = behind before q (omega (arith, h)) k in
-      omega (arith, h, rest)
+      omega (arith, behind before q (omega arith) k)
 
   export_light : (before ps front : List ProcedureTree) (p : ProcedureTree) → exported before ps ≡ Some (front, p)
       → in_procedures w before ≡ 0 → in_procedures w ps ≡ 0 → AreLightBoth front p

@@ -1,6 +1,6 @@
 -- How many bytes spell an image.
-use Rattle.std.proofs.Common.{◌≡◌, ℕ, ◌+◌, ◌*◌, ◌≤◌, List, [], ◌∷◌, ◌++◌, length, Option, Some, None, refl}
-use Rattle.std.proofs.Common.{length-append, arith}
+use Rattle.std.proofs.Common.{◌≡◌, ℕ, ◌*◌, ◌≤◌, List, [], ◌∷◌, ◌++◌, length, Option, Some, None, refl, length-append}
+use Rattle.std.proofs.Common.{arith}
 use Rattle.std.specs.List.{flat_map}
 use Rattle.hepurita.specs.image.Limits.{longest_image}
 use Rattle.hepurita.specs.declared.image.field.Field.TheVariants as fields
@@ -12,11 +12,7 @@ all_long : {A : Type 0} (text : A → List ℕ) (n : ℕ) → ((x : A) → lengt
     → length (flat_map text items) ≡ n * length items
 all_long text n each [] = omega arith
 all_long text n each (item ∷ items) =
-    let both : length (flat_map text (item ∷ items)) ≡ length (text item) + length (flat_map text items) =
-    length-append (text item) (flat_map text items) in
-    let here = each item in
-    let others = all_long text n each items in
-    omega (arith, both, here, others)
+    omega (arith, length-append (text item) (flat_map text items), each item, all_long text n each items)
 
 result_long : (returned : Option ResultSlot) → length (spelled_result returned) ≤ 7
 result_long None = omega arith
@@ -29,10 +25,10 @@ short image h =
     let at_count = spelled fields.WordCount (length image.words) ++ words in
     let code = spelled (fields.FrameBytes 0) image.frame_bytes
     ++ (spelled fields.MaxSteps image.max_steps ++ at_count) in
-    let few = h.count in
-    let count = h.word_count in
     omega (
       arith,
+      h.count,
+      h.word_count,
       length-append slots (spelled_result image.returned ++ code),
       length-append (spelled_result image.returned) code,
       all_long spelled_slot 9 (λ slot. refl) image.slots,

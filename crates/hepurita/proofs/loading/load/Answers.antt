@@ -1,13 +1,12 @@
-use Rattle.std.proofs.Common.{List, length, ap, sym, ◌∙◌, arith}
+use Rattle.std.proofs.Common.{length, ap, sym, ◌∙◌, arith}
 use Rattle.std.proofs.lemmas.List.{length-map}
 use Rattle.std.proofs.lemmas.List.Elements.{All-from_recursion}
 use Rattle.codegen.specs.declared.image_fields.slot.Slot.{Slot}
-use Rattle.rv_machine.specs.Bytes.{ByteMap, zeros}
+use Rattle.rv_machine.specs.Bytes.{zeros}
 use Rattle.rv_machine.specs.Paged.{paged_bytes}
 use Rattle.rv_machine.specs.Harts.{pc_of, regs_of}
 use Rattle.rv_machine.specs.Registers.{initial_registers}
-use Rattle.language.specs.declared.values.Arg.{Arg}
-use Rattle.codegen.specs.Loaded.{params_of, with_arguments}
+use Rattle.codegen.specs.Loaded.{params_of}
 use Rattle.hepurita.specs.Bases.{code_base, frame_base}
 use Rattle.hepurita.specs.Frames.{HoldsSlot}
 use Rattle.hepurita.proofs.LoadLemmas.{slots_hold, length-within, same_state}
@@ -29,14 +28,7 @@ put_arguments-requires-clause-data c =
 
 pub returns-clause-state : goal.returns-clause-state
 returns-clause-state c =
-    let image = c.args.image.now in
     let bytes =
-    c.put_arguments.ensures
-    ∙ (ap (λ (b : ByteMap). with_arguments frame_base b c.slots.result.now c.as_slice.result.now)
-    c.in_ok-memory.ensures
-    ∙ (ap (λ (xs : List Slot). with_arguments frame_base (zeros frame_base image.frame_bytes) xs
-    c.as_slice.result.now) c.slots.ensures.slots
-    ∙ ap (λ (xs : List Arg). with_arguments frame_base (zeros frame_base image.frame_bytes) image.slots xs)
-    c.as_slice.ensures)) in
+    rw (c.in_ok-memory.ensures, c.slots.ensures.slots, c.as_slice.ensures) at c.put_arguments.ensures in
     same_state (pc_of c.new.result) code_base (regs_of c.new.result) (initial_registers frame_base)
     (paged_bytes c.put_arguments.new.memory) _ c.new.ensures.pc c.new.ensures.registers bytes
