@@ -9,7 +9,7 @@ use Rattle.std.specs.Prelude.{IfSome, nat_le, nat_lt, ◌&&◌}
 use Rattle.hepurita.specs.image.Format.{Format}
 use Rattle.hepurita.specs.image.Limits.{format_version, magic_number}
 use Rattle.hepurita.specs.image.Reading.{coded_form, coded_kind, coded_label, flagged_format, image_format}
-use Rattle.hepurita.specs.image.Reading.{is_frame_size, is_offset, layout_end, numbered_profile, one, result_format}
+use Rattle.hepurita.specs.image.Reading.{is_frame_size, is_offset, layout_end, numbered_profile, result_format}
 use Rattle.hepurita.specs.image.Reading.{slot_format, slots_format, words_format}
 use Rattle.hepurita.specs.declared.image.field.Field.TheVariants as fields
 use Rattle.hepurita.specs.image.private.Spelling.{form_code, kind_code, label_code, profile_number, spelled}
@@ -25,7 +25,6 @@ use Rattle.codegen.specs.declared.image_fields.slot.Slot.{Slot}
 use Rattle.language.specs.declared.signature.Form.{Form}
 use Rattle.language.specs.declared.signature.Param.{Param}
 use Rattle.language.specs.declared.signature.Form.TheVariants.{SingleWord}
-use Rattle.word.specs.declared.profile.Profile.{Profile}
 
 -- ---- ranges
 

@@ -1,4 +1,4 @@
-use Rattle.std.proofs.Common.{◌+◌, unwrap_or, ap, ◌∙◌, arith}
+use Rattle.std.proofs.Common.{◌+◌, ap, ◌∙◌, arith}
 use Rattle.rv_machine.specs.Sizes.{byte_count}
 use Rattle.hepurita.proofs.ElementLemmas.{numbers_at-more}
 use Rattle.hepurita.proofs.elements.numbers.Goals as goal
