@@ -2,19 +2,22 @@
 use Rattle.std.specs.Prelude.{slice_get, is_some, ◌||◌}
 use Rattle.std.specs.List.{AllByRecursion, list_any}
 use Rattle.std.proofs.Math.Path.{fun_ext}
-use Rattle.std.proofs.Common.{◌≡◌, ℕ, zero, suc, ◌+◌, ◌/◌, ◌%◌, ◌^◌, ◌<◌, ◌≤◌, List, [], ◌∷◌, ◌++◌, length, map, drop}
-use Rattle.std.proofs.Common.{get_or, All, Option, Some, None, true, false, cond, le-leb, le-ltb, refl, sym, ap, ◌∙◌}
-use Rattle.std.proofs.Common.{subst, ⊎_elim, arith, add-one}
+use Rattle.std.proofs.Common.{◌≡◌, ℕ, zero, suc, ◌+◌, ◌/◌, ◌%◌, ◌^◌, ◌<◌, ◌≤◌, List, [], ◌∷◌, length, map, drop, get_or}
+use Rattle.std.proofs.Common.{All, Option, Some, None, true, false, cond, refl, sym, ap, ◌∙◌, subst, ⊎_elim, arith}
+use Rattle.std.proofs.Common.{add-one}
+use Rattle.std.proofs.ByRecursion.{All-weaker as All-weaker-by_recursion}
 use Rattle.std.proofs.lemmas.Bool.{cases_eq, false≢true}
 use Rattle.std.proofs.lemmas.List.{drop_more}
 use Rattle.std.proofs.lemmas.List.Elements.{All-head, All-tail, All-cons, All-get_or, All-from_recursion}
+use Rattle.std.proofs.lemmas.List.Elements.{All-weaker, recursion_from_All}
 use Rattle.std.proofs.lemmas.Option.{none-some, same_Some, slice_get_within, get_or_from_slice_get}
 use Rattle.language.specs.arguments.Within.{AreWithin}
 use Rattle.codegen.specs.Loaded.{with_numbers, with_argument, with_arguments}
 use Rattle.hepurita.specs.Frames.{HoldsSlot}
-use Rattle.harts.proofs.Below.{zeros_there, HoldsSlot-same, is_some-with_argument, slots_hold, with_byte_same}
+use Rattle.harts.proofs.FrameLemmas.{frame_only}
+use Rattle.harts.proofs.Below.{zeros_there, HoldsSlot-same, is_some-with_argument, slots_held, with_byte_same}
 use Rattle.harts.proofs.Below.{with_byte_other, with_number-zero, with_number-suc}
-use Rattle.codegen.specs.image_fields.Fields.{slot_end, IsImage}
+use Rattle.codegen.specs.image_fields.Fields.{IsImage}
 use Rattle.codegen.specs.declared.image_fields.slot.Slot.{Slot}
 use Rattle.language.specs.Size.{element_bytes}
 use Rattle.language.specs.declared.values.Arg.{Arg}
@@ -23,19 +26,7 @@ use Rattle.rv_machine.specs.Bytes.{ByteMap, with_byte, with_number, zeros}
 use Rattle.rv_machine.specs.Paged.{lies_in, zeros_in, first_of}
 use Rattle.rv_machine.specs.declared.paged.AddressRange.{AddressRange}
 use Rattle.harts.specs.Frames.{each_from, IsRunnable, HasImage, frame_of, with_all_arguments, HoldFrames}
-use Rattle.harts.specs.SideBySide.{Job, frame_base_of, loaded_alone, bytes_from}
-
--- the zeros of some ranges, and of others
-zeros_in-append : (xs ys : List AddressRange) (a : ℕ)
-    → first_of (zeros_in xs a) (zeros_in ys a) ≡ zeros_in (xs ++ ys) a
-zeros_in-append [] ys a = refl
-zeros_in-append (x ∷ xs) ys a =
-    elim (lies_in a x) as (λ t. first_of (cond (t || list_any (lies_in a) xs) (Some 0) None) (zeros_in ys a)
-    ≡ cond (t || list_any (lies_in a) (xs ++ ys)) (Some 0) None) [
-      | true ↦ refl
-      | false ↦
-          zeros_in-append xs ys a
-    ]
+use Rattle.harts.specs.SideBySide.{Job, code_base_of, frame_base_of, loaded_alone, bytes_from}
 
 -- One frame among others.
 
@@ -78,46 +69,35 @@ module _ (p r : ByteMap) where
 
     pub among-arguments : (b : ByteMap) (slots : List Slot) (args : List Arg)
         → with_arguments low (among b) slots args ≡ among (with_arguments low b slots args)
-    among-arguments b [] args = refl
-    among-arguments b (slot ∷ slots) [] = refl
     among-arguments b (slot ∷ slots) (arg ∷ args) =
         ap (λ m. with_arguments low m slots args) (among-argument b slot arg)
         ∙ among-arguments (with_argument low b slot arg) slots args
+    among-arguments b slots args = refl
 
 -- Where the data is.
-
-still_held : (frame : ℕ) (old new : ByteMap) (slots : List Slot) → ((x : ℕ) → is_some (new x) ≡ is_some (old x))
-    → AllByRecursion (HoldsSlot frame old) slots → AllByRecursion (HoldsSlot frame new) slots
-still_held frame old new [] same held = tt
-still_held frame old new (slot ∷ slots) same held =
-    (HoldsSlot-same frame old new slot same held.0, still_held frame old new slots same held.1)
 
 pub is_some-with_arguments : (frame : ℕ) (bytes : ByteMap) (slots : List Slot) (args : List Arg)
     → AllByRecursion (HoldsSlot frame bytes) slots → AreWithin (map (λ (slot : Slot). slot.param) slots) args
     → (x : ℕ) → is_some (with_arguments frame bytes slots args x) ≡ is_some (bytes x)
-is_some-with_arguments frame bytes [] args held within x = refl
-is_some-with_arguments frame bytes (slot ∷ slots) [] held within x = refl
 is_some-with_arguments frame bytes (slot ∷ slots) (arg ∷ args) held within x =
     let same = is_some-with_argument frame bytes slot held.0 arg within.0.shape in
     is_some-with_arguments frame (with_argument frame bytes slot arg) slots args
-    (still_held frame bytes (with_argument frame bytes slot arg) slots same held.1) within.1 x ∙ same x
-
-zeros_past : (base n x : ℕ) → base + n ≤ x → is_some (zeros base n x) ≡ false
-zeros_past base n x past = rw (le-leb base x (omega arith), le-ltb x (base + n) past) refl
-
-none_of : (o : Option ℕ) → is_some o ≡ false → o ≡ None
-none_of (Some b) is = absurd (false≢true (sym is))
-none_of None is = refl
+    (All-weaker-by_recursion (HoldsSlot frame bytes) (HoldsSlot frame (with_argument frame bytes slot arg))
+    (λ other. HoldsSlot-same frame bytes (with_argument frame bytes slot arg) other same) slots held.1) within.1 x
+    ∙ same x
+is_some-with_arguments frame bytes slots args held within x = refl
 
 -- no data of a frame lies in the next one
-frame_ends : (k : ℕ) (job : Job) → k < 8 → HasImage job → IsRunnable job → (x : ℕ) → frame_base_of (suc k) ≤ x
+frame_ends : (k : ℕ) (job : Job) → HasImage job → IsRunnable job → (x : ℕ) → frame_base_of (suc k) ≤ x
     → (loaded_alone k job).bytes x ≡ None
-frame_ends k job few allowed within x past =
-    let base = frame_base_of k in
-    let n = job.image.frame_bytes in
-    let held = slots_hold base n job.image.slots allowed.slots_inside (omega (arith, allowed.frame_size, few)) in
-    let same = is_some-with_arguments base (zeros base n) job.image.slots job.args held within x in
-    none_of ((loaded_alone k job).bytes x) (same ∙ zeros_past base n x (omega (arith, allowed.frame_size, past)))
+frame_ends k job allowed within x past = by ((loaded_alone k job).bytes x) refl
+  where
+    by : (o : Option ℕ) → (loaded_alone k job).bytes x ≡ o → o ≡ None
+    by None is = refl
+    by (Some byte) is =
+        let inside =
+        frame_only (code_base_of k) (frame_base_of k) job.image allowed job.args within x (ap is_some is) in
+        absurd (omega (arith, inside.1, allowed.frame_size))
 
 -- All frames.
 
@@ -145,8 +125,7 @@ arguments_put k (job ∷ jobs) p empty few allowed within =
     let put = among-arguments p rest low empty begun job.image.slots job.args in
     let regrouped : among p rest alone ≡ (λ a. first_of (q a) (rest a)) =
     fun_ext (λ a. first_of-assoc (p a) (alone a) (rest a)) in
-    let ended = frame_ends k job (omega arith) (All-head HasImage job jobs allowed)
-    (All-head IsRunnable job jobs within) in
+    let ended = frame_ends k job (All-head HasImage job jobs allowed) (All-head IsRunnable job jobs within) in
     let above : (x : ℕ) → frame_base_of (suc k) ≤ x
     → q x ≡ None = λ x past. ap (λ o. first_of o (alone x)) (empty x (omega arith)) ∙ ended x past in
     ap (with_all_arguments (suc k) jobs) (put ∙ regrouped)
@@ -157,36 +136,31 @@ arguments_put k (job ∷ jobs) p empty few allowed within =
 abbrev zero_byte : ℕ
 zero_byte = 0
 
-one_frame : (k : ℕ) (job : Job) (a : ℕ) → zeros_in (frame_of k job ∷ []) a
-    ≡ zeros (frame_base_of k) job.image.frame_bytes a
-one_frame k job a = elim (lies_in a (frame_of k job)) as
-    (λ t. cond (t || false) (Some zero_byte) None ≡ cond t (Some zero_byte) None) [ true ↦ refl | false ↦ refl ]
+zeros_in-cons : (range : AddressRange) (ranges : List AddressRange) (a : ℕ)
+    → zeros_in (range ∷ ranges) a ≡ first_of (cond (lies_in a range) (Some zero_byte) None) (zeros_in ranges a)
+zeros_in-cons range ranges a =
+    elim (lies_in a range) as (λ t. cond (t || list_any (lies_in a) ranges) (Some zero_byte) None
+    ≡ first_of (cond t (Some zero_byte) None) (zeros_in ranges a)) [ true ↦ refl | false ↦ refl ]
 
 -- the zeros of their ranges
 pub zeros_in-frames : (k : ℕ) (jobs : List Job) (a : ℕ) → zeros_in (each_from frame_of k jobs) a ≡ zeros_from k jobs a
 zeros_in-frames k [] a = refl
 zeros_in-frames k (job ∷ jobs) a =
-    sym (zeros_in-append (frame_of k job ∷ []) (each_from frame_of (suc k) jobs) a)
-    ∙ ap (λ o. first_of o (zeros_in (each_from frame_of (suc k) jobs) a)) (one_frame k job a)
+    zeros_in-cons (frame_of k job) (each_from frame_of (suc k) jobs) a
     ∙ ap (first_of (zeros (frame_base_of k) job.image.frame_bytes a)) (zeros_in-frames (suc k) jobs a)
-
-all_by : {X : Type 0} (P : X → Type 0) (xs : List X) → All P xs → AllByRecursion P xs
-all_by P [] all = tt
-all_by P (x ∷ xs) all = (All-head P x xs all, all_by P xs (All-tail P x xs all))
 
 -- a slot that was held is held still
 pub all_held : (frame : ℕ) (old new : ByteMap) (slots : List Slot) → ((x : ℕ) → is_some (new x) ≡ is_some (old x))
     → All (HoldsSlot frame old) slots → All (HoldsSlot frame new) slots
 all_held frame old new slots same held =
-    All-from_recursion (HoldsSlot frame new) slots
-    (still_held frame old new slots same (all_by (HoldsSlot frame old) slots held))
+    All-weaker (HoldsSlot frame old) (HoldsSlot frame new) (λ slot. HoldsSlot-same frame old new slot same) slots held
 
 -- arguments that are put leave the data where it was
 pub still_there : (frame : ℕ) (bytes : ByteMap) (slots : List Slot) (args : List Arg)
     → All (HoldsSlot frame bytes) slots → AreWithin (map (λ (slot : Slot). slot.param) slots) args → (x : ℕ)
     → is_some (with_arguments frame bytes slots args x) ≡ is_some (bytes x)
 still_there frame bytes slots args held within =
-    is_some-with_arguments frame bytes slots args (all_by (HoldsSlot frame bytes) slots held) within
+    is_some-with_arguments frame bytes slots args (recursion_from_All (HoldsSlot frame bytes) slots held) within
 
 -- which end where addresses do
 pub frames_below : (k : ℕ) (jobs : List Job) → k + length jobs ≤ 8 → All HasImage jobs
@@ -227,21 +201,6 @@ zeros_from_there k (first ∷ jobs) (suc i) job is x low high =
     second_there (zeros (frame_base_of k) first.image.frame_bytes x) (zeros_from (suc k) jobs x)
     (zeros_from_there (suc k) jobs i job is x (omega arith) (omega arith))
 
-slots_held : (frame bytes : ℕ) (there : ByteMap) (slots : List Slot)
-    → AllByRecursion (λ slot. slot_end slot ≤ bytes) slots → frame + bytes < 2 ^ 32
-    → ((x : ℕ) → frame ≤ x → x < frame + bytes → is_some (there x) ≡ true)
-    → AllByRecursion (HoldsSlot frame there) slots
-slots_held frame bytes there [] inside below holds = tt
-slots_held frame bytes there (slot ∷ slots) inside below holds =
-    let first : slot_end slot ≤ bytes = inside.0 in (
-      record {
-        below = omega (arith, first);
-        data_there =
-            λ x low high. holds x (omega arith) (omega (arith, first));
-      },
-      slots_held frame bytes there slots inside.1 below holds,
-    )
-
 -- each slot lies in the memory of these ranges
 pub frames_held : (jobs : List Job) (begun : ByteMap) → begun ≡ zeros_in (each_from frame_of 0 jobs) → length jobs ≤ 8
     → All HasImage jobs → HoldFrames jobs begun
@@ -264,6 +223,4 @@ pub with_all-next : (jobs : List Job) (i : ℕ) (job : Job) (b : ByteMap) → i 
     → with_all_arguments i (drop i jobs) b
     ≡ with_all_arguments (i + 1) (drop (i + 1) jobs) (with_arguments (frame_base_of i) b job.image.slots job.args)
 with_all-next jobs i job b inside is =
-    let next = with_arguments (frame_base_of i) b job.image.slots job.args in
-    ap (λ xs. with_all_arguments i xs b) (drop_more jobs i job inside ∙ ap (λ x. x ∷ drop (i + 1) jobs) is)
-    ∙ ap (λ n. with_all_arguments n (drop (i + 1) jobs) next) (sym (add-one i))
+    rw (drop_more jobs i job inside, is, add-one i)
