@@ -1,7 +1,6 @@
 -- The ends of a run of accepted texts' images under a schedule, and what its recorder takes.
 use Rattle.std.specs.Prelude.{◌⊎◌, slice_get}
-use Rattle.std.proofs.Common.{◌≡◌, ℕ, zero, suc, ◌+◌, ◌≤◌, Bool, List, [], ◌∷◌, Some, None, Ok, sym, ap, ◌∙◌, inl}
-use Rattle.std.proofs.Common.{inr, ⊎_elim, arith}
+use Rattle.std.proofs.Common.{◌≡◌, ℕ, zero, suc, ◌+◌, ◌≤◌, Bool, List, [], ◌∷◌, Some, Ok, sym, ap, ◌∙◌, inl, inr, arith}
 use Rattle.std.proofs.lemmas.Option.{none-some, same_Some}
 use Rattle.std.specs.List.{AllByRecursion}
 use Rattle.codegen.specs.Loaded.{results_in}
@@ -15,7 +14,7 @@ use Rattle.hepurita.specs.Compiled.{Means}
 use Rattle.language.specs.Results.{Results}
 use Rattle.rv_machine.specs.Bytes.{ByteMap}
 use Rattle.rv_machine.specs.HartRecording.{kept_of}
-use Rattle.rv_machine.specs.System.{Member, turns_of}
+use Rattle.rv_machine.specs.System.{Member, System, turns_of}
 use Rattle.rv_machine.specs.declared.hart_recording.HartObservation.{HartObservation}
 use Rattle.rv_machine.specs.declared.stops.Stop.TheVariants.{Ecall}
 
@@ -34,6 +33,15 @@ end_at base (first ∷ jobs) (other ∷ members) bytes (suc k) job m at at' =
     let place : suc base + k ≡ base + suc k = omega arith in
     end_at (suc base) jobs members bytes k job m at at' ∙ ap (λ i. Some (end_of i job m.stop bytes)) place
 
+-- and of the hart of a job
+end_of_job : (jobs : List Job) (ends : List HartEnd) (end : System) (k : ℕ) (job : Job) (m : Member)
+    → ends ≡ ends_of jobs end → slice_get jobs k ≡ Some job → slice_get end.members k ≡ Some m
+    → slice_get ends k ≡ Some (end_of k job m.stop end.bytes)
+end_of_job jobs ends end k job m are at at' =
+    let place : 0 + k ≡ k = omega arith in
+    ap (λ (those : List HartEnd). slice_get those k) are ∙ end_at 0 jobs end.members end.bytes k job m at at'
+    ∙ ap (λ i. Some (end_of i job m.stop end.bytes)) place
+
 -- a hart that was given its turns has ended with what its program means
 pub ends_as_meant : (jobs : List Job) (schedule : List ℕ) (keeps : Bool) (list list' : List HartObservation)
     (ends : List HartEnd) (k : ℕ) (job : Job) (from : IsFromText job) → AllByRecursion IsFromText jobs
@@ -44,14 +52,10 @@ pub ends_as_meant : (jobs : List Job) (schedule : List ℕ) (keeps : Bool) (list
 ends_as_meant jobs schedule keeps list list' ends k job from all (ran {end = end} allowed followed answered)
     at enough =
     let it = each_is_alone jobs schedule followed.0 end k job from allowed.few.1 all followed.1 at in
-    let finished = it.finished enough in
-    let are : ends ≡ ends_of jobs end = cc in
-    let place : 0 + k ≡ k = omega arith in (
+    let finished = it.finished enough in (
       results_in (frame_base_of k) job.image end.bytes,
       finished.1,
-      ap (λ (those : List HartEnd). slice_get those k) are
-          ∙ end_at 0 jobs end.members end.bytes k job it.member at it.there
-          ∙ ap (λ i. Some (end_of i job it.member.stop end.bytes)) place
+      end_of_job jobs ends end k job it.member (cc) at it.there
           ∙ ap (λ stop. Some (end_of k job stop end.bytes)) finished.0,
     )
 
@@ -64,18 +68,15 @@ pub ends_so_far : (jobs : List Job) (schedule : List ℕ) (keeps : Bool) (list l
     × (slice_get ends k ≡ Some (ended_with results)))
 ends_so_far jobs schedule keeps list list' ends k job from all (ran {end = end} allowed followed answered) at =
     let it = each_is_alone jobs schedule followed.0 end k job from allowed.few.1 all followed.1 at in
-    let are : ends ≡ ends_of jobs end = cc in
-    let place : 0 + k ≡ k = omega arith in
-    let results = results_in (frame_base_of k) job.image end.bytes in
-    let there : slice_get ends k ≡ Some (end_of k job it.member.stop end.bytes) =
-    ap (λ (those : List HartEnd). slice_get those k) are
-    ∙ end_at 0 jobs end.members end.bytes k job it.member at it.there
-    ∙ ap (λ i. Some (end_of i job it.member.stop end.bytes)) place in
-    ⊎_elim
-    (λ (none : it.member.stop ≡ None). inl (there ∙ ap (λ stop. Some (end_of k job stop end.bytes)) none))
-    (λ (ended : (it.member.stop ≡ Some Ecall) × Means from.built.program job.args results).
-    inr (results, ended.1, there ∙ ap (λ stop. Some (end_of k job stop end.bytes)) ended.0))
-    it.so_far
+    let there = end_of_job jobs ends end k job it.member (cc) at it.there in
+    elim (it.so_far) [
+      | inl none ↦ inl (there ∙ ap (λ stop. Some (end_of k job stop end.bytes)) none)
+      | inr ended ↦ inr (
+        results_in (frame_base_of k) job.image end.bytes,
+        ended.1,
+        there ∙ ap (λ stop. Some (end_of k job stop end.bytes)) ended.0,
+      )
+    ]
 
 -- two runs whose arguments agree record one list
 pub one_record : (one other : List Job) (schedule : List ℕ) (keeps : Bool) (list after after' : List HartObservation)

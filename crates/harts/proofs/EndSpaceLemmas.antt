@@ -17,27 +17,26 @@ use Rattle.harts.proofs.Numbering.{ends_from-more}
 pub space_more : (jobs : List Job) (spaces : List ResultSpace) (job : Job) (one : ResultSpace)
     → AllZip HasSpace jobs spaces → HasSpace job one → AllZip HasSpace (jobs ++ job ∷ []) (spaces ++ one ∷ [])
 space_more [] [] job one each has = (has, tt)
-space_more [] (other ∷ spaces) job one each has = absurd each
-space_more (first ∷ jobs) [] job one each has = absurd each
 space_more (first ∷ jobs) (other ∷ spaces) job one each has = (each.0, space_more jobs spaces job one each.1 has)
+space_more jobs spaces job one each has = absurd each
 
 -- where there is one space more there is one job more, which it is for
 next_space : (jobs : List Job) (n : ℕ) (one : ResultSpace) (left : List ResultSpace)
     → AllZip HasSpace (drop n jobs) (one ∷ left) → (job : Job) × (slice_get jobs n ≡ Some job) × HasSpace job one
     × AllZip HasSpace (drop (suc n) jobs) left
-next_space [] zero one left each = absurd each
-next_space [] (suc n) one left each = absurd each
 next_space (job ∷ jobs) zero one left each = (job, refl, each.0, each.1)
 next_space (job ∷ jobs) (suc n) one left each = next_space jobs n one left each
+next_space [] zero one left each = absurd each
+next_space [] n one left each = absurd each
 
-module _ (jobs : List Job) (n number : ℕ) (is : number ≡ n) (one : ResultSpace) (left spaces : List ResultSpace)
+module _ (jobs : List Job) {n number : ℕ} {one : ResultSpace} {left spaces : List ResultSpace} (is : number ≡ n)
     (each : AllZip HasSpace (drop n jobs) spaces) (steps : spaces ≡ one ∷ left) where
   next : (job : Job) × (slice_get jobs n ≡ Some job) × HasSpace job one × AllZip HasSpace (drop (suc n) jobs) left
-  next = next_space jobs n one left (subst (AllZip HasSpace (drop n jobs)) steps each)
+  next = next_space jobs n one left (rw steps at each)
 
   -- its number is a job's
   pub number_within : number < length jobs
-  number_within = let within = slice_get_within jobs n next.0 next.1 in omega (arith, within, is)
+  number_within = omega (arith, slice_get_within jobs n next.0 next.1)
 
   -- the space is for that job
   pub space_for : (job : Job) → slice_get jobs number ≡ Some job → HasSpace job one
@@ -53,7 +52,7 @@ module _ (jobs : List Job) (n number : ℕ) (is : number ≡ n) (one : ResultSpa
 pub no_space : (jobs : List Job) (n : ℕ) → AllZip HasSpace (drop n jobs) [] → length jobs ≤ n
 no_space [] n each = omega arith
 no_space (job ∷ jobs) zero each = absurd each
-no_space (job ∷ jobs) (suc n) each = let rest = no_space jobs n each in omega (arith, rest)
+no_space (job ∷ jobs) (suc n) each = omega (arith, no_space jobs n each)
 
 -- one end more
 pub one_end_more : (jobs : List Job) (members : List Member) (bytes : ByteMap) (n number k : ℕ) (job : Job)
@@ -63,9 +62,4 @@ pub one_end_more : (jobs : List Job) (members : List Member) (bytes : ByteMap) (
     → after ≡ so_far ++ end ∷ [] → after ≡ ends_from 0 (take k jobs) (take k members) bytes
 one_end_more jobs members bytes n number k job m end so_far after is more at at' ended before all =
     let place : number + 1 ≡ k = omega (arith, is, more) in
-    all
-    ∙ ap (λ (xs : List HartEnd). xs ++ end ∷ []) before
-    ∙ ap (λ i. ends_from 0 (take i jobs) (take i members) bytes ++ end ∷ []) (sym is)
-    ∙ ap (λ (e : HartEnd). ends_from 0 (take number jobs) (take number members) bytes ++ e ∷ []) ended
-    ∙ sym (ends_from-more jobs members bytes number job m at at')
-    ∙ ap (λ i. ends_from 0 (take i jobs) (take i members) bytes) place
+    rw (sym place, ends_from-more jobs members bytes number job m at at', all, before, ended, is)

@@ -5,9 +5,8 @@ use Rattle.std.proofs.Common.{refl, sym, ap, subst, ◌∙◌, inl, inr, arith}
 use Rattle.std.proofs.lemmas.List.Elements.{All-take}
 use Rattle.std.proofs.lemmas.Option.{none-some, same_Some, slice_get_within}
 use Rattle.std.specs.List.{AllByRecursion}
-use Rattle.codegen.specs.Bases.{AreBases, IsInside}
-use Rattle.codegen.specs.Loaded.{code_at, loaded_at, results_in, params_of}
-use Rattle.language.specs.arguments.Within.{AreWithin}
+use Rattle.codegen.specs.Bases.{IsInside}
+use Rattle.codegen.specs.Loaded.{code_at, loaded_at, results_in}
 use Rattle.harts.proofs.FrameLemmas.{frame_there, outcome_same}
 use Rattle.harts.proofs.Resting.{rests_on}
 use Rattle.harts.proofs.SystemLemmas.{IsFit, fit_of, all_fit, fit_at, run_of, member_at, job_at, own_of, own_is}
@@ -15,8 +14,7 @@ use Rattle.harts.proofs.SystemLemmas.{jobs_apart}
 use Rattle.harts.specs.EverySchedule.{IsFromText, IsAlone, JobsAgree, AllAgree}
 use Rattle.harts.specs.SideBySide.{code_base_of, frame_base_of, Job, loaded_alone, member_of, members_from, system_of}
 use Rattle.hepurita.specs.Bases.{most_images}
-use Rattle.hepurita.specs.Compiled.{IsCompiled, Means}
-use Rattle.codegen.specs.image_fields.Fields.{Fields, IsImage}
+use Rattle.hepurita.specs.Compiled.{Means}
 use Rattle.language.specs.Results.{Results}
 use Rattle.harts.proofs.Below.{alone, shown_the_same, shown_alone, stopped_alone, MemberTurn-determined}
 use Rattle.rv_machine.specs.Apart.{IsAsAlone, ShowTheSame}
@@ -38,10 +36,7 @@ one_alone (suc n) own bytes bytes' m after after' seen seen'
     (one_more {between = between} {after = next} {seen = first} {rest = rest} turn more is)
     (one_more {between = between'} {after = next'} {seen = first'} {rest = rest'} turn' more' is') =
     let same = MemberTurn-determined turn turn' in
-    let more_too : Makes n between next rest' bytes' after' =
-    subst (λ (b : ByteMap). Makes n b next rest' bytes' after') (sym same.1)
-    (subst (λ (it : Member). Makes n between' it rest' bytes' after') (sym same.2) more') in
-    let then = one_alone n between bytes bytes' next after after' rest rest' more more_too in
+    let then = one_alone n between bytes bytes' next after after' rest rest' more (rw (same.1, same.2) more') in
     (is ∙ ap (λ xs. xs ++ rest) same.0 ∙ ap (λ xs. first' ++ xs) then.0 ∙ sym is', then.1, then.2)
 
 -- Each is what it is alone.
@@ -58,11 +53,10 @@ module _ (k : ℕ) (below : k < most_images) (job : Job) (fit : IsFit job) (sche
   stays_within =
       let to = run_of k job fit below in
       let run = to.run in
-      let Inside : Observation → Type 0 = λ (o : Observation).
-      IsInside (frame_base_of k) job.image.frame_bytes o.event in
-      let is = shown_alone (member_of k job) it.member (loaded_alone k job).bytes it.bytes run.turns
-      (turns_of k schedule) run.seen it.seen Ecall run.end refl run.halts it.makes in
-      subst (All Inside) (sym is) (All-take Inside (turns_of k schedule) run.seen to.within_frame)
+      rw (shown_alone (member_of k job) it.member (loaded_alone k job).bytes it.bytes run.turns (turns_of k schedule)
+      run.seen it.seen Ecall run.end refl run.halts it.makes)
+      (All-take (λ (o : Observation). IsInside (frame_base_of k) job.image.frame_bytes o.event) (turns_of k schedule)
+      run.seen to.within_frame)
 
   -- what its slots hold where its frame is as the run that halts leaves it
   means_there : it.bytes ≡ (run_of k job fit below).run.end.bytes
@@ -81,10 +75,9 @@ module _ (k : ℕ) (below : k < most_images) (job : Job) (fit : IsFit job) (sche
   has_finished enough =
       let to = run_of k job fit below in
       let run = to.run in
-      let steps = to.within_steps in
       let stop = stopped_alone (member_of k job) it.member (loaded_alone k job).bytes it.bytes run.turns
       (turns_of k schedule) run.seen it.seen Ecall run.end refl run.halts it.makes
-      (omega (arith, enough, steps)) in
+      (omega (arith, to.within_steps)) in
       (stop.0, means_there stop.1)
 
   -- it has not stopped, or is what it is after more turns
@@ -127,8 +120,7 @@ each_is_alone jobs schedule list end k job from few all follows at =
     follows there in
     let short = slice_get_within jobs k job at in
     is_alone k (omega (arith, short, few)) job (fit_of job from) schedule list end
-    (subst (λ (b : ByteMap). IsAsAlone k (turns_of k schedule) b (member_of k job) list end)
-    (own_is jobs k job at) it)
+    (rw (own_is jobs k job at) at it)
 
 -- Two lists of jobs.
 
@@ -147,24 +139,21 @@ fit_too a b fit agree = record {
   program = fit.program;
   before = fit.before;
   export = fit.export;
-  compiled = subst (λ (f : Fields). IsCompiled fit.program fit.before fit.export f) agree.image fit.compiled;
-  allowed = subst IsImage agree.image fit.allowed;
-  bases = subst (λ (f : Fields). (k : ℕ) → k < most_images
-      → AreBases f (code_base_of k) (frame_base_of k)) agree.image fit.bases;
-  within = subst (λ (f : Fields). AreWithin (params_of f) b.args) agree.image agree.args.other_within;
+  compiled = rw agree.image at fit.compiled;
+  allowed = rw agree.image at fit.allowed;
+  bases = rw agree.image at fit.bases;
+  within = rw agree.image at agree.args.other_within;
 }
 
 all_fit_too : (one other : List Job) → AllByRecursion IsFit one → AllAgree one other → AllByRecursion IsFit other
 all_fit_too [] [] fits agree = tt
-all_fit_too [] (b ∷ other) fits agree = absurd agree
-all_fit_too (a ∷ one) [] fits agree = absurd agree
 all_fit_too (a ∷ one) (b ∷ other) fits agree = (fit_too a b fits.0 agree.0, all_fit_too one other fits.1 agree.1)
+all_fit_too one other fits agree = absurd agree
 
 as_many : (one other : List Job) → AllAgree one other → length other ≡ length one
 as_many [] [] agree = refl
-as_many [] (b ∷ other) agree = absurd agree
-as_many (a ∷ one) [] agree = absurd agree
 as_many (a ∷ one) (b ∷ other) agree = ap suc (as_many one other agree.1)
+as_many one other agree = absurd agree
 
 -- alone they show the same
 shows_the_same : (k : ℕ) → k < most_images → (a b : Job) → IsFit a → IsFit b → JobsAgree a b
@@ -175,9 +164,7 @@ shows_the_same k below a b fit fit' agree n seen seen' bytes bytes' after after'
     let run = (run_of k a fit below).run in
     let run' = (run_of k b fit' below).run in
     let halts' : Halts (code_at code a.image) run'.turns (loaded_at code frame a.image b.args) run'.seen Ecall
-    run'.end =
-    subst (λ (f : Fields). Halts (code_at code f) run'.turns (loaded_at code frame f b.args) run'.seen Ecall
-    run'.end) (sym agree.image) run'.halts in
+    run'.end = rw agree.image run'.halts in
     let lists : run.seen ≡ run'.seen = fit.compiled.equal_leakage (record {
       code = code;
       frame = frame;
@@ -209,11 +196,9 @@ module _ (one other : List Job) (few : length one ≤ most_images) (fits : AllBy
       let short = slice_get_within one k a found.1 in
       let both = shows_the_same k (omega (arith, short, few)) a b (fit_at one k a fits found.1)
       (fit_at other k b fits' found'.1) (agree_at one other k a b agree found.1 found'.1) in
-      subst (λ (x : ByteMap). ShowTheSame x m (own_of other k) m') (sym (own_is one k a found.1))
-      (subst (λ (x : ByteMap). ShowTheSame (loaded_alone k a).bytes m x m') (sym (own_is other k b found'.1))
+      rw (own_is one k a found.1, own_is other k b found'.1)
       (subst (λ (x : Member). ShowTheSame (loaded_alone k a).bytes x (loaded_alone k b).bytes m') (sym is)
-      (subst (λ (x : Member). ShowTheSame (loaded_alone k a).bytes (member_of k a) (loaded_alone k b).bytes x)
-      (sym is') both)))
+      (subst (ShowTheSame (loaded_alone k a).bytes (member_of k a) (loaded_alone k b).bytes) (sym is') both))
 
 pub one_list : (one other : List Job) (schedule : List ℕ) (list list' : List HartObservation) (end end' : System)
     → length one ≤ most_images → AllByRecursion IsFromText one → AllAgree one other
@@ -221,8 +206,7 @@ pub one_list : (one other : List Job) (schedule : List ℕ) (list list' : List H
 one_list one other schedule list list' end end' few all agree follows follows' =
     let fits = all_fit one all in
     let fits' = all_fit_too one other fits agree in
-    let count = as_many one other agree in
-    let few' : length other ≤ most_images = omega (arith, count, few) in
+    let few' : length other ≤ most_images = omega (arith, as_many one other agree) in
     shown_the_same (own_of one) (own_of other) schedule (system_of one) (system_of other) end end' list list'
     (jobs_apart one few fits) (jobs_apart other few' fits') (all_alike one other few fits fits' agree)
     follows follows'

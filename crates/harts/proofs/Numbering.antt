@@ -18,7 +18,7 @@ each_from-push f k [] y =
     ap (λ n. f n y ∷ []) e
 each_from-push f k (x ∷ xs) y =
     let e : suc k + length xs ≡ k + suc (length xs) = omega arith in
-    ap (λ ys. f k x ∷ ys) (each_from-push f (suc k) xs y ∙ ap (λ n. each_from f (suc k) xs ++ f n y ∷ []) e)
+    rw (each_from-push f (suc k) xs y, e)
 
 pub members_from-each : (k : ℕ) (jobs : List Job) → each_from member_of k jobs ≡ members_from k jobs
 members_from-each k [] = refl
@@ -57,13 +57,13 @@ module _ {J : Type 0} (seen_as : J → Job) (jobs : List J) (i : ℕ) (one : J) 
       ++ f i (seen_as one) ∷ []
   each_more f =
       let all = map seen_as jobs in
-      let there = job_there (seen_as one) in
-      let front : length (take i all) ≡ i = length-take-le i all (omega (arith, many)) in
-      let number : 0 + length (take i all) ≡ i = omega (arith, front) in
-      ap (each_from f 0) (take_more all i (seen_as one) many)
-      ∙ each_from-push f 0 (take i all) (get_or all i (seen_as one))
-      ∙ ap (λ n. each_from f 0 (take i all) ++ f n (get_or all i (seen_as one)) ∷ []) number
-      ∙ ap (λ x. each_from f 0 (take i all) ++ f i x ∷ []) there
+      let number : 0 + length (take i all) ≡ i = omega (arith, length-take-le i all (omega (arith, many))) in
+      rw (
+        take_more all i (seen_as one) many,
+        each_from-push f 0 (take i all) (get_or all i (seen_as one)),
+        number,
+        job_there (seen_as one),
+      )
 
 -- the loop has come to the end
 pub all_taken : {J : Type 0} (seen_as : J → Job) (jobs : List J) (i : ℕ) → length jobs ≤ i
@@ -79,15 +79,11 @@ ends_from-next : (k : ℕ) (jobs : List Job) (members : List Member) (bytes : By
 ends_from-next k [] members bytes i job m here there = absurd (none-some _ here)
 ends_from-next k (x ∷ jobs) [] bytes i job m here there = absurd (none-some _ there)
 ends_from-next k (x ∷ jobs) (y ∷ members) bytes zero job m here there =
-    let number : k ≡ k + 0 = omega arith in
-    let same : x ≡ job = same_Some x job here in
-    let stop : y.stop ≡ m.stop = ap (λ (z : Member). z.stop) (same_Some y m there) in
-    ap (λ n. end_of n x y.stop bytes ∷ []) number ∙ ap (λ j. end_of (k + 0) j y.stop bytes ∷ []) same
-    ∙ ap (λ s. end_of (k + 0) job s bytes ∷ []) stop
+    let number : k + 0 ≡ k = omega arith in
+    rw (number, same_Some x job here, same_Some y m there)
 ends_from-next k (x ∷ jobs) (y ∷ members) bytes (suc i) job m here there =
     let number : suc k + i ≡ k + suc i = omega arith in
-    ap (λ es. end_of k x y.stop bytes ∷ es) (ends_from-next (suc k) jobs members bytes i job m here there
-    ∙ ap (λ n. ends_from (suc k) (take i jobs) (take i members) bytes ++ end_of n job m.stop bytes ∷ []) number)
+    rw (ends_from-next (suc k) jobs members bytes i job m here there, number)
 
 pub ends_from-more : (jobs : List Job) (members : List Member) (bytes : ByteMap) (i : ℕ) (job : Job) (m : Member)
     → slice_get jobs i ≡ Some job → slice_get members i ≡ Some m
@@ -95,6 +91,4 @@ pub ends_from-more : (jobs : List Job) (members : List Member) (bytes : ByteMap)
     ++ end_of i job m.stop bytes ∷ []
 ends_from-more jobs members bytes i job m here there =
     let number : 0 + i ≡ i = omega arith in
-    ap (λ n. ends_from 0 (take n jobs) (take n members) bytes) (add-one i)
-    ∙ ends_from-next 0 jobs members bytes i job m here there
-    ∙ ap (λ n. ends_from 0 (take i jobs) (take i members) bytes ++ end_of n job m.stop bytes ∷ []) number
+    rw (add-one i, ends_from-next 0 jobs members bytes i job m here there, number)

@@ -1,8 +1,8 @@
 -- Where jobs side by side begin: each hart with a frame of its own, alone in which it stays.
 use Rattle.std.specs.Prelude.{slice_get}
-use Rattle.std.proofs.Common.{◌≡◌, ◌≢◌, ℕ, zero, suc, ◌+◌, ◌<◌, ◌≤◌, Bool, true, false, List, [], ◌∷◌, length, Option}
-use Rattle.std.proofs.Common.{Some, None, is_some, refl, sym, ap, ap₂, subst, ◌∙◌, ⊎_elim, arith}
-use Rattle.std.proofs.lemmas.Bool.{cases_lt, false≢true}
+use Rattle.std.proofs.Common.{◌≡◌, ◌≢◌, ℕ, zero, suc, ◌+◌, ◌<◌, ◌≤◌, true, false, List, [], ◌∷◌, length, Option, Some}
+use Rattle.std.proofs.Common.{None, is_some, refl, sym, ap, ap₂, subst, ◌∙◌, ⊎_elim, arith}
+use Rattle.std.proofs.lemmas.Bool.{cases_lt, false≢true, false_from_ne_true}
 use Rattle.std.proofs.lemmas.Option.{none-some, same_Some, slice_get_within}
 use Rattle.std.specs.List.{AllByRecursion}
 use Rattle.language.specs.arguments.Within.{AreWithin}
@@ -10,14 +10,13 @@ use Rattle.codegen.specs.Bases.{AreBases}
 use Rattle.codegen.specs.Loaded.{params_of}
 use Rattle.harts.proofs.FrameLemmas.{frame_only}
 use Rattle.harts.specs.EverySchedule.{IsFromText}
-use Rattle.harts.specs.SideBySide.{code_base_of, frame_base_of, Job, loaded_alone, member_of, bytes_from}
-use Rattle.harts.specs.SideBySide.{members_from, system_of}
+use Rattle.harts.specs.SideBySide.{code_base_of, frame_base_of, Job, loaded_alone, member_of, bytes_from, members_from}
+use Rattle.harts.specs.SideBySide.{system_of}
 use Rattle.hepurita.specs.Bases.{most_images, frame_distance}
 use Rattle.hepurita.specs.Compiled.{IsCompiled, RunsTo}
-use Rattle.hepurita.specs.image.Reading.{Spells}
-use Rattle.codegen.specs.image_fields.Fields.{Fields, IsImage}
+use Rattle.codegen.specs.image_fields.Fields.{IsImage}
 use Rattle.language.specs.Tree.{ProcedureTree, ProgramTree}
-use Rattle.harts.proofs.Below.{keeps_inside}
+use Rattle.harts.proofs.Below.{keeps_inside, same_fields}
 use Rattle.rv_machine.specs.Apart.{Covers, KeepsInside, AreApart}
 use Rattle.rv_machine.specs.Bytes.{ByteMap}
 use Rattle.rv_machine.specs.Paged.{first_of}
@@ -36,11 +35,6 @@ pub record IsFit (job : Job) : Type 0 where
   pub bases : (k : ℕ) → k < most_images → AreBases job.image (code_base_of k) (frame_base_of k)
   pub within : AreWithin (params_of job.image) job.args
 
-pub same_fields : (bytes : List ℕ) (f g : Fields) → Spells bytes f → Spells bytes g → f ≡ g
-same_fields bytes f g one other =
-    let both = sym one ∙ other in
-    cc
-
 abbrev pub fit_of : (job : Job) → IsFromText job → IsFit job
 fit_of job from =
     let built = from.built in
@@ -49,10 +43,9 @@ fit_of job from =
       program = built.program;
       before = built.before;
       export = built.export;
-      compiled = subst (λ (f : Fields). IsCompiled built.program built.before built.export f) images built.compiled;
-      allowed = subst IsImage images built.allowed;
-      bases = subst (λ (f : Fields). (k : ℕ) → k < most_images
-          → AreBases f (code_base_of k) (frame_base_of k)) images built.bases;
+      compiled = rw images at built.compiled;
+      allowed = rw images at built.allowed;
+      bases = rw images at built.bases;
       within = from.within;
     }
 
@@ -82,26 +75,17 @@ module _ (k : ℕ) (job : Job) (fit : IsFit job) where
       → (frame_base_of k ≤ a) × (a < frame_base_of k + frame_distance)
   window a there =
       let inside = frame_only (code_base_of k) (frame_base_of k) job.image fit.allowed job.args fit.within a there in
-      let size = fit.allowed.frame_size in
-      (inside.0, omega (arith, inside.1, size))
+      (inside.0, omega (arith, inside.1, fit.allowed.frame_size))
 
 -- two frames have no byte in common
 apart_frames : (j k a : ℕ) → j ≢ k → (frame_base_of j ≤ a) × (a < frame_base_of j + frame_distance)
     → (frame_base_of k ≤ a) × (a < frame_base_of k + frame_distance) → ⊥
 apart_frames j k a other one two =
-    let low = one.0 in
-    let high = one.1 in
-    let low' = two.0 in
-    let high' = two.1 in
     ⊎_elim
-    (λ (h : j < k). omega (arith, h, low', high))
-    (λ (h : k ≤ j). ⊎_elim (λ (g : k < j). omega (arith, g, low, high')) (λ (g : j ≤ k). other (omega (arith, h, g)))
+    (λ (h : j < k). omega (arith, one.1, two.0))
+    (λ (h : k ≤ j). ⊎_elim (λ (g : k < j). omega (arith, one.0, two.1)) (λ (g : j ≤ k). other (omega arith))
     (cases_lt k j))
     (cases_lt j k)
-
-not_true : (b : Bool) → (b ≡ true → ⊥) → b ≡ false
-not_true true never = absurd (never refl)
-not_true false never = refl
 
 -- Jobs side by side.
 
@@ -149,7 +133,7 @@ bytes_at base (first ∷ rest) fits (suc k) job at a there =
     let same : (loaded_alone (suc base + k) job).bytes a ≡ (loaded_alone (base + suc k) job).bytes a =
     ap (λ i. (loaded_alone i job).bytes a) place in
     let mine = window (base + suc k) job (fit_at rest k job fits.1 at) a there in
-    let none = not_true (is_some ((loaded_alone base first).bytes a))
+    let none = false_from_ne_true (is_some ((loaded_alone base first).bytes a))
     (λ also. apart_frames base (base + suc k) a (λ e. omega (arith, e))
     (window base first fits.0 a also) mine) in
     second_there ((loaded_alone base first).bytes a) (bytes_from (suc base) rest a) none
@@ -196,15 +180,13 @@ module _ (jobs : List Job) (few : length jobs ≤ most_images) (fits : AllByRecu
       let place : zero + k ≡ k = omega arith in
       let is : m ≡ member_of k job = found.2 ∙ ap (λ i. member_of i job) place in
       let short = slice_get_within jobs k job found.1 in
-      let below : k < most_images = omega (arith, short, few) in
-      subst (λ (b : ByteMap). KeepsInside b m) (sym (own_is jobs k job found.1))
-      (subst (KeepsInside (loaded_alone k job).bytes) (sym is)
-      (inside_alone k job (fit_at jobs k job fits found.1) below))
+      rw (own_is jobs k job found.1) (subst (KeepsInside (loaded_alone k job).bytes) (sym is)
+      (inside_alone k job (fit_at jobs k job fits found.1) (omega arith)))
 
   -- the harts have bytes of their own, and reach for no others
   pub jobs_apart : AreApart (own_of jobs) (system_of jobs)
   jobs_apart = record {
-    apart = λ j k a other there. not_true (is_some (own_of jobs k a))
+    apart = λ j k a other there. false_from_ne_true (is_some (own_of jobs k a))
         (λ also. apart_frames j k a other (own_window j a there) (own_window k a also));
     there = own_there;
     inside = own_inside;

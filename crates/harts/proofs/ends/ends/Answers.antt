@@ -1,7 +1,5 @@
 -- The end of one hart more.
-use Rattle.std.proofs.Common.{◌≡◌, ◌<◌, ◌≤◌, List, [], Some, length, map, take, drop, refl, sym, ap, subst, ◌∙◌}
-use Rattle.std.proofs.Common.{vec_len, arith}
-use Rattle.std.specs.List.{AllZip}
+use Rattle.std.proofs.Common.{◌≡◌, ◌<◌, ◌≤◌, [], Some, length, map, refl, sym, ap, subst, ◌∙◌, vec_len, arith}
 use Rattle.std.specs.Prelude.{slice_get}
 use Rattle.std.specs.Option.{option_map}
 use Rattle.std.specs.Vec.Iter.{into_iter_items}
@@ -9,11 +7,7 @@ use Rattle.std.proofs.lemmas.List.{length-map, nil_from_length, take_all}
 use Rattle.std.proofs.lemmas.Option.{slice_get-map, slice_get_read}
 use Rattle.rv_machine.specs.Paged.{paged_bytes}
 use Rattle.rv_machine.specs.RunningHarts.{member_now}
-use Rattle.rv_machine.specs.System.{Member}
-use Rattle.harts.specs.EndSpace.{HasSpace}
-use Rattle.harts.specs.Ends.{ends_from}
 use Rattle.harts.specs.Frames.{job_of, HasImage}
-use Rattle.harts.specs.SideBySide.{Job}
 use Rattle.harts.proofs.EndSpaceLemmas.{number_within, space_for, spaces_left, no_space, one_end_more}
 use Rattle.harts.proofs.Numbering.{at_job, job_got}
 use Rattle.harts.proofs.ends.ends.Goals as goal
@@ -22,9 +16,7 @@ pub end-requires-clause-allowed : goal.end-requires-clause-allowed
 end-requires-clause-allowed c =
     let jobs = c.args.jobs.now in
     let all = map job_of jobs in
-    let within = number_within all (vec_len c.loop-space.ends) c.len-number.result c.len-number.ensures
-    c.in-Some.space (into_iter_items c.next.new.self) (into_iter_items c.loop-space.space-iterator)
-    c.loop-space.invariant.each c.in-Some.ensures.steps.0 in
+    let within = number_within all c.len-number.ensures c.loop-space.invariant.each c.in-Some.ensures.steps.0 in
     at_job job_of jobs c.len-number.result c.index-jobs-number.result (omega (arith, within, length-map jobs job_of))
     c.index-jobs-number.is HasImage c.requires.allowed
 
@@ -32,17 +24,11 @@ pub end-requires-clause-space : goal.end-requires-clause-space
 end-requires-clause-space c =
     let jobs = c.args.jobs.now in
     let all = map job_of jobs in
-    let n = vec_len c.loop-space.ends in
     let number = c.len-number.result in
     let one = c.index-jobs-number.result in
-    let left = into_iter_items c.next.new.self in
-    let spaces = into_iter_items c.loop-space.space-iterator in
-    let within = number_within all n number c.len-number.ensures c.in-Some.space left spaces
-    c.loop-space.invariant.each c.in-Some.ensures.steps.0 in
-    space_for all n number c.len-number.ensures c.in-Some.space left spaces c.loop-space.invariant.each
-    c.in-Some.ensures.steps.0
-    (job_of one) (job_got job_of jobs number one (omega (arith, within, length-map jobs job_of))
-    c.index-jobs-number.is)
+    let within = number_within all c.len-number.ensures c.loop-space.invariant.each c.in-Some.ensures.steps.0 in
+    space_for all c.len-number.ensures c.loop-space.invariant.each c.in-Some.ensures.steps.0 (job_of one)
+    (job_got job_of jobs number one (omega (arith, within, length-map jobs job_of)) c.index-jobs-number.is)
 
 pub loop-space-preserved : goal.loop-space-preserved
 loop-space-preserved c =
@@ -55,12 +41,9 @@ loop-space-preserved c =
     let number = c.len-number.result in
     let one = c.index-jobs-number.result in
     let got = c.index.result.now in
-    let left = into_iter_items c.next.new.self in
-    let spaces = into_iter_items at.space-iterator in
     let gone = c.in-Some.ensures.steps.1 in
     let short = ap length c.in-Some.ensures.steps.0 in
-    let within = number_within all n number c.len-number.ensures c.in-Some.space left spaces at.invariant.each
-    c.in-Some.ensures.steps.0 in
+    let within = number_within all c.len-number.ensures at.invariant.each c.in-Some.ensures.steps.0 in
     let inside : number < length jobs = omega (arith, within, length-map jobs job_of) in
     let hart : number < length harts = subst (λ k. number < k) (sym c.requires.count) inside in
     let found : slice_get harts number ≡ Some got =
@@ -73,8 +56,8 @@ loop-space-preserved c =
           (member_now got) c.end.result at.ends.items c.push_reserved.new.self.items
           c.len-number.ensures c.push_reserved.ensures.len here there (c.end.ensures one.1) at.invariant.so_far
           c.push_reserved.ensures.items;
-      each = spaces_left all n number c.len-number.ensures c.in-Some.space left spaces at.invariant.each
-          c.in-Some.ensures.steps.0 (vec_len c.push_reserved.new.self) c.push_reserved.ensures.len;
+      each = spaces_left all c.len-number.ensures at.invariant.each c.in-Some.ensures.steps.0
+          (vec_len c.push_reserved.new.self) c.push_reserved.ensures.len;
       len = omega (arith, at.invariant.len, gone, short);
       enough = omega (
         arith,
@@ -91,11 +74,10 @@ returns c =
     let jobs = c.args.jobs.now in
     let all = map job_of jobs in
     let members = map member_now c.args.running.now.harts.items in
-    let bytes = paged_bytes c.args.running.now.memory in
     let n = vec_len at.ends in
     let left = into_iter_items at.space-iterator in
     let none : left ≡ [] = nil_from_length left (sym at.invariant.len ∙ c.in-None.ensures.steps.0) in
-    let past : length all ≤ n = no_space all n (subst (AllZip HasSpace (drop n all)) none at.invariant.each) in
+    let past : length all ≤ n = no_space all n (rw none at at.invariant.each) in
     let past' : length members ≤ n =
     omega (
       arith,
@@ -104,6 +86,4 @@ returns c =
       length-map c.args.running.now.harts.items member_now,
       c.requires.count,
     ) in
-    at.invariant.so_far
-    ∙ ap (λ (js : List Job). ends_from 0 js (take n members) bytes) (take_all n all past)
-    ∙ ap (λ (ms : List Member). ends_from 0 all ms bytes) (take_all n members past')
+    rw (take_all n all past, take_all n members past') at at.invariant.so_far

@@ -1,12 +1,9 @@
 -- The arguments of one more are put.
-use Rattle.std.proofs.Common.{◌≡◌, ℕ, ◌+◌, List, All, length, map, drop, is_some, sym, ap, subst, ◌∙◌}
+use Rattle.std.proofs.Common.{◌≡◌, ◌+◌, length, map, drop, is_some, sym, ap, ◌∙◌}
 use Rattle.std.proofs.lemmas.List.{length-map}
-use Rattle.language.specs.arguments.Within.{AreWithin}
 use Rattle.codegen.specs.Loaded.{params_of, with_arguments}
-use Rattle.hepurita.specs.Frames.{HoldsSlot}
 use Rattle.harts.proofs.Below.{length-within}
 use Rattle.codegen.specs.declared.image_fields.slot.Slot.{Slot}
-use Rattle.language.specs.declared.values.Arg.{Arg}
 use Rattle.rv_machine.specs.Bytes.{ByteMap}
 use Rattle.harts.specs.Frames.{job_of, IsRunnable, with_all_arguments}
 use Rattle.harts.specs.SideBySide.{frame_base_of}
@@ -27,9 +24,7 @@ put_arguments-requires-clause-within g c =
     let one = c.index-jobs-number.result in
     let within = at_job job_of c.args.jobs.now c.loop-number.number one c.loop-number-test.true c.index-jobs-number.is
     IsRunnable c.requires.within in
-    subst (λ (xs : List Slot). AreWithin (map (λ (slot : Slot). slot.param) xs) c.as_slice.result.now)
-    (sym c.slots.ensures.slots)
-    (subst (λ (xs : List Arg). AreWithin (params_of one.0) xs) (sym c.as_slice.ensures) within)
+    rw (c.slots.ensures.slots, c.as_slice.ensures) within
 
 pub put_arguments-requires-clause-data : goal.put_arguments-requires-clause-data
 put_arguments-requires-clause-data g c =
@@ -40,9 +35,8 @@ put_arguments-requires-clause-data g c =
     let begun =
     c.requires.data i (job_of one)
     (job_got job_of c.args.jobs.now i one c.loop-number-test.true c.index-jobs-number.is) in
-    let held = all_held (frame_base_of i) old now one.0.slots c.loop-number.invariant.data_there begun in
-    subst (λ (n : ℕ). All (HoldsSlot n now) c.slots.result.now) (sym c.frame_base.ensures)
-    (subst (λ (xs : List Slot). All (HoldsSlot (frame_base_of i) now) xs) (sym c.slots.ensures.slots) held)
+    rw (c.frame_base.ensures, c.slots.ensures.slots)
+    (all_held (frame_base_of i) old now one.0.slots c.loop-number.invariant.data_there begun)
 
 pub loop-number-preserved : goal.loop-number-preserved
 loop-number-preserved g c =
@@ -59,10 +53,7 @@ loop-number-preserved g c =
     let held = all_held (frame_base_of i) old now one.0.slots c.loop-number.invariant.data_there
     (c.requires.data i (job_of one) (job_got job_of jobs i one inside is)) in
     let written : new ≡ with_arguments (frame_base_of i) now one.0.slots one.1 =
-    c.put_arguments.ensures
-    ∙ (ap (λ (n : ℕ). with_arguments n now c.slots.result.now c.as_slice.result.now) c.frame_base.ensures
-    ∙ (ap (λ (xs : List Slot). with_arguments (frame_base_of i) now xs c.as_slice.result.now) c.slots.ensures.slots
-    ∙ ap (λ (xs : List Arg). with_arguments (frame_base_of i) now one.0.slots xs) c.as_slice.ensures)) in
+    rw (c.frame_base.ensures, c.slots.ensures.slots, c.as_slice.ensures) at c.put_arguments.ensures in
     record {
       rest =
           ap (with_all_arguments (i + 1) (drop (i + 1) all)) written

@@ -1,6 +1,5 @@
 -- One frame more.
-use Rattle.std.proofs.Common.{◌≡◌, ℕ, ◌+◌, List, ◌∷◌, [], ◌++◌, sym, ap, ◌∙◌}
-use Rattle.rv_machine.specs.declared.paged.AddressRange.{AddressRange}
+use Rattle.std.proofs.Common.{◌≡◌, sym, ◌∙◌}
 use Rattle.harts.specs.Frames.{job_of, HasImage, frame_of}
 use Rattle.harts.specs.SideBySide.{frame_base_of}
 use Rattle.harts.proofs.Numbering.{each_more, all_more}
@@ -13,17 +12,11 @@ loop-number-preserved c =
     let one = c.index-jobs-number.result in
     let inside = c.loop-number-test.true in
     let is = c.index-jobs-number.is in
-    let items = c.loop-number.ranges.items in
-    let range : ℕ → ℕ → AddressRange = λ b n. record { begin = b; end = b + n } in
     let begin : c.from-begin.result ≡ frame_base_of i = c.from-begin.ensures ∙ c.frame_base.ensures in
     let size : c.from.result ≡ one.0.frame_bytes = c.from.ensures ∙ c.frame_bytes.ensures.bytes in
     record {
-      frames =
-          c.in_ok-push.ensures.items
-          ∙ (ap (λ (b : ℕ). items ++ range b c.from.result ∷ []) begin
-          ∙ (ap (λ (n : ℕ). items ++ range (frame_base_of i) n ∷ []) size
-          ∙ (ap (λ (xs : List AddressRange). xs ++ frame_of i (job_of one) ∷ []) c.loop-number.invariant.frames
-          ∙ sym (each_more job_of jobs i one inside is frame_of))));
+      frames = rw (c.in_ok-push.ensures.items, begin, size, c.loop-number.invariant.frames)
+          (sym (each_more job_of jobs i one inside is frame_of));
       allowed = all_more job_of jobs i one inside is HasImage c.loop-number.invariant.allowed
           c.frame_bytes.ensures.allowed;
     }

@@ -1,5 +1,5 @@
 -- A run is refused, or cut short when out of memory, or follows the schedule.
-use Rattle.std.proofs.Common.{◌≡◌, ◌<◌, All, Ok, length, map, inr, sym, ap, subst, ◌∙◌}
+use Rattle.std.proofs.Common.{◌≡◌, Ok, length, map, inr, sym, ap, subst, ◌∙◌}
 use Rattle.std.proofs.lemmas.List.{length-map}
 use Rattle.std.proofs.lemmas.Result.{err_from_is_err_and}
 use Rattle.rv_machine.specs.Paged.{paged_bytes}
@@ -31,7 +31,7 @@ follow-requires g c =
     let harts = c.in_ok-running.running.harts.items in
     let count : length harts ≡ length jobs = sym (length-map harts member_now)
     ∙ (ap (λ (s : System). length s.members) c.in_ok-running.ensures.loaded ∙ members_from-count 0 jobs) in
-    subst (λ n. All (λ number. number < n) c.args.schedule.now) (sym count) c.in_ok-check.ensures.allowed.named
+    rw count c.in_ok-check.ensures.allowed.named
 
 pub returns-in_err-follow-clause-ran : goal.returns-in_err-follow-clause-ran
 returns-in_err-follow-clause-ran g c =
