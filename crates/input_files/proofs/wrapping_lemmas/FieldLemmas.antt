@@ -1,10 +1,9 @@
 -- The fields that are asked for are allowed, where no rule is broken.
-use Rattle.std.proofs.Common.{◌≡◌, ℕ, ◌*◌, ◌/◌, ◌%◌, ◌<◌, ◌≤◌, ◌^◌, Bool, true, false, ◌&&◌, ◌==◌, nat_le}
-use Rattle.std.proofs.Common.{if◌then◌else◌, List, length, map, Option, None, Some, IfSome, refl, sym, ap, ◌∙◌, arith}
+use Rattle.std.proofs.Common.{◌≡◌, ℕ, ◌*◌, ◌/◌, ◌%◌, ◌<◌, ◌≤◌, ◌^◌, Bool, true, ◌&&◌, ◌==◌, nat_le, if◌then◌else◌, List}
+use Rattle.std.proofs.Common.{length, map, Option, None, Some, IfSome, refl, sym, ap, ◌∙◌, arith}
 use Rattle.std.specs.List.{AllByRecursion}
 use Rattle.std.proofs.lemmas.Bool.{and_parts, eqb-true, leb-true}
-use Rattle.codegen.proofs.ImageLemmas.{length-slots_from, count_in_words, slots_are, slots_end-slots_from}
-use Rattle.codegen.proofs.ImageLemmas.{slots_inside}
+use Rattle.codegen.proofs.ImageLemmas.{length-slots_from, count_in_words, slots_are, slots_end-slots_from, slots_inside}
 use Rattle.codegen.specs.expression_code.Layout.{slots_from}
 use Rattle.hepurita.specs.image.Reading.{is_frame_size, is_step_limit, is_word_count, layout_end}
 use Rattle.codegen.specs.image_fields.Fields.{Fields, IsImage, IsResultSlot, result_end, slots_end}
@@ -32,9 +31,7 @@ named length frame steps = if length then if frame then if steps then None else 
 none_named : (length frame steps : Bool) → named length frame steps ≡ None
     → (length ≡ true) × (frame ≡ true) × (steps ≡ true)
 none_named true true true is = (refl, refl, refl)
-none_named true true false is = absurd cc
-none_named true false steps is = absurd cc
-none_named false frame steps is = absurd cc
+none_named length frame steps is = absurd cc
 
 -- what that is in numbers
 pub record Unbroken (low bytes : ℕ) (asked : Asked) : Type 0 where
@@ -94,9 +91,7 @@ pub record AreWithinLimits (params : List Param) : Type 0 where
 -- where their slots end
 pub low_of : (params : List Param) → AreWithinLimits params → slots_end 0 (slots_from 0 params) ≤ most_declared_bytes
 low_of params limits =
-    let given = limits.given in
-    let end = slots_end-slots_from 0 params in
-    omega (arith, given, end)
+    omega (arith, limits.given, slots_end-slots_from 0 params)
 
 module _ (params : List Param) (returned : Option WordType) (code : List ℕ) (asked : Asked)
     (limits : AreWithinLimits params) (none : broken_rule (end_of params returned) (length code) asked ≡ None) where
@@ -120,24 +115,19 @@ module _ (params : List Param) (returned : Option WordType) (code : List ℕ) (a
   made_allowed : (words : List ℕ) → AreWordsOf code words → AreSmall words → IsImage (made words)
   made_allowed words are fit =
       let low = slots_end 0 (slots_from 0 params) in
-      let given = limits.given in
       let size = sym (ap length are) ∙ length-bytes_of words in
-      let some = facts.some in
-      let few = facts.few in
-      let inside = facts.inside in
-      let before = behind low returned in
       record {
-        count = omega (arith, length-slots_from 0 params, count_in_words params limits.lengths, given);
-        slots = slots_are 0 params limits.lengths refl (omega (arith, given));
-        returned = result_is low returned (omega (arith, end)) (omega (arith, end, given));
+        count = omega (arith, length-slots_from 0 params, count_in_words params limits.lengths, limits.given);
+        slots = slots_are 0 params limits.lengths refl (omega (arith, limits.given));
+        returned = result_is low returned (omega (arith, end)) (omega (arith, end, limits.given));
         frame_aligned = facts.aligned;
         frame_size = facts.small;
-        slots_inside = slots_inside 0 asked.frame_bytes params (omega (arith, end, inside, before));
-        returned_inside = result_inside low asked.frame_bytes returned inside;
+        slots_inside = slots_inside 0 asked.frame_bytes params (omega (arith, end, facts.inside, behind low returned));
+        returned_inside = result_inside low asked.frame_bytes returned facts.inside;
         some_step = facts.some_step;
         steps = facts.steps;
-        some_word = omega (arith, size, some);
-        word_count = omega (arith, size, few);
+        some_word = omega (arith, size, facts.some);
+        word_count = omega (arith, size, facts.few);
         words = fit;
       }
 

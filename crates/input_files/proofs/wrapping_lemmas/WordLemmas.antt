@@ -1,15 +1,13 @@
 -- Words in code: four bytes each, one after another.
-use Rattle.std.proofs.Common.{◌≡◌, ℕ, ◌+◌, ◌*◌, ◌%◌, ◌^◌, ◌<◌, List, [], ◌∷◌, ◌++◌, All, length, get_or, drop, refl}
-use Rattle.std.proofs.Common.{sym, ap, ap₂, subst, ◌∙◌, append_assoc, length-append, arith, inl, inr}
+use Rattle.std.proofs.Common.{◌≡◌, ℕ, ◌+◌, ◌*◌, ◌%◌, ◌^◌, ◌<◌, List, [], ◌∷◌, ◌++◌, length, get_or, drop, refl, sym, ap}
+use Rattle.std.proofs.Common.{ap₂, subst, ◌∙◌, append_assoc, length-append, arith, inl, inr}
 use Rattle.std.specs.List.{AllByRecursion, flat_map}
 use Rattle.std.proofs.lemmas.Bool.{cases_lt}
-use Rattle.std.proofs.lemmas.List.{append-nil, drop_at, flat_map_more, get_or_append_left, get_or-append-add}
-use Rattle.std.proofs.lemmas.List.{get_or_past}
-use Rattle.std.proofs.lemmas.List.Elements.{All-append, All-from_recursion}
-use Rattle.std.proofs.lemmas.List.Concat.{flat_map-cons}
+use Rattle.std.proofs.lemmas.List.{append-nil, flat_map_more, get_or_append_left, get_or-append-add, get_or_past}
+use Rattle.std.proofs.lemmas.List.{nil_from_length}
 use Rattle.std.proofs.lemmas.Nat.{le_bytes_4}
 use Rattle.byteorder.specs.Endian.{little_bytes, little_number}
-use Rattle.byteorder.specs.Numbers.{length-bytes_low_first, little_number-reads_back}
+use Rattle.byteorder.specs.Numbers.{little_number-reads_back}
 
 -- the bytes of words in a row
 abbrev pub bytes_of : List ℕ → List ℕ
@@ -23,13 +21,7 @@ IsBytes bytes = (i : ℕ) → get_or bytes i 0 < 256
 
 pub length-bytes_of : (words : List ℕ) → length (bytes_of words) ≡ 4 * length words
 length-bytes_of [] = refl
-length-bytes_of (word ∷ words) =
-    let here : length (bytes_of (word ∷ words)) ≡ 4 + length (bytes_of words) =
-    ap length (flat_map-cons (λ n. little_bytes 4 n) word words)
-    ∙ length-append (little_bytes 4 word) (bytes_of words)
-    ∙ ap (λ n. n + length (bytes_of words)) (length-bytes_low_first 0 4 word) in
-    let others = length-bytes_of words in
-    omega arith
+length-bytes_of (word ∷ words) = omega (arith, length-bytes_of words)
 
 -- what stands between bytes is bytes
 between : (front x back : List ℕ) → IsBytes (front ++ (x ++ back)) → IsBytes x
@@ -53,33 +45,13 @@ one_more code words x rest word fits is long reads =
     ∙ (sym (append_assoc (bytes_of words) (little_bytes 4 word) rest)
     ∙ ap (λ (t : List ℕ). t ++ rest) (flat_map_more (λ n. little_bytes 4 n) [] words word)))
 
--- words stay words of 32 bits with one more behind them
-pub small_push : (words : List ℕ) (word : ℕ) → All (λ n. n < 2 ^ 32) words → word < 2 ^ 32
-    → All (λ n. n < 2 ^ 32) (words ++ word ∷ [])
-small_push words word all fits =
-    All-append (λ n. n < 2 ^ 32) words (word ∷ []) all (All-from_recursion (λ n. n < 2 ^ 32) (word ∷ []) (fits, tt))
-
-none_left : (xs : List ℕ) → length xs ≡ 0 → xs ≡ []
-none_left [] h = refl
-none_left (x ∷ xs) h = absurd (omega (arith, h))
-
 -- and fewer than four are none, in code of whole words
 pub all_taken : (code words rest : List ℕ) → code ≡ bytes_of words ++ rest → length rest < 4 → length code % 4 ≡ 0
     → bytes_of words ≡ code
 all_taken code words rest is few whole =
     let size = ap length is ∙ length-append (bytes_of words) rest in
-    let words_long = length-bytes_of words in
-    let none = none_left rest (omega (arith, size, words_long, few, whole)) in
+    let none = nil_from_length rest (omega (arith, length-bytes_of words)) in
     sym (is ∙ ap (λ (t : List ℕ). bytes_of words ++ t) none ∙ append-nil (bytes_of words))
-
-first_word : (word : ℕ) (words : List ℕ) → word < 2 ^ 32 → little_number 4 (bytes_of (word ∷ words)) ≡ word
-first_word word words small = ap (little_number 4) (flat_map-cons (λ n. little_bytes 4 n) word words)
-    ∙ little_number-reads_back 4 word (bytes_of words) small
-
-other_words : (word : ℕ) (words : List ℕ) → drop 4 (bytes_of (word ∷ words)) ≡ bytes_of words
-other_words word words =
-    ap (drop 4) (flat_map-cons (λ n. little_bytes 4 n) word words)
-    ∙ drop_at (little_bytes 4 word) (bytes_of words) 4 (length-bytes_low_first 0 4 word)
 
 -- code is of one list of words
 pub same_words : (one other : List ℕ) → AreSmall one → AreSmall other → bytes_of one ≡ bytes_of other → one ≡ other
@@ -87,7 +59,6 @@ same_words [] [] small small' is = refl
 same_words [] (y ∷ ys) small small' is = absurd (omega (arith, ap length is, length-bytes_of (y ∷ ys)))
 same_words (x ∷ xs) [] small small' is = absurd (omega (arith, ap length is, length-bytes_of (x ∷ xs)))
 same_words (x ∷ xs) (y ∷ ys) small small' is =
-    let head : x ≡ y = sym (first_word x xs small.0) ∙ (ap (little_number 4) is ∙ first_word y ys small'.0) in
-    let tail : xs ≡ ys = same_words xs ys small.1 small'.1 (sym (other_words x xs)
-    ∙ (ap (drop 4) is ∙ other_words y ys)) in
-    ap₂ (λ (z : ℕ) (zs : List ℕ). z ∷ zs) head tail
+    let head : x ≡ y = sym (little_number-reads_back 4 x (bytes_of xs) small.0)
+    ∙ (ap (little_number 4) is ∙ little_number-reads_back 4 y (bytes_of ys) small'.0) in
+    ap₂ (λ (z : ℕ) (zs : List ℕ). z ∷ zs) head (same_words xs ys small.1 small'.1 (ap (drop 4) is))

@@ -1,6 +1,7 @@
-use Rattle.std.proofs.Common.{List, ℕ, ◌++◌, ap, arith, ◌∙◌}
+use Rattle.std.proofs.Common.{List, ℕ, ◌^◌, ◌<◌, ◌++◌, ap, arith, ◌∙◌}
+use Rattle.std.proofs.lemmas.List.Elements.{All-push}
 use Rattle.std.specs.Slice.Iter.{chunks_exact_rest}
-use Rattle.input_files.proofs.wrapping_lemmas.WordLemmas.{all_taken, bytes_of, one_more, small_push}
+use Rattle.input_files.proofs.wrapping_lemmas.WordLemmas.{all_taken, bytes_of, one_more}
 use Rattle.input_files.proofs.wrapping.words.words_of.Goals as goal
 
 pub words-preserved : goal.words-preserved
@@ -13,7 +14,7 @@ words-preserved c =
       parts = one_more c.args.code.now words c.in-Some.word.now (chunks_exact_rest c.next.new.self) c.read_u32.result
           (λ i. omega (arith, c.type_inv.code i)) parts (steps.1.1 ∙ before.size) c.read_u32.ensures;
       size = steps.0 ∙ before.size;
-      fit = small_push words c.read_u32.result before.fit (omega arith);
+      fit = All-push (λ n. n < 2 ^ 32) words c.read_u32.result before.fit (omega arith);
     })
 
 pub returns-clause-words : goal.returns-clause-words
