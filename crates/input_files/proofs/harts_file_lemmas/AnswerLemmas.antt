@@ -1,29 +1,29 @@
 -- The answer that a text has.
-use Rattle.std.proofs.Common.{◌≡◌, ◌⊎◌, ℕ, ◌+◌, ◌<◌, ◌≤◌, List, [], ◌∷◌, ◌++◌, length, map, flat_map, All, Option}
-use Rattle.std.proofs.Common.{Some, None, inl, inr, refl, sym, ap, ap₂, subst, ◌∙◌, arith, append_assoc, append-nil}
+use Rattle.std.proofs.Common.{◌≡◌, ◌⊎◌, ℕ, ◌+◌, ◌≤◌, List, [], ◌∷◌, ◌++◌, length, map, flat_map, Option, Some, None}
+use Rattle.std.proofs.Common.{inl, inr, refl, sym, ap, ap₂, subst, ◌∙◌, arith, append_assoc, append-nil}
 use Rattle.std.proofs.lemmas.Bool.{cases_lt}
 use Rattle.std.proofs.lemmas.List.{length-map, nil_from_length}
-use Rattle.std.proofs.lemmas.List.Elements.{All-nil}
+use Rattle.std.proofs.lemmas.Option.{none-some, same_Some}
 use Rattle.harts.specs.declared.fault.HartsRule.{HartsRule}
 use Rattle.harts.specs.declared.fault.HartsRule.TheVariants.{HartCount}
 use Rattle.input_files.specs.harts_file.Lines.{PlannedHart, PlannedTurns, Said, lines_of, said_of, said_in}
-use Rattle.input_files.specs.harts_file.Plans.{turns_listed, hart_line, turns_line, IsPlan}
-use Rattle.input_files.specs.harts_file.Faults.{Given, given_from, given_by, rule_of, AreFine, IsFault, of_line, of_none}
-use Rattle.input_files.specs.harts_file.Faults.{harts_of, turns_lines_of}
+use Rattle.input_files.specs.harts_file.Plans.{turns_listed, IsPlan}
+use Rattle.input_files.specs.harts_file.Faults.{Given, given_from, given_by, rule_of, AreFine, IsFault, of_line}
+use Rattle.input_files.specs.harts_file.Faults.{of_none, harts_of, turns_lines_of}
 use Rattle.input_files.proofs.harts_file_lemmas.ListLemmas.{not_empty, same_head, split}
-use Rattle.input_files.proofs.harts_file_lemmas.PlanLemmas.{lines_for, harts_of-lines, turns_of-lines, given_by-lines, AreRight, Planned}
-use Rattle.input_files.proofs.harts_file_lemmas.PlanLemmas.{fine_from, fine-more, fine-none, planned-none, planned-more}
+use Rattle.input_files.proofs.harts_file_lemmas.PlanLemmas.{lines_for, harts_of-lines, turns_of-lines, given_by-lines}
+use Rattle.input_files.proofs.harts_file_lemmas.PlanLemmas.{AreRight, Planned, fine_from, fine-more, fine-none}
+use Rattle.input_files.proofs.harts_file_lemmas.PlanLemmas.{planned-none, planned-more}
 
 -- ---- where no line breaks a rule
 pub plan_given : (text : List ℕ) (given : Given) → Planned (said_in text) → given ≡ given_by (said_in text)
     → 1 ≤ length given.harts → IsPlan text given.harts given.schedule
 plan_given text given p e some =
     let same : given ≡ given_from p.harts p.turns = e ∙ given_by-lines (said_in text) p.harts p.turns p.shape in
-    let there : 1 ≤ length p.harts = subst (λ (g : Given). 1 ≤ length g.harts) same some in
-    subst (λ (g : Given). IsPlan text g.harts g.schedule) (sym same) (record {
+    rw same (record {
       turns = p.turns;
       lines = p.shape;
-      some = there;
+      some = rw same at some;
       few = p.right.few;
       known = p.right.known;
       listed = refl;
@@ -40,8 +40,7 @@ pub none_given : (text : List ℕ) (given : Given) → Planned (said_in text) �
     → length given.harts ≡ 0 → IsFault text HartCount 1
 none_given text given p e none =
     let same : given ≡ given_from p.harts p.turns = e ∙ given_by-lines (said_in text) p.harts p.turns p.shape in
-    let nobody : length p.harts ≡ 0 = subst (λ (g : Given). length g.harts ≡ 0) same none in
-    let empty : said_in text ≡ [] = p.shape ∙ no_line p.harts p.turns p.right nobody in
+    let empty : said_in text ≡ [] = p.shape ∙ no_line p.harts p.turns p.right (rw same at none) in
     of_none (nil_from_length (lines_of text) (sym (length-map (lines_of text) said_of) ∙ ap length empty))
 
 -- ---- each text has an answer
@@ -94,14 +93,11 @@ one_plan text harts harts' schedule schedule' p q =
           ∙ sym q.listed,
     )
 
-none_breaks : (rule : HartsRule) → None ≡ Some rule → ⊥
-none_breaks rule e = cc
-
 pub not_both : (text : List ℕ) (harts : List PlannedHart) (schedule : List ℕ) (rule : HartsRule) (line : ℕ)
     → IsPlan text harts schedule → IsFault text rule line → ⊥
 not_both text harts schedule rule line p (of_line front rest said broken_rule e fine broken) =
     let none = fine_from harts p.turns (said_in text) p.lines (right_from text harts schedule p) front rest said e in
-    none_breaks broken_rule (sym none ∙ broken)
+    none-some broken_rule (sym none ∙ broken)
 not_both text harts schedule rule line p (of_none e) =
     let empty : [] ≡ lines_for harts p.turns = ap (map said_of) (sym e) ∙ p.lines in
     nobody harts p.turns p.some empty
@@ -117,7 +113,7 @@ same_fault : (front front' rest rest' : List (Option Said)) (line line' : Option
     → (rule ≡ rule') × (length front + 1 ≡ length front' + 1)
 same_fault front front' rest rest' line line' rule rule' e fine fine' broken broken' =
     elim (split front front' (line' ∷ rest') rest line (sym e)) [
-      | inl h ↦ absurd (none_breaks rule (sym (fine' front h.0 line h.1) ∙ broken))
+      | inl h ↦ absurd (none-some rule (sym (fine' front h.0 line h.1) ∙ broken))
       | inr h ↦ by h.0 h.1 h.2
     ]
   where
@@ -128,13 +124,10 @@ same_fault front front' rest rest' line line' rule rule' e fine fine' broken bro
         let lines : line' ≡ line = same_head line' line rest' rest b in
         let rules : Some rule ≡ Some rule' = sym broken ∙ ap₂ (λ f x. rule_of (given_by f) x) fronts (sym lines)
         ∙ broken' in
-        (some_same rules, ap (λ l. length l + 1) fronts)
-      where
-        some_same : Some rule ≡ Some rule' → rule ≡ rule'
-        some_same k = cc
+        (same_Some rule rule' rules, ap (λ l. length l + 1) fronts)
     by (x ∷ f) a b =
         let first : line' ≡ x = same_head line' x rest' (f ++ line ∷ rest) b in
-        absurd (none_breaks rule' (sym (fine front' f line' (a ∙ ap (λ y. front' ++ y ∷ f) (sym first))) ∙ broken'))
+        absurd (none-some rule' (sym (fine front' f line' (a ∙ ap (λ y. front' ++ y ∷ f) (sym first))) ∙ broken'))
 
 pub one_fault : (text : List ℕ) (rule rule' : HartsRule) (line line' : ℕ) → IsFault text rule line
     → IsFault text rule' line' → (rule ≡ rule') × (line ≡ line')

@@ -1,6 +1,5 @@
 -- The turns of a plan are those of its harts.
-use Rattle.std.proofs.Common.{◌≡◌, ℕ, zero, suc, ◌+◌, ◌<◌, true, List, [], ◌∷◌, ◌++◌, length, get_or, flat_map}
-use Rattle.std.proofs.Common.{replicate, All, sym, subst, ◌∙◌, arith}
+use Rattle.std.proofs.Common.{◌≡◌, ℕ, zero, suc, ◌<◌, true, List, [], ◌∷◌, length, flat_map, All, sym, ◌∙◌, arith}
 use Rattle.std.proofs.lemmas.Bool.Decides.{nat_tests}
 use Rattle.std.proofs.lemmas.List.Elements.{All-nil, All-append, All-head, All-tail, All-replicate}
 use Rattle.std.proofs.lemmas.List.FromFn.{get_or-range_with_len, length-range_with_len}
@@ -44,6 +43,4 @@ pub known_given : (text : List ℕ) (given : Given) → Planned (said_in text) �
     → (harts : ℕ) → length given.harts ≡ harts → All (λ hart. hart < harts) given.schedule
 known_given text given p e harts count =
     let same : given ≡ given_from p.harts p.turns = e ∙ given_by-lines (said_in text) p.harts p.turns p.shape in
-    subst (λ n. All (λ hart. hart < n) given.schedule) count
-    (subst (λ (g : Given). All (λ hart. hart < length g.harts) g.schedule) (sym same)
-    (below_all (length p.harts) p.turns p.right.known))
+    rw (sym count, same) (below_all (length p.harts) p.turns p.right.known)

@@ -1,8 +1,8 @@
 -- The lines of a text, as they come one after another.
-use Rattle.std.proofs.Common.{◌≡◌, ◌⊎◌, ℕ, ◌+◌, ◌<◌, ◌==◌, Bool, true, false, cond, if◌then◌else◌, List, [], ◌∷◌}
-use Rattle.std.proofs.Common.{◌++◌, length, get_or, take, drop, All, Option, Some, None, MatchOption, inl, inr}
-use Rattle.std.proofs.Common.{⊎_elim, refl, sym, ap, ap₂, subst, ◌∙◌, arith, lit<, ne_eqb, length-drop}
-use Rattle.std.proofs.Common.{take-append-drop}
+use Rattle.std.proofs.Common.{◌≡◌, ◌⊎◌, ℕ, ◌<◌, ◌==◌, Bool, true, false, cond, if◌then◌else◌, List, [], ◌∷◌, ◌++◌}
+use Rattle.std.proofs.Common.{length, get_or, take, drop, All, Option, Some, None, MatchOption, inl, inr, ⊎_elim, refl}
+use Rattle.std.proofs.Common.{sym, ap, ap₂, subst, ◌∙◌, arith, lit<, ne_eqb, length-drop, take-append-drop}
+use Rattle.std.proofs.lemmas.Bool.{false≢true}
 use Rattle.std.proofs.lemmas.Iterator.{YieldsList}
 use Rattle.std.proofs.lemmas.Iterator.Splits.{YieldsList-from_shown_while}
 use Rattle.std.proofs.lemmas.List.{get_or_default, nil_from_length}
@@ -71,7 +71,7 @@ next_line : (text line rest : List ℕ) (more : Bool) → IsCut text line more r
 next_line text line rest more c full =
     ⊎_elim
     (λ last.
-    let some : length line ≡ 0 → ⊥ = λ e. differ (sym (full e) ∙ last.1) in
+    let some : length line ≡ 0 → ⊥ = λ e. false≢true (sym last.1 ∙ full e) in
     ap lines_of (sym last.0) ∙ ap without_empty_end (slice_split_none (λ b. b == 10) line c.alone)
     ∙ last_part line some ∙ ap (λ b. line ∷ left b rest) (sym last.1))
     (λ on.
@@ -81,9 +81,6 @@ next_line text line rest more c full =
     ∙ more_parts line (slice_split (λ b. b == 10) rest) parts
     ∙ ap (λ b. line ∷ left b rest) (sym on.0))
     c.ends
-  where
-    differ : true ≡ false → ⊥
-    differ e = cc
 
 none_left : (more : Bool) (text : List ℕ)
     → (more ≡ true → (o : Option (ℕ × ℕ)) × FindsChar 10 text o × MatchOption o (length text ≡ 0) (λ q. q.1 ≡ 0))
@@ -96,25 +93,18 @@ pub lines_yielded : {s : _} (text : List ℕ) → split_text {P = ℕ} (split_te
     → split_has_more {P = ℕ} (split_terminator_parts s) ≡ true → split_terminator_pattern {P = ℕ} s ≡ 10
     → YieldsList (split_terminator_steps FindsChar (λ a b. b ≡ a)) (λ x. x.now) s (lines_of text)
 lines_yielded {s} text is_text more pattern =
-    let shown = λ (t : _). left (split_has_more {P = ℕ} (split_terminator_parts t))
-    (split_text {P = ℕ} (split_terminator_parts t)) in
+    let rest = λ (t : _). split_text {P = ℕ} (split_terminator_parts t) in
+    let goes = λ (t : _). split_has_more {P = ℕ} (split_terminator_parts t) in
     subst (YieldsList (split_terminator_steps FindsChar (λ a b. b ≡ a)) (λ x. x.now) s)
     (λ i. left (more i) (is_text i))
-    (YieldsList-from_shown_while (split_terminator_steps FindsChar (λ a b. b ≡ a)) (λ x. x.now) shown
+    (YieldsList-from_shown_while (split_terminator_steps FindsChar (λ a b. b ≡ a)) (λ x. x.now)
+    (λ t. left (goes t) (rest t))
     (λ t. split_terminator_pattern {P = ℕ} t ≡ 10)
-    (λ t u h k. none_left (split_has_more {P = ℕ} (split_terminator_parts t))
-    (split_text {P = ℕ} (split_terminator_parts t))
-    (λ m. let f = k.0 m in
-    (f.0, subst (λ d. FindsChar d (split_text {P = ℕ} (split_terminator_parts t)) f.0) h f.1, f.2)))
+    (λ t u h k. none_left (goes t) (rest t)
+    (λ m. let f = k.0 m in (f.0, subst (λ d. FindsChar d (rest t) f.0) h f.1, f.2)))
     (λ t x u h k.
     let found = k.2.1 in
-    let c = cut (split_text {P = ℕ} (split_terminator_parts t)) x.now (split_text {P = ℕ} (split_terminator_parts u))
-    (split_has_more {P = ℕ} (split_terminator_parts u)) found.0
-    (subst (λ d. FindsChar d (split_text {P = ℕ} (split_terminator_parts t)) found.0) h found.1) found.2 in (
-      k.1 ∙ h,
-      ap (λ b. left b (split_text {P = ℕ} (split_terminator_parts t))) k.0
-          ∙ next_line (split_text {P = ℕ} (split_terminator_parts t)) x.now
-          (split_text {P = ℕ} (split_terminator_parts u))
-          (split_has_more {P = ℕ} (split_terminator_parts u)) c k.3,
-    ))
+    let c = cut (rest t) x.now (rest u) (goes u) found.0 (subst (λ d. FindsChar d (rest t) found.0) h found.1)
+    found.2 in
+    (k.1 ∙ h, ap (λ b. left b (rest t)) k.0 ∙ next_line (rest t) x.now (rest u) (goes u) c k.3))
     s pattern)

@@ -1,24 +1,14 @@
 -- Where an element stands in two lists after one another, or in a mapped list.
-use Rattle.std.proofs.Common.{◌≡◌, ℕ, List, [], ◌∷◌, ◌++◌, length, map, All, ◌⊎◌, inl, inr, refl, sym, ap, ap₂, ◌∙◌}
-use Rattle.std.proofs.Common.{arith, length-append}
+use Rattle.std.proofs.Common.{◌≡◌, List, [], ◌∷◌, ◌++◌, length, map, All, ◌⊎◌, inl, inr, refl, sym, ap, ap₂, arith}
+use Rattle.std.proofs.Common.{length-append}
 use Rattle.std.proofs.lemmas.List.Elements.{All-head, All-tail}
-
-pub head_or : {A : Type 0} → A → List A → A
-head_or d [] = d
-head_or d (x ∷ xs) = x
-
-pub tail_of : {A : Type 0} → List A → List A
-tail_of [] = []
-tail_of (x ∷ xs) = xs
 
 module _ {A : Type 0} where
   pub same_head : (x y : A) (xs ys : List A) → x ∷ xs ≡ y ∷ ys → x ≡ y
-  unfolding head_or
-  same_head x y xs ys e = ap (head_or x) e
+  same_head x y xs ys e = cc
 
   pub same_tail : (x y : A) (xs ys : List A) → x ∷ xs ≡ y ∷ ys → xs ≡ ys
-  unfolding tail_of
-  same_tail x y xs ys e = ap tail_of e
+  same_tail x y xs ys e = cc
 
   pub not_empty : (front rest : List A) (x : A) → [] ≡ front ++ x ∷ rest → ⊥
   not_empty front rest x e = omega (arith, ap length e, length-append front (x ∷ rest))

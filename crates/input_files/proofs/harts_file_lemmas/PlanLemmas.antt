@@ -1,22 +1,21 @@
 -- Lines that break no rule are a plan's, and a plan's lines break none.
 use Rattle.std.proofs.Common.{◌≡◌, ℕ, ◌+◌, ◌<◌, ◌≤◌, Bool, true, false, nat_lt, if◌then◌else◌, List, [], ◌∷◌, ◌++◌}
-use Rattle.std.proofs.Common.{length, map, flat_map, filter_map, All, Option, Some, None, inl, inr, refl, sym, ap}
-use Rattle.std.proofs.Common.{ap₂, subst, ◌∙◌, arith, length-append, append_assoc, append-nil}
+use Rattle.std.proofs.Common.{length, map, flat_map, All, Option, Some, None, inl, inr, refl, sym, ap, ap₂, subst, ◌∙◌}
+use Rattle.std.proofs.Common.{arith, length-append, append_assoc, append-nil}
 use Rattle.std.proofs.lemmas.Bool.Decides.{nat_tests}
 use Rattle.std.proofs.lemmas.Grind.{flat_map-append}
 use Rattle.std.proofs.lemmas.List.{map-append, nil_from_length}
 use Rattle.std.proofs.lemmas.List.Elements.{All-nil, All-cons, All-append, filter_map-append}
 use Rattle.hepurita.specs.Bases.{most_images}
 use Rattle.harts.specs.Refused.{most_turns}
-use Rattle.harts.specs.declared.fault.HartsRule.{HartsRule}
-use Rattle.harts.specs.declared.fault.HartsRule.TheVariants.{LineForm, HartCount}
+use Rattle.harts.specs.declared.fault.HartsRule.TheVariants.{HartCount}
 use Rattle.input_files.specs.harts_file.Lines.{PlannedHart, PlannedTurns, Said, a_hart, some_turns}
 use Rattle.input_files.specs.harts_file.Plans.{turns_listed, is_known, hart_line, turns_line}
-use Rattle.input_files.specs.harts_file.Faults.{Given, given_from, given_by, hart_named, turns_named, harts_of, turns_lines_of}
-use Rattle.input_files.specs.harts_file.Faults.{rule_of, rule_of_turns, AreFine}
+use Rattle.input_files.specs.harts_file.Faults.{Given, given_from, given_by, hart_named, turns_named, harts_of}
+use Rattle.input_files.specs.harts_file.Faults.{turns_lines_of, rule_of, AreFine}
 use Rattle.input_files.specs.harts_file.private.Reading.{given_with}
 use Rattle.input_files.proofs.harts_file_lemmas.ListLemmas.{not_empty, only, split, at_middle, mapped}
-use Rattle.input_files.proofs.harts_file_lemmas.RuleLemmas.{Allowed, hart_allowed, turns_allowed, breaks_none}
+use Rattle.input_files.proofs.harts_file_lemmas.RuleLemmas.{hart_allowed, turns_allowed, breaks_none}
 
 -- ---- lines that name harts, and then turns
 abbrev pub lines_for : List PlannedHart → List PlannedTurns → List (Option Said)
@@ -140,17 +139,13 @@ planned-hart lines hart p none =
     let allowed = hart_allowed (nat_lt 0 (length p.turns)) (nat_lt (length p.harts) most_images)
     (ap (λ g. rule_of g (Some (a_hart hart))) (sym given) ∙ none) in
     let empty = no_turns p.turns allowed.0 in
-    let room = allowed.1 in
     record {
       harts = p.harts ++ hart ∷ [];
       turns = [];
-      shape =
-          ap (λ l. l ++ Some (a_hart hart) ∷ []) (p.shape ∙ ap (lines_for p.harts) empty
-          ∙ append-nil (map hart_line p.harts))
-          ∙ sym (map-append hart_line p.harts (hart ∷ [])) ∙ sym (append-nil (map hart_line (p.harts ++ hart ∷ [])));
+      shape = rw (p.shape, empty) (simp (append-nil, map-append));
       right = record {
         some = λ h. absurd (omega arith);
-        few = grind (arith, nat_tests, room, length-append p.harts (hart ∷ []));
+        few = grind (arith, nat_tests, allowed.1, length-append p.harts (hart ∷ []));
         known = All-nil (λ t. is_known (length (p.harts ++ hart ∷ [])) t ≡ true);
         short = omega arith;
       };
@@ -167,10 +162,7 @@ planned-turns lines t p none =
     record {
       harts = p.harts;
       turns = p.turns ++ t ∷ [];
-      shape =
-          ap (λ l. l ++ Some (some_turns t) ∷ []) p.shape
-          ∙ append_assoc (map hart_line p.harts) (map turns_line p.turns) (Some (some_turns t) ∷ [])
-          ∙ ap (λ l. map hart_line p.harts ++ l) (sym (map-append turns_line p.turns (t ∷ [])));
+      shape = rw p.shape (simp (append_assoc, map-append));
       right = record {
         some = λ h. allowed.some;
         few = p.right.few;

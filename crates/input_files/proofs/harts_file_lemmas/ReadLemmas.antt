@@ -1,19 +1,18 @@
 -- What the lines that were read so far say.
-use Rattle.std.proofs.Common.{◌≡◌, ℕ, zero, suc, ◌+◌, ◌<◌, List, [], ◌∷◌, ◌++◌, length, get_or, take, map, Option}
-use Rattle.std.proofs.Common.{Some, None, refl, sym, ap, ap₂, ◌∙◌, arith, Bor}
+use Rattle.std.proofs.Common.{◌≡◌, ℕ, zero, suc, ◌+◌, ◌<◌, List, [], ◌∷◌, ◌++◌, length, get_or, take, map, Option, Some}
+use Rattle.std.proofs.Common.{refl, sym, ap, ap₂, ◌∙◌, arith, Bor}
 use Rattle.std.proofs.lemmas.List.{map-append}
 use Rattle.std.proofs.lemmas.List.FromFn.{get_or-enumerate_from, length-enumerate_from}
 use Rattle.std.specs.List.{enumerate_from}
 use Rattle.std.specs.Option.{option_map}
-use Rattle.input_files.specs.harts_file.Lines.{PlannedTurns, Said, a_hart, some_turns, lines_of, said_of, said_in}
+use Rattle.input_files.specs.harts_file.Lines.{PlannedTurns, Said, some_turns, lines_of, said_of, said_in}
 use Rattle.input_files.specs.harts_file.private.Reading.{held, held_turns}
 
 -- ---- what is held of what a line says
 pub held_as : (said : Option Said) (turns : PlannedTurns) → Some (some_turns turns) ≡ option_map held said
     → (whole : PlannedTurns) × (said ≡ Some (some_turns whole)) × (turns ≡ held_turns whole)
-held_as None turns e = cc
-held_as (Some (a_hart hart)) turns e = cc
 held_as (Some (some_turns whole)) turns e = (whole, refl, cc)
+held_as said turns e = cc
 
 -- ---- lines with their numbers
 abbrev pub Item : Type 0

@@ -1,9 +1,9 @@
 -- How `read` goes on from line to line.
-use Rattle.std.proofs.Common.{◌≡◌, ℕ, ◌+◌, List, [], ◌∷◌, ◌++◌, length, map, Option, Some, None, Result, Ok, Err, sym}
-use Rattle.std.proofs.Common.{ap, ap₂, subst, ◌∙◌, arith}
+use Rattle.std.proofs.Common.{◌≡◌, ℕ, ◌+◌, List, [], ◌∷◌, ◌++◌, length, Option, Some, None, Result, Err, sym, ap, ap₂}
+use Rattle.std.proofs.Common.{subst, ◌∙◌, arith}
 use Rattle.std.proofs.lemmas.List.{length-map}
 use Rattle.harts.specs.declared.fault.HartsRule.{HartsRule}
-use Rattle.input_files.specs.harts_file.Lines.{Said, said_of, said_in}
+use Rattle.input_files.specs.harts_file.Lines.{Said, said_of}
 use Rattle.input_files.specs.harts_file.Faults.{Given, given_by, rule_of, AreFine, IsFault, of_line}
 use Rattle.input_files.specs.harts_file.private.Reading.{given_with}
 use Rattle.input_files.specs.declared.harts_file.fault.PlanFault.{PlanFault}

@@ -1,14 +1,15 @@
 -- What a reader answers for a line, by what the line says.
-use Rattle.std.proofs.Common.{◌≡◌, ℕ, ◌+◌, ◌*◌, ◌<◌, ◌≤◌, List, length, Option, Some, None, Result, Ok, Err, IfOk}
-use Rattle.std.proofs.Common.{refl, sym, ap, subst, ◌∙◌, arith}
+use Rattle.std.proofs.Common.{◌≡◌, ℕ, ◌+◌, ◌*◌, ◌<◌, ◌≤◌, length, Option, Some, None, Result, Ok, Err, IfOk, refl, sym}
+use Rattle.std.proofs.Common.{ap, subst, ◌∙◌, arith}
 use Rattle.std.specs.Option.{option_map}
 use Rattle.harts.specs.Refused.{most_turns}
 use Rattle.harts.specs.declared.fault.HartsRule.{HartsRule}
 use Rattle.harts.specs.declared.fault.HartsRule.TheVariants.{TooManyTurns}
 use Rattle.input_files.specs.harts_file.Lines.{PlannedTurns, rounds, Said, some_turns}
 use Rattle.input_files.specs.harts_file.Faults.{Given, rule_of, rule_of_said, rule_of_turns}
-use Rattle.input_files.specs.harts_file.private.Reading.{held, held_turns, given_also, given_with}
-use Rattle.input_files.proofs.harts_file_lemmas.RuleLemmas.{breaks_too_many, length-rounds, turns_allowed, held_same, rule_held}
+use Rattle.input_files.specs.harts_file.private.Reading.{held, given_also, given_with}
+use Rattle.input_files.proofs.harts_file_lemmas.RuleLemmas.{breaks_too_many, length-rounds, turns_allowed, held_same}
+use Rattle.input_files.proofs.harts_file_lemmas.RuleLemmas.{rule_held}
 use Rattle.input_files.proofs.harts_file_lemmas.ReadLemmas.{held_as}
 
 pub too_many_rounds : (harts before count most : ℕ) → 1 ≤ most → harts ≡ most → most_turns < before + count * most

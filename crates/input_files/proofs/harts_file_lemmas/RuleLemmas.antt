@@ -1,7 +1,7 @@
 -- Which rule a line breaks, by what it says.
-use Rattle.std.proofs.Common.{◌≡◌, ℕ, zero, suc, ◌+◌, ◌-◌, ◌*◌, ◌^◌, ◌<◌, ◌≤◌, Bool, true, false, nat_lt, nat_le}
-use Rattle.std.proofs.Common.{◌==◌, if◌then◌else◌, List, length, Option, Some, None, inl, inr, refl, sym, ap, ap₂}
-use Rattle.std.proofs.Common.{subst, ◌∙◌, arith, length-append, suc-mul, zero-mul}
+use Rattle.std.proofs.Common.{◌≡◌, ℕ, zero, suc, ◌+◌, ◌-◌, ◌*◌, ◌^◌, ◌<◌, ◌≤◌, Bool, true, false, nat_lt, nat_le, ◌==◌}
+use Rattle.std.proofs.Common.{if◌then◌else◌, List, length, Some, None, inl, inr, refl, sym, ap, ap₂, subst, ◌∙◌, arith}
+use Rattle.std.proofs.Common.{length-append, suc-mul, zero-mul}
 use Rattle.std.proofs.Math.Nat.{le-mul_of_pos_right}
 use Rattle.std.proofs.lemmas.Bool.{cases_lt}
 use Rattle.std.proofs.lemmas.Bool.Decides.{nat_tests}
@@ -9,7 +9,6 @@ use Rattle.std.proofs.lemmas.List.{length-replicate}
 use Rattle.std.proofs.lemmas.List.FromFn.{length-range_with_len}
 use Rattle.std.specs.List.{range_with_len, repeat}
 use Rattle.harts.specs.Refused.{most_turns}
-use Rattle.harts.specs.declared.fault.HartsRule.{HartsRule}
 use Rattle.harts.specs.declared.fault.HartsRule.TheVariants.{LineForm, HartCount, NoSuchHart, TooManyTurns}
 use Rattle.input_files.specs.harts_file.Lines.{PlannedTurns, turns_of, rounds}
 use Rattle.input_files.specs.harts_file.Plans.{turns_listed, is_known}
@@ -20,9 +19,8 @@ use Rattle.input_files.specs.harts_file.private.Reading.{held_number, held_turns
 -- a hart breaks no rule where no turns came before and there is room
 pub hart_allowed : (begun room : Bool) → (if begun then Some LineForm else if room then None else Some HartCount)
     ≡ None → (begun ≡ false) × (room ≡ true)
-hart_allowed true room e = cc
 hart_allowed false true e = (refl, refl)
-hart_allowed false false e = cc
+hart_allowed begun room e = cc
 
 pub record Allowed (harts before : ℕ) (turns : PlannedTurns) : Type 0 where
   pub some : 1 ≤ harts
@@ -32,56 +30,41 @@ pub record Allowed (harts before : ℕ) (turns : PlannedTurns) : Type 0 where
 turns_pass : (none known short : Bool)
     → (if none then Some HartCount else if known then (if short then None else Some TooManyTurns)
     else Some NoSuchHart) ≡ None → (none ≡ false) × (known ≡ true) × (short ≡ true)
-turns_pass true known short e = cc
 turns_pass false true true e = (refl, refl, refl)
-turns_pass false true false e = cc
-turns_pass false false short e = cc
+turns_pass none known short e = cc
 
 module _ (harts before : ℕ) (turns : PlannedTurns) where
   abbrev listed : ℕ
   listed = length (turns_listed harts turns)
 
-  abbrev by_tests : Bool → Bool → Bool → Option HartsRule
-  by_tests none known short = if none then Some HartCount else if known
-      then (if short then None else Some TooManyTurns) else Some NoSuchHart
-
   pub turns_allowed : rule_of_turns harts before turns ≡ None → Allowed harts before turns
   turns_allowed e =
       let p = turns_pass (harts == 0) (is_known harts turns) (nat_le (before + listed) most_turns) e in
-      let none = p.0 in
-      let short = p.2 in
-      record { some = grind (arith, nat_tests, none); known = p.1; short = grind (arith, nat_tests, short) }
+      record { some = grind (arith, nat_tests, p.0); known = p.1; short = grind (arith, nat_tests, p.2) }
 
   pub breaks_none : Allowed harts before turns → rule_of_turns harts before turns ≡ None
   breaks_none a =
-      let is_some = a.some in
-      let is_short = a.short in
-      let some : (harts == 0) ≡ false = grind (arith, nat_tests, is_some) in
-      let short : nat_le (before + listed) most_turns ≡ true = grind (arith, nat_tests, is_short) in
-      ap (λ b. by_tests b (is_known harts turns) (nat_le (before + listed) most_turns)) some
-      ∙ ap (λ b. by_tests false b (nat_le (before + listed) most_turns)) a.known
-      ∙ ap (λ b. by_tests false true b) short
+      let some : (harts == 0) ≡ false = grind (arith, nat_tests, a.some) in
+      let short : nat_le (before + listed) most_turns ≡ true = grind (arith, nat_tests, a.short) in
+      rw (some, a.known, short)
 
   pub breaks_hart_count : harts ≡ 0 → rule_of_turns harts before turns ≡ Some HartCount
   breaks_hart_count e =
       let none : (harts == 0) ≡ true = grind (arith, nat_tests, e) in
-      ap (λ b. by_tests b (is_known harts turns) (nat_le (before + listed) most_turns)) none
+      rw none
 
   pub breaks_no_such_hart : 1 ≤ harts → is_known harts turns ≡ false
       → rule_of_turns harts before turns ≡ Some NoSuchHart
   breaks_no_such_hart h e =
       let some : (harts == 0) ≡ false = grind (arith, nat_tests, h) in
-      ap (λ b. by_tests b (is_known harts turns) (nat_le (before + listed) most_turns)) some
-      ∙ ap (λ b. by_tests false b (nat_le (before + listed) most_turns)) e
+      rw (some, e)
 
   pub breaks_too_many : 1 ≤ harts → is_known harts turns ≡ true → most_turns < before + listed
       → rule_of_turns harts before turns ≡ Some TooManyTurns
   breaks_too_many h e long =
       let some : (harts == 0) ≡ false = grind (arith, nat_tests, h) in
       let many : nat_le (before + listed) most_turns ≡ false = grind (arith, nat_tests, long) in
-      ap (λ b. by_tests b (is_known harts turns) (nat_le (before + listed) most_turns)) some
-      ∙ ap (λ b. by_tests false b (nat_le (before + listed) most_turns)) e
-      ∙ ap (λ b. by_tests false true b) many
+      rw (some, e, many)
 
 -- ---- how long the lists of turns are
 suc_times : (n k : ℕ) → k + n * k ≡ suc n * k
@@ -107,16 +90,13 @@ module _ (harts before : ℕ) where
   -- turns that break no rule are held as they are
   pub held_same : (turns : PlannedTurns) → harts ≤ 8 → Allowed harts before turns → held_turns turns ≡ turns
   held_same (turns_of hart count) few a =
-      let is_known = a.known in
-      let is_short = a.short in
-      let here : hart < harts = grind (arith, nat_tests, is_known) in
-      let short : count ≤ most_turns = omega (arith, is_short, length-turns harts hart count) in
+      let here : hart < harts = grind (arith, nat_tests, a.known) in
+      let short : count ≤ most_turns = omega (arith, a.short, length-turns harts hart count) in
       ap₂ turns_of (held_small hart (omega arith)) (held_small count short)
   held_same (rounds count) few a =
-      let is_short = a.short in
       let some : 0 < harts = omega (arith, a.some) in
       let short : count ≤ most_turns =
-      omega (arith, is_short, length-rounds harts count, le-mul_of_pos_right count some) in
+      omega (arith, a.short, length-rounds harts count, le-mul_of_pos_right count some) in
       ap rounds (held_small count short)
 
   abbrev IsHeld : PlannedTurns → Type 0

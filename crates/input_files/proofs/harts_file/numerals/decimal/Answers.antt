@@ -2,7 +2,8 @@ use Rattle.std.proofs.Common.{◌≡◌, ◌<◌, ◌≤◌, ◌+◌, ◌*◌, �
 use Rattle.std.proofs.lemmas.Bool.Decides.{nat_tests}
 use Rattle.std.specs.Char.{digit_value}
 use Rattle.language.specs.arguments.Texts.{number_after}
-use Rattle.input_files.proofs.harts_file_lemmas.NumberLemmas.{capped, number_after-turn, number_after-stops, number_after-ends}
+use Rattle.input_files.proofs.harts_file_lemmas.NumberLemmas.{capped, number_after-turn, number_after-stops}
+use Rattle.input_files.proofs.harts_file_lemmas.NumberLemmas.{number_after-ends}
 use Rattle.input_files.proofs.harts_file_lemmas.NumberLemmas.{number_in-after}
 use Rattle.input_files.proofs.harts_file.numerals.decimal.Goals as goal
 

@@ -1,10 +1,8 @@
 use Rattle.std.proofs.Common.{◌≡◌, ◌≤◌, length, map, vec_len, sym, ap, ◌∙◌, subst, arith, rules}
 use Rattle.std.proofs.lemmas.Bool.Decides.{nat_tests}
 use Rattle.std.proofs.lemmas.List.{length-map}
-use Rattle.std.proofs.lemmas.Iterator.Consumers.{YieldsList-from_enumerate, YieldsList-so_far, YieldsList-turn}
-use Rattle.std.proofs.lemmas.Iterator.Consumers.{YieldsList-end}
-use Rattle.std.specs.Iterator.Adapters.{enumerate_source, enumerate_count}
-use Rattle.std.specs.Str.Iter.{split_text, split_has_more, split_terminator_parts, split_terminator_pattern}
+use Rattle.std.proofs.lemmas.Iterator.Consumers.{YieldsList-at, YieldsList-from_enumerate, YieldsList-so_far}
+use Rattle.std.proofs.lemmas.Iterator.Consumers.{YieldsList-turn, YieldsList-end}
 use Rattle.input_files.specs.harts_file.Faults.{given_by}
 use Rattle.input_files.specs.harts_file.Jobs.{hart_of}
 use Rattle.input_files.specs.harts_file.Lines.{said_of}
@@ -29,14 +27,9 @@ loop-index-init c = record {
 pub returns-in-Some-2-clause-fault : goal.returns-in-Some-2-clause-fault
 returns-in-Some-2-clause-fault c = λ rule line e.
     let text = c.args.text.now in
-    let same = c.into_iter-index-iterator.ensures.into_iter_gives in
-    let source = ap enumerate_source same ∙ c.enumerate-index-items.ensures.source in
-    let road =
-    YieldsList-from_enumerate (lines_yielded text (ap (λ t. split_text (split_terminator_parts t)) source
-    ∙ c.split_terminator.ensures.text) (ap (λ t. split_has_more (split_terminator_parts t)) source
-    ∙ c.split_terminator.ensures.has_more) (ap split_terminator_pattern source
-    ∙ c.split_terminator.ensures.pattern)) (ap enumerate_count same
-    ∙ c.enumerate-index-items.ensures.count) in
+    let road = YieldsList-at c.into_iter-index-iterator.ensures.into_iter_gives (YieldsList-from_enumerate
+    (YieldsList-at c.enumerate-index-items.ensures.source (lines_yielded text c.split_terminator.ensures.text
+    c.split_terminator.ensures.has_more c.split_terminator.ensures.pattern)) c.enumerate-index-items.ensures.count) in
     let so_far = YieldsList-so_far road c.loop-index.yielded _ c.loop-index.yielded_by in
     let turn = YieldsList-turn road c.loop-index.yielded _ c.loop-index.yielded_by c.next.result c.next.new.self _
     c.in-Some.is c.next.ensures.steps in
@@ -64,21 +57,15 @@ loop-index-preserved c =
 pub returns-then-is_empty-clause-fault : goal.returns-then-is_empty-clause-fault
 returns-then-is_empty-clause-fault c = λ rule line e.
     let text = c.args.text.now in
-    let same = c.into_iter-index-iterator.ensures.into_iter_gives in
-    let source = ap enumerate_source same ∙ c.enumerate-index-items.ensures.source in
-    let road =
-    YieldsList-from_enumerate (lines_yielded text (ap (λ t. split_text (split_terminator_parts t)) source
-    ∙ c.split_terminator.ensures.text) (ap (λ t. split_has_more (split_terminator_parts t)) source
-    ∙ c.split_terminator.ensures.has_more) (ap split_terminator_pattern source
-    ∙ c.split_terminator.ensures.pattern)) (ap enumerate_count same
-    ∙ c.enumerate-index-items.ensures.count) in
+    let road = YieldsList-at c.into_iter-index-iterator.ensures.into_iter_gives (YieldsList-from_enumerate
+    (YieldsList-at c.enumerate-index-items.ensures.source (lines_yielded text c.split_terminator.ensures.text
+    c.split_terminator.ensures.has_more c.split_terminator.ensures.pattern)) c.enumerate-index-items.ensures.count) in
     let whole = all_said text c.loop-index.yielded
     (YieldsList-end road c.loop-index.yielded _ c.loop-index.yielded_by c.next.result c.next.new.self
     c.in-None.is c.next.ensures.steps).0 in
     let jobs = c.loop-index.reader.jobs in
-    let empty = c.if-is_empty.true in
     let nobody : length (map hart_of jobs.items) ≡ 0 =
-    grind (arith, nat_tests, length-map jobs.items hart_of, jobs.ok.0, c.is_empty.ensures, empty) in
+    grind (arith, nat_tests, length-map jobs.items hart_of, jobs.ok.0, c.is_empty.ensures, c.if-is_empty.true) in
     same_fault text _ rule _ line e
     (none_given text (given_to c.loop-index.reader) (subst Planned (sym whole) c.loop-index.invariant.planned)
     (c.loop-index.invariant.given ∙ ap given_by (sym whole)) nobody)
@@ -86,14 +73,9 @@ returns-then-is_empty-clause-fault c = λ rule line e.
 pub invariant_of-result : goal.invariant_of-result
 invariant_of-result c =
     let text = c.args.text.now in
-    let same = c.into_iter-index-iterator.ensures.into_iter_gives in
-    let source = ap enumerate_source same ∙ c.enumerate-index-items.ensures.source in
-    let road =
-    YieldsList-from_enumerate (lines_yielded text (ap (λ t. split_text (split_terminator_parts t)) source
-    ∙ c.split_terminator.ensures.text) (ap (λ t. split_has_more (split_terminator_parts t)) source
-    ∙ c.split_terminator.ensures.has_more) (ap split_terminator_pattern source
-    ∙ c.split_terminator.ensures.pattern)) (ap enumerate_count same
-    ∙ c.enumerate-index-items.ensures.count) in
+    let road = YieldsList-at c.into_iter-index-iterator.ensures.into_iter_gives (YieldsList-from_enumerate
+    (YieldsList-at c.enumerate-index-items.ensures.source (lines_yielded text c.split_terminator.ensures.text
+    c.split_terminator.ensures.has_more c.split_terminator.ensures.pattern)) c.enumerate-index-items.ensures.count) in
     let whole = all_said text c.loop-index.yielded
     (YieldsList-end road c.loop-index.yielded _ c.loop-index.yielded_by c.next.result c.next.new.self
     c.in-None.is c.next.ensures.steps).0 in
@@ -111,20 +93,14 @@ invariant_of-result c =
 pub returns-clause-plan : goal.returns-clause-plan
 returns-clause-plan c =
     let text = c.args.text.now in
-    let same = c.into_iter-index-iterator.ensures.into_iter_gives in
-    let source = ap enumerate_source same ∙ c.enumerate-index-items.ensures.source in
-    let road =
-    YieldsList-from_enumerate (lines_yielded text (ap (λ t. split_text (split_terminator_parts t)) source
-    ∙ c.split_terminator.ensures.text) (ap (λ t. split_has_more (split_terminator_parts t)) source
-    ∙ c.split_terminator.ensures.has_more) (ap split_terminator_pattern source
-    ∙ c.split_terminator.ensures.pattern)) (ap enumerate_count same
-    ∙ c.enumerate-index-items.ensures.count) in
+    let road = YieldsList-at c.into_iter-index-iterator.ensures.into_iter_gives (YieldsList-from_enumerate
+    (YieldsList-at c.enumerate-index-items.ensures.source (lines_yielded text c.split_terminator.ensures.text
+    c.split_terminator.ensures.has_more c.split_terminator.ensures.pattern)) c.enumerate-index-items.ensures.count) in
     let whole = all_said text c.loop-index.yielded
     (YieldsList-end road c.loop-index.yielded _ c.loop-index.yielded_by c.next.result c.next.new.self
     c.in-None.is c.next.ensures.steps).0 in
     let jobs = c.loop-index.reader.jobs in
-    let some = c.if-is_empty.false in
     let there : 1 ≤ length (map hart_of jobs.items) =
-    grind (arith, nat_tests, length-map jobs.items hart_of, jobs.ok.0, c.is_empty.ensures, some) in
+    grind (arith, nat_tests, length-map jobs.items hart_of, jobs.ok.0, c.is_empty.ensures, c.if-is_empty.false) in
     plan_given text (given_to c.loop-index.reader) (subst Planned (sym whole) c.loop-index.invariant.planned)
     (c.loop-index.invariant.given ∙ ap given_by (sym whole)) there

@@ -1,8 +1,6 @@
-use Rattle.std.proofs.Common.{◌≡◌, ◌+◌, ◌*◌, ◌<◌, ◌≤◌, ◌++◌, length, map, vec_len, sym, ap, ◌∙◌, arith, append_assoc}
-use Rattle.std.proofs.Common.{add-mul, one-mul}
+use Rattle.std.proofs.Common.{◌++◌, length, map, vec_len, sym, ap, ◌∙◌, arith, append_assoc, add-mul, one-mul}
 use Rattle.std.specs.List.{range_with_len, repeat}
 use Rattle.std.proofs.lemmas.List.{length-map}
-use Rattle.harts.specs.Refused.{most_turns}
 use Rattle.input_files.specs.harts_file.Jobs.{hart_of}
 use Rattle.input_files.proofs.harts_file_lemmas.RoundLemmas.{repeat_more}
 use Rattle.input_files.proofs.harts_file_lemmas.ReaderLemmas.{too_many_rounds}
@@ -35,11 +33,9 @@ loop-preserved c =
 pub returns-in_default-clause-rule : goal.returns-in_default-clause-rule
 returns-in_default-clause-rule c =
     let jobs = c.args.self.now.jobs in
-    let harts = c.len-harts.result in
-    let same : length (map hart_of jobs.items) ≡ harts =
-    omega (arith, length-map jobs.items hart_of, jobs.ok.0, c.len-harts.ensures) in
-    too_many_rounds (length (map hart_of jobs.items)) (length c.args.self.now.schedule.items) c.args.count harts
-    (omega arith) same (omega (
+    too_many_rounds (length (map hart_of jobs.items)) (length c.args.self.now.schedule.items) c.args.count
+    c.len-harts.result (omega arith) (omega (arith, length-map jobs.items hart_of, jobs.ok.0, c.len-harts.ensures))
+    (omega (
       arith,
       c.args.self.now.schedule.ok.0,
       c.turns_left.ensures,
@@ -50,8 +46,6 @@ returns-in_default-clause-rule c =
 pub returns-in_default-2-clause-rule : goal.returns-in_default-2-clause-rule
 returns-in_default-2-clause-rule c =
     let jobs = c.args.self.now.jobs in
-    let harts = c.len-harts.result in
-    let same : length (map hart_of jobs.items) ≡ harts =
-    omega (arith, length-map jobs.items hart_of, jobs.ok.0, c.len-harts.ensures) in
-    too_many_rounds (length (map hart_of jobs.items)) (length c.args.self.now.schedule.items) c.args.count harts
-    (omega arith) same (omega (arith, c.in_default.ensures))
+    too_many_rounds (length (map hart_of jobs.items)) (length c.args.self.now.schedule.items) c.args.count
+    c.len-harts.result (omega arith) (omega (arith, length-map jobs.items hart_of, jobs.ok.0, c.len-harts.ensures))
+    (omega (arith, c.in_default.ensures))
