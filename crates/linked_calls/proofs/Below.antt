@@ -21,6 +21,7 @@ pub use Rattle.codegen.proofs.program_logic_lemmas.Face.{
   stands,
   straight_code_leads,
 }
+pub use Rattle.hepurita.proofs.DataLemmas.{bytes_within}
 pub use Rattle.hepurita.proofs.ElementLemmas.{is_some-with_numbers, number_there, numbers_at-more}
 pub use Rattle.rv_machine.proofs.Face.{
   Leads-append,

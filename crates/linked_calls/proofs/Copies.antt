@@ -153,31 +153,24 @@ module _ (code : Code) (image : Fields) (slot : Slot) (spot : Pointed) (can : Ca
 
     source_reached : (s d : Data) → Copying i s d → Reached n (source inward d.regs) (from + n * i) d
     source_reached s d held =
-        let is = held.source_is in
-        let fits = inside in
-        let some = some_bytes kind in
-        let ends = from_ends in
         record {
-          is = is ∙ omega arith;
-          below = omega arith;
+          is = held.source_is ∙ omega (arith, inside, some_bytes kind, from_ends);
+          below = omega (arith, inside, some_bytes kind, from_ends);
           there = ap (λ (b : ByteMap). is_some (number_at b n (from + n * i))) held.bytes
               ∙ ap is_some (unwritten_yet s.bytes)
               ∙ number_there s.bytes n (from + n * i)
-              (λ x low high. held.begins.from_there x (omega arith) (omega arith));
+              (λ x low high. held.begins.from_there x (omega arith) (omega (arith, inside)));
         }
 
     target_reached : (s d : Data) → Copying i s d → Reached n (target inward d.regs) (to + n * i) d
     target_reached s d held =
-        let is = held.target_is in
         let fits = inside in
-        let some = some_bytes kind in
-        let ends = to_ends in
         let done = count s.bytes i in
         let same = is_some-with_numbers s.bytes n to (map (copied_value inward kind) (numbers_at s.bytes n from i))
         (λ x low high. held.begins.to_there x low (omega (arith, subst (λ c. x < to + n * c) done high, fits))) in
         record {
-          is = is ∙ omega arith;
-          below = omega arith;
+          is = held.target_is ∙ omega (arith, some_bytes kind, to_ends);
+          below = omega (arith, some_bytes kind, to_ends);
           there = number_there d.bytes n (to + n * i)
               (λ x low high. ap (λ (b : ByteMap). is_some (b x)) held.bytes
               ∙ same x ∙ held.begins.to_there x (omega arith) (omega arith));
@@ -224,22 +217,16 @@ module _ (code : Code) (image : Fields) (slot : Slot) (spot : Pointed) (can : Ca
 
   goes_further : (i : ℕ) (s d : Data) → i < k → Copying i s d → d.regs 5 ≢ d.regs 7
   goes_further i s d few held same =
-      let here = pointer_is i s d held in
-      let stop = stop_is i s d held in
-      let fits = inside i few in
-      let some = some_bytes kind in
-      omega arith
+      omega (arith, pointer_is i s d held, stop_is i s d held, inside i few, some_bytes kind)
 
   begins_copying : (s : Data) → BeginsCopy s → Copying 0 s s
   begins_copying s begins =
       let fits = inside 0 can.some in
       let some = some_bytes kind in
-      let pointer = begins.pointer in
-      let at = begins.slot_at in
       let one = from_ends in
       let other = to_ends in
-      let source_at : source inward s.regs ≡ from = ap₂ (chosen inward) pointer at in
-      let target_at : target inward s.regs ≡ to = ap₂ (chosen inward) at pointer in
+      let source_at : source inward s.regs ≡ from = ap₂ (chosen inward) begins.pointer begins.slot_at in
+      let target_at : target inward s.regs ≡ to = ap₂ (chosen inward) begins.slot_at begins.pointer in
       record {
         begins = begins;
         source_is = source_at ∙ omega arith;

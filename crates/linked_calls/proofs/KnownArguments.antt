@@ -20,6 +20,7 @@ use Rattle.linked_calls.specs.Stretches.{LiesIn}
 use Rattle.linked_calls.specs.Words.{IsPutting}
 use Rattle.linked_calls.specs.Zeros.{IsStoreIn}
 use Rattle.linked_calls.proofs.AllArguments.{AreKnown, IsKnown, KnownArray, KnownWord, spot_at}
+use Rattle.linked_calls.proofs.Below.{bytes_within}
 use Rattle.linked_calls.proofs.CopyElements.{elements_fit, some_bytes}
 use Rattle.linked_calls.proofs.Rooms.{RoomNumbers, place_inside}
 use Rattle.rv_machine.specs.Sizes.{byte_count}
@@ -30,12 +31,7 @@ use Rattle.rv_machine.specs.declared.observation.Event.TheVariants as event
 
 -- Slots.
 
--- an array fits into the words that its slot takes
-array_fits : (kind : Kind) (n : ℕ) → element_bytes kind * n ≤ 4 * array_words kind n
-array_fits Boolean n = omega arith
-array_fits kind n = omega arith
-
--- and may begin wherever a word may
+-- an array may begin wherever a word may
 element_aligned : (kind : Kind) (a : ℕ) → a % 4 ≡ 0 → a % element_bytes kind ≡ 0
 element_aligned Boolean a even = omega arith
 element_aligned kind a even = omega arith
@@ -161,9 +157,7 @@ module _ (image : Fields) (site : Site) (is : IsImage image) (lie_well : LieWell
 
     array_ends : slot.offset + 4 * array_words slot.param.kind slot.param.length ≤ image.frame_bytes
         → slot.offset + array_bytes slot ≤ image.frame_bytes
-    array_ends ends =
-        let fits = array_fits slot.param.kind slot.param.length in
-        omega arith
+    array_ends ends = omega (arith, bytes_within slot.param.kind slot.param.length)
 
     known : (form : Form) → is_length form slot.param.length ≡ true
         → slot.offset + slot_bytes form slot.param.kind slot.param.length ≤ image.frame_bytes

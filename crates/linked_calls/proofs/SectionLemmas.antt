@@ -1,16 +1,14 @@
 -- The sections' code, one after another, is the code before the body and that behind it.
-use Rattle.std.proofs.Common.{◌≡◌, ℕ, ◌+◌, ◌-◌, ◌==◌, Bool, true, false, List, [], ◌∷◌, ◌++◌, map, refl, sym, ap, ◌∙◌}
-use Rattle.std.proofs.Common.{if◌then◌else◌}
+use Rattle.std.proofs.Common.{◌≡◌, ℕ, ◌+◌, ◌-◌, ◌==◌, Bool, true, false, List, [], ◌∷◌, ◌++◌, map, refl, ap, ◌∙◌}
+use Rattle.std.proofs.Common.{ap₂, if◌then◌else◌}
 use Rattle.std.proofs.lemmas.List.{append_assoc, append-nil}
 use Rattle.codegen.specs.Anywhere.{body_words}
 use Rattle.codegen.specs.expression_code.TermCode.{constant_code}
-use Rattle.linked_calls.specs.Convention.{stack_register, link_register, saved_registers, scratch_registers}
-use Rattle.linked_calls.specs.FunctionCode.{frame_room, frame_code, entry_code, argument_code}
-use Rattle.linked_calls.specs.FunctionCode.{arguments_code, enter_code, result_code, results_code, restore_code}
-use Rattle.linked_calls.specs.FunctionCode.{wipe_code, clear_registers_code, leave_code, copy_out_code}
-use Rattle.linked_calls.specs.FunctionCode.{function_words, until_equal, added, zeros_code, loads_code}
+use Rattle.linked_calls.specs.Convention.{stack_register}
+use Rattle.linked_calls.specs.FunctionCode.{frame_room, arguments_code, enter_code, results_code, leave_code}
+use Rattle.linked_calls.specs.FunctionCode.{copy_out_code, function_words, until_equal, added, zeros_code}
 use Rattle.linked_calls.specs.Sections.{frame_sections, argument_sections, enter_sections, array_section}
-use Rattle.linked_calls.specs.Sections.{array_sections, leave_sections, section_code, code_of}
+use Rattle.linked_calls.specs.Sections.{array_sections, leave_sections, code_of}
 use Rattle.linked_calls.specs.declared.section.Section.{Section}
 use Rattle.linked_calls.specs.declared.section.Section.TheVariants.{FrameBase, ClearedFrame, FrameTop}
 use Rattle.linked_calls.specs.declared.section.Section.TheVariants.{RestoredRegisters, CallersStack, WipedRoom}
@@ -21,15 +19,13 @@ use Rattle.language.specs.declared.signature.Form.{Form}
 use Rattle.language.specs.declared.signature.Form.TheVariants.{MutableArray}
 use Rattle.rv_code.specs.Words.{word_of}
 use Rattle.rv_code.specs.declared.instructions.Instr.{Instr}
-use Rattle.rv_code.specs.declared.instructions.Instr.TheVariants.{Register, JumpRegister}
-use Rattle.rv_code.specs.declared.operations.RegisterOperation.TheVariants.{Add, Sub}
+use Rattle.rv_code.specs.declared.instructions.Instr.TheVariants.{Register}
+use Rattle.rv_code.specs.declared.operations.RegisterOperation.TheVariants.{Sub}
 
 code_of_both : (image : Fields) (one other : List Section)
     → code_of image (one ++ other) ≡ code_of image one ++ code_of image other
 code_of_both image [] other = refl
-code_of_both image (section ∷ one) other =
-    ap (λ (rest : List Instr). section_code image section ++ rest) (code_of_both image one other)
-    ∙ sym (append_assoc (section_code image section) (code_of image one) (code_of image other))
+code_of_both image (section ∷ one) other = rw (code_of_both image one other, append_assoc)
 
 -- Before the body.
 
@@ -48,18 +44,15 @@ frame_code_of image false = append_assoc (constant_code 5 (frame_room image)) (b
 arguments_code_of : (image : Fields) (i : ℕ) (slots : List Slot)
     → code_of image (argument_sections i slots) ≡ arguments_code image i slots
 arguments_code_of image i [] = refl
-arguments_code_of image i (slot ∷ slots) =
-    ap (λ (rest : List Instr). argument_code image i slot slot.param.form ++ rest)
-    (arguments_code_of image (i + 1) slots)
+arguments_code_of image i (slot ∷ slots) = rw (arguments_code_of image (i + 1) slots)
 
 pub enter_code_of : (image : Fields) → code_of image (enter_sections image) ≡ enter_code image
 enter_code_of image =
-    let frame = frame_sections (frame_room image) in
-    let arguments = argument_sections 0 image.slots in
-    ap (λ (rest : List Instr). entry_code ++ rest)
-    (code_of_both image frame arguments
-    ∙ ap (λ (code : List Instr). code ++ code_of image arguments) (frame_code_of image (frame_room image == 0))
-    ∙ ap (λ (code : List Instr). frame_code (frame_room image) ++ code) (arguments_code_of image 0 image.slots))
+    rw (
+      code_of_both image (frame_sections (frame_room image)) (argument_sections 0 image.slots),
+      frame_code_of image (frame_room image == 0),
+      arguments_code_of image 0 image.slots,
+    )
 
 -- Behind it.
 
@@ -73,39 +66,19 @@ arrays_code_of : (image : Fields) (i : ℕ) (slots : List Slot)
     → code_of image (array_sections i slots) ≡ results_code image i slots
 arrays_code_of image i [] = refl
 arrays_code_of image i (slot ∷ slots) =
-    code_of_both image (array_section i slot slot.param.form) (array_sections (i + 1) slots)
-    ∙ ap (λ (code : List Instr). code ++ code_of image (array_sections (i + 1) slots))
-    (array_code_of image i slot slot.param.form refl)
-    ∙ ap (λ (rest : List Instr). copy_out_code image i slot slot.param.form ++ rest)
-    (arrays_code_of image (i + 1) slots)
+    rw (
+      code_of_both image (array_section i slot slot.param.form) (array_sections (i + 1) slots),
+      array_code_of image i slot slot.param.form refl,
+      arrays_code_of image (i + 1) slots,
+    )
 
 abbrev tail : List Section
 tail = FrameTop ∷ RestoredRegisters ∷ CallersStack ∷ WipedRoom ∷ ClearedRegisters ∷ Return ∷ []
 
-abbrev loaded : List Instr
-loaded = Register Add 5 5 stack_register ∷ loads_code 5 0 saved_registers
-
-abbrev wiped : List Instr
-wiped = wipe_code ++ (clear_registers_code scratch_registers ++ JumpRegister 0 link_register 0 ∷ [])
-
-tail_code_of : (image : Fields) → code_of image tail ≡ restore_code (frame_room image) ++ wiped
-tail_code_of image =
-    let room = constant_code 5 (frame_room image) in
-    simp append_assoc
-
-five : (a b c d e : List Instr) → a ++ b ++ c ++ d ++ e ≡ a ++ (b ++ (c ++ (d ++ e)))
-five a b c d e = simp append_assoc
-
 pub leave_code_of : (image : Fields) → code_of image (leave_sections image) ≡ leave_code image
 leave_code_of image =
-    let result = result_code image.returned in
-    let arrays = array_sections 0 image.slots in
-    ap (λ (rest : List Instr). result ++ rest) (code_of_both image arrays tail)
-    ∙ sym (append_assoc result (code_of image arrays) (code_of image tail))
-    ∙ ap (λ (code : List Instr). result ++ code ++ code_of image tail) (arrays_code_of image 0 image.slots)
-    ∙ ap (λ (code : List Instr). result ++ results_code image 0 image.slots ++ code) (tail_code_of image)
-    ∙ sym (five (result ++ results_code image 0 image.slots) (restore_code (frame_room image)) wipe_code
-    (clear_registers_code scratch_registers) (JumpRegister 0 link_register 0 ∷ []))
+    rw (code_of_both image (array_sections 0 image.slots) tail, arrays_code_of image 0 image.slots)
+    (simp append_assoc)
 
 -- The function.
 
@@ -115,7 +88,5 @@ pub words_of_sections : (image : Fields)
     ≡ function_words image
 unfolding function_words
 words_of_sections image =
-    ap (λ (code : List Instr). map word_of code ++ body_words image.words
-    ++ map word_of (code_of image (leave_sections image))) (enter_code_of image)
-    ∙ ap (λ (code : List Instr). map word_of (enter_code image) ++ body_words image.words ++ map word_of code)
-    (leave_code_of image)
+    ap₂ (λ (before after : List Instr). map word_of before ++ body_words image.words ++ map word_of after)
+    (enter_code_of image) (leave_code_of image)
