@@ -114,8 +114,7 @@ pub each_is_alone : (jobs : List Job) (schedule : List ℕ) (list : List HartObs
 each_is_alone jobs schedule list end k job from few all follows at =
     let fits = all_fit jobs all in
     let place : zero + k ≡ k = omega arith in
-    let there : slice_get (members_from zero jobs) k ≡ Some (member_of k job) = member_at zero jobs k job at
-    ∙ ap (λ i. Some (member_of i job)) place in
+    let there = rw place at (member_at zero jobs k job at) in
     let it = alone (own_of jobs) schedule (system_of jobs) end list k (member_of k job) (jobs_apart jobs few fits)
     follows there in
     let short = slice_get_within jobs k job at in
@@ -129,8 +128,7 @@ agree_at : (one other : List Job) (k : ℕ) (a b : Job) → AllAgree one other �
 agree_at [] other k a b agree at at' = absurd (none-some a at)
 agree_at (x ∷ one) [] k a b agree at at' = absurd (none-some b at')
 agree_at (x ∷ one) (y ∷ other) zero a b agree at at' =
-    subst (λ (it : Job). JobsAgree it b) (same_Some x a at)
-    (subst (λ (it : Job). JobsAgree x it) (same_Some y b at') agree.0)
+    rw (same_Some x a at, same_Some y b at') at agree.0
 agree_at (x ∷ one) (y ∷ other) (suc k) a b agree at at' = agree_at one other k a b agree.1 at at'
 
 -- what agrees with a fit job is fit

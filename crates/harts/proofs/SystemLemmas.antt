@@ -1,7 +1,7 @@
 -- Where jobs side by side begin: each hart with a frame of its own, alone in which it stays.
 use Rattle.std.specs.Prelude.{slice_get}
 use Rattle.std.proofs.Common.{◌≡◌, ◌≢◌, ℕ, zero, suc, ◌+◌, ◌<◌, ◌≤◌, true, false, List, [], ◌∷◌, length, Option, Some}
-use Rattle.std.proofs.Common.{None, is_some, refl, sym, ap, ap₂, subst, ◌∙◌, ⊎_elim, arith}
+use Rattle.std.proofs.Common.{None, is_some, refl, sym, ap, subst, ◌∙◌, ⊎_elim, arith}
 use Rattle.std.proofs.lemmas.Bool.{cases_lt, false≢true, false_from_ne_true}
 use Rattle.std.proofs.lemmas.Option.{none-some, same_Some, slice_get_within}
 use Rattle.std.specs.List.{AllByRecursion}
@@ -93,8 +93,8 @@ pub member_at : (base : ℕ) (jobs : List Job) (k : ℕ) (job : Job) → slice_g
     → slice_get (members_from base jobs) k ≡ Some (member_of (base + k) job)
 member_at base [] k job at = absurd (none-some job at)
 member_at base (first ∷ rest) zero job at =
-    let place : base ≡ base + 0 = omega arith in
-    ap₂ (λ i (it : Job). Some (member_of i it)) place (same_Some first job at)
+    let place : base + 0 ≡ base = omega arith in
+    rw (place, same_Some first job at)
 member_at base (first ∷ rest) (suc k) job at =
     let place : suc base + k ≡ base + suc k = omega arith in
     member_at (suc base) rest k job at ∙ ap (λ i. Some (member_of i job)) place
@@ -124,20 +124,18 @@ bytes_at : (base : ℕ) (jobs : List Job) → AllByRecursion IsFit jobs → (k :
     → bytes_from base jobs a ≡ (loaded_alone (base + k) job).bytes a
 bytes_at base [] fits k job at a there = absurd (none-some job at)
 bytes_at base (first ∷ rest) fits zero job at a there =
-    let place : base ≡ base + 0 = omega arith in
-    let same : (loaded_alone base first).bytes a ≡ (loaded_alone (base + 0) job).bytes a =
-    ap₂ (λ i (it : Job). (loaded_alone i it).bytes a) place (same_Some first job at) in
-    first_there ((loaded_alone base first).bytes a) (bytes_from (suc base) rest a) (ap is_some same ∙ there) ∙ same
+    let place : base + 0 ≡ base = omega arith in
+    let same = sym (same_Some first job at) in
+    rw (place, same)
+    (first_there ((loaded_alone base first).bytes a) (bytes_from (suc base) rest a) (rw (place, same) at there))
 bytes_at base (first ∷ rest) fits (suc k) job at a there =
-    let place : suc base + k ≡ base + suc k = omega arith in
-    let same : (loaded_alone (suc base + k) job).bytes a ≡ (loaded_alone (base + suc k) job).bytes a =
-    ap (λ i. (loaded_alone i job).bytes a) place in
+    let place : base + suc k ≡ suc base + k = omega arith in
     let mine = window (base + suc k) job (fit_at rest k job fits.1 at) a there in
     let none = false_from_ne_true (is_some ((loaded_alone base first).bytes a))
     (λ also. apart_frames base (base + suc k) a (λ e. omega (arith, e))
     (window base first fits.0 a also) mine) in
-    second_there ((loaded_alone base first).bytes a) (bytes_from (suc base) rest a) none
-    ∙ bytes_at (suc base) rest fits.1 k job at a (ap is_some same ∙ there) ∙ same
+    rw place (second_there ((loaded_alone base first).bytes a) (bytes_from (suc base) rest a) none
+    ∙ bytes_at (suc base) rest fits.1 k job at a (rw place at there))
 
 -- Each hart's own bytes.
 
@@ -168,9 +166,7 @@ module _ (jobs : List Job) (few : length jobs ≤ most_images) (fits : AllByRecu
   own_there k a there =
       let found = owned k a (slice_get jobs k) refl there in
       let place : zero + k ≡ k = omega arith in
-      let same : (loaded_alone (zero + k) found.0).bytes a ≡ (loaded_alone k found.0).bytes a =
-      ap (λ i. (loaded_alone i found.0).bytes a) place in
-      bytes_at zero jobs fits k found.0 found.1 a (ap is_some same ∙ found.2) ∙ same
+      (rw place at (bytes_at zero jobs fits k found.0 found.1 a (rw place found.2)))
       ∙ ap (λ (b : ByteMap). b a) (sym (own_is jobs k found.0 found.1))
 
   own_inside : (k : ℕ) (m : Member) → slice_get (members_from zero jobs) k ≡ Some m → KeepsInside (own_of jobs k) m
