@@ -111,8 +111,7 @@ slots_written : (low : ℕ)
 unfolding slots_format
 slots_written low [] next rest image h follows = follows
 slots_written low (slot ∷ slots) next rest image h follows =
-    slot_written low slot _ (flat_map spelled_slot slots ++ rest) image h.0
-    (slots_written (slot_end slot) slots (λ others. next (slot ∷ others)) rest image h.1 follows)
+    slot_written low slot _ _ image h.0 (slots_written (slot_end slot) slots _ rest image h.1 follows)
 
 slots_read : (n low : ℕ)
     → IsRead (λ slots. (length slots ≡ n) × AreSlots low slots) (flat_map spelled_slot) (slots_format n low)
@@ -120,8 +119,8 @@ unfolding slots_format
 slots_read zero low next bytes image h =
     record { value = []; rest = bytes; is = (refl, tt); parts = refl; follows = h }
 slots_read (suc n) low next bytes image h =
-    let one = slot_read low (λ slot. slots_format n (slot_end slot) (λ slots. next (slot ∷ slots))) bytes image h in
-    let others = slots_read n (slot_end one.value) (λ slots. next (one.value ∷ slots)) one.rest image one.follows in
+    let one = slot_read low _ bytes image h in
+    let others = slots_read n (slot_end one.value) _ one.rest image one.follows in
     record {
       value = one.value ∷ others.value;
       rest = others.rest;
@@ -180,10 +179,8 @@ AreWords = AllByRecursion (λ word. word < 2 ^ 32)
 words_written : IsWritten AreWords (flat_map (spelled fields.Word)) (λ words. words_format (length words))
 unfolding words_format
 words_written [] next rest image h follows = follows
-words_written (word ∷ words) next rest image h follows = (
-  number word (flat_map (spelled fields.Word) words ++ rest) h.0 refl,
-  words_written words (λ others. next (word ∷ others)) rest image h.1 follows,
-)
+words_written (word ∷ words) next rest image h follows =
+    (number word _ h.0 refl, words_written words _ rest image h.1 follows)
 
 last_words : (words : List ℕ) (next : List ℕ → Format) (image : Fields) → AreWords words
     → IsText (next words) [] image
@@ -198,7 +195,7 @@ unfolding words_format
 words_read zero next bytes image h = record { value = []; rest = bytes; is = (refl, tt); parts = refl; follows = h }
 words_read (suc n) next bytes image h =
     let one = h.0 in
-    let others = words_read n (λ words. next (one.n ∷ words)) one.rest image h.1 in
+    let others = words_read n _ one.rest image h.1 in
     record {
       value = one.n ∷ others.value;
       rest = others.rest;

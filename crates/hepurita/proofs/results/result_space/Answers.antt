@@ -1,6 +1,4 @@
-use Rattle.std.proofs.Common.{rules, ◌≡◌, ◌≢◌, List, [], ◌∷◌, ◌+◌, ◌≤◌, ◌++◌, drop, slice_index_or, is_ok, sym, ap}
-use Rattle.std.proofs.Common.{subst, ◌∙◌}
-use Rattle.std.specs.List.{AllByRecursion}
+use Rattle.std.proofs.Common.{rules, ◌≡◌, ◌≢◌, [], ◌∷◌, ◌+◌, ◌≤◌, ◌++◌, drop, slice_index_or, is_ok, sym, ap, ◌∙◌}
 use Rattle.std.proofs.ResultArms.{chosen}
 use Rattle.std.proofs.lemmas.List.Elements.{All-from_recursion, All-push}
 use Rattle.codegen.specs.image_fields.Fields.{slot_end}
@@ -21,8 +19,8 @@ loop-slot-preserved c =
     let slot = slice_index_or slots i no_slot in
     let bound = c.args.image.now.frame_bytes in
     let inside : slot_end slot ≤ bound = All-from_recursion (λ (s : Slot). slot_end s ≤ bound) slots
-    (subst (λ (xs : List Slot). AllByRecursion (λ s. slot_end s ≤ bound) xs) (sym c.slots-slot-items.ensures.slots)
-    c.slots-slot-items.ensures.allowed.slots_inside) i no_slot c.loop-slot-test.true in
+    (rw c.slots-slot-items.ensures.slots c.slots-slot-items.ensures.allowed.slots_inside) i no_slot
+    c.loop-slot-test.true in
     elim c.if-eq.branch [
       | then-eq+in_ok-words+in_ok-push w ↦
           let is : slot.param.form ≡ MutableArray = search (rules, w.if-eq.ensures, c.eq.ensures) in
