@@ -1,7 +1,6 @@
 -- Faults of arguments, as faults of reading and of a run.
-use Rattle.std.proofs.Common.{◌≡◌, ℕ, Option, Result, Err, ap, ◌∙◌}
+use Rattle.std.proofs.Common.{◌≡◌, ◌↔◌, Result, Err, ap, ◌∙◌}
 use Rattle.language.specs.declared.arguments.fault.ArgumentFault.{ArgumentFault}
-use Rattle.language.specs.declared.arguments.fault.ArgumentRule.{ArgumentRule}
 use Rattle.language.specs.declared.arguments.texts.ReadError.{ReadError}
 use Rattle.language.specs.declared.arguments.texts.ReadError.TheVariants as errors
 use Rattle.hepurita.specs.declared.fault.RunFault.{RunFault}
@@ -11,14 +10,12 @@ one_fault : (f fault : ArgumentFault) → Argument f.rule f.index ≡ Argument f
 one_fault f fault h =
     let rule : f.rule ≡ fault.rule = cc in
     let index : f.index ≡ fault.index = cc in
-    ap (λ (r : ArgumentRule). record { rule = r; index = f.index }) rule
-    ∙ ap (λ (i : Option ℕ). record { rule = fault.rule; index = i }) index
+    λ i. record { rule = rule i; index = index i }
 
 -- the fault of a run is an argument's where that of reading is
 pub same_fault : {A B : Type 0} (f fault : ArgumentFault) (X : Type 0) (was : Result A ReadError)
     (is : Result B RunFault) → was ≡ Err (errors.Argument f) → is ≡ Err (Argument f.rule f.index)
-    → ((was ≡ Err (errors.Argument fault)) → X) × (X → was ≡ Err (errors.Argument fault))
-    → ((is ≡ Err (Argument fault.rule fault.index)) → X) × (X → is ≡ Err (Argument fault.rule fault.index))
+    → ((was ≡ Err (errors.Argument fault)) ↔ X) → ((is ≡ Err (Argument fault.rule fault.index)) ↔ X)
 same_fault f fault X was is from to both = (
   (λ h. let same : Argument f.rule f.index ≡ Argument fault.rule fault.index = cc in
       both.0 (from ∙ ap (λ (x : ArgumentFault). Err (errors.Argument x)) (one_fault f fault same))),
@@ -29,6 +26,5 @@ same_fault f fault X was is from to both = (
 -- there is none where memory was refused
 pub no_fault : {A B : Type 0} (fault : ArgumentFault) (X : Type 0) (was : Result A ReadError) (is : Result B RunFault)
     → was ≡ Err errors.Memory → (is ≡ Err (Argument fault.rule fault.index) → ⊥)
-    → ((was ≡ Err (errors.Argument fault)) → X) × (X → was ≡ Err (errors.Argument fault))
-    → ((is ≡ Err (Argument fault.rule fault.index)) → X) × (X → is ≡ Err (Argument fault.rule fault.index))
+    → ((was ≡ Err (errors.Argument fault)) ↔ X) → ((is ≡ Err (Argument fault.rule fault.index)) ↔ X)
 no_fault fault X was is from never both = ((λ h. absurd (never h)), (λ x. let told = both.1 x in cc))

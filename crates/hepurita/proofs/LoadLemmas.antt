@@ -6,7 +6,6 @@ use Rattle.language.specs.arguments.Within.{AreWithin, HasShape}
 use Rattle.codegen.specs.image_fields.Fields.{slot_end, slots_end}
 use Rattle.codegen.specs.declared.image_fields.slot.Slot.{Slot}
 use Rattle.rv_machine.specs.Bytes.{ByteMap, zeros}
-use Rattle.rv_machine.specs.Machine.{State}
 use Rattle.language.specs.declared.signature.Form.TheVariants.{SingleWord}
 use Rattle.language.specs.declared.signature.Kind.TheVariants.{Boolean}
 use Rattle.language.specs.declared.signature.Label.TheVariants.{Public}
@@ -70,7 +69,3 @@ slots_end_at_last low d (slot ∷ next ∷ slots) h =
 -- what stands where there is no slot
 abbrev pub no_slot : Slot
 no_slot = record { param = record { kind = Boolean; label = Public; form = SingleWord; length = 0 }; offset = 0 }
-
-pub same_state : (p p' : ℕ) (r r' : ℕ → ℕ) (b b' : ByteMap) → p ≡ p' → r ≡ r' → b ≡ b'
-    → ◌≡◌ {A = State} (record { pc = p; regs = r; bytes = b }) (record { pc = p'; regs = r'; bytes = b' })
-same_state p p' r r' b b' same_pc same_regs same_bytes = cc

@@ -3,13 +3,10 @@ use Rattle.std.proofs.lemmas.List.{length-map}
 use Rattle.std.proofs.lemmas.List.Elements.{All-from_recursion}
 use Rattle.codegen.specs.declared.image_fields.slot.Slot.{Slot}
 use Rattle.rv_machine.specs.Bytes.{zeros}
-use Rattle.rv_machine.specs.Paged.{paged_bytes}
-use Rattle.rv_machine.specs.Harts.{pc_of, regs_of}
-use Rattle.rv_machine.specs.Registers.{initial_registers}
 use Rattle.codegen.specs.Loaded.{params_of}
-use Rattle.hepurita.specs.Bases.{code_base, frame_base}
+use Rattle.hepurita.specs.Bases.{frame_base}
 use Rattle.hepurita.specs.Frames.{HoldsSlot}
-use Rattle.hepurita.proofs.LoadLemmas.{slots_hold, length-within, same_state}
+use Rattle.hepurita.proofs.LoadLemmas.{slots_hold, length-within}
 use Rattle.hepurita.proofs.loading.load.Goals as goal
 
 pub put_arguments-requires-clause-count : goal.put_arguments-requires-clause-count
@@ -30,5 +27,4 @@ pub returns-clause-state : goal.returns-clause-state
 returns-clause-state c =
     let bytes =
     rw (c.in_ok-memory.ensures, c.slots.ensures.slots, c.as_slice.ensures) at c.put_arguments.ensures in
-    same_state (pc_of c.new.result) code_base (regs_of c.new.result) (initial_registers frame_base)
-    (paged_bytes c.put_arguments.new.memory) _ c.new.ensures.pc c.new.ensures.registers bytes
+    λ i. record { pc = c.new.ensures.pc i; regs = c.new.ensures.registers i; bytes = bytes i }
