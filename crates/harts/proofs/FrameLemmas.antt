@@ -12,7 +12,6 @@ use Rattle.codegen.specs.Loaded.{arrays_in, results_in}
 use Rattle.codegen.specs.image_fields.Fields.{Fields, IsImage, slot_bytes, slot_end, result_end}
 use Rattle.codegen.specs.declared.image_fields.slot.ResultSlot.{ResultSlot}
 use Rattle.codegen.specs.declared.image_fields.slot.Slot.{Slot}
-use Rattle.language.specs.Results.{Results}
 use Rattle.language.specs.Size.{element_bytes}
 use Rattle.language.specs.declared.signature.Form.{Form}
 use Rattle.language.specs.declared.signature.Form.TheVariants.{MutableArray}
@@ -107,14 +106,11 @@ module _ (frame n : ℕ) (old new : ByteMap) (same : (x : ℕ) → frame ≤ x �
   returned_same None inside = refl
   returned_same (Some slot) inside = ap Some (word_same slot.offset inside)
 
-same_results : {one other : Option ℕ} {arrays arrays' : List (List ℕ)} → one ≡ other → arrays ≡ arrays'
-    → ◌≡◌ {A = Results} (record { returned = one; arrays = arrays }) (record { returned = other; arrays = arrays' })
-same_results first second = cc
-
 -- bytes that agree on the frame hold one outcome
 pub outcome_same : (frame : ℕ) (image : Fields) (is : IsImage image) (old new : ByteMap)
     → ((x : ℕ) → frame ≤ x → x < frame + image.frame_bytes → new x ≡ old x)
     → results_in frame image new ≡ results_in frame image old
-outcome_same frame image is old new same =
-    same_results (returned_same frame image.frame_bytes old new same image.returned is.returned_inside)
-    (arrays_same frame image.frame_bytes old new same image.slots is.slots_inside)
+outcome_same frame image is old new same = λ i. record {
+  returned = returned_same frame image.frame_bytes old new same image.returned is.returned_inside i;
+  arrays = arrays_same frame image.frame_bytes old new same image.slots is.slots_inside i;
+}
