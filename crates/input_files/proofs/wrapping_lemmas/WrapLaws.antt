@@ -6,8 +6,6 @@ use Rattle.hepurita.specs.Built.{Judges, accepts, fine, readable}
 use Rattle.hepurita.proofs.image_lemmas.Spellings.{one_by_fields}
 use Rattle.hepurita.specs.image.Reading.{Spells}
 use Rattle.codegen.specs.image_fields.Fields.{Fields}
-use Rattle.codegen.specs.declared.image_fields.slot.ResultSlot.{ResultSlot}
-use Rattle.codegen.specs.declared.image_fields.slot.Slot.{Slot}
 use Rattle.inline.proofs.FlatSizes.{flat_is_sized}
 use Rattle.inline.specs.FlatSize.{IsSized}
 use Rattle.inline.specs.Numbering.{flattened}
@@ -39,21 +37,19 @@ limits_of profile text program before export judged =
     let sized = sized_of profile text program before export judged in
     record { lengths = sized.lengths; given = sized.parameters }
 
-same_fields : (p p' : Profile) (s s' : List Slot) (r r' : Option ResultSlot) (f f' m m' : ℕ) (w w' : List ℕ) → p ≡ p'
-    → s ≡ s' → r ≡ r' → f ≡ f' → m ≡ m' → w ≡ w'
-    → ◌≡◌ {A = Fields} (record { profile = p; slots = s; returned = r; frame_bytes = f; max_steps = m; words = w })
-    (record { profile = p'; slots = s'; returned = r'; frame_bytes = f'; max_steps = m'; words = w' })
-same_fields p p' s s' r r' f f' m m' w w' profile slots result frame steps words = cc
-
 -- the fields that are asked for are one
 one_image : (params : List Param) (returned : Option WordType) (code : List ℕ) (asked : Asked) (one other : Fields)
     → IsAskedFor params returned code asked one → IsAskedFor params returned code asked other → one ≡ other
 one_image params returned code asked one other a b =
     let words = same_words one.words other.words a.allowed.words b.allowed.words (a.words ∙ sym b.words) in
-    same_fields one.profile other.profile one.slots other.slots one.returned other.returned one.frame_bytes
-    other.frame_bytes one.max_steps other.max_steps one.words other.words
-    (a.observed ∙ sym b.observed) (a.slots ∙ sym b.slots) (a.result ∙ sym b.result) (a.frame ∙ sym b.frame) (a.steps
-    ∙ sym b.steps) words
+    λ i. record {
+      profile = (a.observed ∙ sym b.observed) i;
+      slots = (a.slots ∙ sym b.slots) i;
+      returned = (a.result ∙ sym b.result) i;
+      frame_bytes = (a.frame ∙ sym b.frame) i;
+      max_steps = (a.steps ∙ sym b.steps) i;
+      words = words i;
+    }
 
 abbrev broken_in : ProcedureTree → List ℕ → Asked → Option CodeRule
 broken_in export code asked = broken_rule (end_of (map param_of export.parameters) export.result) (length code) asked
