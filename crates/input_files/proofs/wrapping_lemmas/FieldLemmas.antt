@@ -1,11 +1,11 @@
 -- The fields that are asked for are allowed, where no rule is broken.
-use Rattle.std.proofs.Common.{◌≡◌, ℕ, ◌*◌, ◌/◌, ◌%◌, ◌<◌, ◌≤◌, ◌^◌, Bool, true, ◌&&◌, ◌==◌, nat_le, if◌then◌else◌, List}
-use Rattle.std.proofs.Common.{length, map, Option, None, Some, IfSome, refl, sym, ap, ◌∙◌, arith}
+use Rattle.std.proofs.Common.{◌≡◌, ℕ, ◌*◌, ◌/◌, ◌%◌, ◌<◌, ◌≤◌, ◌^◌, Bool, true, if◌then◌else◌, List, length, map}
+use Rattle.std.proofs.Common.{Option, None, Some, IfSome, refl, sym, ap, ◌∙◌, arith}
 use Rattle.std.specs.List.{AllByRecursion}
-use Rattle.std.proofs.lemmas.Bool.{and_parts, eqb-true, leb-true}
+use Rattle.std.proofs.lemmas.Bool.Decides.{nat_tests}
 use Rattle.codegen.proofs.ImageLemmas.{length-slots_from, count_in_words, slots_are, slots_end-slots_from, slots_inside}
 use Rattle.codegen.specs.expression_code.Layout.{slots_from}
-use Rattle.hepurita.specs.image.Reading.{is_frame_size, is_step_limit, is_word_count, layout_end}
+use Rattle.hepurita.specs.image.Reading.{is_frame_size, is_step_limit, layout_end}
 use Rattle.codegen.specs.image_fields.Fields.{Fields, IsImage, IsResultSlot, result_end, slots_end}
 use Rattle.codegen.specs.declared.image_fields.slot.ResultSlot.{ResultSlot}
 use Rattle.codegen.specs.declared.image_fields.slot.Slot.{Slot}
@@ -48,21 +48,15 @@ pub unbroken : (low bytes : ℕ) (asked : Asked) → broken_rule low bytes asked
 unbroken low bytes asked is =
     let all = none_named (is_code_length bytes) (is_frame_size low asked.frame_bytes)
     (is_step_limit asked.max_steps) is in
-    let code = and_parts (bytes % 4 == 0) (is_word_count (bytes / 4)) all.0 in
-    let count = and_parts _ _ code.1 in
-    let frame = and_parts (asked.frame_bytes % 4 == 0) (nat_le asked.frame_bytes most_frame_bytes
-    && nat_le low asked.frame_bytes) all.1 in
-    let size = and_parts _ _ frame.1 in
-    let steps = and_parts (nat_le 1 asked.max_steps) (nat_le asked.max_steps most_steps) all.2 in
     record {
-      whole = eqb-true _ _ code.0;
-      some = leb-true _ _ count.0;
-      few = leb-true _ _ count.1;
-      aligned = eqb-true _ _ frame.0;
-      small = leb-true _ _ size.0;
-      inside = leb-true _ _ size.1;
-      some_step = leb-true _ _ steps.0;
-      steps = leb-true _ _ steps.1;
+      whole = grind (arith, nat_tests, all.0);
+      some = grind (arith, nat_tests, all.0);
+      few = grind (arith, nat_tests, all.0);
+      aligned = grind (arith, nat_tests, all.1);
+      small = grind (arith, nat_tests, all.1);
+      inside = grind (arith, nat_tests, all.1);
+      some_step = grind (arith, nat_tests, all.2);
+      steps = grind (arith, nat_tests, all.2);
     }
 
 -- ---- the result's slot

@@ -7,8 +7,6 @@ use Rattle.hepurita.proofs.image_lemmas.Spellings.{one_by_fields}
 use Rattle.hepurita.specs.image.Reading.{Spells}
 use Rattle.codegen.specs.image_fields.Fields.{Fields}
 use Rattle.inline.proofs.FlatSizes.{flat_is_sized}
-use Rattle.inline.specs.FlatSize.{IsSized}
-use Rattle.inline.specs.Numbering.{flattened}
 use Rattle.language.specs.Signature.{param_of}
 use Rattle.language.specs.Tree.{ProcedureTree, ProgramTree}
 use Rattle.language.specs.declared.signature.Param.{Param}
@@ -22,19 +20,13 @@ use Rattle.input_files.proofs.wrapping_lemmas.FieldLemmas.{AreWithinLimits}
 use Rattle.input_files.proofs.wrapping_lemmas.WordLemmas.{same_words}
 
 -- the parameters of an accepted text's export are within the limits
-sized_of : (profile : Profile) (text : List ℕ) (program : ProgramTree) (before : List ProcedureTree)
-    (export : ProcedureTree) → Judges profile text (accepts program before export)
-    → IsSized (flattened profile before export)
-sized_of profile text program before export (readable reads (fine small in_range in_time)) =
-    let is = small.well_formed in
-    let parts = grammatical_export text program reads before export is.is_export in
-    flat_is_sized profile program before export is.typed is.is_export parts.0 parts.1 small.sized
-
 pub limits_of : (profile : Profile) (text : List ℕ) (program : ProgramTree) (before : List ProcedureTree)
     (export : ProcedureTree) → Judges profile text (accepts program before export)
     → AreWithinLimits (map param_of export.parameters)
-limits_of profile text program before export judged =
-    let sized = sized_of profile text program before export judged in
+limits_of profile text program before export (readable reads (fine small in_range in_time)) =
+    let is = small.well_formed in
+    let parts = grammatical_export text program reads before export is.is_export in
+    let sized = flat_is_sized profile program before export is.typed is.is_export parts.0 parts.1 small.sized in
     record { lengths = sized.lengths; given = sized.parameters }
 
 -- the fields that are asked for are one
