@@ -17,7 +17,6 @@ pub mod Existence
 pub mod TheoremLemmas
 pub mod AnswerLemmas
 pub mod OneImage
-pub mod SomeLemmas
 pub mod BaseLemmas
 pub mod Compiler
 pub mod RangePlaces

@@ -1,5 +1,5 @@
+use Rattle.std.proofs.lemmas.Option.{IfSome_then}
 use Rattle.std.proofs.lemmas.Result.{IfOk-weaker}
-use Rattle.hepurita.proofs.SomeLemmas.{if_some_weaker}
 use Rattle.hepurita.proofs.optimising.finished.Goals as goal
 
 -- each of the programs may stand in the place of the one before
@@ -12,11 +12,11 @@ returns-clause-generated c =
     let shared = c.in_ok-shared.shared in
     IfOk-weaker c.generate_optimised.result _ _
     (λ made generated.
-    if_some_weaker made _ _ (λ code is. record {
+    IfSome_then made generated (λ code is. record {
       source = shared;
       stands = λ ranged removed.
           law ranged simpler shared (law ranged split simpler (law ranged first split removed
           c.in_ok-split.ensures.replaced) c.in_ok-simpler.ensures.replaced) c.in_ok-shared.ensures.replaced;
       generated = is;
-    }) generated)
+    }))
     c.generate_optimised.ensures.generated

@@ -1,16 +1,16 @@
+use Rattle.std.proofs.lemmas.Option.{IfSome_then}
 use Rattle.std.proofs.lemmas.Result.{IfOk-weaker}
-use Rattle.hepurita.proofs.SomeLemmas.{if_some_weaker}
 use Rattle.hepurita.proofs.optimising.unrolled.Goals as goal
 
 pub returns-clause-generated : goal.returns-clause-generated
 returns-clause-generated c =
     IfOk-weaker c.finished.result _ _
     (λ made there.
-    if_some_weaker made _ _ (λ code is. record {
+    IfSome_then made there (λ code is. record {
       source = is.source;
       stands = λ ranged removed.
           is.stands ranged (c.replaced_is_removed.ensures ranged c.args.straight.now
           c.in_ok-without_loops.without_loops removed c.in_ok-without_loops.ensures.replaced);
       generated = is.generated;
-    }) there)
+    }))
     c.finished.ensures.generated
