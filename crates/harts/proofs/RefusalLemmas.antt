@@ -1,9 +1,7 @@
 -- Refusals, by the place where the check has come to.
-use Rattle.std.proofs.Common.{ℕ, ◌<◌, ◌≤◌, List, length, take, get_or, All, Ok, Err, Result, IfErr, lt-ltb, le-ltb}
-use Rattle.std.proofs.Common.{refl}
+use Rattle.std.proofs.Common.{ℕ, ◌<◌, ◌≤◌, List, length, take, get_or, All, lt-ltb, le-ltb, refl}
 use Rattle.std.proofs.lemmas.Option.{slice_get-get_or}
 use Rattle.harts.specs.Refused.{most_turns, RefusesSchedule, of_entry}
-use Rattle.harts.specs.declared.fault.HartsFault.{HartsFault}
 use Rattle.harts.specs.declared.fault.HartsFault.TheVariants.{Schedule}
 use Rattle.harts.specs.declared.fault.HartsRule.TheVariants.{NoSuchHart, TooManyTurns}
 
@@ -29,9 +27,3 @@ module _ (harts : ℕ) (schedule : List ℕ) (at : ℕ) (inside : at < length sc
         before = before;
         near = near;
       })
-
--- each fault that is answered, for another reason
-pub if_err_so : {A : Type 0} (P Q : HartsFault → Type 0) → ((fault : HartsFault) → P fault → Q fault)
-    → (r : Result A HartsFault) → IfErr r P → IfErr r Q
-if_err_so P Q so (Ok x) holds = tt
-if_err_so P Q so (Err fault) holds = so fault holds

@@ -1,10 +1,9 @@
 -- The count first, then the arguments, then the schedule.
 use Rattle.std.proofs.Common.{length, map, sym, subst}
 use Rattle.std.proofs.lemmas.List.{length-map}
-use Rattle.std.proofs.lemmas.Result.{err_from_is_err_and}
+use Rattle.std.proofs.lemmas.Result.{err_from_is_err_and, IfErr-weaker}
 use Rattle.harts.specs.Frames.{job_of}
 use Rattle.harts.specs.Refused.{AreFew, RefusesCount, RefusesSchedule, Refuses, by_count, by_arguments, by_schedule}
-use Rattle.harts.proofs.RefusalLemmas.{if_err_so}
 use Rattle.harts.proofs.checking.check.Goals as goal
 
 pub returns-in_err-check_count-clause-refused : goal.returns-in_err-check_count-clause-refused
@@ -29,7 +28,7 @@ returns-clause-refused c =
     let schedule = c.args.schedule.now in
     let count = sym (length-map c.args.jobs.now job_of) in
     let few = subst AreFew count c.in_ok-check_count.ensures.few in
-    if_err_so (RefusesSchedule (length c.args.jobs.now) schedule) (Refuses all schedule)
+    IfErr-weaker c.check_schedule.result (RefusesSchedule (length c.args.jobs.now) schedule) (Refuses all schedule)
     (λ fault refuses. by_schedule few c.in_ok-check_arguments.ensures.faultless
     (subst (λ n. RefusesSchedule n schedule fault) count refuses))
-    c.check_schedule.result c.check_schedule.ensures.refused
+    c.check_schedule.ensures.refused
