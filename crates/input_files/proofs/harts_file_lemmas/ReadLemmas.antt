@@ -1,7 +1,7 @@
 -- What the lines that were read so far say.
-use Rattle.std.proofs.Common.{◌≡◌, ℕ, zero, suc, ◌+◌, ◌<◌, List, [], ◌∷◌, ◌++◌, length, get_or, take, map, Option, Some}
+use Rattle.std.proofs.Common.{◌≡◌, ℕ, ◌+◌, ◌<◌, List, [], ◌∷◌, ◌++◌, length, get_or, take, drop, map, Option, Some}
 use Rattle.std.proofs.Common.{refl, sym, ap, ap₂, ◌∙◌, arith, Bor}
-use Rattle.std.proofs.lemmas.List.{map-append}
+use Rattle.std.proofs.lemmas.List.{drop_more, map-append, take-append-drop}
 use Rattle.std.proofs.lemmas.List.FromFn.{get_or-enumerate_from, length-enumerate_from}
 use Rattle.std.specs.List.{enumerate_from}
 use Rattle.std.specs.Option.{option_map}
@@ -39,12 +39,6 @@ pub all_said : (text : List ℕ) (items : List Item) → map numbered items ≡ 
     → said_in text ≡ said_so_far items
 all_said text items e = sym (said_numbered items ∙ ap (map said_at) e ∙ said_enumerated 0 (lines_of text))
 
-at_place : {A : Type 0} (xs : List A) (n : ℕ) (d : A) → n < length xs
-    → (rest : List A) × (xs ≡ take n xs ++ get_or xs n d ∷ rest)
-at_place [] n d h = absurd (omega arith)
-at_place (x ∷ xs) zero d h = (xs, refl)
-at_place (x ∷ xs) (suc n) d h = let p = at_place xs n d (omega arith) in (p.0, ap (λ l. x ∷ l) p.1)
-
 -- the next line of the text is this item
 pub record IsNext (text : List ℕ) (items : List Item) (item : Item) : Type 0 where
   pub rest : List (Option Said)
@@ -59,17 +53,19 @@ pub is_next : (text : List ℕ) (items : List Item) (item : Item) (answer : Opti
 is_next text items item answer is e h =
     let all = enumerate_from 0 (lines_of text) in
     let n = length items in
-    let p = at_place all n (numbered item) h.0 in
+    let rest = drop (n + 1) all in
+    let whole : all ≡ take n all ++ get_or all n (numbered item) ∷ rest =
+    sym (take-append-drop n all) ∙ ap (λ l. take n all ++ l) (drop_more all n (numbered item) h.0) in
     let there : n < length (lines_of text) = omega (arith, h.0, length-enumerate_from 0 (lines_of text)) in
     let place = ap (λ (line : ℕ × List ℕ). line.0) (h.1
     ∙ get_or-enumerate_from 0 (lines_of text) n (numbered item) there) in
     record {
-      rest = map said_at p.0;
+      rest = map said_at rest;
       there =
           sym (said_enumerated 0 (lines_of text))
-          ∙ ap (map said_at) (p.1 ∙ ap₂ (λ front line. front ++ line ∷ p.0) (sym e) (sym h.1))
-          ∙ map-append said_at (map numbered items) (numbered item ∷ p.0)
-          ∙ ap (λ l. l ++ said_of item.1.now ∷ map said_at p.0) (sym (said_numbered items));
+          ∙ ap (map said_at) (whole ∙ ap₂ (λ front line. front ++ line ∷ rest) (sym e) (sym h.1))
+          ∙ map-append said_at (map numbered items) (numbered item ∷ rest)
+          ∙ ap (λ l. l ++ said_of item.1.now ∷ map said_at rest) (sym (said_numbered items));
       number = omega (arith, place);
     }
 
