@@ -1,10 +1,9 @@
 -- Images of files, and faults that are handed on.
-use Rattle.std.proofs.Common.{◌≡◌, ℕ, ◌+◌, List, Result, Ok, Err, refl, sym, ap, ◌∙◌, subst}
-use Rattle.std.specs.Result.{IfErr}
+use Rattle.std.proofs.Common.{◌≡◌, ℕ, ◌+◌, List, Result, Ok, Err, refl, sym, ap, ◌∙◌}
+use Rattle.std.specs.Result.{IfErr, IsErrAnd}
 use Rattle.commands.specs.Contents.{Contents, Begins}
 use Rattle.commands.specs.Images.{HoldsImage, NoImage, not_read, not_spelled}
 use Rattle.commands.specs.Unread.{out_of_memory}
-use Rattle.commands.specs.declared.fault.Fault.{Fault}
 use Rattle.commands.specs.declared.fault.Fault.TheVariants.{Image}
 use Rattle.commands.proofs.Beginnings.{one_byte_more}
 use Rattle.hepurita.specs.image.Limits.{longest_image}
@@ -34,14 +33,3 @@ pub image_refused : (files : Contents) (path bytes : List ℕ) (fault : ImageFau
 image_refused files path bytes (Field rule offset) begun is =
     not_spelled begun.held (all_read files path bytes begun (Err (Field rule offset)) is)
 image_refused files path bytes Memory begun is = not_read (out_of_memory refl)
-
--- a fault that is handed on
-pub handed_on : {A : Type 0} (P : Fault → Type 0) (answer : Result A Fault) (e fault : Fault) → answer ≡ Err e
-    → e ≡ fault → P fault → IfErr answer P
-handed_on {A} P answer e fault is same h =
-    subst (λ (r : Result A Fault). IfErr r P) (sym is) (subst P (sym same) h)
-
--- and out of memory
-pub memory_on : {A : Type 0} (P : Fault → Type 0) (answer : Result A Fault) (e : Fault) → answer ≡ Err e → P e
-    → IfErr answer P
-memory_on {A} P answer e is h = subst (λ (r : Result A Fault). IfErr r P) (sym is) h

@@ -1,5 +1,5 @@
 -- Why a picture is refused, by how many words there are.
-use Rattle.std.proofs.Common.{◌≡◌, ℕ, Bool, List, Result, Err, IfErr, if◌then◌else◌, sym, subst, inl, inr}
+use Rattle.std.proofs.Common.{ℕ, Bool, List, if◌then◌else◌, sym, subst, inl, inr}
 use Rattle.image_reports.specs.certificates.Texts.{fault_of_given_texts}
 use Rattle.codegen.specs.Loaded.{params_of}
 use Rattle.commands.specs.Contents.{Contents}
@@ -10,11 +10,6 @@ use Rattle.commands.specs.Words.{IsFaultOfWords, fault_of_both}
 use Rattle.commands.specs.declared.fault.Fault.TheVariants.{Run}
 use Rattle.hepurita.specs.declared.fault.RunFault.{RunFault}
 use Rattle.codegen.specs.image_fields.Fields.{Fields}
-
--- a fault that is handed on as it is
-pub handed : {A : Type 0} (P : RunFault → Type 0) (answer : Result A RunFault) (got why : RunFault) → answer ≡ Err got
-    → got ≡ why → P why → IfErr answer P
-handed {A} P answer got why is same h = subst (λ (r : Result A RunFault). IfErr r P) (sym is) (subst P (sym same) h)
 
 module _ (files : Contents) (path : List ℕ) (words : List (List ℕ)) (image : Fields) (why : RunFault)
     (held : HoldsImage files path image) where

@@ -1,10 +1,11 @@
 -- What comes of a request, from what its call and standard output answer.
-use Rattle.std.proofs.Common.{◌≡◌, ◌⊎◌, inl, inr, ℕ, List, ◌++◌, map, Result, Ok, Err, Bor, refl, sym, ap, subst}
-use Rattle.std.specs.Result.{IfOk, IfErr, OnOk, OnErr}
+use Rattle.std.proofs.Common.{◌≡◌, ◌⊎◌, inl, inr, ℕ, List, ◌++◌, map, Result, Ok, Err, Bor, refl, sym, ap, ◌∙◌, subst}
+use Rattle.std.specs.Result.{IfOk, IfErr, IsErrAnd, OnOk, OnErr}
+use Rattle.std.proofs.lemmas.Result.{on_ok_weaker, on_err_weaker}
 use Rattle.commands.specs.declared.command_line.words.Request.{Request}
 use Rattle.commands.specs.Contents.{Contents}
 use Rattle.commands.specs.declared.command_line.words.Request.TheVariants as requests
-use Rattle.commands.proofs.ImageLemmas.{handed_on}
+use Rattle.language.proofs.Handed.{turned_on}
 use Rattle.commands.proofs.LeakFaults.{at_output_or_not}
 use Rattle.commands.specs.Leaks.{SaysLeak, RefusesLeak, IsOutputFault}
 use Rattle.commands.specs.Requests.{Answers, Leaves, Refuses, IsPut, IsDone, Fails, refused, unprinted}
@@ -47,32 +48,40 @@ module _ (request : Request) (before after : Contents) (out out' : List ℕ) whe
   unprinted_by text status (Ok given) answered left part why = tt
   unprinted_by text status (Err fault) answered left part why = unprinted status answered left part why
 
--- a request that is known, refused by a fault that is handed on
-pub refuses : (request known : Request) → request ≡ known
-    → (before after : Contents) (out : List ℕ) (answer : Result ℕ Fault) (e fault : Fault) → answer ≡ Err e
-    → e ≡ fault
-    → Refuses known before after fault → IfErr answer (Fails request before after out out)
-refuses request known same before after out answer e fault is handed why =
+-- a request that is known, refused by a fault that the call's conversion makes
+pub refuses_as : {request known : Request} (before after : Contents) (out : List ℕ) (answer : Result ℕ Fault)
+    {Q : Fault → Type 0} → request ≡ known → IsErrAnd answer Q → ((e : Fault) → Q e → Refuses known before after e)
+    → IfErr answer (Fails request before after out out)
+refuses_as before after out answer same is why =
     subst (λ (r : Request). IfErr answer (Fails r before after out out)) (sym same)
-    (handed_on (Fails known before after out out) answer e fault is handed (refused why refl))
+    (turned_on answer is (λ e h. refused (why e h) refl))
+
+-- by one that is handed on
+pub refuses : {request known : Request} (before after : Contents) (out : List ℕ) (answer : Result ℕ Fault)
+    (fault : Fault) → request ≡ known → IsErrAnd answer (λ e. e ≡ fault) → Refuses known before after fault
+    → IfErr answer (Fails request before after out out)
+refuses {known = known} before after out answer fault same is why =
+    refuses_as before after out answer same is (λ e h. subst (Refuses known before after) (sym h) why)
 
 -- one that is known and done, and its text was printed
-pub prints : (request known : Request) → request ≡ known
-    → (before after : Contents) (out out' text : List ℕ) (status : ℕ) (answer : Result ℕ Fault)
-    → Answers known before text status → Leaves known before after → IfOk answer (λ given. given ≡ status)
-    → OnOk answer (out' ≡ out ++ text) → IfOk answer (IsDone request before after out out')
-prints request known same before after out out' text status answer answered left is whole =
+pub prints : {request known : Request} (before after : Contents) (out out' : List ℕ) {text bytes : List ℕ} (status : ℕ)
+    (answer : Result ℕ Fault) → request ≡ known → bytes ≡ text → Answers known before text status
+    → Leaves known before after → IfOk answer (λ given. given ≡ status) → OnOk answer (out' ≡ out ++ bytes)
+    → IfOk answer (IsDone request before after out out')
+prints {known = known} before after out out' {text = text} status answer same are answered left is whole =
     subst (λ (r : Request). IfOk answer (IsDone r before after out out')) (sym same)
-    (printed_by known before after out out' text status answer answered left is whole)
+    (printed_by known before after out out' text status answer answered left is
+    (on_ok_weaker answer (λ put. put ∙ ap (λ b. out ++ b) are) whole))
 
 -- and one that is done, where standard output failed
-pub fails_to_print : (request known : Request) → request ≡ known
-    → (before after : Contents) (out out' text : List ℕ) (status : ℕ) (answer : Result ℕ Fault)
-    → Answers known before text status → Leaves known before after → OnErr answer (GainsPart out out' text)
-    → IfErr answer IsOutputFault → IfErr answer (Fails request before after out out')
-fails_to_print request known same before after out out' text status answer answered left part why =
+pub fails_to_print : {request known : Request} (before after : Contents) (out out' : List ℕ) {text bytes : List ℕ}
+    (status : ℕ) (answer : Result ℕ Fault) → request ≡ known → bytes ≡ text → Answers known before text status
+    → Leaves known before after → OnErr answer (GainsPart out out' bytes) → IfErr answer IsOutputFault
+    → IfErr answer (Fails request before after out out')
+fails_to_print {known = known} before after out out' {text = text} status answer same are answered left part why =
     subst (λ (r : Request). IfErr answer (Fails r before after out out')) (sym same)
-    (unprinted_by known before after out out' text status answer answered left part why)
+    (unprinted_by known before after out out' text status answer answered left
+    (on_err_weaker answer (λ gains. subst (GainsPart out out') are gains) part) why)
 
 -- of harts side by side each fault leaves files and standard output as they were
 pub harts_refused : {A : Type 0} (file : Bor (List ℕ)) (files : Contents) (out : List ℕ) (answer : Result A Fault)

@@ -3,7 +3,6 @@ use Rattle.std.proofs.Common.{◌≡◌, ◌≢◌, ℕ, ◌+◌, ◌*◌, cond,
 use Rattle.std.proofs.Common.{take, drop, Option, Some, None, Result, Err, refl, sym, ap, ◌∙◌, subst, arith}
 use Rattle.std.specs.Option.{option_map}
 use Rattle.std.proofs.lemmas.Bool.Decides.{Decides-eqb}
-use Rattle.std.specs.Result.{IfErr}
 use Rattle.std.proofs.lemmas.List.{take-map, drop-map, length-map}
 use Rattle.std.proofs.lemmas.Simd.{map-map}
 use Rattle.language.specs.arguments.Faults.{count_fault}
@@ -65,12 +64,6 @@ fault_of_second params words why many none h =
     let is : fault_of_both params words ≡ later = counted params words many
     ∙ ap (λ first. first_of first later) none in
     subst (λ first. IsFaultOfWords first why) (sym is) h
-
--- a fault that is passed on
-pub passed_on : {A E : Type 0} (P : E → Type 0) (answer : Result A E) (e fault : E) → answer ≡ Err e → e ≡ fault
-    → P fault → IfErr answer P
-passed_on {A} {E} P answer e fault is same h =
-    subst (λ (r : Result A E). IfErr r P) (sym is) (subst P (sym same) h)
 
 -- the words of the first list, those of the second, and how many they are together
 pub first_words : {A : Type 0} (bytes : A → List ℕ) (count : ℕ) (words first : List A) → first ≡ take count words

@@ -1,11 +1,10 @@
 use Rattle.std.proofs.Common.{◌≡◌, ℕ, Bool, List, Option, Ok, Err, map, inr, refl, ◌∙◌, subst}
-use Rattle.std.proofs.lemmas.Result.{err_from_is_err_and}
 use Rattle.image_reports.specs.certificates.Certified.{Certified}
 use Rattle.certified_runs.specs.declared.shifts.Shifts.{Shifts}
 use Rattle.image_reports.specs.certificates.Texts.{fault_of_given_texts}
 use Rattle.language.specs.declared.signature.Param.{Param}
 use Rattle.language.specs.declared.values.Arg.{Arg}
-use Rattle.commands.specs.Certificates.{RefusesCertificate, shifts_seen}
+use Rattle.commands.specs.Certificates.{shifts_seen}
 use Rattle.codegen.specs.Loaded.{params_of}
 use Rattle.commands.specs.Contents.{Contents}
 use Rattle.commands.specs.Images.{HoldsImage}
@@ -14,35 +13,25 @@ use Rattle.codegen.specs.image_fields.Fields.{Fields}
 use Rattle.run_reports.specs.progress.GoingOn.{Counting, HasLines}
 use Rattle.commands.specs.ImageRefusals.{no_image, no_arguments, no_answer, out_of_memory}
 use Rattle.commands.specs.Words.{IsFaultOfWords, AreGiven}
-use Rattle.commands.specs.declared.fault.Fault.TheVariants.{Run}
 use Rattle.commands.proofs.CertificateLemmas.{stands_in_code}
-use Rattle.commands.proofs.ImageLemmas.{handed_on, memory_on}
+use Rattle.language.proofs.Handed.{handed_on, turned_on}
 use Rattle.commands.proofs.ProgressLemmas.{on_err, file_certificate_tells, certificate_reaches}
 use Rattle.commands.proofs.WordLemmas.{fault_of_words, given_from}
 use Rattle.commands.proofs.certifying.certify_image.Goals as goal
 
 pub returns-in_err-image-clause-refused : goal.returns-in_err-image-clause-refused
 returns-in_err-image-clause-refused g c = λ tells.
-    let p = err_from_is_err_and c.from_residual.result c.from_residual.ensures.1 in
-    handed_on (RefusesCertificate (shifts_seen c.args.shifts) (g.F.Files.contents c.args.files.now) c.args.path.now
-    (map (λ word. word.now) c.args.arguments.now)) c.from_residual.result p.0 c.in_err-image.field-0.0 p.1 p.2
-    (no_image (c.in_err-image.ensures.refused tells))
+    handed_on _ _ c.from_residual.ensures.1 (no_image (c.in_err-image.ensures.refused tells))
 
 pub returns-in_err-params-clause-refused : goal.returns-in_err-params-clause-refused
 returns-in_err-params-clause-refused g c = λ tells.
-    let p = err_from_is_err_and c.from_residual-in_err-params.result c.from_residual-in_err-params.ensures.1 in
-    memory_on (RefusesCertificate (shifts_seen c.args.shifts) (g.F.Files.contents c.args.files.now) c.args.path.now
-    (map (λ word. word.now) c.args.arguments.now)) c.from_residual-in_err-params.result p.0 p.1
-    (out_of_memory p.2)
+    turned_on _ c.from_residual-in_err-params.ensures.1 (λ e memory. out_of_memory memory)
 
 pub returns-in_err-given-clause-refused : goal.returns-in_err-given-clause-refused
 returns-in_err-given-clause-refused g c = λ tells.
     let words = map (λ word. word.now) c.args.arguments.now in
     let why = c.in_err-given.field-0.0 in
-    let p = err_from_is_err_and c.from_residual-in_err-given.result c.from_residual-in_err-given.ensures.1 in
-    handed_on (RefusesCertificate (shifts_seen c.args.shifts) (g.F.Files.contents c.args.files.now) c.args.path.now
-    words) c.from_residual-in_err-given.result p.0 (Run why) p.1 p.2
-    (no_arguments (c.in_ok-image.ensures.said tells)
+    handed_on _ _ c.from_residual-in_err-given.ensures.1 (no_arguments (c.in_ok-image.ensures.said tells)
     (subst (λ (params : List Param). IsFaultOfWords (fault_of_given_texts params words) why) (c.as_slice.ensures.value
     ∙ c.in_ok-params.ensures.params)
     (fault_of_words _ why (Err why) refl c.in_err-given.ensures.fault c.in_err-given.ensures.unstopped)))
@@ -52,20 +41,15 @@ returns-in_err-certificate-clause-refused g c = λ tells.
     let words = map (λ word. word.now) c.args.arguments.now in
     let image = c.in_ok-image.image in
     let why = c.in_err-certificate.field-0.0 in
-    let p = err_from_is_err_and c.from_residual-in_err-certificate.result
-    c.from_residual-in_err-certificate.ensures.1 in
-    let given = given_from c.args.arguments.now (λ word. word.now) (c.as_slice.ensures.value
-    ∙ c.in_ok-params.ensures.params) c.in_ok-given.ensures.faultless c.in_ok-given.ensures.found in
-    memory_on (RefusesCertificate (shifts_seen c.args.shifts) (g.F.Files.contents c.args.files.now) c.args.path.now
-    words) c.from_residual-in_err-certificate.result p.0 p.1
-    (no_answer (c.in_ok-image.ensures.said tells) (
+    turned_on _ c.from_residual-in_err-certificate.ensures.1 (λ e memory. no_answer (c.in_ok-image.ensures.said tells) (
       c.in_ok-given.given.items,
       why,
-      given,
+      given_from _ _ (c.as_slice.ensures.value ∙ c.in_ok-params.ensures.params) c.in_ok-given.ensures.faultless
+          c.in_ok-given.ensures.found,
       subst (λ (s : Shifts). Certified image c.in_ok-given.given.items s (Err why)) c.shifts_seen.ensures
           (subst (λ (xs : List (Option Arg)). Certified image xs c.shifts_seen.result (Err why))
           c.as_slice-2.ensures.value c.in_err-certificate.ensures.certified),
-      p.2,
+      memory,
     ))
 
 pub text_of-requires : goal.text_of-requires
@@ -74,10 +58,7 @@ text_of-requires g c = stands_in_code c.in_ok-image.image c.as_slice-2.result.no
 
 pub returns-in_err-text-clause-refused : goal.returns-in_err-text-clause-refused
 returns-in_err-text-clause-refused g c = λ tells.
-    let p = err_from_is_err_and c.from_residual-in_err-text.result c.from_residual-in_err-text.ensures.1 in
-    memory_on (RefusesCertificate (shifts_seen c.args.shifts) (g.F.Files.contents c.args.files.now) c.args.path.now
-    (map (λ word. word.now) c.args.arguments.now)) c.from_residual-in_err-text.result p.0 p.1
-    (out_of_memory p.2)
+    turned_on _ c.from_residual-in_err-text.ensures.1 (λ e memory. out_of_memory memory)
 
 pub returns-clause-said : goal.returns-clause-said
 returns-clause-said g c = λ tells.
@@ -88,7 +69,7 @@ returns-clause-said g c = λ tells.
       given = c.in_ok-given.given.items;
       certificate = certificate;
       held = c.in_ok-image.ensures.said tells;
-      as_said = given_from c.args.arguments.now (λ word. word.now) (c.as_slice.ensures.value
+      as_said = given_from _ _ (c.as_slice.ensures.value
           ∙ c.in_ok-params.ensures.params) c.in_ok-given.ensures.faultless c.in_ok-given.ensures.found;
       certified = subst (λ (s : Shifts). Certified image c.in_ok-given.given.items s (Ok certificate))
           c.shifts_seen.ensures
@@ -99,28 +80,30 @@ returns-clause-said g c = λ tells.
     }
 
 -- what went out of the certified run, as of what the words give
-went_out : (Has : Counting) (before after : List ℕ) {files : Contents} {path : List ℕ} {words : List (List ℕ)} {image : Fields}
+went_out : (Has : Counting) (before after : List ℕ) {files : Contents} {path : List ℕ} {words : List (List ℕ)}
+    {image : Fields}
     {given given' : List (Option Arg)} {shifts' : Shifts} (progress shifts : Bool)
     → HoldsImage files path image → AreGiven (params_of image) words given → given' ≡ given
     → shifts' ≡ shifts_seen shifts → Tells Has progress (CertificateGoesOn image given' shifts') before after
     → FileCertificateTells Has progress shifts files path words before after
-went_out Has before after {image = image} {given = given} {given' = given'} {shifts' = shifts'} progress shifts held as_said items_are shifts_are told =
+went_out Has before after {image = image} {given = given} {given' = given'} {shifts' = shifts'} progress shifts held
+    as_said items_are shifts_are told =
     file_certificate_tells Has before after held progress shifts as_said
     (subst (λ (s : Shifts). Tells Has progress (CertificateGoesOn image given s) before after) shifts_are
-    (subst (λ (xs : List (Option Arg)). Tells Has progress (CertificateGoesOn image xs shifts') before after) items_are told))
+    (subst (λ (xs : List (Option Arg)). Tells Has progress (CertificateGoesOn image xs shifts') before after) items_are
+    told))
 
 pub returns-in_err-text-clause-part : goal.returns-in_err-text-clause-part
 returns-in_err-text-clause-part g c = λ tells both.
-    let given = given_from c.args.arguments.now (λ word. word.now) (c.as_slice.ensures.value
-    ∙ c.in_ok-params.ensures.params) c.in_ok-given.ensures.faultless c.in_ok-given.ensures.found in
-    on_err c.from_residual-in_err-text.result
-    (inr (certificate_reaches _ _ _ _ _ c.args.progress c.args.shifts
-    (went_out HasLines _ _ c.args.progress c.args.shifts (c.in_ok-image.ensures.said tells) given c.as_slice-2.ensures.value
+    on_err _ (inr (certificate_reaches _ _ _ _ _ c.args.progress c.args.shifts
+    (went_out HasLines _ _ c.args.progress c.args.shifts (c.in_ok-image.ensures.said tells)
+    (given_from _ _ (c.as_slice.ensures.value ∙ c.in_ok-params.ensures.params) c.in_ok-given.ensures.faultless
+    c.in_ok-given.ensures.found) c.as_slice-2.ensures.value
     c.shifts_seen.ensures (c.in_ok-certificate.ensures.told both))))
 
 pub returns-clause-told : goal.returns-clause-told
 returns-clause-told g c = λ tells both.
-    let given = given_from c.args.arguments.now (λ word. word.now) (c.as_slice.ensures.value
-    ∙ c.in_ok-params.ensures.params) c.in_ok-given.ensures.faultless c.in_ok-given.ensures.found in
-    went_out HasLines _ _ c.args.progress c.args.shifts (c.in_ok-image.ensures.said tells) given c.as_slice-2.ensures.value
+    went_out HasLines _ _ c.args.progress c.args.shifts (c.in_ok-image.ensures.said tells)
+    (given_from _ _ (c.as_slice.ensures.value ∙ c.in_ok-params.ensures.params) c.in_ok-given.ensures.faultless
+    c.in_ok-given.ensures.found) c.as_slice-2.ensures.value
     c.shifts_seen.ensures (c.in_ok-certificate.ensures.told both)

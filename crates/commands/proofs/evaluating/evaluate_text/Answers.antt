@@ -1,43 +1,30 @@
-use Rattle.std.proofs.Common.{ℕ, List, map, Err, refl, ap, ◌∙◌, subst, arith}
-use Rattle.std.proofs.lemmas.Result.{err_from_is_err_and}
+use Rattle.std.proofs.Common.{List, map, Err, refl, ap, ◌∙◌, subst, arith}
 use Rattle.std.specs.String.{string_bytes}
 use Rattle.language.specs.arguments.Texts.{fault_of_texts}
-use Rattle.hepurita.specs.Built.{Judges, IsRefusal}
 use Rattle.hepurita.specs.Compiled.{Means}
 use Rattle.language.specs.Results.{Results}
 use Rattle.language.specs.Tree.{program_tree}
 use Rattle.language.specs.declared.signature.Param.{Param}
 use Rattle.source_eval.specs.Answer.{answer}
 use Rattle.word.specs.declared.profile.Profile.TheVariants.{P1}
-use Rattle.commands.specs.Judged.{Tells}
-use Rattle.commands.specs.Meanings.{evaluation_budget, RefusesMeaning, no_text, not_accepted, no_arguments}
-use Rattle.commands.specs.Meanings.{out_of_memory}
+use Rattle.commands.specs.Meanings.{evaluation_budget, no_text, not_accepted, no_arguments, out_of_memory}
 use Rattle.commands.specs.OutcomeText.{outcome_text}
 use Rattle.commands.specs.Words.{IsFaultOfWords}
-use Rattle.commands.specs.declared.fault.Fault.TheVariants.{Run, Eval}
-use Rattle.commands.proofs.ImageLemmas.{handed_on, memory_on}
+use Rattle.commands.specs.declared.fault.Fault.TheVariants.{Eval}
+use Rattle.language.proofs.Handed.{handed_on, turned_on}
 use Rattle.commands.proofs.MeaningLemmas.{program_held, only_memory, same_outcome, answered}
 use Rattle.commands.proofs.WordLemmas.{fault_of_words, spelled_from}
 use Rattle.commands.proofs.evaluating.evaluate_text.Goals as goal
 
 pub returns-in_err-text-clause-refused : goal.returns-in_err-text-clause-refused
 returns-in_err-text-clause-refused g c = λ tells.
-    let p = err_from_is_err_and c.from_residual.result c.from_residual.ensures.1 in
-    handed_on (RefusesMeaning c.args.explain (g.F.Files.contents c.args.files.now) c.args.file.now
-    (map (λ word. word.now) c.args.arguments.now)) c.from_residual.result p.0 c.in_err-text.field-0.0 p.1 p.2
-    (no_text (c.in_err-text.ensures.refused tells))
+    handed_on _ _ c.from_residual.ensures.1 (no_text (c.in_err-text.ensures.refused tells))
 
 pub returns-in-Err-clause-refused : goal.returns-in-Err-clause-refused
 returns-in-Err-clause-refused g c = λ tells.
-    let refusal = c.in-Err.refusal in
-    let source = string_bytes c.in_ok-text.text in
     let held = c.in_ok-text.ensures.said tells in
-    let why : IsRefusal (Judges P1 source) refusal =
-    subst (λ (t : List ℕ). IsRefusal (Judges P1 t) refusal) c.as_str.ensures.value c.in-Err.ensures.refused in
-    let told : Tells c.args.explain source refusal c.refused.result =
-    subst (λ (t : List ℕ). Tells c.args.explain t refusal c.refused.result) c.as_str-in-Err.ensures.value
-    c.refused.ensures in
-    not_accepted refusal held.held held.is_text why told
+    not_accepted c.in-Err.refusal held.held held.is_text (rw c.as_str.ensures.value at c.in-Err.ensures.refused)
+    (rw c.as_str-in-Err.ensures.value at c.refused.ensures)
 
 pub returns-in_err-args-clause-refused : goal.returns-in_err-args-clause-refused
 returns-in_err-args-clause-refused g c = λ tells.
@@ -48,10 +35,7 @@ returns-in_err-args-clause-refused g c = λ tells.
     let held = program_held files c.args.file.now (string_bytes c.in_ok-text.text) c.as_str.result.now
     (program_tree c.in-Ok.accepted.program) ok.0 ok.1 (c.in_ok-text.ensures.said tells)
     c.as_str.ensures.value ok.2 in
-    let p = err_from_is_err_and c.from_residual-in_err-args.result c.from_residual-in_err-args.ensures.1 in
-    handed_on (RefusesMeaning c.args.explain files c.args.file.now words) c.from_residual-in_err-args.result p.0
-    (Run why) p.1 p.2
-    (no_arguments held
+    handed_on _ _ c.from_residual-in_err-args.ensures.1 (no_arguments held
     (subst (λ (params : List Param). IsFaultOfWords (fault_of_texts params words) why)
     (c.as_slice-params.ensures.value ∙ ok.3)
     (fault_of_words _ why (Err why) refl c.in_err-args.ensures.fault c.in_err-args.ensures.unstopped)))
@@ -64,20 +48,13 @@ returns-in_err-outcome-clause-refused g c = λ tells.
     ∙ ok.3) c.in_ok-args.ensures.within c.in_ok-args.ensures.found in
     let meant = c.accepted_texts_are_evaluated.ensures P1 c.as_str.result.now program ok.0 ok.1 c.in_ok-args.args
     evaluation_budget ok.2 spelled.within (omega arith) in
-    let p = err_from_is_err_and c.from_residual-in_err-outcome.result c.from_residual-in_err-outcome.ensures.1 in
-    handed_on (RefusesMeaning c.args.explain (g.F.Files.contents c.args.files.now) c.args.file.now
-    (map (λ word. word.now) c.args.arguments.now)) c.from_residual-in_err-outcome.result p.0
-    (Eval c.in_err-outcome.field-0.0) p.1 p.2
-    (out_of_memory {fault = Eval c.in_err-outcome.field-0.0}
+    handed_on _ _ c.from_residual-in_err-outcome.ensures.1 (out_of_memory {fault = Eval c.in_err-outcome.field-0.0}
     (only_memory c.in_err-outcome.field-0.0 (answer program c.in_ok-args.args evaluation_budget) meant.0
     meant.2 c.in_err-outcome.ensures.answer))
 
 pub returns-in_err-lines-clause-refused : goal.returns-in_err-lines-clause-refused
 returns-in_err-lines-clause-refused g c = λ tells.
-    let p = err_from_is_err_and c.from_residual-in_err-lines.result c.from_residual-in_err-lines.ensures.1 in
-    memory_on (RefusesMeaning c.args.explain (g.F.Files.contents c.args.files.now) c.args.file.now
-    (map (λ word. word.now) c.args.arguments.now)) c.from_residual-in_err-lines.result p.0 p.1
-    (out_of_memory p.2)
+    turned_on _ c.from_residual-in_err-lines.ensures.1 (λ e memory. out_of_memory memory)
 
 pub returns-clause-said : goal.returns-clause-said
 returns-clause-said g c = λ tells.

@@ -1,17 +1,17 @@
 use Rattle.std.proofs.Common.{◌≡◌, ℕ, List, take, refl, ◌∙◌, subst, OnOk, OnErr}
-use Rattle.std.proofs.lemmas.Result.{err_from_is_err_and, on_ok_weaker}
+use Rattle.std.proofs.lemmas.Result.{on_ok_weaker}
 use Rattle.std.specs.String.{string_bytes}
 use Rattle.hepurita.specs.Built.{Judges, IsRefusal}
 use Rattle.input_files.specs.wrapping.Wrapped.{IsWrapped, Breaks, IsFaultOf}
 use Rattle.commands.specs.Contents.{Contents, Begins, IsWritten, IsCutOff}
 use Rattle.commands.specs.FileTexts.{HoldsText}
-use Rattle.commands.specs.Judged.{IsRefused, no_text}
+use Rattle.commands.specs.Judged.{no_text}
 use Rattle.commands.specs.Judged as judged
-use Rattle.commands.specs.WrappedCode.{IsImageOfCode, RefusesCode, not_accepted, not_read, broken}
-use Rattle.commands.specs.Written.{FailsToWrite, refused, cut_off}
+use Rattle.commands.specs.WrappedCode.{IsImageOfCode, not_accepted, not_read, broken}
+use Rattle.commands.specs.Written.{refused, cut_off}
 use Rattle.input_files.specs.declared.wrapping.asked.Asked.{Asked}
 use Rattle.commands.proofs.CodeLemmas.{wrapped_whole, breaks_whole}
-use Rattle.commands.proofs.ImageLemmas.{handed_on}
+use Rattle.language.proofs.Handed.{handed_on}
 use Rattle.commands.proofs.Writing.{err_both}
 use Rattle.commands.proofs.foreign_code.wrap_code.Goals as goal
 
@@ -34,10 +34,8 @@ image_of_code asked files path code text as_str items as_slice bytes held same_t
 pub returns-in_err-text-clause-refused : goal.returns-in_err-text-clause-refused
 returns-in_err-text-clause-refused g c = λ tells.
     let files = g.F.Files.contents c.args.files.now in
-    let p = err_from_is_err_and c.from_residual.result c.from_residual.ensures.1 in
-    handed_on (FailsToWrite c.args.image.now (IsImageOfCode c.args.asked files c.args.file.now c.args.code.now)
-    (RefusesCode c.args.asked files c.args.file.now c.args.code.now) files files) c.from_residual.result p.0
-    c.in_err-text.field-0.0 p.1 p.2 (refused (not_accepted (no_text (c.in_err-text.ensures.refused tells))) refl)
+    handed_on _ _ c.from_residual.ensures.1
+    (refused (not_accepted (no_text (c.in_err-text.ensures.refused tells))) refl)
 
 pub returns-in-Err-clause-refused : goal.returns-in-Err-clause-refused
 returns-in-Err-clause-refused g c = λ tells. refused (not_read c.read_fault.ensures) refl

@@ -1,9 +1,7 @@
 use Rattle.std.proofs.Common.{ℕ, List, OnErr, subst}
-use Rattle.std.proofs.lemmas.Result.{err_from_is_err_and}
-use Rattle.std.specs.String.{string_bytes}
 use Rattle.commands.specs.Contents.{IsWritten, IsCutOff}
-use Rattle.commands.specs.TwoFiles.{AreCutOff, in_first, in_second}
-use Rattle.commands.proofs.ImageLemmas.{handed_on}
+use Rattle.commands.specs.TwoFiles.{in_first, in_second}
+use Rattle.language.proofs.Handed.{handed_on}
 use Rattle.commands.proofs.Writing.{err_both}
 use Rattle.commands.proofs.function_files.write_both.Goals as goal
 
@@ -12,9 +10,7 @@ returns-in_err-write_file-clause-cut_off g c = λ tells.
     let before = g.F.Files.contents c.args.files.now in
     let after = g.F.Files.contents c.write_file.new.files in
     let texts = c.args.texts.now in
-    let p = err_from_is_err_and c.from_residual.result c.from_residual.ensures.1 in
-    handed_on (AreCutOff c.args.one.now c.args.other.now (string_bytes texts.assembler) (string_bytes texts.header)
-    before after) c.from_residual.result p.0 c.in_err-write_file.field-0.0 p.1 p.2
+    handed_on _ _ c.from_residual.ensures.1
     (in_first (subst (λ (bytes : List ℕ). IsCutOff c.args.one.now bytes before after) c.as_bytes.ensures.value
     (c.in_err-write_file.ensures.cut_off tells)) c.in_err-write_file.ensures.fault)
 

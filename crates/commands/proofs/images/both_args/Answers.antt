@@ -1,11 +1,11 @@
 -- The first list's words, and then the second's.
 use Rattle.std.proofs.Common.{◌≡◌, List, ℕ, None, Err, map, length, refl, subst}
-use Rattle.std.proofs.lemmas.Result.{err_from_is_err_and}
 use Rattle.std.specs.Option.{option_map}
 use Rattle.language.specs.arguments.Texts.{fault_of_texts}
 use Rattle.language.specs.arguments.Faults.{shifted}
-use Rattle.commands.specs.Words.{fault_of_both, AreSpelled, IsFaultOfWords}
-use Rattle.commands.proofs.WordLemmas.{fault_of_words, fault_of_first, fault_of_second, passed_on, first_words}
+use Rattle.commands.specs.Words.{AreSpelled, IsFaultOfWords}
+use Rattle.language.proofs.Handed.{handed_on}
+use Rattle.commands.proofs.WordLemmas.{fault_of_words, fault_of_first, fault_of_second, first_words}
 use Rattle.commands.proofs.WordLemmas.{second_words, count_of_words, spelled_from}
 use Rattle.commands.proofs.images.both_args.Goals as goal
 
@@ -14,9 +14,7 @@ returns-in_err-first-in-Some-clause-refused c =
     let params = c.args.params.now in
     let words = map (λ word. word.now) c.args.arguments.now in
     let why = c.in_err-first-in-Some.field-0.0 in
-    let p = err_from_is_err_and c.from_residual.result c.from_residual.ensures.1 in
-    passed_on (IsFaultOfWords (fault_of_both params words)) c.from_residual.result p.0 why p.1 p.2
-    (fault_of_first params words why
+    handed_on _ _ c.from_residual.ensures.1 (fault_of_first params words why
     (count_of_words (λ word. word.now) (length params) c.args.arguments.now c.in-Some.second.now
     c.if-second-params.true c.in-Some.ensures.cases.4)
     (subst (λ (texts : List (List ℕ)). IsFaultOfWords (fault_of_texts params texts) why)
@@ -30,12 +28,8 @@ returns-in_err-second-in-Some-clause-refused c =
     let params = c.args.params.now in
     let words = map (λ word. word.now) c.args.arguments.now in
     let why = c.in_err-second-in-Some.field-0.0 in
-    let p = err_from_is_err_and c.from_residual-in_err-second-in-Some.result
-    c.from_residual-in_err-second-in-Some.ensures.1 in
     let both = c.in-Some.ensures.cases in
-    passed_on (IsFaultOfWords (fault_of_both params words)) c.from_residual-in_err-second-in-Some.result p.0
-    why p.1 p.2
-    (fault_of_second params words why
+    handed_on _ _ c.from_residual-in_err-second-in-Some.ensures.1 (fault_of_second params words why
     (count_of_words (λ word. word.now) (length params) c.args.arguments.now c.in-Some.second.now
     c.if-second-params.true both.4)
     (subst (λ (texts : List (List ℕ)). fault_of_texts params texts ≡ None)

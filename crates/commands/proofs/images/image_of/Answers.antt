@@ -1,10 +1,9 @@
 use Rattle.std.proofs.Common.{List, ℕ, Err, sym, ap, ◌∙◌, subst}
-use Rattle.std.proofs.lemmas.Result.{err_from_is_err_and}
 use Rattle.hepurita.specs.image.Reading.{reading, IsUnlessMemory}
 use Rattle.codegen.specs.image_fields.Fields.{Fields}
-use Rattle.commands.specs.Images.{NoImage, not_read}
-use Rattle.commands.specs.declared.fault.Fault.TheVariants.{Image}
-use Rattle.commands.proofs.ImageLemmas.{image_held, image_refused, handed_on}
+use Rattle.commands.specs.Images.{not_read}
+use Rattle.commands.proofs.ImageLemmas.{image_held, image_refused}
+use Rattle.language.proofs.Handed.{handed_on}
 use Rattle.commands.proofs.images.image_of.Goals as goal
 
 pub returns-in-Err-clause-refused : goal.returns-in-Err-clause-refused
@@ -15,8 +14,7 @@ returns-in_err-image-clause-refused g c = λ tells.
     let files = g.F.Files.contents c.args.files.now in
     let path = c.args.path.now in
     let fault = c.in_err-image.field-0.0 in
-    let p = err_from_is_err_and c.from_residual.result c.from_residual.ensures.1 in
-    handed_on (NoImage files path) c.from_residual.result p.0 (Image fault) p.1 p.2
+    handed_on _ _ c.from_residual.ensures.1
     (image_refused files path c.in-Ok.bytes.items fault (c.in-Ok.ensures.begins tells)
     (subst (λ (bytes : List ℕ). IsUnlessMemory {A = Fields} (Err fault) (reading bytes)) c.as_slice.ensures.value
     c.in_err-image.ensures.exact))

@@ -1,42 +1,28 @@
-use Rattle.std.proofs.Common.{List, ℕ, Result, Err, map, refl, ap, ◌∙◌, subst}
-use Rattle.std.proofs.lemmas.Result.{err_from_is_err_and}
+use Rattle.std.proofs.Common.{List, Result, Err, map, refl, ap, ◌∙◌, subst}
 use Rattle.language.specs.arguments.Texts.{fault_of_texts}
 use Rattle.language.specs.declared.signature.Param.{Param}
 use Rattle.commands.specs.ImageRefusals.{no_image, no_arguments, no_answer, out_of_memory}
-use Rattle.commands.specs.Leaks.{SaysLeak, RefusesLeak, IsOutputFault}
 use Rattle.commands.specs.Words.{IsFaultOfWords}
-use Rattle.commands.specs.declared.fault.Fault.{Fault}
-use Rattle.commands.specs.declared.fault.Fault.TheVariants.{Run}
-use Rattle.commands.proofs.ImageLemmas.{handed_on, memory_on}
+use Rattle.language.proofs.Handed.{handed_on, turned_on}
 use Rattle.commands.proofs.LeakFaults.{not_imageless, said_leak, wrote_leak, cut_at_output}
 use Rattle.commands.proofs.WordLemmas.{fault_of_words, spelled_from}
 use Rattle.listing.specs.declared.fault.LeakFault.{LeakFault}
 use Rattle.rv_machine.specs.declared.stops.Stop.{Stop}
-use Rattle.streams.specs.Streams.{WritesPart}
 use Rattle.commands.proofs.images.leak_image.Goals as goal
 
 pub returns-in_err-image-clause-refused : goal.returns-in_err-image-clause-refused
 returns-in_err-image-clause-refused g c = λ tells.
-    let p = err_from_is_err_and c.from_residual.result c.from_residual.ensures.1 in
-    handed_on (RefusesLeak (g.F.Files.contents c.args.files.now) c.args.path.now
-    (map (λ word. word.now) c.args.arguments.now)) c.from_residual.result p.0 c.in_err-image.field-0.0 p.1 p.2
-    (no_image (c.in_err-image.ensures.refused tells))
+    handed_on _ _ c.from_residual.ensures.1 (no_image (c.in_err-image.ensures.refused tells))
 
 pub returns-in_err-params-clause-refused : goal.returns-in_err-params-clause-refused
 returns-in_err-params-clause-refused g c = λ tells.
-    let p = err_from_is_err_and c.from_residual-in_err-params.result c.from_residual-in_err-params.ensures.1 in
-    memory_on (RefusesLeak (g.F.Files.contents c.args.files.now) c.args.path.now
-    (map (λ word. word.now) c.args.arguments.now)) c.from_residual-in_err-params.result p.0 p.1
-    (out_of_memory p.2)
+    turned_on _ c.from_residual-in_err-params.ensures.1 (λ e memory. out_of_memory memory)
 
 pub returns-in_err-args-clause-refused : goal.returns-in_err-args-clause-refused
 returns-in_err-args-clause-refused g c = λ tells.
     let words = map (λ word. word.now) c.args.arguments.now in
     let why = c.in_err-args.field-0.0 in
-    let p = err_from_is_err_and c.from_residual-in_err-args.result c.from_residual-in_err-args.ensures.1 in
-    handed_on (RefusesLeak (g.F.Files.contents c.args.files.now) c.args.path.now words)
-    c.from_residual-in_err-args.result p.0 (Run why) p.1 p.2
-    (no_arguments (c.in_ok-image.ensures.said tells)
+    handed_on _ _ c.from_residual-in_err-args.ensures.1 (no_arguments (c.in_ok-image.ensures.said tells)
     (subst (λ (params : List Param). IsFaultOfWords (fault_of_texts params words) why) (c.as_slice.ensures.value
     ∙ c.in_ok-params.ensures.params)
     (fault_of_words _ why (Err why) refl c.in_err-args.ensures.fault c.in_err-args.ensures.unstopped)))
@@ -47,35 +33,30 @@ returns-in_err-image-clause-beginning g c = λ tells tells_too.
     let path = c.args.path.now in
     let words = map (λ word. word.now) c.args.arguments.now in
     let out = g.O.Sink.taken c.args.out.now in
-    let p = err_from_is_err_and c.from_residual.result c.from_residual.ensures.1 in
-    handed_on (λ (fault : Fault). IsOutputFault fault
-    → WritesPart (λ text. (status : ℕ) × SaysLeak files path words status text) out out) c.from_residual.result
-    p.0 c.in_err-image.field-0.0 p.1 p.2
-    (λ output.
+    handed_on _ _ c.from_residual.ensures.1 (λ output.
     absurd (not_imageless files path c.in_err-image.field-0.0 (c.in_err-image.ensures.refused tells) output))
 
 pub returns-in-Ok-clause-said : goal.returns-in-Ok-clause-said
 returns-in-Ok-clause-said g c = λ tells.
     said_leak (c.in_ok-image.ensures.said tells)
-    (spelled_from c.args.arguments.now (λ word. word.now) (c.as_slice.ensures.value ∙ c.in_ok-params.ensures.params)
+    (spelled_from _ _ (c.as_slice.ensures.value ∙ c.in_ok-params.ensures.params)
     c.in_ok-args.ensures.within c.in_ok-args.ensures.found)
     c.in-Ok.stop c.status_of.result c.status_of.ensures.exact c.in-Ok.ensures.answer
 
 pub returns-in-Ok-clause-written : goal.returns-in-Ok-clause-written
 returns-in-Ok-clause-written g c = λ tells tells_too.
     wrote_leak (c.in_ok-image.ensures.said tells)
-    (spelled_from c.args.arguments.now (λ word. word.now) (c.as_slice.ensures.value ∙ c.in_ok-params.ensures.params)
+    (spelled_from _ _ (c.as_slice.ensures.value ∙ c.in_ok-params.ensures.params)
     c.in_ok-args.ensures.within c.in_ok-args.ensures.found)
     c.in-Ok.stop c.status_of.result _ _ c.status_of.ensures.exact (c.in-Ok.ensures.written tells_too)
 
 pub returns-clause-refused : goal.returns-clause-refused
 returns-clause-refused g c = λ tells.
-    let spelled = spelled_from c.args.arguments.now (λ word. word.now) (c.as_slice.ensures.value
-    ∙ c.in_ok-params.ensures.params) c.in_ok-args.ensures.within c.in_ok-args.ensures.found in
     no_answer (c.in_ok-image.ensures.said tells) (
       c.in_ok-args.args,
       c.in-Err.fault,
-      spelled,
+      spelled_from _ _ (c.as_slice.ensures.value ∙ c.in_ok-params.ensures.params) c.in_ok-args.ensures.within
+          c.in_ok-args.ensures.found,
       c.in-Err.ensures.answer,
       c.leak_fault.ensures,
     )
@@ -84,7 +65,7 @@ pub returns-clause-beginning : goal.returns-clause-beginning
 returns-clause-beginning g c = λ tells tells_too output.
     let gives : LeakFault → Result Stop LeakFault = λ why. Err why in
     cut_at_output (c.in_ok-image.ensures.said tells)
-    (spelled_from c.args.arguments.now (λ word. word.now) (c.as_slice.ensures.value ∙ c.in_ok-params.ensures.params)
+    (spelled_from _ _ (c.as_slice.ensures.value ∙ c.in_ok-params.ensures.params)
     c.in_ok-args.ensures.within c.in_ok-args.ensures.found)
     c.in-Err.fault c.leak_fault.result _ _ c.leak_fault.ensures output
     (λ is. c.in-Err.ensures.beginning tells_too (ap gives is))

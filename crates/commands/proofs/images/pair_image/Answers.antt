@@ -1,58 +1,40 @@
 -- Why the two runs are not compared, step by step.
 use Rattle.std.proofs.Common.{List, map, inr, ◌∙◌, subst}
-use Rattle.std.proofs.lemmas.Result.{err_from_is_err_and}
 use Rattle.language.specs.arguments.Within.{AreWithin}
 use Rattle.language.specs.declared.signature.Param.{Param}
 use Rattle.commands.specs.ImageRefusals.{no_image, no_arguments, no_answer, out_of_memory}
-use Rattle.commands.specs.Pairs.{RefusesPair}
 use Rattle.commands.specs.Words.{AreBothSpelled, IsFaultOfWords, fault_of_both}
-use Rattle.commands.specs.declared.fault.Fault.TheVariants.{Run}
-use Rattle.commands.proofs.ImageLemmas.{handed_on, memory_on}
+use Rattle.language.proofs.Handed.{handed_on, turned_on}
 use Rattle.commands.proofs.ProgressLemmas.{on_err, file_pair_tells, pair_reaches}
 use Rattle.run_reports.specs.progress.GoingOn.{HasLines}
 use Rattle.commands.proofs.images.pair_image.Goals as goal
 
 pub returns-in_err-image-clause-refused : goal.returns-in_err-image-clause-refused
 returns-in_err-image-clause-refused g c = λ tells.
-    let p = err_from_is_err_and c.from_residual.result c.from_residual.ensures.1 in
-    handed_on (RefusesPair (g.F.Files.contents c.args.files.now) c.args.path.now
-    (map (λ word. word.now) c.args.arguments.now)) c.from_residual.result p.0 c.in_err-image.field-0.0 p.1 p.2
-    (no_image (c.in_err-image.ensures.refused tells))
+    handed_on _ _ c.from_residual.ensures.1 (no_image (c.in_err-image.ensures.refused tells))
 
 pub returns-in_err-params-clause-refused : goal.returns-in_err-params-clause-refused
 returns-in_err-params-clause-refused g c = λ tells.
-    let p = err_from_is_err_and c.from_residual-in_err-params.result c.from_residual-in_err-params.ensures.1 in
-    memory_on (RefusesPair (g.F.Files.contents c.args.files.now) c.args.path.now
-    (map (λ word. word.now) c.args.arguments.now)) c.from_residual-in_err-params.result p.0 p.1
-    (out_of_memory p.2)
+    turned_on _ c.from_residual-in_err-params.ensures.1 (λ e memory. out_of_memory memory)
 
 pub returns-in_err-first-clause-refused : goal.returns-in_err-first-clause-refused
 returns-in_err-first-clause-refused g c = λ tells.
     let words = map (λ word. word.now) c.args.arguments.now in
     let why = c.in_err-first.field-0.0 in
-    let p = err_from_is_err_and c.from_residual-in_err-first.result c.from_residual-in_err-first.ensures.1 in
-    handed_on (RefusesPair (g.F.Files.contents c.args.files.now) c.args.path.now words)
-    c.from_residual-in_err-first.result p.0 (Run why) p.1 p.2
-    (no_arguments (c.in_ok-image.ensures.said tells)
+    handed_on _ _ c.from_residual-in_err-first.ensures.1 (no_arguments (c.in_ok-image.ensures.said tells)
     (subst (λ (params : List Param). IsFaultOfWords (fault_of_both params words) why) (c.as_slice.ensures.value
     ∙ c.in_ok-params.ensures.params) c.in_err-first.ensures.refused))
 
 pub returns-in_err-pairing-clause-refused : goal.returns-in_err-pairing-clause-refused
 returns-in_err-pairing-clause-refused g c = λ tells.
     let words = map (λ word. word.now) c.args.arguments.now in
-    let p = err_from_is_err_and c.from_residual-in_err-pairing.result c.from_residual-in_err-pairing.ensures.1 in
-    let spelled =
-    subst (λ (params : List Param). AreBothSpelled params words c.in_ok-first.first c.in_ok-first.second)
-    (c.as_slice.ensures.value ∙ c.in_ok-params.ensures.params) c.in_ok-first.ensures.found in
-    memory_on (RefusesPair (g.F.Files.contents c.args.files.now) c.args.path.now words)
-    c.from_residual-in_err-pairing.result p.0 p.1
-    (no_answer (c.in_ok-image.ensures.said tells) (
+    turned_on _ c.from_residual-in_err-pairing.ensures.1 (λ e memory. no_answer (c.in_ok-image.ensures.said tells) (
       c.in_ok-first.first,
       c.in_ok-first.second,
       c.in_err-pairing.field-0.0,
-      spelled,
+      rw (c.as_slice.ensures.value ∙ c.in_ok-params.ensures.params) at c.in_ok-first.ensures.found,
       c.in_err-pairing.ensures.paired,
-      p.2,
+      memory,
     ))
 
 pub pairing_lines-requires-clause-first : goal.pairing_lines-requires-clause-first
@@ -67,10 +49,7 @@ pairing_lines-requires-clause-second g c =
 
 pub returns-in_err-text-clause-refused : goal.returns-in_err-text-clause-refused
 returns-in_err-text-clause-refused g c = λ tells.
-    let p = err_from_is_err_and c.from_residual-in_err-text.result c.from_residual-in_err-text.ensures.1 in
-    memory_on (RefusesPair (g.F.Files.contents c.args.files.now) c.args.path.now
-    (map (λ word. word.now) c.args.arguments.now)) c.from_residual-in_err-text.result p.0 p.1
-    (out_of_memory p.2)
+    turned_on _ c.from_residual-in_err-text.ensures.1 (λ e memory. out_of_memory memory)
 
 pub returns-clause-said : goal.returns-clause-said
 returns-clause-said g c = λ tells.
@@ -92,17 +71,14 @@ returns-clause-said g c = λ tells.
 pub returns-in_err-text-clause-part : goal.returns-in_err-text-clause-part
 returns-in_err-text-clause-part g c = λ tells both.
     let words = map (λ word. word.now) c.args.arguments.now in
-    let spelled =
-    subst (λ (params : List Param). AreBothSpelled params words c.in_ok-first.first c.in_ok-first.second)
-    (c.as_slice.ensures.value ∙ c.in_ok-params.ensures.params) c.in_ok-first.ensures.found in
-    on_err c.from_residual-in_err-text.result
-    (inr (pair_reaches _ _ _ _ _ c.args.options.progress
-    (file_pair_tells HasLines _ _ (c.in_ok-image.ensures.said tells) c.args.options.progress spelled (c.in_ok-pairing.ensures.told both))))
+    on_err _ (inr (pair_reaches _ _ _ _ _ c.args.options.progress
+    (file_pair_tells HasLines _ _ (c.in_ok-image.ensures.said tells) c.args.options.progress
+    (rw (c.as_slice.ensures.value ∙ c.in_ok-params.ensures.params) at c.in_ok-first.ensures.found)
+    (c.in_ok-pairing.ensures.told both))))
 
 pub returns-clause-told : goal.returns-clause-told
 returns-clause-told g c = λ tells both.
     let words = map (λ word. word.now) c.args.arguments.now in
-    let spelled =
-    subst (λ (params : List Param). AreBothSpelled params words c.in_ok-first.first c.in_ok-first.second)
-    (c.as_slice.ensures.value ∙ c.in_ok-params.ensures.params) c.in_ok-first.ensures.found in
-    file_pair_tells HasLines _ _ (c.in_ok-image.ensures.said tells) c.args.options.progress spelled (c.in_ok-pairing.ensures.told both)
+    file_pair_tells HasLines _ _ (c.in_ok-image.ensures.said tells) c.args.options.progress
+    (rw (c.as_slice.ensures.value ∙ c.in_ok-params.ensures.params) at c.in_ok-first.ensures.found)
+    (c.in_ok-pairing.ensures.told both)

@@ -1,13 +1,10 @@
 use Rattle.std.proofs.Common.{List, Err, map, inr, refl, ap, ◌∙◌, subst}
-use Rattle.std.proofs.lemmas.Result.{err_from_is_err_and}
 use Rattle.language.specs.arguments.Texts.{fault_of_texts}
 use Rattle.language.specs.declared.signature.Param.{Param}
 use Rattle.commands.specs.ImageRefusals.{no_image, no_arguments, no_answer, out_of_memory}
 use Rattle.commands.specs.OutcomeText.{outcome_text}
-use Rattle.commands.specs.Runs.{RefusesRun}
 use Rattle.commands.specs.Words.{IsFaultOfWords}
-use Rattle.commands.specs.declared.fault.Fault.TheVariants.{Run}
-use Rattle.commands.proofs.ImageLemmas.{handed_on, memory_on}
+use Rattle.language.proofs.Handed.{handed_on, turned_on}
 use Rattle.commands.proofs.ProgressLemmas.{on_err, file_run_tells, run_reaches}
 use Rattle.run_reports.specs.progress.GoingOn.{Reaches, HasLines}
 use Rattle.commands.proofs.WordLemmas.{fault_of_words, spelled_from}
@@ -15,26 +12,17 @@ use Rattle.commands.proofs.images.run_image.Goals as goal
 
 pub returns-in_err-image-clause-refused : goal.returns-in_err-image-clause-refused
 returns-in_err-image-clause-refused g c = λ tells.
-    let p = err_from_is_err_and c.from_residual.result c.from_residual.ensures.1 in
-    handed_on (RefusesRun (g.F.Files.contents c.args.files.now) c.args.path.now
-    (map (λ word. word.now) c.args.arguments.now)) c.from_residual.result p.0 c.in_err-image.field-0.0 p.1 p.2
-    (no_image (c.in_err-image.ensures.refused tells))
+    handed_on _ _ c.from_residual.ensures.1 (no_image (c.in_err-image.ensures.refused tells))
 
 pub returns-in_err-params-clause-refused : goal.returns-in_err-params-clause-refused
 returns-in_err-params-clause-refused g c = λ tells.
-    let p = err_from_is_err_and c.from_residual-in_err-params.result c.from_residual-in_err-params.ensures.1 in
-    memory_on (RefusesRun (g.F.Files.contents c.args.files.now) c.args.path.now
-    (map (λ word. word.now) c.args.arguments.now)) c.from_residual-in_err-params.result p.0 p.1
-    (out_of_memory p.2)
+    turned_on _ c.from_residual-in_err-params.ensures.1 (λ e memory. out_of_memory memory)
 
 pub returns-in_err-args-clause-refused : goal.returns-in_err-args-clause-refused
 returns-in_err-args-clause-refused g c = λ tells.
     let words = map (λ word. word.now) c.args.arguments.now in
     let why = c.in_err-args.field-0.0 in
-    let p = err_from_is_err_and c.from_residual-in_err-args.result c.from_residual-in_err-args.ensures.1 in
-    handed_on (RefusesRun (g.F.Files.contents c.args.files.now) c.args.path.now words)
-    c.from_residual-in_err-args.result p.0 (Run why) p.1 p.2
-    (no_arguments (c.in_ok-image.ensures.said tells)
+    handed_on _ _ c.from_residual-in_err-args.ensures.1 (no_arguments (c.in_ok-image.ensures.said tells)
     (subst (λ (params : List Param). IsFaultOfWords (fault_of_texts params words) why) (c.as_slice.ensures.value
     ∙ c.in_ok-params.ensures.params)
     (fault_of_words _ why (Err why) refl c.in_err-args.ensures.fault c.in_err-args.ensures.unstopped)))
@@ -42,25 +30,18 @@ returns-in_err-args-clause-refused g c = λ tells.
 pub returns-in_err-outcome-clause-refused : goal.returns-in_err-outcome-clause-refused
 returns-in_err-outcome-clause-refused g c = λ tells.
     let words = map (λ word. word.now) c.args.arguments.now in
-    let p = err_from_is_err_and c.from_residual-in_err-outcome.result c.from_residual-in_err-outcome.ensures.1 in
-    let spelled = spelled_from c.args.arguments.now (λ word. word.now) (c.as_slice.ensures.value
-    ∙ c.in_ok-params.ensures.params) c.in_ok-args.ensures.within c.in_ok-args.ensures.found in
-    memory_on (RefusesRun (g.F.Files.contents c.args.files.now) c.args.path.now words)
-    c.from_residual-in_err-outcome.result p.0 p.1
-    (no_answer (c.in_ok-image.ensures.said tells) (
+    turned_on _ c.from_residual-in_err-outcome.ensures.1 (λ e memory. no_answer (c.in_ok-image.ensures.said tells) (
       c.in_ok-args.args,
       c.in_err-outcome.field-0.0,
-      spelled,
+      spelled_from _ _ (c.as_slice.ensures.value ∙ c.in_ok-params.ensures.params) c.in_ok-args.ensures.within
+          c.in_ok-args.ensures.found,
       c.in_err-outcome.ensures.executed,
-      p.2,
+      memory,
     ))
 
 pub returns-in_err-text-clause-refused : goal.returns-in_err-text-clause-refused
 returns-in_err-text-clause-refused g c = λ tells.
-    let p = err_from_is_err_and c.from_residual-in_err-text.result c.from_residual-in_err-text.ensures.1 in
-    memory_on (RefusesRun (g.F.Files.contents c.args.files.now) c.args.path.now
-    (map (λ word. word.now) c.args.arguments.now)) c.from_residual-in_err-text.result p.0 p.1
-    (out_of_memory p.2)
+    turned_on _ c.from_residual-in_err-text.ensures.1 (λ e memory. out_of_memory memory)
 
 pub returns-clause-said : goal.returns-clause-said
 returns-clause-said g c = λ tells. record {
@@ -68,7 +49,7 @@ returns-clause-said g c = λ tells. record {
   args = c.in_ok-args.args;
   outcome = c.in_ok-outcome.outcome;
   held = c.in_ok-image.ensures.said tells;
-  spelled = spelled_from c.args.arguments.now (λ word. word.now) (c.as_slice.ensures.value
+  spelled = spelled_from _ _ (c.as_slice.ensures.value
       ∙ c.in_ok-params.ensures.params) c.in_ok-args.ensures.within c.in_ok-args.ensures.found;
   executed = c.in_ok-outcome.ensures.executed;
   printed = c.in_ok-text.ensures
@@ -78,21 +59,19 @@ returns-clause-said g c = λ tells. record {
 
 pub returns-in_err-outcome-clause-part : goal.returns-in_err-outcome-clause-part
 returns-in_err-outcome-clause-part g c = λ tells both.
-    let spelled = spelled_from c.args.arguments.now (λ word. word.now) (c.as_slice.ensures.value
-    ∙ c.in_ok-params.ensures.params) c.in_ok-args.ensures.within c.in_ok-args.ensures.found in
-    on_err c.from_residual-in_err-outcome.result
-    (inr (file_run_tells Reaches _ _ (c.in_ok-image.ensures.said tells) c.args.progress spelled (c.in_err-outcome.ensures.part both)))
+    on_err _ (inr (file_run_tells Reaches _ _ (c.in_ok-image.ensures.said tells) c.args.progress
+    (spelled_from _ _ (c.as_slice.ensures.value ∙ c.in_ok-params.ensures.params) c.in_ok-args.ensures.within
+    c.in_ok-args.ensures.found) (c.in_err-outcome.ensures.part both)))
 
 pub returns-in_err-text-clause-part : goal.returns-in_err-text-clause-part
 returns-in_err-text-clause-part g c = λ tells both.
-    let spelled = spelled_from c.args.arguments.now (λ word. word.now) (c.as_slice.ensures.value
-    ∙ c.in_ok-params.ensures.params) c.in_ok-args.ensures.within c.in_ok-args.ensures.found in
-    on_err c.from_residual-in_err-text.result
-    (inr (run_reaches _ _ _ _ _ c.args.progress
-    (file_run_tells HasLines _ _ (c.in_ok-image.ensures.said tells) c.args.progress spelled (c.in_ok-outcome.ensures.told both))))
+    on_err _ (inr (run_reaches _ _ _ _ _ c.args.progress
+    (file_run_tells HasLines _ _ (c.in_ok-image.ensures.said tells) c.args.progress
+    (spelled_from _ _ (c.as_slice.ensures.value ∙ c.in_ok-params.ensures.params) c.in_ok-args.ensures.within
+    c.in_ok-args.ensures.found) (c.in_ok-outcome.ensures.told both))))
 
 pub returns-clause-told : goal.returns-clause-told
 returns-clause-told g c = λ tells both.
-    let spelled = spelled_from c.args.arguments.now (λ word. word.now) (c.as_slice.ensures.value
-    ∙ c.in_ok-params.ensures.params) c.in_ok-args.ensures.within c.in_ok-args.ensures.found in
-    file_run_tells HasLines _ _ (c.in_ok-image.ensures.said tells) c.args.progress spelled (c.in_ok-outcome.ensures.told both)
+    file_run_tells HasLines _ _ (c.in_ok-image.ensures.said tells) c.args.progress
+    (spelled_from _ _ (c.as_slice.ensures.value ∙ c.in_ok-params.ensures.params) c.in_ok-args.ensures.within
+    c.in_ok-args.ensures.found) (c.in_ok-outcome.ensures.told both)

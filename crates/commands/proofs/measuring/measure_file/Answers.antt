@@ -1,11 +1,9 @@
 use Rattle.std.proofs.Common.{List, ℕ, Ok, ap, subst}
-use Rattle.std.proofs.lemmas.Result.{err_from_is_err_and}
 use Rattle.std.specs.Option.{IfSome}
 use Rattle.std.specs.String.{string_bytes}
 use Rattle.image_reports.specs.image_statistics.ImageText.{BeginsOtherwise, SaysFields, IsFaultOf}
-use Rattle.commands.specs.Costs.{RefusesCosts, of_source, not_read, no_source}
-use Rattle.commands.specs.declared.fault.Fault.TheVariants.{Image}
-use Rattle.commands.proofs.ImageLemmas.{handed_on}
+use Rattle.commands.specs.Costs.{of_source, not_read, no_source}
+use Rattle.language.proofs.Handed.{handed_on}
 use Rattle.commands.proofs.MeasuringLemmas.{image_costs, other_held, image_faulty, if_ok_so, if_err_so}
 use Rattle.commands.proofs.measuring.measure_file.Goals as goal
 
@@ -18,8 +16,7 @@ returns-in_err-lines-clause-refused g c = λ tells.
     let bytes = c.in-Ok.bytes.items in
     let fault = c.in_err-lines.field-0.0 in
     let why = subst (λ (b : List ℕ). IsFaultOf b fault) c.as_slice.ensures.value c.in_err-lines.ensures.refused in
-    let p = err_from_is_err_and c.from_residual.result c.from_residual.ensures.1 in
-    handed_on (RefusesCosts c.args.profile files c.args.file.now) c.from_residual.result p.0 (Image fault) p.1 p.2
+    handed_on _ _ c.from_residual.ensures.1
     (image_faulty c.args.profile files c.args.file.now bytes fault (c.in-Ok.ensures.begins tells) why)
 
 pub returns-in-Some-clause-said : goal.returns-in-Some-clause-said

@@ -1,15 +1,14 @@
 use Rattle.std.proofs.Common.{◌≡◌, ◌++◌, List, ℕ, Option, Ok, Err, map, refl, ap₂, ◌∙◌, subst, inl}
-use Rattle.std.proofs.lemmas.Result.{err_from_is_err_and}
 use Rattle.image_reports.specs.certificates.Certified.{Certified}
 use Rattle.image_reports.specs.certificates.Texts.{fault_of_given_texts}
 use Rattle.certified_runs.specs.declared.shifts.Shifts.TheVariants.{Hidden}
 use Rattle.image_reports.specs.image_pictures.Drawn.{DrawsOne}
 use Rattle.language.specs.declared.signature.Param.{Param}
 use Rattle.language.specs.declared.values.Arg.{Arg}
-use Rattle.commands.specs.Pictures.{RefusesOne, before_certificate}
+use Rattle.commands.specs.Pictures.{before_certificate}
 use Rattle.commands.specs.Words.{IsFaultOfWords}
 use Rattle.commands.proofs.CertificateLemmas.{stands_in_code}
-use Rattle.commands.proofs.PictureLemmas.{handed}
+use Rattle.language.proofs.Handed.{handed_on}
 use Rattle.commands.proofs.WordLemmas.{fault_of_words, given_from}
 use Rattle.commands.proofs.picturing.picture_of_one.Goals as goal
 
@@ -17,8 +16,7 @@ pub returns-in_err-given-clause-refused : goal.returns-in_err-given-clause-refus
 returns-in_err-given-clause-refused c =
     let words = map (λ word. word.now) c.args.arguments.now in
     let why = c.in_err-given.field-0.0 in
-    let p = err_from_is_err_and c.from_residual.result c.from_residual.ensures.1 in
-    handed (RefusesOne c.args.image.now words) c.from_residual.result p.0 why p.1 p.2
+    handed_on _ _ c.from_residual.ensures.1
     (inl (subst (λ (params : List Param). IsFaultOfWords (fault_of_given_texts params words) why) c.requires.params
     (fault_of_words _ why (Err why) refl c.in_err-given.ensures.fault c.in_err-given.ensures.unstopped)))
 

@@ -1,6 +1,6 @@
 -- The run in pieces is the run of the image.
-use Rattle.std.proofs.Common.{false, [], Err, refl, ap, sym, ◌∙◌, arith}
-use Rattle.std.proofs.lemmas.Result.{err_from_is_err_and}
+use Rattle.std.proofs.Common.{false, [], refl, sym, ◌∙◌, arith}
+use Rattle.language.proofs.Handed.{err_is}
 use Rattle.commands.proofs.ProgressLemmas.{on_ok, on_err, told_of_image}
 use Rattle.commands.specs.Progress.{RunGoesOn}
 use Rattle.hepurita.proofs.ExecutedLemmas.{memory_executed, refused_executed, ran_executed}
@@ -22,36 +22,30 @@ returns-in-Some-clause-part g c = λ tells.
 
 pub returns-in_err-code-clause-executed : goal.returns-in_err-code-clause-executed
 returns-in_err-code-clause-executed g c =
-    let p = err_from_is_err_and c.from_residual.result c.from_residual.ensures.1 in
-    memory_executed c.args.image.now c.args.args.now false [] c.from_residual.result
-    (sym c.first_fault.ensures.first ∙ c.in_default.is) (p.1 ∙ ap Err p.2)
+    memory_executed c.args.image.now c.args.args.now false [] _ (sym c.first_fault.ensures.first ∙ c.in_default.is)
+    (err_is _ c.from_residual.ensures.1)
 
 pub returns-in_err-code-clause-part : goal.returns-in_err-code-clause-part
 returns-in_err-code-clause-part g c = λ tells.
-    on_err c.from_residual.result
-    (none_told (RunGoesOn c.args.image.now c.args.args.now) (g.E.Sink.taken c.args.err.now))
+    on_err _ (none_told (RunGoesOn c.args.image.now c.args.args.now) (g.E.Sink.taken c.args.err.now))
 
 pub returns-in_err-space-clause-executed : goal.returns-in_err-space-clause-executed
 returns-in_err-space-clause-executed g c =
-    let p = err_from_is_err_and c.from_residual-in_err-space.result c.from_residual-in_err-space.ensures.1 in
-    memory_executed c.args.image.now c.args.args.now false [] c.from_residual-in_err-space.result
-    (sym c.first_fault.ensures.first ∙ c.in_default.is) (p.1 ∙ ap Err p.2)
+    memory_executed c.args.image.now c.args.args.now false [] _ (sym c.first_fault.ensures.first ∙ c.in_default.is)
+    (err_is _ c.from_residual-in_err-space.ensures.1)
 
 pub returns-in_err-space-clause-part : goal.returns-in_err-space-clause-part
 returns-in_err-space-clause-part g c = λ tells.
-    on_err c.from_residual-in_err-space.result
-    (none_told (RunGoesOn c.args.image.now c.args.args.now) (g.E.Sink.taken c.args.err.now))
+    on_err _ (none_told (RunGoesOn c.args.image.now c.args.args.now) (g.E.Sink.taken c.args.err.now))
 
 pub returns-in_err-loaded-clause-executed : goal.returns-in_err-loaded-clause-executed
 returns-in_err-loaded-clause-executed g c =
-    let p = err_from_is_err_and c.from_residual-in_err-loaded.result c.from_residual-in_err-loaded.ensures.1 in
-    memory_executed c.args.image.now c.args.args.now false [] c.from_residual-in_err-loaded.result
-    (sym c.first_fault.ensures.first ∙ c.in_default.is) (p.1 ∙ ap Err p.2)
+    memory_executed c.args.image.now c.args.args.now false [] _ (sym c.first_fault.ensures.first ∙ c.in_default.is)
+    (err_is _ c.from_residual-in_err-loaded.ensures.1)
 
 pub returns-in_err-loaded-clause-part : goal.returns-in_err-loaded-clause-part
 returns-in_err-loaded-clause-part g c = λ tells.
-    on_err c.from_residual-in_err-loaded.result
-    (none_told (RunGoesOn c.args.image.now c.args.args.now) (g.E.Sink.taken c.args.err.now))
+    on_err _ (none_told (RunGoesOn c.args.image.now c.args.args.now) (g.E.Sink.taken c.args.err.now))
 
 pub run_in_pieces-stop-requires : goal.run_in_pieces-stop-requires
 run_in_pieces-stop-requires g c = omega (arith, c.in_ok-loaded.ensures.steps, c.first_fault.ensures.allowed.steps)
@@ -72,12 +66,11 @@ returns-clause-executed g c =
 
 pub returns-clause-told : goal.returns-clause-told
 returns-clause-told g c = λ tells.
-    on_ok c.answer.result
-    (told_of_image HasLines c.args.image.now c.args.args.now c.in_ok-code.ensures c.in_ok-loaded.ensures.steps
+    on_ok _ (told_of_image HasLines c.args.image.now c.args.args.now c.in_ok-code.ensures c.in_ok-loaded.ensures.steps
     c.in_ok-loaded.ensures.state (c.run_in_pieces-stop.ensures.told tells))
 
 pub returns-clause-part : goal.returns-clause-part
 returns-clause-part g c = λ tells.
-    on_err c.answer.result
-    (reaches (told_of_image HasLines c.args.image.now c.args.args.now c.in_ok-code.ensures c.in_ok-loaded.ensures.steps
+    on_err _ (reaches (told_of_image HasLines c.args.image.now c.args.args.now c.in_ok-code.ensures
+    c.in_ok-loaded.ensures.steps
     c.in_ok-loaded.ensures.state (c.run_in_pieces-stop.ensures.told tells)))

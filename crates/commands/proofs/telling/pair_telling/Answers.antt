@@ -1,6 +1,6 @@
 -- The comparison that says how far it is is that of the image's two runs.
-use Rattle.std.proofs.Common.{Err, refl, sym, ap, ◌∙◌, arith}
-use Rattle.std.proofs.lemmas.Result.{err_from_is_err_and}
+use Rattle.std.proofs.Common.{refl, sym, ◌∙◌, arith}
+use Rattle.language.proofs.Handed.{err_is}
 use Rattle.commands.proofs.ProgressLemmas.{on_err, told_of_pair}
 use Rattle.hepurita.proofs.PairedLemmas.{memory_paired, refused_paired, observed_from}
 use Rattle.hepurita.specs.Paired.{compared}
@@ -17,36 +17,33 @@ returns-in-Some-clause-paired g c =
 
 pub returns-in_err-code-clause-paired : goal.returns-in_err-code-clause-paired
 returns-in_err-code-clause-paired g c =
-    let p = err_from_is_err_and c.from_residual.result c.from_residual.ensures.1 in
-    memory_paired c.args.image.now c.args.one.now c.args.other.now c.from_residual.result
-    (sym c.fault_of_both.ensures.first ∙ c.in_default.is) (p.1 ∙ ap Err p.2)
+    memory_paired c.args.image.now c.args.one.now c.args.other.now _
+    (sym c.fault_of_both.ensures.first ∙ c.in_default.is) (err_is _ c.from_residual.ensures.1)
 
 pub returns-in_err-code-clause-untold : goal.returns-in_err-code-clause-untold
-returns-in_err-code-clause-untold g c = on_err c.from_residual.result refl
+returns-in_err-code-clause-untold g c = on_err _ refl
 
 pub load-requires : goal.load-requires
 load-requires g c = (c.fault_of_both.ensures.within c.in_default.is).0
 
 pub returns-in_err-one-clause-paired : goal.returns-in_err-one-clause-paired
 returns-in_err-one-clause-paired g c =
-    let p = err_from_is_err_and c.from_residual-in_err-one.result c.from_residual-in_err-one.ensures.1 in
-    memory_paired c.args.image.now c.args.one.now c.args.other.now c.from_residual-in_err-one.result
-    (sym c.fault_of_both.ensures.first ∙ c.in_default.is) (p.1 ∙ ap Err p.2)
+    memory_paired c.args.image.now c.args.one.now c.args.other.now _
+    (sym c.fault_of_both.ensures.first ∙ c.in_default.is) (err_is _ c.from_residual-in_err-one.ensures.1)
 
 pub returns-in_err-one-clause-untold : goal.returns-in_err-one-clause-untold
-returns-in_err-one-clause-untold g c = on_err c.from_residual-in_err-one.result refl
+returns-in_err-one-clause-untold g c = on_err _ refl
 
 pub load-requires-2 : goal.load-requires-2
 load-requires-2 g c = (c.fault_of_both.ensures.within c.in_default.is).1
 
 pub returns-in_err-other-clause-paired : goal.returns-in_err-other-clause-paired
 returns-in_err-other-clause-paired g c =
-    let p = err_from_is_err_and c.from_residual-in_err-other.result c.from_residual-in_err-other.ensures.1 in
-    memory_paired c.args.image.now c.args.one.now c.args.other.now c.from_residual-in_err-other.result
-    (sym c.fault_of_both.ensures.first ∙ c.in_default.is) (p.1 ∙ ap Err p.2)
+    memory_paired c.args.image.now c.args.one.now c.args.other.now _
+    (sym c.fault_of_both.ensures.first ∙ c.in_default.is) (err_is _ c.from_residual-in_err-other.ensures.1)
 
 pub returns-in_err-other-clause-untold : goal.returns-in_err-other-clause-untold
-returns-in_err-other-clause-untold g c = on_err c.from_residual-in_err-other.result refl
+returns-in_err-other-clause-untold g c = on_err _ refl
 
 pub compare_telling-requires-clause-few : goal.compare_telling-requires-clause-few
 compare_telling-requires-clause-few g c =
@@ -72,5 +69,6 @@ returns-clause-paired g c =
 
 pub returns-clause-told : goal.returns-clause-told
 returns-clause-told g c = λ tells.
-    told_of_pair HasLines c.args.image.now c.args.one.now c.args.other.now c.in_ok-code.ensures c.in_ok-one.ensures.steps
+    told_of_pair HasLines c.args.image.now c.args.one.now c.args.other.now c.in_ok-code.ensures
+    c.in_ok-one.ensures.steps
     c.in_ok-one.ensures.state c.in_ok-other.ensures.state (c.compare_telling.ensures.told tells)

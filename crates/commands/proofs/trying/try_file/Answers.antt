@@ -1,37 +1,28 @@
 use Rattle.std.proofs.Common.{ℕ, List, Err, map, sym, ap, subst}
-use Rattle.std.proofs.lemmas.Result.{err_from_is_err_and}
 use Rattle.std.proofs.lemmas.Str.{IsUtf8-string_bytes}
 use Rattle.std.specs.String.{string_bytes}
 use Rattle.hepurita.specs.Built.{Judges, IsRefusal}
 use Rattle.image_reports.specs.vectors.Lines.{NamedVector}
 use Rattle.image_reports.specs.vectors.Verdicts.{IsReport}
 use Rattle.image_reports.specs.vectors.Views.{named}
-use Rattle.commands.specs.Vectors.{RefusesVectors, no_source, no_lines, not_accepted}
-use Rattle.commands.specs.declared.fault.Fault.TheVariants.{Text, Vectors}
-use Rattle.commands.proofs.ImageLemmas.{handed_on}
+use Rattle.commands.specs.Vectors.{no_source, no_lines, not_accepted}
+use Rattle.language.proofs.Handed.{handed_on}
 use Rattle.commands.proofs.VectorLemmas.{unsaid, both_held}
 use Rattle.commands.proofs.trying.try_file.Goals as goal
 
 pub returns-in_err-source-clause-refused : goal.returns-in_err-source-clause-refused
 returns-in_err-source-clause-refused g c = λ tells.
-    let p = err_from_is_err_and c.from_residual.result c.from_residual.ensures.1 in
-    handed_on (RefusesVectors c.args.profile (g.F.Files.contents c.args.files.now) c.args.file.now c.args.list.now)
-    c.from_residual.result p.0 c.in_err-source.field-0.0 p.1 p.2
-    (no_source (c.in_err-source.ensures.refused tells))
+    handed_on _ _ c.from_residual.ensures.1 (no_source (c.in_err-source.ensures.refused tells))
 
 pub returns-in_err-lines-clause-refused : goal.returns-in_err-lines-clause-refused
 returns-in_err-lines-clause-refused g c = λ tells.
-    let p = err_from_is_err_and c.from_residual-in_err-lines.result c.from_residual-in_err-lines.ensures.1 in
-    handed_on (RefusesVectors c.args.profile (g.F.Files.contents c.args.files.now) c.args.file.now c.args.list.now)
-    c.from_residual-in_err-lines.result p.0 c.in_err-lines.field-0.0 p.1 p.2
+    handed_on _ _ c.from_residual-in_err-lines.ensures.1
     (no_lines (c.in_ok-source.ensures.said tells) (c.in_err-lines.ensures.refused tells))
 
 pub returns-in_err-vectors-clause-refused : goal.returns-in_err-vectors-clause-refused
 returns-in_err-vectors-clause-refused g c = λ tells.
     let fault = c.in_err-vectors.field-0.0 in
-    let p = err_from_is_err_and c.from_residual-in_err-vectors.result c.from_residual-in_err-vectors.ensures.1 in
-    handed_on (RefusesVectors c.args.profile (g.F.Files.contents c.args.files.now) c.args.file.now c.args.list.now)
-    c.from_residual-in_err-vectors.result p.0 (Vectors fault) p.1 p.2
+    handed_on _ _ c.from_residual-in_err-vectors.ensures.1
     (unsaid c.args.profile (g.F.Files.contents c.args.files.now) c.args.file.now c.args.list.now
     (string_bytes c.in_ok-source.source) (string_bytes c.in_ok-lines.lines) fault
     (c.in_ok-source.ensures.said tells) (c.in_ok-lines.ensures.said tells)
@@ -42,13 +33,10 @@ returns-in_err-report-clause-refused g c = λ tells.
     let refusal = c.in_err-report.field-0.0 in
     let source = string_bytes c.in_ok-source.source in
     let lines = string_bytes c.in_ok-lines.lines in
-    let p = err_from_is_err_and c.from_residual-in_err-report.result c.from_residual-in_err-report.ensures.1 in
     let why : IsRefusal (Judges c.args.profile source) refusal =
     subst (λ (t : List ℕ). IsRefusal (Judges c.args.profile t) refusal) c.as_str-2.ensures.value
     c.in_err-report.ensures.refused in
-    handed_on (RefusesVectors c.args.profile (g.F.Files.contents c.args.files.now) c.args.file.now c.args.list.now)
-    c.from_residual-in_err-report.result p.0 (Text refusal) p.1 p.2
-    (not_accepted
+    handed_on _ _ c.from_residual-in_err-report.ensures.1 (not_accepted
     (both_held (g.F.Files.contents c.args.files.now) c.args.file.now c.args.list.now source lines c.as_str.result.now
     (map named c.in_ok-vectors.vectors.items) (c.in_ok-source.ensures.said tells)
     (c.in_ok-lines.ensures.said tells)
