@@ -56,7 +56,8 @@ fn two<W: fmt::Write, T: fmt::Display + Drop>(
     register: Reg,
     operand: T,
 ) -> fmt::Result
-    ensures { IfSome (T.output operand) (λ text. WritesOnOk W.write_str_gives f.old result (two_operands mnemonic.now (reg_text register) text) f.new) }
+    ensures { IfSome (T.output operand) (λ text.
+        WritesOnOk W.write_str_gives f.old result (two_operands mnemonic.now (reg_text register) text) f.new) }
 {
     write!(f, "{mnemonic} {register}, {operand}")
 }
@@ -69,7 +70,9 @@ fn three<W: fmt::Write, T: fmt::Display + Drop>(
     second: Reg,
     third: T,
 ) -> fmt::Result
-    ensures { IfSome (T.output third) (λ text. WritesOnOk W.write_str_gives f.old result (three_operands mnemonic.now (reg_text first) (reg_text second) text) f.new) }
+    ensures { IfSome (T.output third) (λ text.
+        WritesOnOk W.write_str_gives f.old result (three_operands mnemonic.now (reg_text first) (reg_text second) text)
+        f.new) }
 {
     write!(f, "{mnemonic} {first}, {second}, {third}")
 }
@@ -82,7 +85,8 @@ fn at_address<W: fmt::Write>(
     offset: Immediate12,
     base: Reg,
 ) -> fmt::Result
-    ensures { WritesOnOk W.write_str_gives f.old result (two_operands mnemonic.now (reg_text register) (address_text offset base)) f.new }
+    ensures { WritesOnOk W.write_str_gives f.old result
+        (two_operands mnemonic.now (reg_text register) (address_text offset base)) f.new }
 {
     write!(f, "{mnemonic} {register}, {offset}({base})")
 }
