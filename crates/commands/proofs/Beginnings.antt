@@ -7,10 +7,10 @@ use Rattle.std.proofs.lemmas.Bool.Decides.{nat_tests}
 use Rattle.std.proofs.lemmas.List.{drop-append-le, length-drop, length-take-le, take-append-drop, take_all}
 use Rattle.byteorder.specs.Endian.{little_number}
 use Rattle.byteorder.specs.Numbers.{little_from-append}
-use Rattle.hepurita.specs.image.Format.{Format, ends, field, read_by}
-use Rattle.hepurita.specs.image.Limits.{longest_image}
-use Rattle.hepurita.specs.image.Reading.{slot_format, slots_format, flagged_format, result_format, words_format, image_format}
-use Rattle.hepurita.specs.image.Reading.{reading, is_word_count}
+use Rattle.image.specs.Format.{Format, ends, field, read_by}
+use Rattle.image.specs.Limits.{longest_image}
+use Rattle.image.specs.Reading.{slot_format, slots_format, flagged_format, result_format, words_format, image_format}
+use Rattle.image.specs.Reading.{reading, is_word_count}
 use Rattle.codegen.specs.image_fields.Fields.{slot_end, slots_end}
 use Rattle.codegen.specs.image_fields.Limits.{most_parameters, most_words}
 use Rattle.codegen.specs.declared.image_fields.slot.Slot.{Slot}

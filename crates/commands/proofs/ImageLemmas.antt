@@ -6,10 +6,10 @@ use Rattle.commands.specs.Images.{HoldsImage, NoImage, not_read, not_spelled}
 use Rattle.commands.specs.Unread.{out_of_memory}
 use Rattle.commands.specs.declared.fault.Fault.TheVariants.{Image}
 use Rattle.commands.proofs.Beginnings.{one_byte_more}
-use Rattle.hepurita.specs.image.Limits.{longest_image}
-use Rattle.hepurita.specs.image.Reading.{reading, IsUnlessMemory}
-use Rattle.hepurita.specs.declared.image.fault.ImageFault.{ImageFault}
-use Rattle.hepurita.specs.declared.image.fault.ImageFault.TheVariants.{Field, Memory}
+use Rattle.image.specs.Limits.{longest_image}
+use Rattle.image.specs.Reading.{reading, IsUnlessMemory}
+use Rattle.image.specs.declared.fault.ImageFault.{ImageFault}
+use Rattle.image.specs.declared.fault.ImageFault.TheVariants.{Field, Memory}
 use Rattle.codegen.specs.image_fields.Fields.{Fields, IsImage}
 
 -- what is read of the beginning of a file is what all of it spells

@@ -7,9 +7,9 @@ use Rattle.commands.specs.Costs.{HoldsOther, SaysCosts, RefusesCosts, of_image, 
 use Rattle.commands.specs.Unread.{out_of_memory}
 use Rattle.commands.specs.declared.fault.Fault.TheVariants.{Image}
 use Rattle.commands.proofs.ImageLemmas.{all_read, image_held}
-use Rattle.hepurita.specs.image.Limits.{longest_image}
-use Rattle.hepurita.specs.declared.image.fault.ImageFault.{ImageFault}
-use Rattle.hepurita.specs.declared.image.fault.ImageFault.TheVariants.{Field, Memory}
+use Rattle.image.specs.Limits.{longest_image}
+use Rattle.image.specs.declared.fault.ImageFault.{ImageFault}
+use Rattle.image.specs.declared.fault.ImageFault.TheVariants.{Field, Memory}
 use Rattle.image_reports.specs.image_statistics.ImageText.{BeginsOtherwise, SaysFields, IsFaultOf}
 use Rattle.syntax.specs.Limits.{text_limit}
 use Rattle.word.specs.declared.profile.Profile.{Profile}

@@ -6,9 +6,9 @@ use Rattle.commands.specs.Judged.{IsRefused, SaysStatistics}
 use Rattle.commands.specs.Unread.{NotRead}
 use Rattle.commands.specs.declared.fault.Fault.{Fault}
 use Rattle.commands.specs.declared.fault.Fault.TheVariants.{Image}
-use Rattle.hepurita.specs.image.Reading.{reading}
-use Rattle.hepurita.specs.declared.image.fault.ImageFault.TheVariants.{Field}
-use Rattle.hepurita.specs.declared.image.fault.ImageRule.{ImageRule}
+use Rattle.image.specs.Reading.{reading}
+use Rattle.image.specs.declared.fault.ImageFault.TheVariants.{Field}
+use Rattle.image.specs.declared.fault.ImageRule.{ImageRule}
 use Rattle.codegen.specs.image_fields.Fields.{Fields}
 use Rattle.image_reports.specs.image_statistics.ImageText.{BeginsOtherwise}
 use Rattle.image_reports.specs.statistics.FieldsText.{fields_text}

@@ -19,9 +19,9 @@ use Rattle.input_files.specs.declared.harts_file.fault.PlanFault.TheVariants as 
 use Rattle.hepurita.specs.Text.{run_fault_text}
 use Rattle.hepurita.specs.declared.fault.RunFault.{RunFault}
 use Rattle.hepurita.specs.declared.fault.RunFault.TheVariants as runs
-use Rattle.hepurita.specs.image.Text as images
-use Rattle.hepurita.specs.declared.image.fault.ImageFault.{ImageFault}
-use Rattle.hepurita.specs.declared.image.fault.ImageFault.TheVariants as image_faults
+use Rattle.image.specs.Text as images
+use Rattle.image.specs.declared.fault.ImageFault.{ImageFault}
+use Rattle.image.specs.declared.fault.ImageFault.TheVariants as image_faults
 use Rattle.language.specs.Rules.{refusal_text}
 use Rattle.language.specs.declared.rule.Rule.{Rule}
 use Rattle.language.specs.declared.rule.Rule.TheVariants.{OutOfMemory}

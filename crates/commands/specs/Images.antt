@@ -4,9 +4,9 @@ use Rattle.commands.specs.Contents.{Contents}
 use Rattle.commands.specs.Unread.{NotRead}
 use Rattle.commands.specs.declared.fault.Fault.{Fault}
 use Rattle.commands.specs.declared.fault.Fault.TheVariants.{Image}
-use Rattle.hepurita.specs.image.Reading.{Spells, reading}
-use Rattle.hepurita.specs.declared.image.fault.ImageFault.TheVariants.{Field}
-use Rattle.hepurita.specs.declared.image.fault.ImageRule.{ImageRule}
+use Rattle.image.specs.Reading.{Spells, reading}
+use Rattle.image.specs.declared.fault.ImageFault.TheVariants.{Field}
+use Rattle.image.specs.declared.fault.ImageRule.{ImageRule}
 use Rattle.codegen.specs.image_fields.Fields.{Fields, IsImage}
 
 -- the bytes of the file at a path, all of them, spell the fields of an image

@@ -5,7 +5,7 @@ ghost use Rattle.commands.specs.declared.fault.Fault.TheVariants.{Text, Image, R
 use functions::function_text::FunctionFault;
 use harts::HartsFault;
 use hepurita::RunFault;
-use hepurita::image::ImageFault;
+use image::ImageFault;
 use image_reports::vectors::VectorsFault;
 use input_files::harts_file::PlanFault;
 use input_files::wrapping::CodeRule;

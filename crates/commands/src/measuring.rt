@@ -5,12 +5,12 @@ ghost use Rattle.std.specs.String.{string_bytes};
 ghost use Rattle.commands.specs.Contents.{Contents};
 ghost use Rattle.commands.specs.Costs.{SaysCosts, RefusesCosts};
 ghost use Rattle.commands.specs.Judged.{IsRefused, SaysStatistics};
-ghost use Rattle.hepurita.specs.image.Limits.{longest_image};
+ghost use Rattle.image.specs.Limits.{longest_image};
 
 use crate::fault::Fault;
 use crate::files::Files;
 use crate::texts::{read_fault, text_fault};
-use hepurita::image::LONGEST_IMAGE;
+use image::LONGEST_IMAGE;
 use image_reports::image_statistics::image_statistics;
 use image_reports::source_statistics::source_statistics;
 use input_files::stream_build::text_of;

@@ -7,10 +7,10 @@ ghost use Rattle.hepurita.specs.Executed.{Executed};
 ghost use Rattle.hepurita.specs.Paired.{Paired};
 ghost use Rattle.run_reports.specs.progress.GoingOn.{Reaches, HasLines, IsTold};
 
-use hepurita::image::Image;
 use hepurita::{
     RunFault, answer, code, execute, fault_of_both, first_fault, load, pair, result_space,
 };
+use image::Image;
 use image_reports::certificates::{Certificate, Shifts, certify, certify_telling};
 use language::{Arg, Args, Outcome};
 use run_reports::progress::{compare_telling, run_in_pieces};

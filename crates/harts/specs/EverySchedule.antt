@@ -8,7 +8,7 @@ use Rattle.harts.specs.SideBySide.{frame_base_of, Job, loaded_alone, member_of}
 use Rattle.hepurita.specs.Built.{IsBuilt}
 use Rattle.hepurita.specs.Compiled.{Means}
 use Rattle.hepurita.specs.declared.optimised.Optimisation.{Optimisation}
-use Rattle.hepurita.specs.image.Reading.{Spells}
+use Rattle.image.specs.Reading.{Spells}
 use Rattle.language.specs.Tree.{ProgramTree}
 use Rattle.word.specs.declared.profile.Profile.{Profile}
 use Rattle.rv_machine.specs.Bytes.{ByteMap}

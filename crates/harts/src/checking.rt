@@ -7,7 +7,7 @@ ghost use Rattle.harts.specs.Frames.{job_of, IsRunnable};
 use crate::bases::MOST_IMAGES;
 use crate::fault::{HartsFault, HartsRule};
 use hepurita::first_fault;
-use hepurita::image::Image;
+use image::Image;
 use language::Args;
 use language::arguments::ArgumentFault;
 

@@ -14,8 +14,8 @@ ghost use Rattle.harts.specs.Frames.{job_of, HasImage};
 ghost use Rattle.harts.specs.SideBySide.{frame_base_of};
 
 use crate::bases::frame_base;
-use hepurita::image::Image;
 use hepurita::{ResultSpace, outcome, result_space};
+use image::Image;
 use language::{Args, Outcome};
 use rv_machine::{PagedMemory, RunningHarts, Stop};
 use std::alloc::{AllocError, Global};

@@ -9,8 +9,8 @@ ghost use Rattle.harts.specs.Frames.{job_of, each_from, IsRunnable, HasImage, fr
 ghost use Rattle.harts.specs.SideBySide.{member_of, members_from, bytes_from, system_of};
 
 use crate::bases::{code_base, frame_base};
-use hepurita::image::Image;
 use hepurita::put_arguments;
+use image::Image;
 use language::Args;
 use rv_machine::memory::Memory;
 use rv_machine::{AddressRange, CodeRegion, Hart, PagedMemory, RunningHart, RunningHarts};

@@ -9,7 +9,7 @@ use crate::checking::check;
 use crate::ends::{HartEnd, end_space, ends};
 use crate::fault::HartsFault;
 use crate::loading::load;
-use hepurita::image::Image;
+use image::Image;
 use language::Args;
 use rv_machine::HartRecorder;
 use std::alloc::Global;

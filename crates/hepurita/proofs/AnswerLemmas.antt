@@ -4,7 +4,7 @@ use Rattle.std.proofs.Common.{eq-eqb, refl, sym, ap, subst, ◌∙◌, arith}
 use Rattle.language.specs.arguments.Faults.{fault_of}
 use Rattle.language.specs.arguments.Within.{AreWithin}
 use Rattle.codegen.specs.image_fields.Fields.{Fields}
-use Rattle.hepurita.specs.image.Reading.{Spells}
+use Rattle.image.specs.Reading.{Spells}
 use Rattle.rv_machine.specs.Entries.{Entry, entries_of, Compares}
 use Rattle.rv_machine.specs.declared.pairing.Pairing.{Pairing}
 use Rattle.rv_machine.specs.declared.pairing.Pairing.TheVariants.{Same, Differ}

@@ -1,4 +1,3 @@
-pub mod image_lemmas
 mod Below
 pub mod ElementLemmas
 pub mod DataLemmas

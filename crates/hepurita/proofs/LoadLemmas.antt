@@ -57,15 +57,6 @@ pub with_arguments-next : (frame : ℕ) (bytes : ByteMap) (slots : List Slot) (a
 with_arguments-next frame bytes slots args i slot arg below below' =
     rw (add-one i, drop-cons slots i slot below, drop-cons args i arg below')
 
--- slots end where the last of them does
-pub slots_end_at_last : (low : ℕ) (d : Slot) (slots : List Slot) → 1 ≤ length slots
-    → slot_end (get_or slots (length slots - 1) d) ≡ slots_end low slots
-slots_end_at_last low d [] h = absurd (omega arith)
-slots_end_at_last low d (slot ∷ []) h = refl
-slots_end_at_last low d (slot ∷ next ∷ slots) h =
-    let k : length (slot ∷ next ∷ slots) - 1 ≡ suc (length (next ∷ slots) - 1) = omega arith in
-    rw k (slots_end_at_last (slot_end slot) d (next ∷ slots) (omega arith))
-
 -- what stands where there is no slot
 abbrev pub no_slot : Slot
 no_slot = record { param = record { kind = Boolean; label = Public; form = SingleWord; length = 0 }; offset = 0 }

@@ -1,8 +1,8 @@
 -- An accepted text has one plain and one optimised image for an observer, each with one spelling.
 use Rattle.std.proofs.Common.{◌≡◌, ℕ, List, Result, Ok, Err, ap₂, sym, subst, ◌∙◌}
 use Rattle.std.specs.Result.{IfOk}
-use Rattle.hepurita.proofs.image_lemmas.Spellings.{one_by_fields}
-use Rattle.hepurita.specs.image.Reading.{Spells}
+use Rattle.image.proofs.Spellings.{one_by_fields}
+use Rattle.image.specs.Reading.{Spells}
 use Rattle.codegen.specs.image_fields.Fields.{Fields}
 use Rattle.syntax.specs.Reading.{OneAnswer}
 use Rattle.hepurita.specs.Built.{IsBuilt}

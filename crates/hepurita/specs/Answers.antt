@@ -1,7 +1,7 @@
 -- What `execute` and `pair` are to answer for the image of an accepted text.
 use Rattle.std.specs.Prelude.{◌≡◌, ◌⊎◌, ℕ, List, Result, Ok, Err}
 use Rattle.codegen.specs.image_fields.Fields.{Fields, IsImage}
-use Rattle.hepurita.specs.image.Reading.{Spells}
+use Rattle.image.specs.Reading.{Spells}
 use Rattle.rv_machine.specs.declared.pairing.Pairing.{Pairing}
 use Rattle.rv_machine.specs.declared.pairing.Pairing.TheVariants.{Same}
 use Rattle.rv_machine.specs.declared.stops.Stop.TheVariants.{RecorderRefused}

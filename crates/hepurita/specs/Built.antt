@@ -1,7 +1,7 @@
 -- What the compiler answers to a text: the passes are asked in order, and each names its first violation.
 use Rattle.std.specs.Prelude.{◌≡◌, ◌⊎◌, ℕ, ◌+◌, ◌*◌, ◌<◌, List, [], length, Some}
 use Rattle.codegen.specs.image_fields.Fields.{Fields, IsImage}
-use Rattle.hepurita.specs.image.Reading.{AreBytes, Spells}
+use Rattle.image.specs.Reading.{AreBytes, Spells}
 use Rattle.codegen.specs.Bases.{AreBases}
 use Rattle.hepurita.specs.Bases.{code_base, frame_base, most_images, code_distance, frame_distance}
 use Rattle.hepurita.specs.Compiled.{IsCompiled}

@@ -1,4 +1,3 @@
-pub mod image
 pub mod Bases
 pub mod Frames
 pub mod Meant

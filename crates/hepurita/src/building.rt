@@ -18,12 +18,12 @@ ghost use Rattle.hepurita.specs.CodeFor.{IsCodeFor};
 ghost use Rattle.hepurita.specs.Exact.{code_for, first_of, image_for, optimised_for};
 ghost use Rattle.hepurita.specs.Built.{Judgement, Judges, JudgesProgram, IsRefusal, IsBuilt, accepts, refuses};
 
-use crate::image::write;
 use crate::judging::flat_of;
 use crate::optimised::Optimisation;
 use crate::optimising::{rolled, unrolled};
 use branch_removal::{Straight, remove};
 use codegen::{Code, generate};
+use image::write;
 use intervals::check_ranges;
 use language::{Profile, Program, Refusal};
 use std::alloc::Global;

@@ -6,8 +6,8 @@ ghost use Rattle.language.specs.arguments.Within.{AreWithin};
 ghost use Rattle.codegen.specs.Loaded.{params_of};
 ghost use Rattle.codegen.specs.image_fields.Fields.{IsImage};
 
-use crate::image::Image;
 use codegen::image_fields::Slot;
+use image::Image;
 use language::arguments::{ArgumentFault, broken_rule, first_fault_by};
 use language::{Arg, Args};
 

@@ -8,8 +8,8 @@ ghost use Rattle.hepurita.specs.Paired.{pair_fault, Paired};
 
 use crate::checking::first_fault;
 use crate::fault::RunFault;
-use crate::image::Image;
 use crate::loading::{code, load};
+use image::Image;
 use language::Args;
 use language::arguments::ArgumentFault;
 use rv_machine::{Pairing, compare};

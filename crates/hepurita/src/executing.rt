@@ -9,9 +9,9 @@ ghost use Rattle.hepurita.specs.Frames.{IsSpaceFor};
 
 use crate::checking::first_fault;
 use crate::fault::RunFault;
-use crate::image::Image;
 use crate::loading::{FRAME_BASE, code, load};
 use crate::results::{ResultSpace, outcome, result_space};
+use image::Image;
 use language::{Args, Outcome};
 use rv_machine::recording::Recorder;
 use rv_machine::{PagedMemory, Running, Stop, run};

@@ -1,6 +1,6 @@
 // The calls of the compiler and of its simulator: a text to an image's bytes, an image run on arguments, and two runs
 // compared by what an observer sees. Each pass is a library below this one; here they are put together, and what the
-// whole promises is said. Its module `image` has images as bytes.
+// whole promises is said.
 #![tactic(auto)]
 
 mod building;
@@ -9,7 +9,6 @@ mod comparing;
 mod elements;
 mod executing;
 mod fault;
-pub mod image;
 mod judging;
 mod laws;
 mod loading;

@@ -5,8 +5,8 @@ ghost use Rattle.codegen.specs.Loaded.{arrays_in, results_in};
 ghost use Rattle.hepurita.specs.Frames.{IsSpaceFor};
 
 use crate::elements::{element_size, numbers};
-use crate::image::Image;
 use codegen::image_fields::Slot;
+use image::Image;
 use language::{Form, Numbers, Outcome};
 use rv_machine::memory::{Memory, Size};
 use std::alloc::{AllocError, Global};

@@ -12,7 +12,7 @@ ghost use Rattle.image_reports.specs.statistics.FieldsText.{fields_text};
 
 use crate::statistics::push_fields;
 use codegen::image_fields::ImageFields;
-use hepurita::image::{Image, ImageFault, read};
+use image::{Image, ImageFault, read};
 use std::alloc::{AllocError, Global};
 
 /// The fields of an image that was read.
@@ -42,7 +42,7 @@ fn lines_of(alloc: Global, image: &Image) -> Result<String, AllocError>
 }
 
 /// What the image costs that bytes spell, as lines; `None` where their first field, the magic, is not that of an image;
-/// or else the first fault that `hepurita::image::read` names.
+/// or else the first fault that `image::read` names.
 pub fn image_statistics(alloc: Global, bytes: &[u8]) -> Result<Option<String>, ImageFault>
     ensures said { IfOk result (λ found. IfSome found (λ text. SaysFields bytes.now (string_bytes text))) }
     ensures other { result ≡ Ok None → BeginsOtherwise bytes.now }

@@ -8,8 +8,8 @@ ghost use Rattle.listing.specs.Leaked.{Leaks, IsLeak};
 
 use crate::fault::LeakFault;
 use crate::turns::write_run;
-use hepurita::image::Image;
 use hepurita::{code, first_fault, load};
+use image::Image;
 use language::Args;
 use rv_machine::Stop;
 use std::alloc::Global;

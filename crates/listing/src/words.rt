@@ -10,7 +10,7 @@ ghost use Rattle.rv_machine.specs.Machine.{word_at};
 
 use crate::lines::head_of_word;
 use hepurita::CODE_BASE;
-use hepurita::image::Image;
+use image::Image;
 use rv_code::decode;
 use std::alloc::{AllocError, Global};
 

@@ -2,15 +2,15 @@ ghost use Rattle.std.specs.Prelude.{◌≡◌, ◌<◌, ℕ, List, [], ◌∷◌
 ghost use Rattle.hepurita.specs.Built.{IsBuilt, IsRefusal, Judges};
 ghost use Rattle.hepurita.specs.Executed.{Executed};
 ghost use Rattle.hepurita.specs.Paired.{Paired};
-ghost use Rattle.hepurita.specs.image.Reading.{IsUnlessMemory, Spells, reading};
-ghost use Rattle.hepurita.specs.declared.image.fault.ImageFault.{ImageFault};
+ghost use Rattle.image.specs.Reading.{IsUnlessMemory, Spells, reading};
+ghost use Rattle.image.specs.declared.fault.ImageFault.{ImageFault};
 ghost use Rattle.rv_machine.specs.ListRecording.{recorded};
 ghost use Rattle.rv_machine.specs.declared.observation.Observation.{Observation};
 ghost use Rattle.language.specs.declared.refusal.Refusal.{Refusal};
 
 use crate::fault::Fault;
-use hepurita::image::Image;
 use hepurita::{Optimisation, RunFault, build, execute, pair};
+use image::Image;
 use language::{Arg, Args, Outcome, Profile};
 use rv_machine::ListRecorder;
 use std::alloc::Global;
@@ -34,7 +34,7 @@ pub fn image_of(alloc: Global, bytes: &[u8]) -> Result<Image, Fault>
     ensures fault { IfErr result (λ given. (fault : ImageFault)
         × (given ≡ Fault.Read fault) × IsUnlessMemory (Err fault) (reading bytes.now)) }
 {
-    match hepurita::image::read(alloc, bytes) {
+    match image::read(alloc, bytes) {
         Ok(image) => Ok(image),
         Err(fault) => Err(Fault::Read(fault)),
     }

@@ -5,8 +5,8 @@ ghost use Rattle.codegen.specs.declared.image_fields.slot.Slot.{Slot};
 
 use crate::fault::Fault;
 use codegen::image_fields::Slot;
-use hepurita::image::{Image, ImageFault, read};
 use hepurita::{RunFault, execute};
+use image::{Image, ImageFault, read};
 use language::{Arg, Args, Form, Numbers};
 use rv_machine::{NullRecorder, Stop};
 use std::alloc::Global;

@@ -1,5 +1,5 @@
 use hepurita::RunFault;
-use hepurita::image::ImageFault;
+use image::ImageFault;
 use language::Rule;
 use thiserror::Error;
 

@@ -16,7 +16,7 @@ use calls::{arguments, bytes_of, fault_of_pair, image_of, keep, observe};
 use changes::print_changes;
 use fault::Fault;
 use hepurita::RunFault;
-use hepurita::image::Image;
+use image::Image;
 use language::{Args, Outcome};
 use rv_machine::ListRecorder;
 use std::alloc::Global;

@@ -9,7 +9,7 @@ use Rattle.functions.specs.function_text.HeaderText.{header_text}
 use Rattle.functions.specs.function_text.Texts.{AreTextsOf}
 use Rattle.functions.proofs.function_text_lemmas.Below.{one_export, one_build}
 use Rattle.hepurita.specs.declared.optimised.Optimisation.{Optimisation}
-use Rattle.hepurita.specs.image.Reading.{Spells}
+use Rattle.image.specs.Reading.{Spells}
 use Rattle.codegen.specs.image_fields.Fields.{Fields}
 use Rattle.language.specs.Tree.{ProcedureTree}
 use Rattle.listing.specs.Code.{IsTextOf, of_instruction, of_no_instruction}

@@ -5,7 +5,7 @@ ghost use Rattle.functions.specs.function_text.Functions.{IsFunctionOf, IsFaultO
 ghost use Rattle.functions.specs.function_text.Functions.{written_parameter};
 ghost use Rattle.functions.specs.function_text.Names.{is_taken_name};
 ghost use Rattle.functions.specs.function_text.private.OfExport.{IsOfExport, IsTaken};
-ghost use Rattle.hepurita.specs.image.Reading.{Spells};
+ghost use Rattle.image.specs.Reading.{Spells};
 ghost use Rattle.codegen.specs.image_fields.Fields.{Fields, IsImage};
 ghost use Rattle.language.specs.Signature.{exported};
 ghost use Rattle.language.specs.Tree.{ProcedureTree, parameter_tree, procedure_tree, program_tree};
@@ -14,8 +14,8 @@ ghost use Rattle.language.specs.WantOfMemory.{IsWantOfMemory};
 use crate::function_text::fault::FunctionFault;
 use crate::function_text::naming::{Macros, is_taken_name, macros_of, written_name};
 use codegen::image_fields::ImageFields;
-use hepurita::image::{Image, ImageFault, read};
 use hepurita::{Optimisation, build_with};
+use image::{Image, ImageFault, read};
 use language::{Param, Parameter, Procedure, Profile, Program, Refusal};
 use std::alloc::{AllocError, Global};
 use syntax::{one_answer_for_a_text, parse};

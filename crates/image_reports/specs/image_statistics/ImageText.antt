@@ -1,9 +1,9 @@
 -- What the image that bytes spell costs, as lines; or that they are no image's; or what is wrong with them.
 use Rattle.std.specs.Prelude.{◌≡◌, ◌≤◌, ℕ, List, Err}
-use Rattle.hepurita.specs.image.Reading.{Spells, reading}
-use Rattle.hepurita.specs.declared.image.fault.ImageFault.{ImageFault}
-use Rattle.hepurita.specs.declared.image.fault.ImageFault.TheVariants.{Field, Memory}
-use Rattle.hepurita.specs.declared.image.fault.ImageRule.{ImageRule}
+use Rattle.image.specs.Reading.{Spells, reading}
+use Rattle.image.specs.declared.fault.ImageFault.{ImageFault}
+use Rattle.image.specs.declared.fault.ImageFault.TheVariants.{Field, Memory}
+use Rattle.image.specs.declared.fault.ImageRule.{ImageRule}
 use Rattle.codegen.specs.image_fields.Fields.{Fields, IsImage}
 use Rattle.image_reports.specs.statistics.FieldsText.{fields_text}
 

@@ -13,8 +13,8 @@ ghost use Rattle.image_reports.specs.certificates.KnownImage.{argument_bytes, wi
 
 use certified_runs::{KnownParts, Shifts};
 use codegen::image_fields::Slot;
-use hepurita::image::Image;
 use hepurita::{CODE_BASE, FRAME_BASE, frame, put_argument};
+use image::Image;
 use language::{Arg, Form, Param};
 use rv_machine::hart::Hart;
 use rv_machine::memory::{Memory, Size};

@@ -12,8 +12,8 @@ ghost use Rattle.rv_machine.specs.Harts.{state_of};
 ghost use Rattle.rv_machine.specs.Paged.{paged_bytes};
 
 use crate::certificates::{Shifts, load_given};
-use hepurita::image::Image;
 use hepurita::{CODE_BASE, FRAME_BASE, code, load};
+use image::Image;
 use language::{Arg, Args};
 use run_reports::pictures::{Area, Drawing, Runs, picture};
 use rv_machine::PagedMemory;

@@ -12,8 +12,8 @@ ghost use Rattle.run_reports.specs.run_places.Places.{ShowsFewer};
 ghost use Rattle.image_reports.specs.pair_explanations.Explained.{SaysOf, Explains};
 
 use crate::pair_explanations::lines::{Said, lines, push_shown};
-use hepurita::image::Image;
 use hepurita::{code, load};
+use image::Image;
 use language::Args;
 use run_reports::run_places::{last_before, make_turns, registers_at, shown_at};
 use rv_machine::CodeRegion;

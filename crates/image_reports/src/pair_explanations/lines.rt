@@ -7,7 +7,7 @@ ghost use Rattle.listing.specs.Code.{IsLineAt};
 ghost use Rattle.rv_machine.specs.Machine.{word_at};
 ghost use Rattle.image_reports.specs.pair_explanations.Explained.{shown_line};
 
-use hepurita::image::Image;
+use image::Image;
 use listing::{line_at, lines_of, stop_line};
 use run_reports::run_places::Shown;
 use rv_machine::Observation;

@@ -5,7 +5,7 @@ use Rattle.std.specs.List.{AllByRecursion}
 use Rattle.std.proofs.lemmas.Bool.Decides.{nat_tests}
 use Rattle.codegen.proofs.ImageLemmas.{length-slots_from, count_in_words, slots_are, slots_end-slots_from, slots_inside}
 use Rattle.codegen.specs.expression_code.Layout.{slots_from}
-use Rattle.hepurita.specs.image.Reading.{is_frame_size, is_step_limit, layout_end}
+use Rattle.image.specs.Reading.{is_frame_size, is_step_limit, layout_end}
 use Rattle.codegen.specs.image_fields.Fields.{Fields, IsImage, IsResultSlot, result_end, slots_end}
 use Rattle.codegen.specs.declared.image_fields.slot.ResultSlot.{ResultSlot}
 use Rattle.codegen.specs.declared.image_fields.slot.Slot.{Slot}

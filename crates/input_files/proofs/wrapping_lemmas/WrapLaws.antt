@@ -3,8 +3,8 @@ use Rattle.std.proofs.Common.{◌≡◌, ℕ, List, length, map, Option, None, S
 use Rattle.std.proofs.lemmas.Option.{same_Some}
 use Rattle.input_files.proofs.wrapping_lemmas.Below.{grammatical_export, one_export}
 use Rattle.hepurita.specs.Built.{Judges, accepts, fine, readable}
-use Rattle.hepurita.proofs.image_lemmas.Spellings.{one_by_fields}
-use Rattle.hepurita.specs.image.Reading.{Spells}
+use Rattle.image.proofs.Spellings.{one_by_fields}
+use Rattle.image.specs.Reading.{Spells}
 use Rattle.codegen.specs.image_fields.Fields.{Fields}
 use Rattle.inline.proofs.FlatSizes.{flat_is_sized}
 use Rattle.language.specs.Signature.{param_of}

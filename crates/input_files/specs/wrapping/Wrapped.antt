@@ -7,7 +7,7 @@ use Rattle.std.specs.Option.{option_map}
 use Rattle.byteorder.specs.Endian.{little_bytes}
 use Rattle.codegen.specs.expression_code.Layout.{slots_from}
 use Rattle.hepurita.specs.Built.{Judges, accepts, IsRefusal}
-use Rattle.hepurita.specs.image.Reading.{AreBytes, Spells, is_frame_size, is_step_limit, is_word_count, layout_end}
+use Rattle.image.specs.Reading.{AreBytes, Spells, is_frame_size, is_step_limit, is_word_count, layout_end}
 use Rattle.codegen.specs.image_fields.Fields.{Fields, IsImage, slots_end}
 use Rattle.codegen.specs.declared.image_fields.slot.ResultSlot.{ResultSlot}
 use Rattle.language.specs.Signature.{param_of}

@@ -1,7 +1,7 @@
 // Where an export's parameters and its result lie in the frame.
 
 ghost use Rattle.std.specs.Prelude.{◌≡◌, ◌+◌, ◌<◌, ◌^◌};
-ghost use Rattle.hepurita.specs.image.Reading.{layout_end};
+ghost use Rattle.image.specs.Reading.{layout_end};
 ghost use Rattle.codegen.specs.image_fields.Fields.{slots_end};
 ghost use Rattle.input_files.specs.wrapping.Wrapped.{result_behind};
 

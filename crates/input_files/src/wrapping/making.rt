@@ -15,8 +15,8 @@ use crate::wrapping::layout::{layout_end, result_behind, slots_end};
 use crate::wrapping::words::words_of;
 use codegen::expression_code::slots;
 use codegen::image_fields::ImageFields;
-use hepurita::image::write_fields;
 use hepurita::judge_as;
+use image::write_fields;
 use language::{Param, Refusal, WordType};
 use std::alloc::Global;
 

@@ -1,5 +1,5 @@
 use Rattle.std.proofs.Common.{List, ℕ, Err, sym, ap, ◌∙◌, subst}
-use Rattle.hepurita.specs.image.Reading.{reading, IsUnlessMemory}
+use Rattle.image.specs.Reading.{reading, IsUnlessMemory}
 use Rattle.codegen.specs.image_fields.Fields.{Fields}
 use Rattle.commands.specs.Images.{not_read}
 use Rattle.commands.proofs.ImageLemmas.{image_held, image_refused}

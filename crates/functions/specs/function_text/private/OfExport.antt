@@ -2,7 +2,7 @@
 use Rattle.std.specs.Prelude.{◌≡◌, ℕ, true, false, List, map}
 use Rattle.functions.specs.function_text.Functions.{Parts, written_parameter}
 use Rattle.functions.specs.function_text.Names.{is_taken_name}
-use Rattle.hepurita.specs.image.Reading.{Spells}
+use Rattle.image.specs.Reading.{Spells}
 use Rattle.codegen.specs.image_fields.Fields.{IsImage}
 use Rattle.language.specs.Tree.{ProcedureTree}
 use Rattle.word.specs.declared.place.Place.{Place}

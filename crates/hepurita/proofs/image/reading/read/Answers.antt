@@ -1,6 +1,0 @@
-use Rattle.std.proofs.Common.{arith}
-use Rattle.hepurita.proofs.image_lemmas.Bytes.{all_bytes}
-use Rattle.hepurita.proofs.image.reading.read.Goals as goal
-
-pub fields-requires : goal.fields-requires
-fields-requires c = all_bytes c.args.bytes.now (λ i. omega (arith, c.type_inv.bytes i))

@@ -1,7 +1,0 @@
-use Rattle.std.proofs.Common.{◌≡◌, ◌++◌, take}
-use Rattle.std.specs.List.{flat_map}
-use Rattle.hepurita.specs.image.private.Spelling.{spelled_slot}
-use Rattle.hepurita.proofs.image.writing.put_slots.Given as goal
-
-abbrev pub invariant-loop-slot : goal.invariant-loop-slot
-invariant-loop-slot l = l.out.items ≡ l.fn.out.items ++ flat_map spelled_slot (take l.slot-index l.slots)
