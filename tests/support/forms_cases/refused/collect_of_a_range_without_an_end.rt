@@ -1,0 +1,6 @@
+// Refused: numbers are iterated over by `for` alone.
+
+pub fn copy(alloc: Global, words: &[u32]) -> Result<Vec<u32>, AllocError> {
+    let numbers: Vec<u32> = (1..).collect(alloc)?;
+    words.to_vec(alloc)
+}

@@ -1,0 +1,7 @@
+// Refused: numbers are iterated over by `for` alone.
+
+pub fn copy(alloc: Global, words: &[u32]) -> Result<Vec<u32>, AllocError> {
+    let mut copy = words.to_vec(alloc)?;
+    copy.extend(core::iter::repeat(0))?;
+    Ok(copy)
+}

@@ -1,0 +1,3 @@
+// Refused: no text hides code.
+
+pub const MARK: &[u8] = br#"a"b"#;

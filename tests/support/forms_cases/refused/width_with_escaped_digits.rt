@@ -1,0 +1,5 @@
+// Refused: what is formatted has the width that it needs.
+
+pub fn wide(alloc: Global, word: u32) -> Result<String, AllocError> {
+    format!(in alloc; "{:1\x30\x30\u{30}\x30}", word)
+}
