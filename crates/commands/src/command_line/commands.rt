@@ -147,8 +147,8 @@ pub(crate) static COMMANDS: [CommandRow; 15] = [
     },
     CommandRow {
         name: "certify",
-        about: "Runs an image once for all values of its secrets, and says whether an observer sees the same for all, or \
-                where runs may begin to differ",
+        about: "Runs an image once for all values of its secrets, and says that an observer sees the same for all, or \
+                from where on that is not shown, which is no proof of a leak",
         words: &[
             Word::Path("IMAGE", "An image that `build` or `wrap` wrote"),
             Word::Flag(
