@@ -1,7 +1,7 @@
 // What an image costs, as lines, from bytes that may be those of an image or of anything else.
 //
 // It promises that the lines are of the fields that the bytes spell, and that bytes that do not begin as an image does
-// are told from faulty ones (`specs/image_statistics/ImageText.antt`). It stands on `hepurita::image`, which reads
+// are told from faulty ones (`specs/image_statistics/ImageText.antt`). It stands on `image`, which reads
 // them, and on `statistics`.
 
 ghost use Rattle.std.specs.Prelude.{◌≡◌, None, Ok, IfOk, IfErr, IfSome};
