@@ -5,6 +5,8 @@ for each part of that. What is left is judged here:
 
 - A loop that counts, `while`, `loop` or a `for` over numbers, in which memory grows, itself or by what it calls, is a line of
   LOOPS, unless its numbers end with the length of something held.
+- A recursion that ends by a measure of its own, in which memory grows, is a line of RECURSIONS. Any other goes down a list or
+  a tree that is given: the checker asks for a measure where one does not.
 - Numbers are iterated over in the head of a `for` alone, and nothing is repeated without an end: so what is collected, or
   extended by, is something given. An exception is a line of RANGES.
 - What is formatted has the width that it needs, or a few columns that its text states.
@@ -12,6 +14,8 @@ for each part of that. What is left is judged here:
 """
 
 import ast
+import glob
+import os
 import re
 
 from rattle_sources import calls_one, closing, functions, owners_for
@@ -50,6 +54,21 @@ LOOPS = [
     ("syntax/src/parser/procedure.rt", "parameters", "the tokens of the text: each comma is taken"),
     ("syntax/src/parser/right_side.rt", "expressions", "the tokens of the text: each comma is taken"),
     ("syntax/src/parser/statement.rt", "statements", "the tokens of the text: each statement takes some"),
+]
+
+# Recursions with a measure in which memory grows: file, the function or the `#[cycle(..)]`, and what bounds it.
+RECURSIONS = [
+    ("branch_removal/src/removal.rt", "removal", "the statements of the body: each is followed once, and its copies have its size"),
+    ("codegen/src/statements.rt", "statements", "the statements of straight code, each of which is followed once"),
+    ("inline/src/numbering.rt", "numbering", "the nodes of the inlined body, which are counted before: 6,000 at most"),
+    ("optimisation/src/constants/statements.rt", "simplification", "the statements, and the turns that `choice` allows to unroll"),
+    ("optimisation/src/element_words/narrowing.rt", "narrowing", "nothing is added: an entry an array is there before"),
+    ("optimisation/src/element_words/statements.rt", "splitting", "the statements of straight code, each of which is followed once"),
+    ("optimisation/src/live_words/gathering.rt", "gathering", "a flag a variable, for each level of nesting"),
+    ("optimisation/src/live_words/statements.rt", "sharing", "the statements of straight code, and a flag a variable for each level"),
+    ("source_eval/src/statements.rt", "statement", "what the open bodies declare, 64 at most, and the lists that a statement has"),
+    ("syntax/src/parser.rt", "expression", "the tokens of the text: each node takes some"),
+    ("syntax/src/parser.rt", "statement", "the tokens of the text: each node takes some"),
 ]
 
 # Numbers that are iterated over elsewhere: file, the line's code, and why they may be.
@@ -121,6 +140,44 @@ def judge_loops(judge, sources, below):
                 line = function.source.line_of(function.body_at + place)
                 problems.append(f"{function.source.name}:{line}: {function.name}: {keyword}{' '.join(head.split())}")
     judge.judge(f"each loop that counts, in which memory grows, is bounded by what is given ({number} loops)", problems)
+
+
+def measured(top):
+    """The recursions that are proved to end by a measure: file, and the function or the cycle."""
+    for path in glob.glob(os.path.join(top, "crates", "*", "proofs", "**", "+*", "Invariants.antt"), recursive=True):
+        with open(path, encoding="utf-8") as file:
+            if "decreases" not in file.read():
+                continue
+        crate, _, *modules, name = os.path.relpath(os.path.dirname(path), os.path.join(top, "crates")).split(os.sep)
+        # Types stand between modules and functions, and are no files.
+        modules = [it for it in modules if it.islower()]
+        yield f"{crate}/src/{'/'.join(modules)}.rt", name[1:]
+
+
+def judge_recursions(judge, sources, below, measures):
+    """`measures`: the recursions that have one."""
+    grows, problems, number = growing(sources, below), [], 0
+    for file, name in measures:
+        near = [source for source in sources if source.name == file or source.name.startswith(file.removesuffix(".rt") + "/")]
+        # A type's functions may be in other files of its crate than the type.
+        parts = parts_of(near, name) or parts_of([it for it in sources if it.name.split("/")[0] == file.split("/")[0]], name)
+        if parts and not any(grows(it, it.body) for it in parts):
+            continue
+        number += 1
+        rows = [row for row in RECURSIONS if row[:2] == (file, name)]
+        judge.met.update(row[:2] for row in rows)
+        if not rows:
+            problems.append(f"{file}: {name}, of {len(parts)} functions")
+    judge.judge(f"each recursion with a measure, in which memory grows, is bounded by what is given ({number} recursions)", problems)
+
+
+def parts_of(sources, name):
+    """The functions of a recursion: that of its name, or those of its cycle."""
+    return [
+        it
+        for it in functions(sources)
+        if it.body is not None and (it.name == name or f"#[cycle({name})]" in it.source.code[: it.at].rsplit("}", 1)[-1])
+    ]
 
 
 def is_counted(code, at):
