@@ -70,10 +70,9 @@ pub fn first_difference(one: &Observation, other: &Observation) -> Option<u64>
     }
 }
 
-// Makes the next turn of each of two runs, wherever they stand, and answers what they show.
-#[cold]
-#[inline(never)]
-fn turns_apart<M: Memory>(
+// Makes the next turn of each of two runs, and answers what they show. It stands apart from the loop
+// over it so that both turns are compiled in line there.
+fn both_turns<M: Memory>(
     alloc: Global,
     code: &CodeRegion,
     one: &mut Running<M>,
@@ -92,37 +91,6 @@ fn turns_apart<M: Memory>(
     let seen = one.turn(alloc, code);
     let seen_other = other.turn(alloc, code);
     (seen, seen_other)
-}
-
-// Makes the next turn of each of two runs, and answers what they show. It stands apart from the loop
-// over it so that both turns are compiled in line there. Where both runs stand at one word, as they do
-// up to the first difference, it is looked up once.
-fn both_turns<M: Memory>(
-    alloc: Global,
-    code: &CodeRegion,
-    one: &mut Running<M>,
-    other: &mut Running<M>,
-) -> (Option<Observation>, Option<Observation>)
-    ensures made { Makes (code_of code.now)
-        one.old.turns_left (state_of one.old.hart (M.bytes one.old.memory)) result.0
-        one.new.turns_left (state_of one.new.hart (M.bytes one.new.memory)) }
-    ensures other_made { Makes (code_of code.now)
-        other.old.turns_left (state_of other.old.hart (M.bytes other.old.memory)) result.1
-        other.new.turns_left (state_of other.new.hart (M.bytes other.new.memory)) }
-    ensures ended { result.0 ≡ None → one.new.turns_left ≡ 0 }
-    ensures fewer { IsSome result.0 → one.new.turns_left < one.old.turns_left }
-    ensures other_ended { result.1 ≡ None → other.new.turns_left ≡ 0 }
-{
-    let pc = one.hart.pc();
-    if pc != other.hart.pc() || pc % 4 != 0 || one.turns_left == 0 || other.turns_left == 0 {
-        return turns_apart(alloc, code, one, other);
-    }
-    let Some(word) = code.fetch(pc) else {
-        return turns_apart(alloc, code, one, other);
-    };
-    let seen = one.follow(code, word);
-    let seen_other = other.follow(code, word);
-    (Some(seen), Some(seen_other))
 }
 
 /// Makes turns of two runs of the same code, one of each after the other, and compares what they show.
