@@ -35,7 +35,7 @@ impl<'a> Reader<'a> {
     }
 
     /// The number in the field that comes next.
-    #[tactic(auto, unfolding(crate::specs::image::Format::read_by))]
+    #[tactic(auto, unfolding(crate::specs::Format::read_by))]
     fn take(&mut self, field: Field) -> Result<u64, ImageFault>
         ensures leads { (next : ℕ → Format) → Leads (one field next) next result self.old self.new }
         ensures allowed { IfOk result (λ n. (row field).allowed n ≡ true) }
@@ -55,7 +55,7 @@ impl<'a> Reader<'a> {
     }
 
     /// A parameter's slot, the slot before it ending at `low`.
-    #[tactic(auto, unfolding(crate::specs::image::Reading::slot_format))]
+    #[tactic(auto, unfolding(crate::specs::Reading::slot_format))]
     fn slot(&mut self, low: u64) -> Result<Slot, ImageFault>
         ensures { (next : SlotOf → Format) → Leads (slot_format low next) next result self.old self.new }
     {
@@ -89,7 +89,7 @@ impl<'a> Reader<'a> {
         Ok(slots)
     }
 
-    #[tactic(auto, unfolding(crate::specs::image::Reading::result_format))]
+    #[tactic(auto, unfolding(crate::specs::Reading::result_format))]
     fn returned(&mut self, low: u64) -> Result<Option<ResultSlot>, ImageFault>
         ensures { (next : Option ResultSlotOf → Format) → Leads (result_format low next) next result self.old self.new }
     {
@@ -120,7 +120,7 @@ impl<'a> Reader<'a> {
     }
 
     /// Nothing is left.
-    #[tactic(auto, unfolding(crate::specs::image::Format::read_by))]
+    #[tactic(auto, unfolding(crate::specs::Format::read_by))]
     fn end(&self) -> Result<(), ImageFault>
         ensures { (image : Fields)
             → MatchResult result (λ _. ahead (ends image) self.now ≡ Ok image) (λ fault. FaultIs fault (ahead (ends image) self.now)) }
@@ -133,7 +133,7 @@ impl<'a> Reader<'a> {
     }
 
     /// All fields, behind which nothing is left.
-    #[tactic(auto, unfolding(crate::specs::image::Reading::image_format))]
+    #[tactic(auto, unfolding(crate::specs::Reading::image_format))]
     fn fields(&mut self, alloc: Global) -> Result<ImageFields, ImageFault>
         requires { AreBytes self.old.left.now }
         ensures exact { IsUnlessMemory result (ahead image_format self.old) }
