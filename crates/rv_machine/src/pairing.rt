@@ -70,27 +70,20 @@ pub fn first_difference(one: &Observation, other: &Observation) -> Option<u64>
     }
 }
 
-// Makes the next turn of each of two runs, and answers what they show. It stands apart from the loop
-// over it so that both turns are compiled in line there.
-fn both_turns<M: Memory>(
+// Makes the next turn of a run where the other one has shown all, and answers what it shows.
+#[cold]
+#[inline(never)]
+fn last_turn<M: Memory>(
     alloc: Global,
     code: &CodeRegion,
-    one: &mut Running<M>,
-    other: &mut Running<M>,
-) -> (Option<Observation>, Option<Observation>)
+    run: &mut Running<M>,
+) -> Option<Observation>
     ensures made { Makes (code_of code.now)
-        one.old.turns_left (state_of one.old.hart (M.bytes one.old.memory)) result.0
-        one.new.turns_left (state_of one.new.hart (M.bytes one.new.memory)) }
-    ensures other_made { Makes (code_of code.now)
-        other.old.turns_left (state_of other.old.hart (M.bytes other.old.memory)) result.1
-        other.new.turns_left (state_of other.new.hart (M.bytes other.new.memory)) }
-    ensures ended { result.0 ≡ None → one.new.turns_left ≡ 0 }
-    ensures fewer { IsSome result.0 → one.new.turns_left < one.old.turns_left }
-    ensures other_ended { result.1 ≡ None → other.new.turns_left ≡ 0 }
+        run.old.turns_left (state_of run.old.hart (M.bytes run.old.memory)) result
+        run.new.turns_left (state_of run.new.hart (M.bytes run.new.memory)) }
+    ensures ended { result ≡ None → run.new.turns_left ≡ 0 }
 {
-    let seen = one.turn(alloc, code);
-    let seen_other = other.turn(alloc, code);
-    (seen, seen_other)
+    run.turn(alloc, code)
 }
 
 /// Makes turns of two runs of the same code, one of each after the other, and compares what they show.
@@ -119,14 +112,13 @@ pub fn compare<M: Memory>(
 {
     let mut place = 0;
     'turns: loop {
-        let (seen, seen_other) = both_turns(alloc, code, one, other);
-        let Some(seen) = seen else {
-            return match seen_other {
+        let Some(seen) = one.turn(alloc, code) else {
+            return match last_turn(alloc, code, other) {
                 Some(_) => Pairing::Differ(place),
                 None => Pairing::Same,
             };
         };
-        let Some(seen_other) = seen_other else {
+        let Some(seen_other) = other.turn(alloc, code) else {
             return Pairing::Differ(place);
         };
         if let Some(entry) = first_difference(&seen, &seen_other) {

@@ -12,12 +12,11 @@ turns-init g c = record {
   few = omega arith;
 }
 
-pub returns-in_default-seen_other : goal.returns-in_default-seen_other
-returns-in_default-seen_other g c =
-    let turns = c.both_turns-seen.ensures in
-    let one = rw c.in-Some.is at turns.made in
-    let other = rw c.in_default-seen_other.is at turns.other_made in
-    let last = turns.other_ended c.in_default-seen_other.is in
+pub returns-in_default-turn : goal.returns-in_default-turn
+returns-in_default-turn g c =
+    let one = rw c.in-Some.is at c.turn.ensures.made in
+    let other = rw c.in_default-turn.is at c.turn-in-turns.ensures.made in
+    let last = c.turn-in-turns.ensures.ended c.in_default-turn.is in
     let shown = something_shown one in
     record {
       compared = rw (sym (add-zero c.turns.place))
@@ -30,9 +29,8 @@ returns-in_default-seen_other g c =
 
 pub returns-in-Some-first_difference : goal.returns-in-Some-first_difference
 returns-in-Some-first_difference g c =
-    let turns = c.both_turns-seen.ensures in
-    let one = rw c.in-Some.is at turns.made in
-    let other = rw c.in-Some-seen_other-2.is at turns.other_made in
+    let one = rw c.in-Some.is at c.turn.ensures.made in
+    let other = rw c.in-Some-turn.is at c.turn-in-turns.ensures.made in
     let differ = c.in-Some-first_difference.ensures.differ in
     let shown = something_shown one in
     let shown' = something_shown other in
@@ -44,38 +42,36 @@ returns-in-Some-first_difference g c =
 
 pub turns-preserved : goal.turns-preserved
 turns-preserved g c =
-    let turns = c.both_turns-seen.ensures in
     let same = c.in_default-first_difference.ensures.equal refl in
     let many = c.entry_count-place.ensures in
     record {
-      steps = step_on c.entry_count-place.result c.turns.invariant.steps many (rw c.in-Some.is at turns.made)
-          (rw (c.in-Some-seen_other-2.is, sym same) at turns.other_made);
-      few = omega (arith, count-few c.in-Some.seen, turns.fewer (ap is_some c.in-Some.is));
+      steps = step_on c.entry_count-place.result c.turns.invariant.steps many
+          (rw c.in-Some.is at c.turn.ensures.made)
+          (rw (c.in-Some-turn.is, sym same) at c.turn-in-turns.ensures.made);
+      few = omega (arith, count-few c.in-Some.seen, c.turn.ensures.fewer (ap is_some c.in-Some.is));
     }
 
-pub returns-in-Some-seen_other : goal.returns-in-Some-seen_other
-returns-in-Some-seen_other g c =
-    let turns = c.both_turns-seen.ensures in
-    let one = rw c.in_default.is at turns.made in
-    let other = rw c.in-Some-seen_other.is at turns.other_made in
-    let last = turns.ended c.in_default.is in
+pub returns-in-Some-last_turn : goal.returns-in-Some-last_turn
+returns-in-Some-last_turn g c =
+    let one = rw c.in_default.is at c.turn.ensures.made in
+    let other = rw c.in-Some-last_turn.is at c.last_turn.ensures.made in
+    let last = c.turn.ensures.ended c.in_default.is in
     let shown = something_shown other in
     record {
       compared = rw (sym (add-zero c.turns.place))
           (differ_after c.turns.invariant.steps (nothing_shown (rw last at one)) shown.1
-          (one-ends c.in-Some-seen_other.field-0 shown.0));
-      parted = part_after 0 c.turns.invariant.steps one other (one-ends c.in-Some-seen_other.field-0 [])
+          (one-ends c.in-Some-last_turn.field-0 shown.0));
+      parted = part_after 0 c.turns.invariant.steps one other (one-ends c.in-Some-last_turn.field-0 [])
           (sym (add-zero c.turns.place));
       ended = λ same. cc;
     }
 
 pub returns-in-None : goal.returns-in-None
 returns-in-None g c =
-    let turns = c.both_turns-seen.ensures in
-    let one = rw c.in_default.is at turns.made in
-    let other = rw c.in-None.is at turns.other_made in
-    let last = turns.ended c.in_default.is in
-    let last' = turns.other_ended c.in-None.is in
+    let one = rw c.in_default.is at c.turn.ensures.made in
+    let other = rw c.in-None.is at c.last_turn.ensures.made in
+    let last = c.turn.ensures.ended c.in_default.is in
+    let last' = c.last_turn.ensures.ended c.in-None.is in
     record {
       compared = same_after c.turns.invariant.steps (nothing_shown (rw last at one))
           (nothing_shown (rw last' at other));
