@@ -1,9 +1,9 @@
 // Two runs in step, and the first place at which what they show differs.
 
-ghost use Rattle.std.specs.Prelude.{◌≡◌, ◌↔◌, ℕ, ◌<◌, ◌^◌, List, ◌∷◌, [], None, length, IsTrue, IfSome, IsSome};
+ghost use Rattle.std.specs.Prelude.{◌≡◌, ◌↔◌, ℕ, ◌<◌, ◌^◌, List, ◌∷◌, [], None, length, IsTrue, IfSome};
 ghost use Rattle.rv_machine.specs.Entries.{entries_of, IsFirstDifference, Compares};
 ghost use Rattle.rv_machine.specs.Harts.{state_of};
-ghost use Rattle.rv_machine.specs.Leakage.{IsShown, followed_by};
+ghost use Rattle.rv_machine.specs.Leakage.{IsShown};
 ghost use Rattle.rv_machine.specs.PairingText.{pairing_text};
 ghost use Rattle.rv_machine.specs.Progress.{Makes, EndTogether, Part};
 ghost use Rattle.rv_machine.specs.Regions.{code_of};
