@@ -4,3 +4,4 @@ pub mod refusal_details
 pub mod explained_refusals
 pub mod Listed
 pub mod Text
+pub mod Table

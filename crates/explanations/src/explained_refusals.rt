@@ -5,8 +5,9 @@
 // stands on `diagnostics::source_excerpts` for the line, on `refusal_details` for what there is at the place and on the
 // table of this crate for the rules, of which each has a row there.
 
-ghost use Rattle.std.specs.Prelude.{◌≡◌, IfOk, IfErr};
+ghost use Rattle.std.specs.Prelude.{◌≡◌, Some, IfOk, IfErr};
 ghost use Rattle.std.specs.String.{string_bytes};
+ghost use Rattle.explanations.specs.Table.{text_of};
 ghost use Rattle.explanations.specs.explained_refusals.Explained.{place_lines, Explains};
 ghost use Rattle.language.specs.Rules.{code_of};
 ghost use Rattle.language.specs.WantOfMemory.{IsWantOfMemory};
@@ -40,9 +41,9 @@ fn place_lines(alloc: Global, source: &str, place: Option<Place>) -> Result<Stri
     }
 }
 
-/// What the code of a rule means.
+/// The table's row of a rule.
 fn row_of(rule: Rule) -> Explanation
-    ensures { result.code.now ≡ code_of rule }
+    ensures { text_of (code_of rule) ≡ Some result.rule.now }
 {
     match explanation(rule.code()) {
         Some(row) => row,

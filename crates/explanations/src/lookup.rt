@@ -1,7 +1,9 @@
 ghost use Rattle.std.specs.Prelude.{◌≡◌, ◌↔◌, map, IfSome, IsSome, Contains};
 ghost use Rattle.std.specs.List.{IsDistinct};
+ghost use Rattle.std.specs.Option.{option_map};
 ghost use Rattle.std.specs.Str.{bytes_eq};
 ghost use Rattle.explanations.specs.Listed.{listed};
+ghost use Rattle.explanations.specs.Table.{text_of};
 
 use crate::row::Explanation;
 use crate::rows::{files, limits, names_and_types, reading, runs, secrecy};
@@ -68,8 +70,9 @@ const CODES: [&str; 58] = [
     "RecorderRefused",
 ];
 
-/// What a code means: there is an answer exactly for the codes that are listed.
+/// What a code means, with the table's text of it: there is an answer exactly for the codes that are listed.
 pub fn explanation(code: &str) -> Option<Explanation>
+    ensures text { option_map (λ row. row.rule.now) result ≡ text_of code.now }
     ensures asked { IfSome result (λ row. row.code.now ≡ code.now) }
     ensures listed { IsSome result ↔ (Contains listed code.now) }
 {

@@ -9,7 +9,7 @@ use Rattle.inline.specs.Numbering.{callables, flattened, parameter_names}
 use Rattle.intervals.specs.Ranges.{turns_of}
 use Rattle.language.specs.Tree.{BlockTree, nothing, first, ProcedureTree}
 use Rattle.explanations.specs.statement_costs.Costs.{costlier, costliest, counted_part, return_parts}
-use Rattle.explanations.specs.statement_costs.Counts.{counted, most_counted}
+use Rattle.explanations.specs.statement_costs.Counts.{most_counted}
 use Rattle.explanations.proofs.statement_work_lemmas.Callees.{all_alike, count}
 use Rattle.explanations.proofs.statement_work_lemmas.Counts.{statement_same}
 use Rattle.explanations.proofs.statement_work_lemmas.Splits.{fewer_than_nodes, pieces_are_parts}

@@ -1,6 +1,6 @@
 -- What is printed below a refusal's line.
 use Rattle.std.specs.Prelude.{◌≡◌, ℕ, List, [], ◌++◌, Option, None, Some}
-use Rattle.explanations.specs.declared.row.Explanation.{Explanation}
+use Rattle.explanations.specs.Table.{text_of}
 use Rattle.language.specs.Rules.{code_of}
 use Rattle.language.specs.declared.refusal.Refusal.{Refusal}
 use Rattle.explanations.specs.refusal_details.Details.{Says}
@@ -12,11 +12,11 @@ abbrev pub place_lines : List ℕ → Option Place → List ℕ
 place_lines source None = []
 place_lines source (Some place) = excerpt_text source place
 
--- the place in the source, what is said of what there is, and the text of the rule that has the refusal's code,
+-- the place in the source, what is said of what there is, and the text that the table has for the rule of the refusal,
 -- without its last line's end
 pub record Explains (source : List ℕ) (refusal : Refusal) (lines : List ℕ) : Type 0 where
-  pub row : Explanation
+  pub text : List ℕ
   pub details : List ℕ
-  pub of_rule : row.code.now ≡ code_of refusal.rule
+  pub of_rule : text_of (code_of refusal.rule) ≡ Some text
   pub said : Says source refusal details
-  pub printed : lines ≡ place_lines source refusal.place ++ (details ++ row.rule.now)
+  pub printed : lines ≡ place_lines source refusal.place ++ (details ++ text)

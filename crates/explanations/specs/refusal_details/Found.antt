@@ -1,5 +1,5 @@
 -- The export of a program as the passes make one body of it, and what there is at its first violation of ranges.
-use Rattle.std.specs.Prelude.{◌≡◌, ℕ, List, [], length, fold, Option, None, Some}
+use Rattle.std.specs.Prelude.{◌≡◌, List, [], length, fold, Option, None, Some}
 use Rattle.inline.specs.Flat.{FlatProgram}
 use Rattle.inline.specs.Numbering.{flattened}
 use Rattle.intervals.specs.declared.found.Finding.{Finding}

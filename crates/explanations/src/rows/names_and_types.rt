@@ -1,18 +1,80 @@
 // Rules on names and types.
 
 ghost use Rattle.std.specs.Prelude.{◌≡◌, ◌↔◌, IfSome, IsSome, Contains};
+ghost use Rattle.std.specs.Option.{option_map};
 ghost use Rattle.explanations.specs.Listed.{names_and_types};
+ghost use Rattle.explanations.specs.Table.{text_in, name_and_type_texts};
 
 use crate::finding::row_of;
 use crate::row::Explanation;
+
+// What the rules are, what usually breaks them and what to do, by their codes.
+
+pub const N1: &str =
+    "The name is not a variable in scope here. It was never declared, is declared further down, was\n\
+    declared in a block that has ended, or is the name of a procedure. Declare it before its first\n\
+    use, in a block around all its uses.";
+
+pub const N2: &str =
+    "A name that is in scope cannot be declared again: there is no shadowing, and procedures,\n\
+    parameters, variables and counters of loops share one name space. Choose another name. Two\n\
+    blocks of which neither is inside the other may use the same name.";
+
+pub const N3: &str =
+    "A procedure can call only those that stand before it in the source: not itself, no later one and no\n\
+    variable. So there is no recursion. Move the called procedure up.";
+
+pub const N4: &str =
+    "Exactly one procedure of a source has `export`: it is the one that is compiled, with all that it\n\
+    calls. If none has it, the error is at 1:1; if several have it, it is at the second.";
+
+pub const T1: &str =
+    "Two numbers of different widths meet: the operands of an operator, the last two of `select`, or a\n\
+    value and the type that is expected of it. An index, a bound of a loop and the right operand of a\n\
+    shift are `uint32`. Nothing is converted implicitly, and a number without a suffix is a `uint32`.\n\
+    Convert one side, as in `uint32(x)`, or give the number a suffix, as in `1u8`.";
+
+pub const T2: &str =
+    "The value is of the wrong kind: a bool instead of a number or a number instead of a bool, a word\n\
+    instead of an array or an array instead of a word, or the result of a procedure that has none. A\n\
+    condition is a bool: write `x != 0` and not `x`. For a bool `b`, `uint32(b)` is 0 or 1. The name of\n\
+    an array stands before `[`, or alone as an argument.";
+
+pub const T3: &str =
+    "A number is too large for its suffix, or the amount of `<<<` is 0 or not below the width of its\n\
+    operand. With `u8` a number is at most 255, with `u16` at most 65535.";
+
+pub const T4: &str =
+    "A call has one argument for each parameter of the called procedure, no more and no fewer.";
+
+pub const T5: &str =
+    "An array that is given as an argument must have the element type, the length and the label of the\n\
+    parameter. `public` for `secret` is refused too, since both names stand for one array. Declare both\n\
+    alike, or copy the elements in a loop into an array of the parameter's type.";
+
+pub const T6: &str =
+    "Only what was declared with `mut` can be assigned to, and only such an array can be given for a\n\
+    `mut` parameter. A word parameter and the counter of a loop can never be assigned to: copy them into\n\
+    a `mut` variable.";
+
+pub const T7: &str =
+    "A procedure with a result type ends with a `return`, and a `void` procedure has none. A `return`\n\
+    comes last in a body: to choose between values, assign them to a variable in the arms of an `if`,\n\
+    and return that.";
+
+pub const T8: &str =
+    "One array is given for two parameters of a call, and at least one of them is `mut`. Two names would\n\
+    then stand for one array that changes. Copy it into another array before the call.";
+
+pub const T9: &str =
+    "A list of initial values has one for each element of the array. Without a list all elements are\n\
+    0, or false.";
 
 const ROWS: [Explanation; 13] = [
     Explanation {
         code: "N1",
         name: "undeclared name",
-        rule: "The name is not a variable in scope here. It was never declared, is declared further down, was\n\
-               declared in a block that has ended, or is the name of a procedure. Declare it before its first\n\
-               use, in a block around all its uses.",
+        rule: N1,
         violates: "\
 export secret uint32 f(secret bool c) {
     if (c) {
@@ -32,9 +94,7 @@ export secret uint32 f(secret bool c) {
     Explanation {
         code: "N2",
         name: "name declared twice",
-        rule: "A name that is in scope cannot be declared again: there is no shadowing, and procedures,\n\
-               parameters, variables and counters of loops share one name space. Choose another name. Two\n\
-               blocks of which neither is inside the other may use the same name.",
+        rule: N2,
         violates: "\
 export secret uint32 f(secret uint32 x) {
     secret uint32 x = 1;
@@ -49,8 +109,7 @@ export secret uint32 f(secret uint32 x) {
     Explanation {
         code: "N3",
         name: "procedure not declared earlier",
-        rule: "A procedure can call only those that stand before it in the source: not itself, no later one and no\n\
-               variable. So there is no recursion. Move the called procedure up.",
+        rule: N3,
         violates: "\
 export void f() {
     g();
@@ -69,8 +128,7 @@ export void f() {
     Explanation {
         code: "N4",
         name: "not exactly one export",
-        rule: "Exactly one procedure of a source has `export`: it is the one that is compiled, with all that it\n\
-               calls. If none has it, the error is at 1:1; if several have it, it is at the second.",
+        rule: N4,
         violates: "\
 secret uint32 f(secret uint32 x) {
     return x + 1;
@@ -83,35 +141,28 @@ export secret uint32 f(secret uint32 x) {
     Explanation {
         code: "T1",
         name: "widths differ",
-        rule: "Two numbers of different widths meet: the operands of an operator, the last two of `select`, or a\n\
-               value and the type that is expected of it. An index, a bound of a loop and the right operand of a\n\
-               shift are `uint32`. Nothing is converted implicitly, and a number without a suffix is a `uint32`.\n\
-               Convert one side, as in `uint32(x)`, or give the number a suffix, as in `1u8`.",
+        rule: T1,
         violates: "export secret uint32 f(secret uint8 x) { return x + 1; }",
         corrected: "export secret uint32 f(secret uint8 x) { return uint32(x) + 1; }",
     },
     Explanation {
         code: "T2",
         name: "wrong kind",
-        rule: "The value is of the wrong kind: a bool instead of a number or a number instead of a bool, a word\n\
-               instead of an array or an array instead of a word, or the result of a procedure that has none. A\n\
-               condition is a bool: write `x != 0` and not `x`. For a bool `b`, `uint32(b)` is 0 or 1. The name of\n\
-               an array stands before `[`, or alone as an argument.",
+        rule: T2,
         violates: "export secret uint32 f(secret uint32 x, secret bool c) { return x + c; }",
         corrected: "export secret uint32 f(secret uint32 x, secret bool c) { return x + uint32(c); }",
     },
     Explanation {
         code: "T3",
         name: "literal out of range",
-        rule: "A number is too large for its suffix, or the amount of `<<<` is 0 or not below the width of its\n\
-               operand. With `u8` a number is at most 255, with `u16` at most 65535.",
+        rule: T3,
         violates: "export secret uint16 f(secret uint16 x) { return x + 300u8; }",
         corrected: "export secret uint16 f(secret uint16 x) { return x + 300u16; }",
     },
     Explanation {
         code: "T4",
         name: "argument count",
-        rule: "A call has one argument for each parameter of the called procedure, no more and no fewer.",
+        rule: T4,
         violates: "\
 secret uint32 add(secret uint32 x, secret uint32 y) {
     return x + y;
@@ -134,9 +185,7 @@ export secret uint32 f(secret uint32 x) {
     Explanation {
         code: "T5",
         name: "array shape or label",
-        rule: "An array that is given as an argument must have the element type, the length and the label of the\n\
-               parameter. `public` for `secret` is refused too, since both names stand for one array. Declare both\n\
-               alike, or copy the elements in a loop into an array of the parameter's type.",
+        rule: T5,
         violates: "\
 void clear(secret mut uint32[2] a) {
     a[0] = 0;
@@ -159,9 +208,7 @@ export void f(secret mut uint32[2] a) {
     Explanation {
         code: "T6",
         name: "not mutable",
-        rule: "Only what was declared with `mut` can be assigned to, and only such an array can be given for a\n\
-               `mut` parameter. A word parameter and the counter of a loop can never be assigned to: copy them into\n\
-               a `mut` variable.",
+        rule: T6,
         violates: "\
 export secret uint32 f(secret uint32 x) {
     x = x + 1;
@@ -177,9 +224,7 @@ export secret uint32 f(secret uint32 x) {
     Explanation {
         code: "T7",
         name: "return",
-        rule: "A procedure with a result type ends with a `return`, and a `void` procedure has none. A `return`\n\
-               comes last in a body: to choose between values, assign them to a variable in the arms of an `if`,\n\
-               and return that.",
+        rule: T7,
         violates: "\
 export secret uint32 f(secret uint32 x) {
     secret uint32 y = x + 1;
@@ -193,8 +238,7 @@ export secret uint32 f(secret uint32 x) {
     Explanation {
         code: "T8",
         name: "array passed twice",
-        rule: "One array is given for two parameters of a call, and at least one of them is `mut`. Two names would\n\
-               then stand for one array that changes. Copy it into another array before the call.",
+        rule: T8,
         violates: "\
 void add(secret uint32[2] a, secret mut uint32[2] sum) {
     sum[0] = sum[0] + a[0];
@@ -218,8 +262,7 @@ export void twice(secret mut uint32[2] a) {
     Explanation {
         code: "T9",
         name: "initialiser count",
-        rule: "A list of initial values has one for each element of the array. Without a list all elements are\n\
-               0, or false.",
+        rule: T9,
         violates: "\
 export secret uint32 f(secret uint32 x) {
     secret uint32[3] a = { x, 1 };
@@ -235,6 +278,7 @@ export secret uint32 f(secret uint32 x) {
 
 /// The row of a code of this group.
 pub fn row(code: &str) -> Option<Explanation>
+    ensures text { option_map (λ row. row.rule.now) result ≡ text_in name_and_type_texts code.now }
     ensures asked { IfSome result (λ row. row.code.now ≡ code.now) }
     ensures known { IsSome result ↔ (Contains names_and_types code.now) }
 {

@@ -1,40 +1,62 @@
 // Errors of lexer and parser.
 
 ghost use Rattle.std.specs.Prelude.{◌≡◌, ◌↔◌, IfSome, IsSome, Contains};
+ghost use Rattle.std.specs.Option.{option_map};
 ghost use Rattle.explanations.specs.Listed.{reading};
+ghost use Rattle.explanations.specs.Table.{text_in, reading_texts};
 
 use crate::finding::row_of;
 use crate::row::Explanation;
+
+// What the rules are, what usually breaks them and what to do, by their codes.
+
+pub const X1: &str =
+    "No token begins with this byte, and it is not in a comment. It may be a character of C that the\n\
+    language does not have, such as `?`, `.` or a quote, an accented letter, or a byte order mark at\n\
+    1:1, which an editor does not show. Write what the language has in its place, and save the file as\n\
+    UTF-8 without a byte order mark.";
+
+pub const X2: &str =
+    "A token that begins with a digit is a decimal number, or a hexadecimal one after `0x`, below\n\
+    4294967296, with at most one of the suffixes `u8`, `u16` and `u32` after it. There is no `_` in a\n\
+    number, no binary form, no `0X`, and none of C's suffixes such as `U` and `L`. Leading zeros change\n\
+    nothing: `010` is 10.";
+
+pub const X3: &str =
+    "No program begins with the tokens up to this one, or the source ends too early. Usual causes: a call\n\
+    inside an expression or a `return`, since a call is a statement or the whole right side of a\n\
+    declaration or an assignment; a second comparison, or an operator after the amount of `<<<`, without\n\
+    parentheses; an arm of an `if` or the body of a loop without braces; a `return` that is not last; a\n\
+    missing `;` before this token; a keyword used as a name.";
+
+pub const X4: &str =
+    "Brackets, operators and `else` are nested too deeply: the limit is 64. Each of them adds one to the\n\
+    depth of all that follows, until the bracket around it is closed or a `,` or `;` comes. Split a long\n\
+    expression into declarations, and a long chain of `else if` into several conditionals.";
+
+pub const X5: &str =
+    "A source has at most 262144 bytes. A generated table is the usual cause: compute it, or let the\n\
+    caller pass it as a public array.";
 
 const ROWS: [Explanation; 5] = [
     Explanation {
         code: "X1",
         name: "unknown character",
-        rule: "No token begins with this byte, and it is not in a comment. It may be a character of C that the\n\
-               language does not have, such as `?`, `.` or a quote, an accented letter, or a byte order mark at\n\
-               1:1, which an editor does not show. Write what the language has in its place, and save the file as\n\
-               UTF-8 without a byte order mark.",
+        rule: X1,
         violates: "export secret uint32 f(secret bool c) { return c ? 1 : 2; }",
         corrected: "export secret uint32 f(secret bool c) { return select(c, 1, 2); }",
     },
     Explanation {
         code: "X2",
         name: "bad number",
-        rule: "A token that begins with a digit is a decimal number, or a hexadecimal one after `0x`, below\n\
-               4294967296, with at most one of the suffixes `u8`, `u16` and `u32` after it. There is no `_` in a\n\
-               number, no binary form, no `0X`, and none of C's suffixes such as `U` and `L`. Leading zeros change\n\
-               nothing: `010` is 10.",
+        rule: X2,
         violates: "export secret uint32 f(secret uint32 x) { return x + 1_000; }",
         corrected: "export secret uint32 f(secret uint32 x) { return x + 1000; }",
     },
     Explanation {
         code: "X3",
         name: "unexpected token",
-        rule: "No program begins with the tokens up to this one, or the source ends too early. Usual causes: a call\n\
-               inside an expression or a `return`, since a call is a statement or the whole right side of a\n\
-               declaration or an assignment; a second comparison, or an operator after the amount of `<<<`, without\n\
-               parentheses; an arm of an `if` or the body of a loop without braces; a `return` that is not last; a\n\
-               missing `;` before this token; a keyword used as a name.",
+        rule: X3,
         violates: "\
 secret uint32 twice(secret uint32 x) {
     return x + x;
@@ -56,9 +78,7 @@ export secret uint32 f(secret uint32 x) {
     Explanation {
         code: "X4",
         name: "nesting",
-        rule: "Brackets, operators and `else` are nested too deeply: the limit is 64. Each of them adds one to the\n\
-               depth of all that follows, until the bracket around it is closed or a `,` or `;` comes. Split a long\n\
-               expression into declarations, and a long chain of `else if` into several conditionals.",
+        rule: X4,
         violates: "\
 export public uint32 f() {
     return ((((((((((((((((((((((((((((((((
@@ -75,8 +95,7 @@ export public uint32 f() {
     Explanation {
         code: "X5",
         name: "text too long",
-        rule: "A source has at most 262144 bytes. A generated table is the usual cause: compute it, or let the\n\
-               caller pass it as a public array.",
+        rule: X5,
         violates: "",
         corrected: "",
     },
@@ -84,6 +103,7 @@ export public uint32 f() {
 
 /// The row of a code of this group.
 pub fn row(code: &str) -> Option<Explanation>
+    ensures text { option_map (λ row. row.rule.now) result ≡ text_in reading_texts code.now }
     ensures asked { IfSome result (λ row. row.code.now ≡ code.now) }
     ensures known { IsSome result ↔ (Contains reading code.now) }
 {

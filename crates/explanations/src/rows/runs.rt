@@ -1,84 +1,115 @@
 // Errors of an evaluation, and the stops of a run.
 
 ghost use Rattle.std.specs.Prelude.{◌≡◌, ◌↔◌, IfSome, IsSome, Contains};
+ghost use Rattle.std.specs.Option.{option_map};
 ghost use Rattle.explanations.specs.Listed.{runs};
+ghost use Rattle.explanations.specs.Table.{text_in, run_texts};
 
 use crate::finding::row_of;
 use crate::row::Explanation;
+
+// What the rules are, what usually breaks them and what to do, by their codes.
+
+pub const E1: &str =
+    "While a source was evaluated, an index was not below the length of its array, or a divisor was 0.\n\
+    Only the library reports this, for programs that were not checked: a source that `eval` accepts has\n\
+    no such index or divisor (I1, I2).";
+
+pub const E2: &str =
+    "More nodes of a source were evaluated than the budget allows, or more than 64 bodies were open at\n\
+    once. Only the library reports this: the budget of `eval` is enough for each source that it accepts\n\
+    (S1, S3).";
+
+pub const ECALL: &str =
+    "The code ended as it should, with the instruction ECALL. The slots of the result and of the `mut`\n\
+    arrays hold the outcome.";
+
+pub const BREAK: &str =
+    "The code reached the instruction EBREAK. C compilers write it where the C code has undefined\n\
+    behaviour. `build` writes none.";
+
+pub const ILLEGAL: &str =
+    "The word at the program counter is not an instruction of RV32IM. Compile for this set alone\n\
+    (`-march=rv32im`): compressed instructions, atomics and floating point are not in it.";
+
+pub const ACCESS_FAULT: &str =
+    "There is no code at the program counter, or a load or a store goes to a byte outside the frame. In\n\
+    code that a C compiler made, the stack has usually outgrown the frame, or an address is that of a\n\
+    table or a variable outside functions, which have no place in an image.";
+
+pub const MISALIGNED: &str =
+    "The address of a load or store is not a multiple of its size, or the target of a jump is not a\n\
+    multiple of 4. In code that a C compiler made, compare the layout of the frame with the slots.";
+
+pub const BUDGET: &str =
+    "The run has made as many steps as the image allows (`max_steps`) and has not ended. Give `wrap` a\n\
+    greater `--steps`, or look for an endless loop. What `build` compiled always ends in time.";
+
+pub const RECORDER_REFUSED: &str =
+    "There was no memory to record what the next instruction shows, and the run ended before it. Only\n\
+    calls of the library with a recorder that keeps the trace report this.";
 
 const ROWS: [Explanation; 9] = [
     Explanation {
         code: "E1",
         name: "no meaning",
-        rule: "While a source was evaluated, an index was not below the length of its array, or a divisor was 0.\n\
-               Only the library reports this, for programs that were not checked: a source that `eval` accepts has\n\
-               no such index or divisor (I1, I2).",
+        rule: E1,
         violates: "",
         corrected: "",
     },
     Explanation {
         code: "E2",
         name: "budget",
-        rule: "More nodes of a source were evaluated than the budget allows, or more than 64 bodies were open at\n\
-               once. Only the library reports this: the budget of `eval` is enough for each source that it accepts\n\
-               (S1, S3).",
+        rule: E2,
         violates: "",
         corrected: "",
     },
     Explanation {
         code: "Ecall",
         name: "end by ECALL",
-        rule: "The code ended as it should, with the instruction ECALL. The slots of the result and of the `mut`\n\
-               arrays hold the outcome.",
+        rule: ECALL,
         violates: "",
         corrected: "",
     },
     Explanation {
         code: "Break",
         name: "end by EBREAK",
-        rule: "The code reached the instruction EBREAK. C compilers write it where the C code has undefined\n\
-               behaviour. `build` writes none.",
+        rule: BREAK,
         violates: "",
         corrected: "",
     },
     Explanation {
         code: "Illegal",
         name: "illegal instruction",
-        rule: "The word at the program counter is not an instruction of RV32IM. Compile for this set alone\n\
-               (`-march=rv32im`): compressed instructions, atomics and floating point are not in it.",
+        rule: ILLEGAL,
         violates: "",
         corrected: "",
     },
     Explanation {
         code: "AccessFault",
         name: "access outside of code or data",
-        rule: "There is no code at the program counter, or a load or a store goes to a byte outside the frame. In\n\
-               code that a C compiler made, the stack has usually outgrown the frame, or an address is that of a\n\
-               table or a variable outside functions, which have no place in an image.",
+        rule: ACCESS_FAULT,
         violates: "",
         corrected: "",
     },
     Explanation {
         code: "Misaligned",
         name: "misaligned address",
-        rule: "The address of a load or store is not a multiple of its size, or the target of a jump is not a\n\
-               multiple of 4. In code that a C compiler made, compare the layout of the frame with the slots.",
+        rule: MISALIGNED,
         violates: "",
         corrected: "",
     },
     Explanation {
         code: "Budget",
         name: "out of steps",
-        rule: "The run has made as many steps as the image allows (`max_steps`) and has not ended. Give `wrap` a\n\
-               greater `--steps`, or look for an endless loop. What `build` compiled always ends in time.",
+        rule: BUDGET,
         violates: "",
         corrected: "",
     },
     Explanation {
         code: "RecorderRefused",
         name: "trace out of memory",
-        rule: "There was no memory to record what the next instruction shows, and the run ended before it. Only\n\
-               calls of the library with a recorder that keeps the trace report this.",
+        rule: RECORDER_REFUSED,
         violates: "",
         corrected: "",
     },
@@ -86,6 +117,7 @@ const ROWS: [Explanation; 9] = [
 
 /// The row of a code of this group.
 pub fn row(code: &str) -> Option<Explanation>
+    ensures text { option_map (λ row. row.rule.now) result ≡ text_in run_texts code.now }
     ensures asked { IfSome result (λ row. row.code.now ≡ code.now) }
     ensures known { IsSome result ↔ (Contains runs code.now) }
 {
