@@ -9,14 +9,33 @@ ghost use Rattle.input_files.specs.stream_build.Faults.{IsText, IsFaultOf};
 
 use crate::stream_build::fault::BuildFault;
 use crate::stream_build::reading::read_text;
-use hepurita::{Optimisation, build_as};
+use hepurita::{Optimisation, build_with};
 use language::{Profile, Refusal};
 use std::alloc::Global;
 use streams::{Sink, Source, put_all};
 
-/// The bytes of the plain image of the text that a source hands out, for an observer of this profile, or the first
-/// fault: too long a text, one that is not UTF-8, then what `build_as` refuses. For whoever opens a sink for
+/// The bytes of the plain or the optimised image of the text that a source hands out, for an observer of this profile, or
+/// the first fault: too long a text, one that is not UTF-8, then what `build_with` refuses. For whoever opens a sink for
 /// accepted texts alone.
+pub fn build_source_with<R: Source>(
+    alloc: Global,
+    source: &mut R,
+    profile: Profile,
+    optimisation: Optimisation,
+) -> Result<Vec<u8>, BuildFault<Refusal>>
+    ensures built { IsTrue R.TELLS → IfOk result (λ bytes. IsBuilt optimisation profile (R.coming source.old) bytes.items) }
+    ensures text { IsTrue R.TELLS → OnOk result (IsText (R.coming source.old)) }
+    ensures fault { IsTrue R.TELLS → IfErr result (IsFaultOf profile (R.coming source.old)) }
+    ensures unwritten { result ≢ Err BuildFault.Write }
+    ensures part { IsTrue R.TELLS → LosesPart (R.coming source.old) (R.coming source.new) (text_limit + 1) }
+    ensures calm { result ≢ Err BuildFault.Read → R.failures source.new ≡ R.failures source.old }
+    ensures counts { IsErrOf result BuildFault.Read → R.failures source.new ≡ one_more (R.failures source.old) }
+{
+    let text = read_text(alloc, source)?;
+    Ok(build_with(alloc, text.as_str(), profile, optimisation)?)
+}
+
+/// The same of the plain image.
 pub fn build_source_as<R: Source>(
     alloc: Global,
     source: &mut R,
@@ -30,11 +49,10 @@ pub fn build_source_as<R: Source>(
     ensures calm { result ≢ Err BuildFault.Read → R.failures source.new ≡ R.failures source.old }
     ensures counts { IsErrOf result BuildFault.Read → R.failures source.new ≡ one_more (R.failures source.old) }
 {
-    let text = read_text(alloc, source)?;
-    Ok(build_as(alloc, text.as_str(), profile)?)
+    build_source_with(alloc, source, profile, Optimisation::Off)
 }
 
-/// The same for an observer of profile 1.
+/// The same of the plain image, for an observer of profile 1.
 pub fn build_source<R: Source>(
     alloc: Global,
     source: &mut R,
@@ -50,8 +68,36 @@ pub fn build_source<R: Source>(
     build_source_as(alloc, source, Profile::P1)
 }
 
-/// Compiles the text that a source hands out, for an observer of this profile, and hands its plain image to a sink
-/// once that is whole. The text is read to its end, or until it is too long. No failed call is tried again.
+/// Compiles the text that a source hands out, for an observer of this profile, and hands its plain or its optimised image to
+/// a sink once that is whole. The text is read to its end, or until it is too long. No failed call is tried again.
+pub fn build_stream_with<R: Source, W: Sink>(
+    alloc: Global,
+    source: &mut R,
+    sink: &mut W,
+    profile: Profile,
+    optimisation: Optimisation,
+) -> Result<(), BuildFault<Refusal>>
+    ensures written { IsTrue R.TELLS → IsTrue W.TELLS
+        → OnOk result (Writes (IsBuilt optimisation profile (R.coming source.old)) (W.taken sink.old) (W.taken sink.new)) }
+    ensures beginning { IsTrue R.TELLS → IsTrue W.TELLS → IsErrOf result BuildFault.Write
+        → WritesPart (IsBuilt optimisation profile (R.coming source.old)) (W.taken sink.old) (W.taken sink.new) }
+    ensures untouched { IfErr result (λ fault. fault ≢ BuildFault.Write → sink.new ≡ sink.old) }
+    ensures text { IsTrue R.TELLS → OnOk result (IsText (R.coming source.old)) }
+    ensures fault { IsTrue R.TELLS → IfErr result (IsFaultOf profile (R.coming source.old)) }
+    ensures part { IsTrue R.TELLS → LosesPart (R.coming source.old) (R.coming source.new) (text_limit + 1) }
+    ensures read_calm { result ≢ Err BuildFault.Read → R.failures source.new ≡ R.failures source.old }
+    ensures read_counts { IsErrOf result BuildFault.Read → R.failures source.new ≡ one_more (R.failures source.old) }
+    ensures write_calm { result ≢ Err BuildFault.Write → W.failures sink.new ≡ W.failures sink.old }
+    ensures write_counts { IsErrOf result BuildFault.Write → W.failures sink.new ≡ one_more (W.failures sink.old) }
+{
+    let image = build_source_with(alloc, source, profile, optimisation)?;
+    match put_all(sink, image.as_slice()) {
+        Ok(()) => Ok(()),
+        Err(_) => Err(BuildFault::Write),
+    }
+}
+
+/// The same of the plain image.
 pub fn build_stream_as<R: Source, W: Sink>(
     alloc: Global,
     source: &mut R,
@@ -71,14 +117,10 @@ pub fn build_stream_as<R: Source, W: Sink>(
     ensures write_calm { result ≢ Err BuildFault.Write → W.failures sink.new ≡ W.failures sink.old }
     ensures write_counts { IsErrOf result BuildFault.Write → W.failures sink.new ≡ one_more (W.failures sink.old) }
 {
-    let image = build_source_as(alloc, source, profile)?;
-    match put_all(sink, image.as_slice()) {
-        Ok(()) => Ok(()),
-        Err(_) => Err(BuildFault::Write),
-    }
+    build_stream_with(alloc, source, sink, profile, Optimisation::Off)
 }
 
-/// The same for an observer of profile 1.
+/// The same of the plain image, for an observer of profile 1.
 pub fn build_stream<R: Source, W: Sink>(
     alloc: Global,
     source: &mut R,

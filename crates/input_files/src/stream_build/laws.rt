@@ -9,7 +9,7 @@ ghost use Rattle.word.specs.declared.profile.Profile.{Profile};
 use hepurita::builds_agree;
 
 /// What is written of the image of one text, plain or optimised, for one observer is one list of bytes, those that `build_with`
-/// answers, and where a call of the sink failed it is a beginning of these. `build_stream_as` writes the plain image.
+/// answers and `build_stream_with` writes, and where a call of the sink failed it is a beginning of these.
 pub fn streams_agree()
     ensures written { (optimisation : Optimisation) (profile : Profile) (text before one other : List ℕ)
         → Writes (IsBuilt optimisation profile text) before one → Writes (IsBuilt optimisation profile text) before other → one ≡ other }
