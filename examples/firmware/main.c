@@ -1,5 +1,6 @@
 /* Seals a message with ChaCha20, hashes one with SHA-256, and looks up a secret place of a table. The three routines are
-   compiled by factc, so neither time nor addresses tell their secrets; everything else is C. */
+   compiled by factc, so neither the instructions that they execute nor the addresses that they access depend on their
+   secrets; everything else is C. */
 #include "board.h"
 #include "chacha20_block.h"
 #include "sha256_block.h"

@@ -1,6 +1,7 @@
 /* salsa20_block: made by factc function.
    Arrays are aligned by their elements, lie outside the stack below the caller, and no two that are not const overlap.
-   Neither the time it takes nor the addresses it accesses depend on secrets, for an observer of profile 1. */
+   For an observer of profile 1: neither the instructions that it executes, nor the addresses of its loads and stores,
+   nor the operands of its divisions depend on secret arguments. Nothing is proved of time. */
 #ifndef FACT_salsa20_block_H
 #define FACT_salsa20_block_H
 #include <stdbool.h>

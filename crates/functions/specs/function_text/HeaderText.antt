@@ -13,6 +13,8 @@ use Rattle.language.specs.declared.signature.Kind.{Kind}
 use Rattle.language.specs.declared.signature.Kind.TheVariants.{Boolean, Uint8, Uint16, Uint32}
 use Rattle.language.specs.declared.signature.Label.{Label}
 use Rattle.language.specs.declared.signature.Label.TheVariants.{Public, Secret}
+use Rattle.word.specs.declared.profile.Profile.{Profile}
+use Rattle.word.specs.declared.profile.Profile.TheVariants.{P1, P2}
 
 abbrev pub type_text : Kind → List ℕ
 type_text Boolean = codes "bool"
@@ -54,22 +56,38 @@ abbrev pub result_text : Option ResultSlot → List ℕ
 result_text None = codes "void"
 result_text (Some slot) = type_text slot.kind ++ codes " " ++ label_text slot.label
 
--- what is premised, and what is promised
-abbrev pub comment_lines : Parts → List ℕ
-comment_lines f =
-    codes "/* " ++ f.name ++ codes ": made by factc function.\n"
+-- what is premised
+abbrev pub premise_lines : List ℕ → List ℕ
+premise_lines name =
+    codes "/* " ++ name ++ codes ": made by factc function.\n"
     ++ codes
     "   Arrays are aligned by their elements, lie outside the stack below the caller, and no two that are not const overlap.\n"
-    ++ codes "   Neither the time it takes nor the addresses it accesses depend on secrets, for an observer of profile "
-    ++ profile_text f.image.profile ++ codes ". */\n"
+
+-- the operations whose operands an observer sees
+abbrev pub shown_operations : Profile → List ℕ
+shown_operations P1 = codes "divisions"
+shown_operations P2 = codes "divisions and multiplications"
+
+-- what is promised, and that it says nothing of time
+abbrev pub promise_lines : Profile → List ℕ
+promise_lines profile =
+    codes "   For an observer of profile " ++ profile_text profile
+    ++ codes
+    ": neither the instructions that it executes, nor the addresses of its loads and stores,\n   nor the operands of its "
+    ++ shown_operations profile ++ codes " depend on secret arguments. Nothing is proved of time. */\n"
+
+abbrev pub comment_lines : Parts → List ℕ
+comment_lines f = premise_lines f.name ++ promise_lines f.image.profile
 
 abbrev pub guard_lines : List ℕ → List ℕ
 guard_lines name = codes "#ifndef " ++ guard_name name ++ codes "\n#define " ++ guard_name name ++ codes "\n"
 
-abbrev pub stack_lines : Parts → List ℕ
-stack_lines f =
-    codes "#include <stdbool.h>\n#include <stdint.h>\n#define " ++ stack_name f.name ++ codes " "
-    ++ decimal (room_of f.image) ++ codes "\n"
+abbrev pub include_lines : List ℕ
+include_lines = codes "#include <stdbool.h>\n#include <stdint.h>\n"
+
+-- the macro of how many bytes of stack a call takes
+abbrev pub stack_line : List ℕ → ℕ → List ℕ
+stack_line name bytes = codes "#define " ++ stack_name name ++ codes " " ++ decimal bytes ++ codes "\n"
 
 abbrev pub prototype_lines : Parts → List ℕ
 prototype_lines f =
@@ -78,4 +96,5 @@ prototype_lines f =
     ++ parameters_text f.parameters ++ codes ");\n#ifdef __cplusplus\n}\n#endif\n#endif\n"
 
 abbrev pub header_text : Parts → List ℕ
-header_text f = comment_lines f ++ guard_lines f.name ++ stack_lines f ++ prototype_lines f
+header_text f =
+    comment_lines f ++ guard_lines f.name ++ include_lines ++ stack_line f.name (room_of f.image) ++ prototype_lines f

@@ -1,9 +1,12 @@
--- The function of a text can be called, from wherever its words stand.
-use Rattle.std.specs.Prelude.{ℕ, List}
+-- The function of a text can be called, from wherever its words stand, and its header says how much stack that takes.
+use Rattle.std.specs.Prelude.{◌≡◌, ℕ, ◌-◌, ◌≤◌, List, ◌++◌}
+use Rattle.codegen.specs.image_fields.Fields.{Fields}
 use Rattle.functions.specs.function_text.Functions.{Parts, IsFunctionOf}
+use Rattle.functions.specs.function_text.HeaderText.{stack_line}
+use Rattle.functions.specs.function_text.Texts.{AreTextsOf}
 use Rattle.hepurita.specs.declared.optimised.Optimisation.{Optimisation}
 use Rattle.linked_calls.specs.Callable.{IsCallable}
-use Rattle.linked_calls.specs.Calls.{Site, IsSite}
+use Rattle.linked_calls.specs.Calls.{Site, IsSite, room_base}
 use Rattle.rv_machine.specs.Machine.{Code}
 use Rattle.word.specs.declared.profile.Profile.{Profile}
 
@@ -15,3 +18,19 @@ FunctionsAreLinked =
     → (code : Code) (site : Site)
     → IsSite parts.image code site
     → IsCallable of.program of.export parts.image code site
+
+-- a header defines the macro of a function's stack as a number: so many bytes below the caller's stack pointer are the
+-- room of a call, wherever the function stands and is called, and a caller has them free
+pub record StatesStack (image : Fields) (name header : List ℕ) : Type 0 where
+  pub bytes : ℕ
+  pub before : List ℕ
+  pub behind : List ℕ
+  pub stated : header ≡ before ++ stack_line name bytes ++ behind
+  pub room : (site : Site) → room_base image site ≡ site.stack - bytes
+  pub free : (code : Code) (site : Site) → IsSite image code site → bytes ≤ site.stack
+
+abbrev pub HeadersStateStacks : Type 0
+HeadersStateStacks =
+    (optimisation : Optimisation) (profile : Profile) (text assembler header : List ℕ)
+    (texts : AreTextsOf optimisation profile text assembler header)
+    → StatesStack texts.parts.image texts.parts.name header

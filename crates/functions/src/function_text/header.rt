@@ -6,15 +6,15 @@ ghost use Rattle.functions.specs.function_text.Functions.{named, parts_of};
 ghost use Rattle.functions.specs.function_text.Names.{guard_name, stack_name};
 ghost use Rattle.functions.specs.function_text.HeaderText.{type_text, label_text, const_text, length_text};
 ghost use Rattle.functions.specs.function_text.HeaderText.{parameter_text, later_text, parameters_text, result_text};
-ghost use Rattle.functions.specs.function_text.HeaderText.{comment_lines, guard_lines, stack_lines, prototype_lines};
-ghost use Rattle.functions.specs.function_text.HeaderText.{header_text};
+ghost use Rattle.functions.specs.function_text.HeaderText.{premise_lines, shown_operations, promise_lines, comment_lines};
+ghost use Rattle.functions.specs.function_text.HeaderText.{guard_lines, include_lines, stack_line, prototype_lines, header_text};
 
 use crate::function_code::room_of;
 use crate::function_text::assembler::profile_text;
 use crate::function_text::function::{Function, NamedParam};
 use crate::function_text::lines::push_number;
 use codegen::image_fields::ResultSlot;
-use language::{Form, Kind, Label, Param};
+use language::{Form, Kind, Label, Param, Profile};
 use std::alloc::{AllocError, Global};
 use std::fmt::Write;
 
@@ -116,21 +116,47 @@ fn push_result(text: &mut String, returned: Option<ResultSlot>) -> Result<(), Al
     }
 }
 
+/// What is premised of a caller, at the end of a text.
+fn push_premise(text: &mut String, name: &str) -> Result<(), AllocError>
+    ensures { OnOk result (string_bytes text.new ≡ string_bytes text.old ++ premise_lines name.now) }
+{
+    text.push_str("/* ")?;
+    text.push_str(name)?;
+    text.push_str(": made by factc function.\n")?;
+    text.push_str(
+        "   Arrays are aligned by their elements, lie outside the stack below the caller, and no two that are not const overlap.\n",
+    )
+}
+
+/// The operations whose operands an observer sees.
+fn shown_operations(profile: Profile) -> &'static str
+    ensures { result.now ≡ shown_operations profile }
+{
+    match profile {
+        Profile::P1 => "divisions",
+        Profile::P2 => "divisions and multiplications",
+    }
+}
+
+/// What is promised to an observer of a profile, and that it says nothing of time, at the end of a text.
+fn push_promise(text: &mut String, profile: Profile) -> Result<(), AllocError>
+    ensures { OnOk result (string_bytes text.new ≡ string_bytes text.old ++ promise_lines profile) }
+{
+    text.push_str("   For an observer of profile ")?;
+    text.push_str(profile_text(profile))?;
+    text.push_str(
+        ": neither the instructions that it executes, nor the addresses of its loads and stores,\n   nor the operands of its ",
+    )?;
+    text.push_str(shown_operations(profile))?;
+    text.push_str(" depend on secret arguments. Nothing is proved of time. */\n")
+}
+
 /// What is premised and what is promised, at the end of a text.
 fn push_comment(text: &mut String, function: &Function<'_>) -> Result<(), AllocError>
     ensures { OnOk result (string_bytes text.new ≡ string_bytes text.old ++ comment_lines (parts_of function.now)) }
 {
-    text.push_str("/* ")?;
-    text.push_str(function.name)?;
-    text.push_str(": made by factc function.\n")?;
-    text.push_str(
-        "   Arrays are aligned by their elements, lie outside the stack below the caller, and no two that are not const overlap.\n",
-    )?;
-    text.push_str(
-        "   Neither the time it takes nor the addresses it accesses depend on secrets, for an observer of profile ",
-    )?;
-    text.push_str(profile_text(function.image.profile()))?;
-    text.push_str(". */\n")
+    push_premise(text, function.name)?;
+    push_promise(text, function.image.profile())
 }
 
 /// The macro that keeps the header from being read twice, at the end of a text.
@@ -161,14 +187,21 @@ fn push_guard(text: &mut String, name: &str) -> Result<(), AllocError>
     text.push_str("\n")
 }
 
-/// What the prototype stands on, at the end of a text.
-fn push_stack(text: &mut String, function: &Function<'_>) -> Result<(), AllocError>
-    ensures { OnOk result (string_bytes text.new ≡ string_bytes text.old ++ stack_lines (parts_of function.now)) }
+/// The headers of C that it needs, at the end of a text.
+fn push_includes(text: &mut String) -> Result<(), AllocError>
+    ensures { OnOk result (string_bytes text.new ≡ string_bytes text.old ++ include_lines) }
 {
-    text.push_str("#include <stdbool.h>\n#include <stdint.h>\n#define ")?;
-    push_stack_name(text, function.name)?;
+    text.push_str("#include <stdbool.h>\n#include <stdint.h>\n")
+}
+
+/// The macro of how many bytes of stack a call of a function takes, at the end of a text.
+fn push_stack(text: &mut String, name: &str, bytes: u32) -> Result<(), AllocError>
+    ensures { OnOk result (string_bytes text.new ≡ string_bytes text.old ++ stack_line name.now bytes) }
+{
+    text.push_str("#define ")?;
+    push_stack_name(text, name)?;
     text.push_str(" ")?;
-    push_number(text, u64::from(room_of(&function.image)))?;
+    push_number(text, u64::from(bytes))?;
     text.push_str("\n")
 }
 
@@ -193,7 +226,8 @@ pub fn header_text(alloc: Global, function: &Function<'_>) -> Result<String, All
     let mut text = String::new(alloc);
     push_comment(&mut text, function)?;
     push_guard(&mut text, function.name)?;
-    push_stack(&mut text, function)?;
+    push_includes(&mut text)?;
+    push_stack(&mut text, function.name, room_of(&function.image))?;
     push_prototype(&mut text, function)?;
     Ok(text)
 }

@@ -2,7 +2,7 @@
 
 ghost use Rattle.std.specs.Prelude.{ℕ, ◌≡◌, List};
 ghost use Rattle.functions.specs.function_text.Functions.{Parts, IsFunctionOf};
-ghost use Rattle.functions.specs.function_text.Linked.{FunctionsAreLinked};
+ghost use Rattle.functions.specs.function_text.Linked.{FunctionsAreLinked, HeadersStateStacks};
 ghost use Rattle.functions.specs.function_text.Texts.{AreTextsOf};
 ghost use Rattle.hepurita.specs.declared.optimised.Optimisation.{Optimisation};
 ghost use Rattle.word.specs.declared.profile.Profile.{Profile};
@@ -26,9 +26,11 @@ pub fn functions_agree()
 
 /// The function of a text, plain or optimised, can be called from wherever its words stand in code, as C calls functions: what
 /// it leaves is what the text's program means on the arguments, and what it shows an observer is one list for arguments that
-/// agree where they are public.
+/// agree where they are public. The number that its header defines as the macro of its stack is exactly the room of a call
+/// below the caller's stack pointer.
 pub fn functions_are_linked()
-    ensures { FunctionsAreLinked }
+    ensures linked { FunctionsAreLinked }
+    ensures stack { HeadersStateStacks }
 {
     calls_are_linked();
     one_answer_for_a_text();

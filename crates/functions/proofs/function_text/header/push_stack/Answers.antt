@@ -13,7 +13,6 @@ returns c =
     (simp (
       c.in_ok-push_number.ensures,
       c.from.ensures,
-      c.room_of.ensures,
       c.in_ok-push_str-2.ensures.bytes,
       c.in_ok-push_stack_name.ensures,
       c.in_ok-push_str.ensures.bytes,

@@ -2,23 +2,22 @@ use Rattle.std.proofs.Common.{◌++◌, codes}
 use Rattle.std.specs.String.{string_bytes}
 use Rattle.std.proofs.lemmas.List.{append_assoc}
 use Rattle.functions.proofs.function_text_lemmas.Below.{where_ok}
-use Rattle.functions.proofs.function_text.header.push_comment.Goals as goal
+use Rattle.functions.proofs.function_text.header.push_promise.Goals as goal
 
 pub returns : goal.returns
 returns c =
-    let before = string_bytes c.push_str-6.new.self in
-    let last = where_ok c.push_str-7.result (string_bytes c.push_str-7.new.self) (before ++ codes ". */\n")
-    before c.push_str-7.ensures.bytes in
+    let before = string_bytes c.push_str-4.new.self in
+    let last = where_ok c.push_str-5.result (string_bytes c.push_str-5.new.self)
+    (before ++ codes " depend on secret arguments. Nothing is proved of time. */\n")
+    before c.push_str-5.ensures.bytes in
     simp append_assoc
     (simp (
-      c.in_ok-push_str-6.ensures.bytes,
-      c.in_ok-push_str-5.ensures.bytes,
       c.in_ok-push_str-4.ensures.bytes,
+      c.shown_operations.ensures,
       c.in_ok-push_str-3.ensures.bytes,
       c.in_ok-push_str-2.ensures.bytes,
-      c.in_ok-push_str.ensures.bytes,
       c.profile_text.ensures,
-      c.profile.ensures.profile,
+      c.in_ok-push_str.ensures.bytes,
       append_assoc,
     )
     at last)
