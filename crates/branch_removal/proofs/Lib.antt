@@ -16,3 +16,6 @@ pub mod Removed
 pub mod StatementTrees
 pub mod Statements
 pub mod QuietLemmas
+pub mod CheckedTypes
+pub mod Checked
+pub mod CheckedSizes

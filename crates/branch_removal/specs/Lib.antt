@@ -6,6 +6,7 @@ pub mod Bounds
 pub mod Kept
 pub mod Removed
 pub mod Exact
+pub mod Checked
 pub mod Replaced
 pub mod Quiet
 pub mod Uses

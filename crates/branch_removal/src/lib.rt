@@ -6,18 +6,23 @@
 
 mod controls;
 mod copies;
+mod counted;
 mod greatest;
 mod laws;
 mod nesting;
 mod quiet;
 mod removal;
+mod sizes;
 mod straight;
+mod type_checks;
 mod uses;
 
+pub use counted::Straight;
 pub use greatest::{greatest_of, heaviest, take_greatest};
 pub use laws::{quiet_shows_nothing, replaced_is_removed, straight_shows_what_is_public};
 pub use nesting::{branch_of, loop_of};
 pub use quiet::is_quiet;
 pub use removal::remove;
-pub use straight::{Straight, StraightStatement};
+pub use sizes::words_taken;
+pub use straight::{StraightCode, StraightStatement};
 pub use uses::{count_use, variable_weights, weight_inside};

@@ -3,7 +3,6 @@ ghost use Rattle.inline.specs.Flat.{branch, term_tree, flat_tree, flat_block};
 ghost use Rattle.language.specs.declared.signature.Label.TheVariants.{Public, Secret};
 ghost use Rattle.language.specs.WantOfMemory.{IsWantOfMemory};
 ghost use Rattle.branch_removal.specs.private.Removal.{controls_in, controls_in_all, removed, removed_all, single};
-ghost use Rattle.branch_removal.specs.Bounds.{IsCounted};
 ghost use Rattle.branch_removal.specs.Exact.{straight_of};
 ghost use Rattle.branch_removal.specs.Removed.{IsRemoved};
 ghost use Rattle.branch_removal.specs.Straight as straight;
@@ -12,7 +11,7 @@ ghost use Rattle.branch_removal.specs.Straight.{straight_tree, straight_block, c
 use crate::controls::controls_in_all;
 use crate::copies::{all_copied, copied, copied_where_any};
 use crate::nesting::{branch_of, loop_of};
-use crate::{Straight, StraightStatement};
+use crate::{Straight, StraightCode, StraightStatement};
 use inline::{FlatStatement, Term};
 use intervals::Ranged;
 use language::{Label, Refusal};
@@ -218,7 +217,6 @@ fn push_removed_all(
 /// decided by what is public. The body alone decides which code it is. Running out of memory alone refuses it.
 pub fn remove<'r>(alloc: Global, ranged: &'r Ranged<'_>) -> Result<Straight<'r>, Refusal>
     ensures removed { IfOk result (IsRemoved ranged.now) }
-    ensures counted { IfOk result IsCounted }
     ensures declared { IfOk result (λ straight. straight.declared ≡ ranged.now.flat.declared) }
     ensures exact { IfOk result (λ straight. straight ≡ straight_of ranged.now) }
     ensures memory { IfErr result (λ refusal. IsWantOfMemory refusal.rule refusal.place) }
@@ -229,5 +227,6 @@ pub fn remove<'r>(alloc: Global, ranged: &'r Ranged<'_>) -> Result<Straight<'r>,
     let mut code = Vec::new(alloc);
     push_removed_all(alloc, &mut code, None, 0, body)?;
     let value = copied_where_any(alloc, flat.value())?;
-    Ok(Straight::new(ranged, controls, code, value))
+    let straight = StraightCode::new(ranged, controls, code, value);
+    Ok(Straight::new(straight))
 }

@@ -1,14 +1,20 @@
-ghost use Rattle.std.specs.Prelude.{◌≡◌};
+ghost use Rattle.std.specs.Prelude.{◌≡◌, IfSome};
 ghost use Rattle.std.specs.Option.{option_map};
 ghost use Rattle.inline.specs.Flat.{term_tree};
 ghost use Rattle.branch_removal.specs.Kept.{IsStraight};
-ghost use Rattle.branch_removal.specs.Straight.{StraightProgram, straight_block, with_body, with_variables};
+ghost use Rattle.branch_removal.specs.Straight.{StraightProgram, straight_block, with_variables};
+ghost use Rattle.branch_removal.specs.Checked.{checked, has_room, is_checked};
 
+use crate::sizes::{all_words_taken, block_size, result_size};
+use crate::type_checks::{are_typed, come_first, is_result};
 use inline::{FlatVariable, Term};
 use intervals::Ranged;
 use language::{Param, WordType};
 use std::marker::Model;
 use word::{Place, Profile};
+
+/// How many words the variables may take, in all.
+const MOST_VARIABLE_WORDS: u64 = 10_192;
 
 /// A statement of straight code. Branches and loops are left only where what decides them is public.
 #[derive(Drop)]
@@ -29,9 +35,9 @@ pub enum StraightStatement {
 }
 
 /// Straight code: the export without branches on secrets. Its parameters are the first variables. It is well typed, and
-/// within the limits on size.
+/// within the limits on size. Where it was made of other straight code, it may have more nodes than its source.
 #[derive(Drop)]
-pub struct Straight<'f> {
+pub struct StraightCode<'f> {
     profile: Profile,
     parameters: &'f [Param],
     returned: Option<WordType>,
@@ -44,7 +50,7 @@ pub struct Straight<'f> {
     value: Option<Term>,
 }
 
-impl<'f> Model for Straight<'f> {
+impl<'f> Model for StraightCode<'f> {
     ghost use Rattle.std.specs.Option.{option_map};
     ghost use Rattle.inline.specs.Flat.{term_tree};
     ghost use Rattle.branch_removal.specs.Straight.{StraightProgram, straight_block};
@@ -60,7 +66,7 @@ impl<'f> Model for Straight<'f> {
     ghost invariant = { λ s. IsStraight (record { profile = s.profile; parameters = s.parameters.now; returned = s.returned; nodes = s.nodes; work = s.work; turns = s.turns.now; declared = s.declared.now; controls = s.controls; body = straight_block s.body.items; value = option_map term_tree s.value }) };
 }
 
-impl<'f> Straight<'f> {
+impl<'f> StraightCode<'f> {
     /// A body's straight code, with what stays as it was.
     pub(crate) fn new(
         ranged: &'f Ranged<'_>,
@@ -72,7 +78,7 @@ impl<'f> Straight<'f> {
         ensures { result ≡ record { profile = ranged.now.flat.profile; parameters = ranged.now.flat.parameters; returned = ranged.now.flat.returned; nodes = ranged.now.flat.nodes; work = ranged.now.work; turns = ranged.now.turns; declared = ranged.now.flat.declared; controls = controls; body = straight_block body.items; value = option_map term_tree value } }
     {
         let flat = ranged.flat();
-        Straight {
+        StraightCode {
             profile: flat.profile(),
             parameters: flat.parameters(),
             returned: flat.returned(),
@@ -86,38 +92,58 @@ impl<'f> Straight<'f> {
         }
     }
 
-    /// The same with another body and another result in their place.
-    pub fn with_body(&self, body: Vec<StraightStatement>, value: Option<Term>) -> Straight<'f>
-        requires { IsStraight (with_body self.now (straight_block body.items) (option_map term_tree value)) }
-        ensures { result ≡ with_body self.now (straight_block body.items) (option_map term_tree value) }
+    /// Whether other variables, another body and another result may take the place of its own.
+    fn may_have(
+        &self,
+        declared: &[FlatVariable],
+        body: &[StraightStatement],
+        value: Option<&Term>,
+    ) -> bool
+        ensures { result ≡ is_checked (with_variables self.now declared.now (straight_block body.now) (option_map (λ term. term_tree term.now) value.entry)) }
     {
-        Straight {
-            profile: self.profile,
-            parameters: self.parameters,
-            returned: self.returned,
-            nodes: self.nodes,
-            work: self.work,
-            turns: self.turns,
-            declared: self.declared,
-            controls: self.controls,
-            body,
-            value,
-        }
+        let parameters = &self.declared[..self.parameters.len()];
+        come_first(parameters, declared)
+            && are_typed(self.profile, declared, self.controls, body)
+            && is_result(self.profile, declared, self.returned, value)
+            && self.has_room(declared, body, value)
     }
 
-    /// The same with other variables, another body and another result in their place.
-    pub fn with_variables<'g>(
+    /// Whether it would be within the limits on size with these in the place of its own.
+    fn has_room(
+        &self,
+        declared: &[FlatVariable],
+        body: &[StraightStatement],
+        value: Option<&Term>,
+    ) -> bool
+        ensures { result ≡ has_room (with_variables self.now declared.now (straight_block body.now) (option_map (λ term. term_tree term.now) value.entry)) }
+    {
+        let code = block_size(self.turns, body);
+        let last = result_size(value);
+        let frame = u64::from(self.controls)
+            .saturating_add(code.depth.saturating_mul(2))
+            .saturating_add(code.height.max(last.height));
+        all_words_taken(declared) <= MOST_VARIABLE_WORDS
+            && code.work.saturating_add(last.work) <= self.work
+            && frame <= u64::from(self.nodes)
+    }
+
+    /// The same with other variables, another body and another result in their place, where that is well typed and
+    /// within the limits on size.
+    pub fn rewritten<'g>(
         &self,
         declared: &'g [FlatVariable],
         body: Vec<StraightStatement>,
         value: Option<Term>,
-    ) -> Straight<'g>
+    ) -> Option<StraightCode<'g>>
     where
         'f: 'g,
-        requires { IsStraight (with_variables self.now declared.now (straight_block body.items) (option_map term_tree value)) }
-        ensures { result ≡ with_variables self.now declared.now (straight_block body.items) (option_map term_tree value) }
+        ensures exact { result ≡ checked (with_variables self.now declared.now (straight_block body.items) (option_map term_tree value)) }
+        ensures straight { IfSome result IsStraight }
     {
-        Straight {
+        if !self.may_have(declared, body.as_slice(), value.as_ref()) {
+            return None;
+        }
+        Some(StraightCode {
             profile: self.profile,
             parameters: self.parameters,
             returned: self.returned,
@@ -128,7 +154,7 @@ impl<'f> Straight<'f> {
             controls: self.controls,
             body,
             value,
-        }
+        })
     }
 
     /// For which observer it is.

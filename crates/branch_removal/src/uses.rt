@@ -5,7 +5,7 @@ ghost use Rattle.branch_removal.specs.Straight.{straight_tree, straight_block};
 ghost use Rattle.branch_removal.specs.Uses.{used, used_in, used_in_terms, used_by, used_by_all, weight_inside, weights_of};
 ghost use Rattle.inline.specs.Flat.{term_tree};
 
-use crate::{Straight, StraightStatement};
+use crate::{StraightCode, StraightStatement};
 use inline::Term;
 use std::alloc::{AllocError, Global};
 
@@ -103,7 +103,7 @@ fn count_by_all(weights: &mut [u64], weight: u64, statements: &[StraightStatemen
 }
 
 /// How much each variable of a program is used, by its number.
-pub fn variable_weights(alloc: Global, straight: &Straight<'_>) -> Result<Vec<u64>, AllocError>
+pub fn variable_weights(alloc: Global, straight: &StraightCode<'_>) -> Result<Vec<u64>, AllocError>
     ensures { IfOk result (λ weights. weights.items ≡ weights_of straight.now) }
 {
     let mut weights = vec![in alloc; 0; straight.declared().len()]?;

@@ -5,7 +5,7 @@ ghost use Rattle.branch_removal.specs.Straight.{straight_tree, straight_block};
 ghost use Rattle.codegen.specs.private.Reads.{unread_of};
 ghost use Rattle.codegen.specs.private.Uses.{control_weights_of, controls_read_by, controls_read_by_all, used_within};
 
-use branch_removal::{Straight, StraightStatement, count_use, weight_inside};
+use branch_removal::{StraightCode, StraightStatement, count_use, weight_inside};
 use std::alloc::{AllocError, Global};
 
 /// Counts the use of an enclosing control value, where there is one.
@@ -48,7 +48,7 @@ fn count_by_all(weights: &mut [u64], weight: u64, statements: &[StraightStatemen
 }
 
 /// How much each control value of a program is read, by its number.
-pub fn control_weights(alloc: Global, straight: &Straight<'_>) -> Result<Vec<u64>, AllocError>
+pub fn control_weights(alloc: Global, straight: &StraightCode<'_>) -> Result<Vec<u64>, AllocError>
     ensures { IfOk result (λ weights. weights.items ≡ control_weights_of straight.now) }
 {
     let mut weights = vec![in alloc; 0; straight.controls() as usize]?;
@@ -68,7 +68,7 @@ fn unread(alloc: Global, weights: &[u64]) -> Result<Vec<bool>, AllocError>
 }
 
 /// Whether nothing reads each control value of a program, by its number.
-pub fn unread_controls(alloc: Global, straight: &Straight<'_>) -> Result<Vec<bool>, AllocError>
+pub fn unread_controls(alloc: Global, straight: &StraightCode<'_>) -> Result<Vec<bool>, AllocError>
     ensures { IfOk result (λ unread. unread.items ≡ unread_of straight.now) }
 {
     let weights = control_weights(alloc, straight)?;

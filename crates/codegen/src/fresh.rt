@@ -7,7 +7,7 @@ ghost use Rattle.codegen.specs.private.Fresh.{is_fresh, starts_fresh};
 ghost use Rattle.inline.specs.Flat.{term_tree};
 ghost use Rattle.std.specs.Option.{option_map};
 
-use branch_removal::{Straight, StraightStatement};
+use branch_removal::{StraightCode, StraightStatement};
 use inline::Term;
 
 /// Whether an expression names a variable.
@@ -112,7 +112,7 @@ fn is_fresh(statements: &[StraightStatement], value: Option<&Term>, variable: us
 }
 
 /// Whether the word of a home is such a variable of a program, which is not loaded at the start.
-pub fn starts_fresh(straight: &Straight<'_>, number: usize) -> bool
+pub fn starts_fresh(straight: &StraightCode<'_>, number: usize) -> bool
     ensures { result ≡ starts_fresh straight.now number }
 {
     number < straight.declared().len() && is_fresh(straight.body(), straight.value(), number)

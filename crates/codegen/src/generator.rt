@@ -3,7 +3,6 @@ ghost use Rattle.std.specs.Prelude.{IfSome, IfNone};
 ghost use Rattle.std.specs.Option.{option_map};
 ghost use Rattle.codegen.specs.Exact.{fields_of, optimised_fields_of};
 ghost use Rattle.codegen.specs.Followed.{IsGenerated};
-ghost use Rattle.branch_removal.specs.Bounds.{IsCounted};
 ghost use Rattle.codegen.specs.private.Fresh.{homes_but, starts_fresh};
 ghost use Rattle.branch_removal.specs.Heights.{program_height};
 ghost use Rattle.codegen.specs.expression_code.Allocation.{slots_to};
@@ -30,7 +29,7 @@ use crate::image_fields::{ImageFields, ResultSlot};
 use crate::reading::assign;
 use crate::statements::statements;
 use crate::unemitted::Unemitted;
-use branch_removal::Straight;
+use branch_removal::{Straight, StraightCode};
 use language::Refusal;
 use rv_code::{Instr, encode};
 use std::alloc::{AllocError, Global};
@@ -53,7 +52,7 @@ fn words(alloc: Global, code: &[Instr]) -> Result<Vec<u32>, AllocError>
 /// The words that have homes, from their slots into these, but those that start fresh.
 fn enter(
     code: &mut Vec<Instr>,
-    straight: &Straight<'_>,
+    straight: &StraightCode<'_>,
     layout: &Layout<'_>,
 ) -> Result<(), AllocError>
     requires { length layout.now.allocation.homes ≤ length layout.now.declared + layout.now.controls }
@@ -80,7 +79,7 @@ fn end(code: &mut Vec<Instr>) -> Result<(), AllocError>
 /// The instructions of a program, in its layout.
 fn program_code(
     alloc: Global,
-    straight: &Straight<'_>,
+    straight: &StraightCode<'_>,
     layout: &Layout<'_>,
 ) -> Result<Vec<Instr>, Unemitted>
     requires room { HasRoom straight.now }
@@ -110,7 +109,7 @@ fn most_words(nodes: u32) -> u32
 /// The same, where an image may have as many.
 fn code_within(
     alloc: Global,
-    straight: &Straight<'_>,
+    straight: &StraightCode<'_>,
     layout: &Layout<'_>,
 ) -> Result<Option<Vec<Instr>>, Refusal>
     requires room { HasRoom straight.now }
@@ -138,7 +137,7 @@ fn temporary_slots(height: u32, layout: &Layout<'_>) -> u32
 }
 
 /// The slot of the result, where there is one.
-fn result_slot(straight: &Straight<'_>, layout: &Layout<'_>) -> Option<ResultSlot>
+fn result_slot(straight: &StraightCode<'_>, layout: &Layout<'_>) -> Option<ResultSlot>
     requires { layout.now ≡ frame_of layout.now.allocation straight.now }
     ensures { result ≡ option_map (result_slot straight.now.declared) straight.now.returned }
 {
@@ -161,7 +160,7 @@ fn step_limit(work: u64) -> u64
 /// The fields of the image of straight code in its layout, as the definition lists them.
 fn listed(
     alloc: Global,
-    straight: &Straight<'_>,
+    straight: &StraightCode<'_>,
     layout: &Layout<'_>,
     height: u32,
     code: &[Instr],
@@ -188,7 +187,7 @@ fn listed(
 /// The code of a straight program, with registers given out so, where it has no more words than it may have.
 fn generate_with(
     alloc: Global,
-    straight: &Straight<'_>,
+    straight: &StraightCode<'_>,
     allocation: Allocation<'_>,
 ) -> Result<Option<Code>, Refusal>
     requires { IsFitting straight.now allocation }
@@ -218,7 +217,6 @@ fn generate_with(
 /// what it shows is decided by what the program's observer sees of the path. The program alone decides which code it is.
 /// It is refused only when out of memory.
 pub fn generate(alloc: Global, straight: &Straight<'_>) -> Result<Code, Refusal>
-    requires { IsCounted straight.now }
     ensures generated { IfOk result (IsGenerated straight.now) }
     ensures exact { IfOk result (λ code. code ≡ fields_of straight.now) }
     ensures allowed { IfOk result IsImage }
@@ -226,7 +224,7 @@ pub fn generate(alloc: Global, straight: &Straight<'_>) -> Result<Code, Refusal>
 {
     let homes = Vec::new(alloc);
     let allocation = Allocation::new(REGISTER_COUNT, homes.as_slice());
-    match generate_with(alloc, straight, allocation)? {
+    match generate_with(alloc, straight.code(), allocation)? {
         Some(code) => Ok(code),
         None => unreachable!(),
     }
@@ -236,7 +234,10 @@ pub fn generate(alloc: Global, straight: &Straight<'_>) -> Result<Code, Refusal>
 /// live in a register each, for the whole run, and a number gets none where an instruction holds it. A program may have
 /// been made longer than its source, as by unrolling; there is no code where it has more words than are promised for the
 /// nodes of the source.
-pub fn generate_optimised(alloc: Global, straight: &Straight<'_>) -> Result<Option<Code>, Refusal>
+pub fn generate_optimised(
+    alloc: Global,
+    straight: &StraightCode<'_>,
+) -> Result<Option<Code>, Refusal>
     ensures generated { IfOk result (λ made. IfSome made (IsGenerated straight.now)) }
     ensures exact { IfOk result (λ made. made ≡ optimised_fields_of straight.now) }
     ensures allowed { IfOk result (λ made. IfSome made IsImage) }

@@ -9,7 +9,7 @@ ghost use Rattle.codegen.specs.private.Homes.{temporary_registers};
 ghost use Rattle.inline.specs.Flat.{term_tree};
 
 use crate::expression_code::height;
-use branch_removal::{Straight, StraightStatement};
+use branch_removal::{StraightCode, StraightStatement};
 use inline::Term;
 
 /// How many temporaries have registers at least and at most where words live in registers.
@@ -90,7 +90,7 @@ fn extent_of_all(statements: &[StraightStatement]) -> Extent
 
 /// The extent of a program: that of its statements, and how many temporaries its result takes. The program is well
 /// typed, and within the limits.
-pub fn program_extent(straight: &Straight<'_>) -> Extent
+pub fn program_extent(straight: &StraightCode<'_>) -> Extent
     ensures height { result.height ≡ program_height straight.now }
     ensures depth { result.depth ≡ depth_in_all straight.now.body }
     ensures few { result.height ≤ 6000 }
@@ -108,7 +108,7 @@ pub fn program_extent(straight: &Straight<'_>) -> Extent
 }
 
 /// How many temporaries have registers in optimised code: the others are for words.
-pub fn temporary_registers(straight: &Straight<'_>) -> u32
+pub fn temporary_registers(straight: &StraightCode<'_>) -> u32
     ensures count { result ≡ temporary_registers straight.now }
     ensures few { result ≤ 16 }
 {

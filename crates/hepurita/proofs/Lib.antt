@@ -16,6 +16,7 @@ pub mod Existence
 pub mod TheoremLemmas
 pub mod AnswerLemmas
 pub mod OneImage
+pub mod PassedOn
 pub mod BaseLemmas
 pub mod Compiler
 pub mod RangePlaces

@@ -1,6 +1,6 @@
 -- The one image for an exported procedure, behind those before it, for an observer, plain or optimised: what the
 -- passes make of it, one after another.
-use Rattle.std.specs.Prelude.{List, [], ◌∷◌, Option, None, Some}
+use Rattle.std.specs.Prelude.{List, [], ◌∷◌, Option, None, Some, unwrap_or}
 use Rattle.branch_removal.specs.Exact.{straight_of}
 use Rattle.branch_removal.specs.Straight.{StraightProgram}
 use Rattle.codegen.specs.Exact.{fields_of, optimised_fields_of}
@@ -21,17 +21,21 @@ first_of [] otherwise = otherwise
 first_of (None ∷ images) otherwise = first_of images otherwise
 first_of (Some image ∷ images) otherwise = image
 
+-- what a pass makes of straight code, and the code itself where it makes none
+abbrev pub after : (StraightProgram → Option StraightProgram) → StraightProgram → StraightProgram
+after pass straight = unwrap_or (pass straight) straight
+
 -- what the passes make of straight code whose loops are as they stay: its short arrays are words, what is known then is
 -- a number, and words share variables
 abbrev pub finished_of : StraightProgram → StraightProgram
-finished_of straight = shared_of (simplified_of (split_of straight))
+finished_of straight = after shared_of (after simplified_of (after split_of straight))
 
 -- the images that are tried for straight code where optimised code is asked for: with its loops unrolled, and else with
 -- its loops. Each is there where it is within the limit on words
 abbrev pub optimised_for : StraightProgram → List (Option Fields)
 optimised_for straight =
-    optimised_fields_of (finished_of (unrolled_of straight))
-    ∷ optimised_fields_of (finished_of (simplified_of straight)) ∷ []
+    optimised_fields_of (finished_of (after unrolled_of straight))
+    ∷ optimised_fields_of (finished_of (after simplified_of straight)) ∷ []
 
 -- the image for straight code, which is the plain one where no optimised one is there: only from here on do the two
 -- codes differ

@@ -1,7 +1,6 @@
 // A text, compiled to the bytes of an image.
 
 ghost use Rattle.std.specs.Prelude.{◌≡◌, ℕ, List, IfOk, IfErr, IfSome};
-ghost use Rattle.branch_removal.specs.Bounds.{IsCounted};
 ghost use Rattle.branch_removal.specs.Removed.{IsRemoved};
 ghost use Rattle.branch_removal.specs.Straight.{StraightProgram};
 ghost use Rattle.codegen.specs.Exact.{fields_of};
@@ -32,16 +31,15 @@ use syntax::{one_answer_for_a_text, parse};
 /// The first optimised code of a straight program that is within the limit on words, or else its plain code. Only memory
 /// refuses it.
 fn first_code(alloc: Global, straight: &Straight<'_>) -> Result<Code, Refusal>
-    requires { IsCounted straight.now }
     ensures generated { IfOk result (IsCodeFor straight.now) }
     ensures exact { IfOk result (λ code. code ≡ first_of (optimised_for straight.now) (fields_of straight.now)) }
     ensures allowed { IfOk result IsImage }
     ensures memory { IfErr result (λ refusal. IsWantOfMemory refusal.rule refusal.place) }
 {
-    if let Some(code) = unrolled(alloc, straight)? {
+    if let Some(code) = unrolled(alloc, straight.code())? {
         return Ok(code);
     }
-    if let Some(code) = rolled(alloc, straight)? {
+    if let Some(code) = rolled(alloc, straight.code())? {
         return Ok(code);
     }
     generate(alloc, straight)
@@ -53,7 +51,6 @@ fn code_for(
     straight: &Straight<'_>,
     optimisation: Optimisation,
 ) -> Result<Code, Refusal>
-    requires { IsCounted straight.now }
     ensures generated { IfOk result (IsCodeFor straight.now) }
     ensures exact { IfOk result (λ code. code ≡ code_for optimisation straight.now) }
     ensures allowed { IfOk result IsImage }

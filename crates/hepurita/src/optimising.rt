@@ -4,11 +4,11 @@ ghost use Rattle.std.specs.Prelude.{◌≡◌, IfOk, IfErr, IfSome};
 ghost use Rattle.codegen.specs.Exact.{optimised_fields_of};
 ghost use Rattle.optimisation.specs.constants.Exact.{simplified_of, unrolled_of};
 ghost use Rattle.hepurita.specs.CodeFor.{IsCodeFor};
-ghost use Rattle.hepurita.specs.Exact.{finished_of};
+ghost use Rattle.hepurita.specs.Exact.{after, finished_of};
 ghost use Rattle.codegen.specs.image_fields.Fields.{IsImage};
 ghost use Rattle.language.specs.WantOfMemory.{IsWantOfMemory};
 
-use branch_removal::{Straight, replaced_is_removed};
+use branch_removal::{StraightCode, replaced_is_removed};
 use codegen::{Code, generate_optimised};
 use language::Refusal;
 use optimisation::constants::{simplify, unroll};
@@ -18,42 +18,45 @@ use std::alloc::Global;
 
 /// The optimised code of a program whose loops are as they stay, where it is within the limit on words: short arrays become
 /// words, what is known then is a number, and words share variables. Only memory refuses it.
-fn finished(alloc: Global, straight: &Straight<'_>) -> Result<Option<Code>, Refusal>
+fn finished(alloc: Global, straight: &StraightCode<'_>) -> Result<Option<Code>, Refusal>
     ensures generated { IfOk result (λ made. IfSome made (IsCodeFor straight.now)) }
     ensures exact { IfOk result (λ made. made ≡ optimised_fields_of (finished_of straight.now)) }
     ensures allowed { IfOk result (λ made. IfSome made IsImage) }
     ensures memory { IfErr result (λ refusal. IsWantOfMemory refusal.rule refusal.place) }
 {
     let words = Words::of(alloc, straight)?;
-    let split = words.apply(alloc, straight)?;
-    let simpler = simplify(alloc, &split)?;
-    let shared = share_words(alloc, &simpler)?;
+    let with_words = words.apply(alloc, straight)?;
+    let split = with_words.as_ref().unwrap_or(straight);
+    let with_numbers = simplify(alloc, split)?;
+    let simpler = with_numbers.as_ref().unwrap_or(split);
+    let with_shares = share_words(alloc, simpler)?;
+    let shared = with_shares.as_ref().unwrap_or(simpler);
     replaced_is_removed();
-    generate_optimised(alloc, &shared)
+    generate_optimised(alloc, shared)
 }
 
 /// The optimised code of a program in which loops become their turns, where it is within the limit on words. Only memory
 /// refuses it.
-pub fn unrolled(alloc: Global, straight: &Straight<'_>) -> Result<Option<Code>, Refusal>
+pub fn unrolled(alloc: Global, straight: &StraightCode<'_>) -> Result<Option<Code>, Refusal>
     ensures generated { IfOk result (λ made. IfSome made (IsCodeFor straight.now)) }
-    ensures exact { IfOk result (λ made. made ≡ optimised_fields_of (finished_of (unrolled_of straight.now))) }
+    ensures exact { IfOk result (λ made. made ≡ optimised_fields_of (finished_of (after unrolled_of straight.now))) }
     ensures allowed { IfOk result (λ made. IfSome made IsImage) }
     ensures memory { IfErr result (λ refusal. IsWantOfMemory refusal.rule refusal.place) }
 {
     let without_loops = unroll(alloc, straight)?;
     replaced_is_removed();
-    finished(alloc, &without_loops)
+    finished(alloc, without_loops.as_ref().unwrap_or(straight))
 }
 
 /// The optimised code of a program in which all loops that make turns stay, where it is within the limit on words. Only
 /// memory refuses it.
-pub fn rolled(alloc: Global, straight: &Straight<'_>) -> Result<Option<Code>, Refusal>
+pub fn rolled(alloc: Global, straight: &StraightCode<'_>) -> Result<Option<Code>, Refusal>
     ensures generated { IfOk result (λ made. IfSome made (IsCodeFor straight.now)) }
-    ensures exact { IfOk result (λ made. made ≡ optimised_fields_of (finished_of (simplified_of straight.now))) }
+    ensures exact { IfOk result (λ made. made ≡ optimised_fields_of (finished_of (after simplified_of straight.now))) }
     ensures allowed { IfOk result (λ made. IfSome made IsImage) }
     ensures memory { IfErr result (λ refusal. IsWantOfMemory refusal.rule refusal.place) }
 {
     let simpler = simplify(alloc, straight)?;
     replaced_is_removed();
-    finished(alloc, &simpler)
+    finished(alloc, simpler.as_ref().unwrap_or(straight))
 }

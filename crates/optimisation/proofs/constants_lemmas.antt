@@ -8,7 +8,6 @@ pub mod Powers
 pub mod Suiting
 pub mod TermRules
 pub mod TermTypes
-pub mod TermSizes
 pub mod TermLemmas
 pub mod StatementRules
 pub mod Unset
@@ -16,6 +15,5 @@ pub mod Held
 pub mod Typed
 pub mod Learned
 pub mod Same
-pub mod Bounds
 pub mod Whole
 pub mod ChoiceLemmas

@@ -4,5 +4,4 @@ pub mod Values
 pub mod Held
 pub mod Given
 pub mod Runs
-pub mod Typed
 pub mod Whole

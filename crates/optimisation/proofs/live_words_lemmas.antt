@@ -3,8 +3,5 @@ pub mod TermLemmas
 pub mod Grown
 pub mod Rules
 pub mod Same
-pub mod Typed
-pub mod Allowed
-pub mod Copied
 pub mod Whole
 pub mod Backwards

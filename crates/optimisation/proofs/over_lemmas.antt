@@ -1,6 +1,5 @@
 pub mod Rules
-pub mod Sizes
-pub mod Types
+pub mod Variables
 pub mod Values
 pub mod Beside
 pub mod SameWords

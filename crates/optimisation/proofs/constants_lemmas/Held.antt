@@ -20,7 +20,7 @@ use Rattle.branch_removal.specs.StraightTyping.{types_but, IsTyped, AreTyped}
 use Rattle.language.specs.declared.typing.WordType.{WordType}
 use Rattle.language.specs.Types.{bits_of}
 use Rattle.word.specs.declared.profile.Profile.{Profile}
-use Rattle.optimisation.proofs.over_lemmas.Types.{but_within}
+use Rattle.optimisation.proofs.over_lemmas.Variables.{but_within}
 
 -- first values of an array
 all_held : (types : Types) (m : Values) → Fits types m → (word : WordType) (es : List TermTree)

@@ -25,7 +25,7 @@ use Rattle.optimisation.proofs.constants_lemmas.StatementRules.{Simplifies, sets
 use Rattle.optimisation.proofs.constants_lemmas.StatementRules.{chooses, unrolls, loops, TurnsSimplify, no_turn, a_turn}
 use Rattle.optimisation.proofs.constants_lemmas.StatementRules.{AllSimplify, ends, goes_on}
 use Rattle.optimisation.proofs.constants_lemmas.TermLemmas.{same_value, still_alike, suited_alike, all_alike}
-use Rattle.optimisation.proofs.constants_lemmas.Typed.{IsCounter, but_kinds, typed_after, typed_after_all, within_limit}
+use Rattle.optimisation.proofs.constants_lemmas.Typed.{IsCounter, but_kinds, kinds_after, kinds_after_all, within_limit}
 use Rattle.optimisation.proofs.constants_lemmas.Unset.{behind_part, within_loop}
 use Rattle.optimisation.proofs.over_lemmas.Values.{IsNoWorse, same_path, both, through, alone, at_index}
 use Rattle.optimisation.proofs.over_lemmas.Beside.{branch_path, loop_path}
@@ -227,7 +227,7 @@ module _ (most : List ℕ) where
             both_lead (turn_leads x i s a)
             (all_turns_lead others (omega arith) there is (after_all (counted x i s) body) (record {
               agrees = a.agrees;
-              kinds = (typed_after_all profile declared controls one known.kinds is).kinds;
+              kinds = kinds_after_all profile declared controls one known.kinds is;
               fits = fits_after_all profile declared controls body is (counted x i s) known.fits;
             }))
 
@@ -241,6 +241,6 @@ module _ (most : List ℕ) where
             both_lead a
             (all_lead others is.1 (after s statement) (record {
               agrees = a.agrees;
-              kinds = (typed_after profile declared controls one holds.kinds is.0).kinds;
+              kinds = kinds_after profile declared controls one holds.kinds is.0;
               fits = fits_after profile declared controls statement is.0 s holds.fits;
             }))

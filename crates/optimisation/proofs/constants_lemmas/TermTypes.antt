@@ -234,18 +234,3 @@ module _ (types : Types) where
     pub still_public : {e : TermTree} {kind : Kind} → HasType types e (labelled kind Public)
         → HasType types (simple words e) (labelled kind Public)
     still_public has = public_typed types (simple_suits has)
-
-    pub still_typed : {e : TermTree} {kind : Kind} {label : Label} → HasType types e (labelled kind label)
-        → (other : Label) × HasType types (simple words e) (labelled kind other)
-    still_typed has = let inner = simple_suits has in (inner.word.label, retyped types inner)
-
-    pub all_still_suit : (word : WordType) (es : List TermTree) → AllSuit types word es
-        → AllSuit types word (map (simple words) es)
-    all_still_suit word [] suit = tt
-    all_still_suit word (e ∷ es) suit = (still_suits suit.0, all_still_suit word es suit.1)
-
-    pub still_result : (returned : Option WordType) (value : Option TermTree) → IsResult types returned value
-        → IsResult types returned (option_map (simple words) value)
-    still_result None None result = result
-    still_result (Some word) (Some value) result = still_suits result
-    still_result returned value result = absurd result

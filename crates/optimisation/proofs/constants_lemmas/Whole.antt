@@ -11,19 +11,15 @@ use Rattle.branch_removal.specs.StraightTyping.{IsTypedStraight}
 use Rattle.branch_removal.specs.Straight.{StraightProgram}
 use Rattle.branch_removal.specs.StraightMeaning.{StraightState, after_all, start, end_of, outcome_of, path_of}
 use Rattle.branch_removal.specs.StraightMeaning.{path_along}
-use Rattle.optimisation.specs.constants.private.Choice.{AreAllowed}
 use Rattle.optimisation.specs.constants.private.Known.{Words}
 use Rattle.optimisation.specs.constants.private.Simplification.{knowing_all, simplified_all, nothing_known}
 use Rattle.optimisation.specs.constants.private.Simplification.{simplified_program}
 use Rattle.optimisation.proofs.constants_lemmas.KnownLemmas.{nothing_first, Holds}
 use Rattle.optimisation.proofs.constants_lemmas.Held.{fits_after_all}
 use Rattle.optimisation.proofs.constants_lemmas.TermLemmas.{result_alike}
-use Rattle.optimisation.proofs.constants_lemmas.TermTypes.{still_result}
 use Rattle.optimisation.proofs.constants_lemmas.Same.{LeadsTo, all_lead}
 use Rattle.optimisation.proofs.constants_lemmas.StatementRules.{AllSimplify, all_simplify}
-use Rattle.optimisation.proofs.constants_lemmas.Typed.{AreKinds, IsStillTyped, still_hidden_all, typed_after_all}
-use Rattle.optimisation.proofs.constants_lemmas.Bounds.{less_all}
-use Rattle.optimisation.proofs.constants_lemmas.TermSizes.{result_no_larger}
+use Rattle.optimisation.proofs.constants_lemmas.Typed.{AreKinds, kinds_after_all}
 use Rattle.optimisation.proofs.over_lemmas.Values.{IsNoWorse, both, IsResultAlike}
 use Rattle.optimisation.proofs.over_lemmas.Whole.{is_replaced}
 
@@ -39,9 +35,8 @@ module _ (copies : List ℕ) (p : StraightProgram) where
   first_kinds f is = absurd (nothing_first (length p.declared) f is)
 
   module _ (typed : IsTypedStraight p) where
-    still : IsStillTyped p.profile p.declared p.controls (simplified_all copies p.declared (nothing_known p) p.body)
-        last_words
-    still = typed_after_all p.profile p.declared p.controls body_simplifies first_kinds typed.body
+    last_kinds : AreKinds p.profile p.declared last_words
+    last_kinds = kinds_after_all p.profile p.declared p.controls body_simplifies first_kinds typed.body
 
     module _ (args : List Arg) (within : AreWithin p.parameters args) where
       abbrev types : Types
@@ -61,7 +56,7 @@ module _ (copies : List ℕ) (p : StraightProgram) where
       last_holds : Holds types last_words (end_of p args)
       last_holds = record {
         agrees = leads.agrees;
-        kinds = still.kinds;
+        kinds = last_kinds;
         fits = fits_after_all p.profile p.declared p.controls p.body typed.body (start p args) first_holds.fits;
       }
 
@@ -82,16 +77,7 @@ module _ (copies : List ℕ) (p : StraightProgram) where
           (subst (λ (m : Values). IsNoWorse p.turns (path_of_result (end_of p args) p.value)
           (path_of_result m (simplified_program copies p).value)) (sym same_end) result.path)
 
-  pub replaced : IsStraight p → AreAllowed copies p.turns → IsReplaced p (simplified_program copies p)
-  replaced kept allowed =
-      is_replaced p p.declared (simplified_program copies p).body (simplified_program copies p).value kept.bounded
-      (record {
-        parameters = kept.typed.parameters;
-        body = (still kept.typed).typed;
-        hidden = still_hidden_all body_simplifies kept.typed.hidden;
-        result = still_result (types_of p.profile p.declared) last_words (still kept.typed).kinds p.returned p.value
-            kept.typed.result;
-      })
-      kept.bounded.declared (less_all p.turns copies p.declared allowed body_simplifies)
-      (result_no_larger last_words p.value)
+  pub replaced : IsStraight p → IsStraight (simplified_program copies p) → IsReplaced p (simplified_program copies p)
+  replaced kept =
+      is_replaced p p.declared (simplified_program copies p).body (simplified_program copies p).value
       (λ args within. (same_outcome kept.typed args within, path kept.typed args within))

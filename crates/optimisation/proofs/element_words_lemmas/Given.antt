@@ -18,7 +18,7 @@ use Rattle.optimisation.proofs.element_words_lemmas.Known.{places_in}
 use Rattle.optimisation.proofs.element_words_lemmas.Values.{AreAlike, held_in}
 use Rattle.optimisation.proofs.element_words_lemmas.Held.{no_word, zeros_at}
 use Rattle.optimisation.proofs.over_lemmas.Rules.{AreOver, no_values, a_value}
-use Rattle.optimisation.proofs.over_lemmas.Types.{but, but_apart, but_within}
+use Rattle.optimisation.proofs.over_lemmas.Variables.{but, but_apart, but_within}
 use Rattle.optimisation.proofs.over_lemmas.Values.{IsNoWorse, both, alike as value_alike}
 
 -- The elements of a new array.

@@ -28,7 +28,7 @@ use Rattle.optimisation.proofs.over_lemmas.Rules.{rotated, converted, selected, 
 use Rattle.optimisation.proofs.over_lemmas.Rules.{AreOver, no_values, a_value, IsResultOver, no_result, a_result}
 use Rattle.optimisation.proofs.over_lemmas.Rules.{Layout, Becomes, sets, fills, gives, puts, puts_word, takes, chooses}
 use Rattle.optimisation.proofs.over_lemmas.Rules.{loops, AllBecome, ends, goes_on}
-use Rattle.optimisation.proofs.over_lemmas.Types.{but}
+use Rattle.optimisation.proofs.over_lemmas.Variables.{but}
 
 -- Where the variables are.
 

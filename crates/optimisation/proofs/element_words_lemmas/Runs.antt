@@ -16,7 +16,7 @@ use Rattle.optimisation.proofs.element_words_lemmas.Given.{words_outside, words_
 use Rattle.optimisation.proofs.element_words_lemmas.Given.{elements_count, elements_at}
 use Rattle.optimisation.proofs.over_lemmas.Rules.{Becomes, left_out, sets, fills, gives, puts, puts_word, takes}
 use Rattle.optimisation.proofs.over_lemmas.Rules.{chooses, loops, AllBecome, ends, goes_on}
-use Rattle.optimisation.proofs.over_lemmas.Types.{but, but_within}
+use Rattle.optimisation.proofs.over_lemmas.Variables.{but, but_within}
 use Rattle.optimisation.proofs.over_lemmas.Values.{AreHeld, same_path, both, alone, at_index, alike, all_alike}
 use Rattle.optimisation.proofs.over_lemmas.Beside.{AreBeside, within_beside, taken_beside, Follows, FollowsAt}
 use Rattle.optimisation.proofs.over_lemmas.Beside.{branch_follows, loop_follows, then_follows}

@@ -10,7 +10,6 @@ use Rattle.optimisation.specs.declared.element_words.parts.Part.{Part}
 use Rattle.optimisation.specs.element_words.private.Parts.{Parts, part_of}
 use Rattle.optimisation.proofs.element_words_lemmas.PartLemmas.{IsSplitting}
 use Rattle.optimisation.proofs.element_words_lemmas.Known.{IsStaying, places_in}
-use Rattle.optimisation.proofs.over_lemmas.Types.{KeepsTypes}
 use Rattle.optimisation.proofs.over_lemmas.Values.{AreHeld}
 
 -- an array's elements
@@ -56,21 +55,4 @@ module _ (declared new : List FlatVariable) (parts : Parts) (is_splitting : IsSp
   held_in {m} {k} alike = record {
     stays = λ x is. alike.plain x is.listed is.there (stays_whole x is);
     words = λ x i w is. ap k is.word ∙ (alike.held x is.listed is.part is.there is.is).each i is.below;
-  }
-
-  -- types, where these are the variables in scope and the words
-  pub keeps_in : (new_at : ℕ → Option FlatVariable)
-      → ((y : ℕ) (d : FlatVariable) → at y ≡ Some d → new_at y ≡ Some d)
-      → ((y : ℕ) (part : Part) (i : ℕ) → part_of parts y ≡ Some part → i < part.size
-      → new_at (part.base + i) ≡ Some (word_as part.word true))
-      → KeepsTypes at new_at (places_in at parts)
-  keeps_in new_at kept words = record {
-    words = λ x word mutable is there. (mutable, kept x (word_as word mutable) there);
-    arrays = λ x word mutable size is there. (mutable, kept x (array_as word mutable size) there);
-    elements = λ x i w word mutable size is there. (
-      true,
-      ap new_at is.word
-          ∙ (words x is.part i is.is is.below
-          ∙ ap (λ (v : WordType). Some (word_as v true)) (part_word x word mutable size is.part there is.is).0),
-    );
   }

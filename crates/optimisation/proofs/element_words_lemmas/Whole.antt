@@ -26,17 +26,13 @@ use Rattle.optimisation.specs.element_words.private.Plan.{WordPlan, room_beside,
 use Rattle.optimisation.specs.element_words.private.Plan.{split_program}
 use Rattle.optimisation.specs.element_words.private.Splitting.{split, split_all}
 use Rattle.optimisation.proofs.element_words_lemmas.PartLemmas.{IsBelow, below_itself, IsArray, found_array}
-use Rattle.optimisation.proofs.element_words_lemmas.PartLemmas.{candidate_is, are_numbered, made, within_room}
-use Rattle.optimisation.proofs.element_words_lemmas.PartLemmas.{words-append, one_word_each, IsSplitting, no_splitting}
+use Rattle.optimisation.proofs.element_words_lemmas.PartLemmas.{candidate_is, are_numbered, made}
+use Rattle.optimisation.proofs.element_words_lemmas.PartLemmas.{IsSplitting, no_splitting}
 use Rattle.optimisation.proofs.element_words_lemmas.PartLemmas.{splitting}
 use Rattle.optimisation.proofs.element_words_lemmas.Known.{places_in, layout_in, block_known, result_known}
-use Rattle.optimisation.proofs.element_words_lemmas.Values.{part_word}
 use Rattle.optimisation.proofs.element_words_lemmas.Held.{zeros_at}
 use Rattle.optimisation.proofs.element_words_lemmas.Runs.{InStep, seen, all_follow}
-use Rattle.optimisation.proofs.element_words_lemmas.Typed.{keeps_declared}
 use Rattle.optimisation.proofs.over_lemmas.Rules.{AllBecome, IsResultOver}
-use Rattle.optimisation.proofs.over_lemmas.Sizes.{less_all, result_no_larger}
-use Rattle.optimisation.proofs.over_lemmas.Types.{still_all, still_result}
 use Rattle.optimisation.proofs.over_lemmas.Values.{both, IsResultAlike, result_alike}
 use Rattle.optimisation.proofs.over_lemmas.Beside.{AreBeside, Follows}
 use Rattle.optimisation.proofs.over_lemmas.Whole.{is_replaced}
@@ -73,8 +69,7 @@ module _ (p : StraightProgram) (is_straight : IsStraight p) (parts : Parts)
     (body_becomes : AllBecome (layout_in p.declared parts) p.body (split_all parts p.body))
     (value_becomes : IsResultOver (places_in (λ y. slice_get p.declared y) parts) p.value
     (option_map (split parts) p.value))
-    (behind : (x : ℕ) (part : Part) → part_of parts x ≡ Some part → length p.parameters ≤ x)
-    (room : 4 * declared_words (p.declared ++ all_words parts) ≤ most_variable_bytes) where
+    (behind : (x : ℕ) (part : Part) → part_of parts x ≡ Some part → length p.parameters ≤ x) where
   abbrev new : List FlatVariable
   new = p.declared ++ all_words parts
 
@@ -83,12 +78,6 @@ module _ (p : StraightProgram) (is_straight : IsStraight p) (parts : Parts)
 
   parameters_there : length (first_of (length p.parameters) p.declared) ≡ length p.parameters
   parameters_there = ap length is_straight.typed.parameters ∙ length-map p.parameters declaration_of
-
-  still_first : first_of (length p.parameters) new ≡ map declaration_of p.parameters
-  still_first =
-      let within : length p.parameters ≤ length p.declared =
-      omega (arith, parameters_there, length-take (length p.parameters) p.declared) in
-      take-append-le (length p.parameters) p.declared (all_words parts) within ∙ is_straight.typed.parameters
 
   module _ (args : List Arg) (within : AreWithin p.parameters args) where
     few : length args ≡ length p.parameters
@@ -145,23 +134,9 @@ module _ (p : StraightProgram) (is_straight : IsStraight p) (parts : Parts)
         ap₂ (λ (v : Option ℕ) (a : List (List ℕ)). record { returned = v; arrays = a }) result.value
         (same_arrays 0 p.parameters (end_of p args) (end_of made_of args) same_parameters)
 
-  pub replaced_by : IsReplaced p made_of
+  pub replaced_by : IsStraight made_of → IsReplaced p made_of
   replaced_by =
-      let keeps = keeps_declared p.declared new parts is_splitting in
-      let code = still_all p.profile new p.controls p.declared keeps body_becomes is_straight.typed.body
-      is_straight.typed.hidden in
-      is_replaced p new (split_all parts p.body) (option_map (split parts) p.value) is_straight.bounded
-      (record {
-        parameters = still_first;
-        body = code.typed;
-        hidden = code.hidden;
-        result = still_result p.profile keeps.outer p.returned value_becomes is_straight.typed.result;
-      })
-      room
-      (less_all p.turns (λ x size part split. (part_word p.declared new parts is_splitting
-      (λ y. slice_get p.declared y) (λ y d there. there) x split.word split.mutable size part split.known split.is).1)
-      body_becomes)
-      (result_no_larger value_becomes)
+      is_replaced p new (split_all parts p.body) (option_map (split parts) p.value)
       (λ args within. (
         same_outcome args within,
         both p.turns (ends args within).path (result args within).path,
@@ -191,21 +166,21 @@ module _ (p : StraightProgram) (is_straight : IsStraight p) (last : Parts) (belo
       (was.0, found_array p.declared x part found was.1)
 
   pub replaced_of : IsSplitting p.declared (p.declared ++ all_words last) last
-      → 4 * declared_words (p.declared ++ all_words last) ≤ most_variable_bytes
+      → IsStraight (split_by (record { declared = p.declared ++ all_words last; parts = last }) p)
       → IsReplaced p (split_by (record { declared = p.declared ++ all_words last; parts = last }) p)
-  replaced_of is_splitting room =
+  replaced_of is_splitting =
       replaced_by p is_straight last is_splitting after_body.1 after_result.1 (λ x part is. (was_candidate x part is).0)
-      room
+
+-- where these are the parts
+abbrev pub split_with : Parts → StraightProgram → StraightProgram
+split_with parts p = split_by (record { declared = p.declared ++ all_words parts; parts = parts }) p
 
 replaced_chosen : (p : StraightProgram) → IsStraight p → (b : Bool)
-    → IsReplaced p (split_by (record {
-      declared = p.declared ++ all_words (if b then [] else numbered (length p.declared) (room_beside p.declared)
-          (used_parts p));
-      parts = if b then [] else numbered (length p.declared) (room_beside p.declared) (used_parts p);
-    }) p)
+    → IsStraight (split_with (if b then [] else numbered (length p.declared) (room_beside p.declared) (used_parts p)) p)
+    → IsReplaced p (split_with (if b then [] else numbered (length p.declared) (room_beside p.declared)
+    (used_parts p)) p)
 replaced_chosen p is_straight true =
     replaced_of p is_straight [] (λ x part is. absurd (none-some part is)) (no_splitting p.declared)
-    (omega (arith, words-append p.declared []))
 replaced_chosen p is_straight false =
     let room = room_beside p.declared in
     let all = numbered (length p.declared) room (used_parts p) in
@@ -213,15 +188,8 @@ replaced_chosen p is_straight false =
     replaced_of p is_straight all (λ x part is. (made numbers x part is).found)
     (splitting p.declared room (used_parts p)
     (λ x part is. (was_candidate p is_straight (used_parts p) below_itself x part is).1))
-    (omega (
-      arith,
-      words-append p.declared (all_words all),
-      one_word_each all,
-      within_room numbers,
-      is_straight.bounded.declared,
-    ))
 
-pub replaced : (p : StraightProgram) → IsStraight p → IsReplaced p (split_program p)
+pub replaced : (p : StraightProgram) → IsStraight p → IsStraight (split_program p) → IsReplaced p (split_program p)
 replaced p is_straight = replaced_chosen p is_straight (nat_lt most_variable_words (length p.declared))
 
 -- a program of these parts is the one with words

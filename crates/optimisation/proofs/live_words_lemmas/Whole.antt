@@ -24,18 +24,12 @@ use Rattle.optimisation.specs.live_words.private.Terms.{renamed}
 use Rattle.optimisation.specs.live_words.private.Sharing.{shared_all}
 use Rattle.optimisation.specs.live_words.private.Whole.{kept, with_results, reading_any, at_end, at_start, over}
 use Rattle.optimisation.specs.live_words.private.Whole.{nothing_live, all_fits, shared_by}
-use Rattle.optimisation.specs.live_words.private.Choice.{all_allowed}
-use Rattle.optimisation.proofs.live_words_lemmas.Allowed.{allowed_kept}
 use Rattle.optimisation.proofs.live_words_lemmas.HeldLemmas.{Grows, grows_same, grows_on, grows_holding, alike_living}
 use Rattle.optimisation.proofs.live_words_lemmas.HeldLemmas.{alike_first}
 use Rattle.optimisation.proofs.live_words_lemmas.TermLemmas.{grows_reading}
 use Rattle.optimisation.proofs.live_words_lemmas.Rules.{layout, over_result, all_become}
 use Rattle.optimisation.proofs.live_words_lemmas.Same.{AreReady, Alike, ready_before, reads, all_follow}
-use Rattle.optimisation.proofs.live_words_lemmas.Typed.{IsKept, keeps_declared}
-use Rattle.optimisation.proofs.live_words_lemmas.Copied.{same_term, same_block, unfit}
 use Rattle.optimisation.proofs.over_lemmas.Rules.{AllBecome}
-use Rattle.optimisation.proofs.over_lemmas.Sizes.{less_all, result_no_larger}
-use Rattle.optimisation.proofs.over_lemmas.Types.{still_all, still_result}
 use Rattle.optimisation.proofs.over_lemmas.Values.{same_path, both, IsResultAlike}
 use Rattle.optimisation.proofs.over_lemmas.Beside.{Follows}
 use Rattle.optimisation.proofs.over_lemmas.Whole.{is_replaced}
@@ -128,61 +122,18 @@ module _ (table : Table) where
           ap₂ (λ (r : Option ℕ) (a : List (List ℕ)). record { returned = r; arrays = a }) result.value
           (same_arrays 0 p.parameters held (ready_before table (grows_any results p.value) last))
 
-    pub shared_replaced : IsStraight p → IsKept table p.declared → IsReplaced p (over table held p)
-    shared_replaced straight words_kept =
-        let keeps = keeps_declared table p.declared words_kept in
-        let typed = still_all p.profile p.declared p.controls p.declared keeps end_fits.1 straight.typed.body
-        straight.typed.hidden in
-        is_replaced p p.declared code (option_map (renamed table) p.value) straight.bounded
-        (record {
-          parameters = straight.typed.parameters;
-          body = typed.typed;
-          hidden = typed.hidden;
-          result = still_result p.profile keeps.outer p.returned (over_result table p.value) straight.typed.result;
-        })
-        straight.bounded.declared (less_all p.turns (λ x size part never. absurd never) end_fits.1)
-        (result_no_larger (over_result table p.value))
+    pub shared_replaced : IsStraight (over table held p) → IsReplaced p (over table held p)
+    shared_replaced =
+        is_replaced p p.declared code (option_map (renamed table) p.value)
         (λ args within. (same_outcome args, both p.turns (runs args).path (result args).path))
 
--- Where it does not, the program stays as it is.
-
-pub same_program : (held : Held) (p : StraightProgram) → held.fits ≡ false → over [] held p ≡ p
-same_program held p is =
-    let end = at_end [] held p in
-    ap₂ (with_body p) (same_block end p.body (unfit held.fits end.fits (grows_end [] held p).fits is))
-    (same_any_value p.value)
-  where
-    same_any_value : (value : Option TermTree) → option_map (renamed []) value ≡ value
-    same_any_value None = refl
-    same_any_value (Some value) = ap Some (same_term value)
-
-pub itself : (p : StraightProgram) → IsStraight p → IsReplaced p p
-itself p straight =
-    is_replaced p p.declared p.body p.value straight.bounded straight.typed straight.bounded.declared
-    (record { worked = omega arith; low = omega arith; shallow = omega arith })
-    (record { nodes = omega arith; height = omega arith }) (λ args within. (refl, same_path p.turns))
-
-pub unshared : (p : StraightProgram) → over [] (fitting (nothing_live p 0) false) p ≡ p
-unshared p = same_program (fitting (nothing_live p 0) false) p refl
-
-module _ (table : Table) (p : StraightProgram) where
-  abbrev start_held : Held
-  start_held = at_start table (nothing_live p 0) p
-
-  pub replaced : IsStraight p → IsReplaced p (shared_by table p)
-  replaced straight = by_fit (all_fits table start_held p) refl
-    where
-      by_fit : (b : Bool) → all_fits table start_held p ≡ b
-          → IsReplaced p (if b then over table (nothing_live p 0) p else over [] (fitting (nothing_live p 0) false) p)
-      by_fit true fit =
-          let outer = and_parts (start_held.fits && hold_own 0 start_held.holders)
-          (all_allowed p.declared 0 table) fit in
-          let inner = and_parts start_held.fits (hold_own 0 start_held.holders) outer.0 in
-          shared_replaced table (nothing_live p 0) p inner.0 inner.1 straight (allowed_kept p.declared table outer.1)
-      by_fit false fit = subst (IsReplaced p) (sym (unshared p)) (itself p straight)
-
-  pub shared_straight : IsStraight p → IsStraight (shared_by table p)
-  shared_straight straight = (replaced straight).straight
+-- a program whose sharing fits
+pub replaced : (table : Table) (p : StraightProgram) → all_fits (at_start table (nothing_live p 0) p) ≡ true
+    → IsStraight (over table (nothing_live p 0) p) → IsReplaced p (over table (nothing_live p 0) p)
+replaced table p fit =
+    let held = at_start table (nothing_live p 0) p in
+    let both = and_parts held.fits (hold_own 0 held.holders) fit in
+    shared_replaced table (nothing_live p 0) p both.0 both.1
 
 -- There are few parameters: each takes a word at least.
 

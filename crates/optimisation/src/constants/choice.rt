@@ -6,7 +6,7 @@ ghost use Rattle.inline.specs.Flat.{term_tree};
 ghost use Rattle.optimisation.specs.constants.private.Choice.{begun, choice_of, chosen, chosen_all, counted, grown};
 ghost use Rattle.optimisation.specs.constants.private.Choice.{most_nodes_of, settled, term_size, terms_size};
 
-use branch_removal::{Straight, StraightStatement};
+use branch_removal::{StraightCode, StraightStatement};
 use inline::Term;
 use std::alloc::{AllocError, Global};
 
@@ -102,7 +102,7 @@ pub struct Choice {
 
 impl Choice {
     /// The choice for a program.
-    pub fn of(alloc: Global, straight: &Straight<'_>) -> Result<Self, AllocError>
+    pub fn of(alloc: Global, straight: &StraightCode<'_>) -> Result<Self, AllocError>
         ensures { IfOk result (λ choice. choice_of choice ≡ chosen_all (begun straight.now) straight.now.body) }
     {
         let mut choice = Choice {

@@ -1,9 +1,9 @@
 // The words that a program's arrays become, and the program in which they are.
 
-ghost use Rattle.std.specs.Prelude.{◌≡◌, ◌+◌, ◌-◌, ◌*◌, ◌<◌, ◌≤◌, ◌∷◌, ◌++◌, Some, IfErr, IfOk, OnOk};
+ghost use Rattle.std.specs.Prelude.{◌≡◌, ◌+◌, ◌-◌, ◌*◌, ◌<◌, ◌≤◌, ◌∷◌, ◌++◌, Some, IfErr, IfOk, IfSome, OnOk};
 ghost use Rattle.branch_removal.specs.Kept.{IsStraight};
 ghost use Rattle.branch_removal.specs.Replaced.{IsReplaced};
-ghost use Rattle.inline.specs.FlatSize.{declared_words, words_of as words_of_variable};
+ghost use Rattle.inline.specs.FlatSize.{declared_words};
 ghost use Rattle.inline.specs.Limits.{most_variable_bytes};
 ghost use Rattle.language.specs.WantOfMemory.{IsWantOfMemory};
 ghost use Rattle.optimisation.specs.element_words.Exact.{split_of, words_of};
@@ -14,7 +14,7 @@ use crate::element_words::narrowing::{narrow_by_all, narrow_result};
 use crate::element_words::parts::{Part, Parts};
 use crate::element_words::statements::block;
 use crate::element_words::terms::split_where_any;
-use branch_removal::Straight;
+use branch_removal::{StraightCode, words_taken};
 use inline::FlatVariable;
 use language::Refusal;
 use std::alloc::{AllocError, Global};
@@ -25,19 +25,6 @@ const MOST_NEW_WORDS: u16 = 256;
 
 /// How many words the variables may take, in all.
 const MOST_VARIABLE_WORDS: usize = 10192;
-
-/// How many words a variable takes.
-fn words_taken(variable: &FlatVariable) -> u64
-    ensures { result ≡ words_of_variable variable.now }
-{
-    match variable.elements {
-        None => 1,
-        Some(size) => {
-            let bytes = u64::from(size) * u64::from(variable.word.kind.element_bytes());
-            bytes.div_ceil(4)
-        }
-    }
-}
 
 /// How many words there is room for beside these variables.
 fn room_beside(declared: &[FlatVariable]) -> u16
@@ -127,7 +114,7 @@ fn with_words(
 }
 
 /// The arrays that are used by known indices alone.
-fn used_parts(alloc: Global, straight: &Straight<'_>) -> Result<Parts, AllocError>
+fn used_parts(alloc: Global, straight: &StraightCode<'_>) -> Result<Parts, AllocError>
     ensures parts { IfOk result (λ parts. parts.arrays.items ≡ used_parts straight.now) }
     ensures kept { IfOk result (λ parts. IsStraight straight.now) }
 {
@@ -139,7 +126,7 @@ fn used_parts(alloc: Global, straight: &Straight<'_>) -> Result<Parts, AllocErro
 }
 
 /// What a program's arrays become.
-fn parts_of(alloc: Global, straight: &Straight<'_>) -> Result<Parts, AllocError>
+fn parts_of(alloc: Global, straight: &StraightCode<'_>) -> Result<Parts, AllocError>
     ensures { IfOk result (λ parts. parts.arrays.items ≡ parts_of straight.now) }
 {
     let declared = straight.declared();
@@ -168,7 +155,7 @@ impl Model for Words {
 impl Words {
     /// The words that a program's arrays become. The program alone decides them. Running out of memory alone refuses
     /// it.
-    pub fn of(alloc: Global, straight: &Straight<'_>) -> Result<Words, Refusal>
+    pub fn of(alloc: Global, straight: &StraightCode<'_>) -> Result<Words, Refusal>
         ensures exact { IfOk result (λ words. words ≡ words_of straight.now) }
         ensures memory { IfErr result (λ refusal. IsWantOfMemory refusal.rule refusal.place) }
     {
@@ -178,21 +165,22 @@ impl Words {
     }
 
     /// The program in which its arrays are these words. It may stand in the place of the program that it is made of,
-    /// which alone decides it. Running out of memory alone refuses it.
+    /// which alone decides it; there is none where it would not be well typed or not within the limits on size. Running
+    /// out of memory alone refuses it.
     pub fn apply<'g, 'f>(
         &'g self,
         alloc: Global,
-        straight: &Straight<'f>,
-    ) -> Result<Straight<'g>, Refusal>
+        straight: &StraightCode<'f>,
+    ) -> Result<Option<StraightCode<'g>>, Refusal>
     where
         'f: 'g,
         requires { self.now ≡ words_of straight.now }
-        ensures replaced { IfOk result (IsReplaced straight.now) }
+        ensures replaced { IfOk result (λ made. IfSome made (IsReplaced straight.now)) }
         ensures exact { IfOk result (λ made. made ≡ split_of straight.now) }
         ensures memory { IfErr result (λ refusal. IsWantOfMemory refusal.rule refusal.place) }
     {
         let code = block(alloc, &self.parts, straight.body())?;
         let value = split_where_any(alloc, &self.parts, straight.value())?;
-        Ok(straight.with_variables(self.declared.as_slice(), code, value))
+        Ok(straight.rewritten(self.declared.as_slice(), code, value))
     }
 }

@@ -1,8 +1,8 @@
 // Which words share a variable.
 
 ghost use Rattle.std.specs.Prelude.{◌≡◌, ◌≤◌, length, slice_set, IfOk};
-ghost use Rattle.optimisation.specs.live_words.private.Choice.{all_allowed, chosen, conflicts_with, first_shared};
-ghost use Rattle.optimisation.specs.live_words.private.Choice.{is_allowed, is_conflict, is_fixed, is_noted, is_some};
+ghost use Rattle.optimisation.specs.live_words.private.Choice.{chosen, conflicts_with, first_shared};
+ghost use Rattle.optimisation.specs.live_words.private.Choice.{is_conflict, is_fixed, is_noted, is_some};
 ghost use Rattle.optimisation.specs.live_words.private.Choice.{may_share, merged, none_placed, noted_where};
 ghost use Rattle.optimisation.specs.live_words.private.Choice.{own_variables, placed, placed_all, placing_by};
 ghost use Rattle.optimisation.specs.live_words.private.Choice.{variable_for, with_own};
@@ -12,25 +12,6 @@ use crate::same_words::{are_alike, at};
 use branch_removal::{greatest_of, heaviest, take_greatest};
 use inline::FlatVariable;
 use std::alloc::{AllocError, Global};
-
-/// Whether a word may live in this variable as it is declared.
-fn is_allowed(declared: &[FlatVariable], word: usize, variable: usize) -> bool
-    ensures { result ≡ is_allowed declared.now word variable }
-{
-    variable == word || are_alike(at(declared, word), at(declared, variable))
-}
-
-/// Whether all words of a table may live in their variables as they are declared.
-pub fn all_allowed(declared: &[FlatVariable], table: &[u32]) -> bool
-    ensures { result ≡ all_allowed declared.now 0 table.now }
-{
-    for (word, variable) in table.iter().enumerate() {
-        if !is_allowed(declared, word, *variable as usize) {
-            return false;
-        }
-    }
-    true
-}
 
 /// Whether a word's conflict with another is noted, of so many words.
 fn is_noted(conflicts: &[bool], width: u32, word: u32, other: u32) -> bool

@@ -1,4 +1,4 @@
-ghost use Rattle.std.specs.Prelude.{◌≡◌, ◌<◌, ◌^◌, length, IfErr, IfOk, OnOk};
+ghost use Rattle.std.specs.Prelude.{◌≡◌, ◌<◌, ◌^◌, length, IfErr, IfOk, IfSome, OnOk};
 ghost use Rattle.std.specs.Option.{option_map};
 ghost use Rattle.inline.specs.Flat.{term_tree};
 ghost use Rattle.branch_removal.specs.Kept.{IsStraight};
@@ -8,13 +8,13 @@ ghost use Rattle.language.specs.WantOfMemory.{IsWantOfMemory};
 ghost use Rattle.optimisation.specs.live_words.Exact.{shared_of};
 ghost use Rattle.optimisation.specs.live_words.private.Held.{held_by};
 ghost use Rattle.optimisation.specs.live_words.private.Whole.{all_fits, at_end, at_start, kept, nothing_live, over};
-ghost use Rattle.optimisation.specs.live_words.private.Whole.{shared_program, table_for, with_results};
+ghost use Rattle.optimisation.specs.live_words.private.Whole.{table_for, with_results};
 
-use crate::live_words::choice::{Words, all_allowed, choose};
+use crate::live_words::choice::{Words, choose};
 use crate::live_words::live::{Live, hold_own, share};
 use crate::live_words::statements::statements;
 use crate::live_words::terms::{read_any, renamed_any};
-use branch_removal::{Straight, StraightStatement, variable_weights};
+use branch_removal::{StraightCode, StraightStatement, variable_weights};
 use inline::Term;
 use language::{Form, Param, Refusal};
 use std::alloc::{AllocError, Global};
@@ -52,7 +52,7 @@ struct Parts {
 /// A program's body and result over the variables that words live in. What is live before it is noted.
 fn over(
     alloc: Global,
-    straight: &Straight<'_>,
+    straight: &StraightCode<'_>,
     live: &mut Live,
     table: &[u32],
 ) -> Result<Parts, AllocError>
@@ -68,23 +68,22 @@ fn over(
     Ok(Parts { body, value })
 }
 
-/// Whether sharing fits: no variable has to hold two words at once, what is live at the beginning keeps its number, and
-/// words live in variables of their type.
-fn all_fits(straight: &Straight<'_>, live: &Live, table: &[u32]) -> bool
-    ensures { result ≡ all_fits table.now (held_by live.now) straight.now }
+/// Whether sharing fits: no variable has to hold two words at once, and what is live at the beginning keeps its number.
+fn all_fits(live: &Live) -> bool
+    ensures { result ≡ all_fits (held_by live.now) }
 {
-    live.fits && hold_own(live.holders.as_slice()) && all_allowed(straight.declared(), table)
+    live.fits && hold_own(live.holders.as_slice())
 }
 
 /// Nothing is live yet. Conflicts are noted of so many words.
-fn nothing_live(alloc: Global, straight: &Straight<'_>, width: u32) -> Result<Live, AllocError>
+fn nothing_live(alloc: Global, straight: &StraightCode<'_>, width: u32) -> Result<Live, AllocError>
     ensures { IfOk result (λ live. held_by live ≡ nothing_live straight.now width) }
 {
     Live::nothing(alloc, straight.declared().len(), width)
 }
 
 /// The variables that words live in.
-fn table_for(alloc: Global, straight: &Straight<'_>) -> Result<Vec<u32>, AllocError>
+fn table_for(alloc: Global, straight: &StraightCode<'_>) -> Result<Vec<u32>, AllocError>
     ensures { IfOk result (λ table. table.items ≡ table_for straight.now) }
 {
     let width = straight.declared().len().min(MOST_SHARING) as u32;
@@ -100,31 +99,22 @@ fn table_for(alloc: Global, straight: &Straight<'_>) -> Result<Vec<u32>, AllocEr
     choose(alloc, words, weights, conflicts)
 }
 
-/// A program's body and result in which words share variables, where that fits, and else as they are.
-fn shared_parts(alloc: Global, straight: &Straight<'_>) -> Result<Parts, AllocError>
-    ensures code { IfOk result (λ parts. with_body straight.now (straight_block parts.body.items) (option_map term_tree parts.value) ≡ shared_program straight.now) }
-    ensures straight { IfOk result (λ parts. IsStraight straight.now) }
+/// Straight code in which a word that nobody reads is not set, and words that are never live at once share a variable.
+/// It may stand in the place of the code that it is made of, which alone decides it; there is none where sharing does
+/// not fit, or where it would not be well typed or not within the limits on size. Running out of memory alone refuses it.
+pub fn share_words<'f>(
+    alloc: Global,
+    straight: &StraightCode<'f>,
+) -> Result<Option<StraightCode<'f>>, Refusal>
+    ensures replaced { IfOk result (λ made. IfSome made (IsReplaced straight.now)) }
+    ensures exact { IfOk result (λ made. made ≡ shared_of straight.now) }
+    ensures memory { IfErr result (λ refusal. IsWantOfMemory refusal.rule refusal.place) }
 {
     let table = table_for(alloc, straight)?;
     let mut live = nothing_live(alloc, straight, 0)?;
     let parts = over(alloc, straight, &mut live, table.as_slice())?;
-    if all_fits(straight, &live, table.as_slice()) {
-        return Ok(parts);
+    if !all_fits(&live) {
+        return Ok(None);
     }
-    let mut live = nothing_live(alloc, straight, 0)?;
-    live.require(false);
-    let parts = over(alloc, straight, &mut live, &[])?;
-    Ok(parts)
-}
-
-/// Straight code in which a word that nobody reads is not set, and words that are never live at once share a variable.
-/// It may stand in the place of the code that it is made of, which alone decides it. Running out of memory alone
-/// refuses it.
-pub fn share_words<'f>(alloc: Global, straight: &Straight<'f>) -> Result<Straight<'f>, Refusal>
-    ensures replaced { IfOk result (IsReplaced straight.now) }
-    ensures exact { IfOk result (λ shared. shared ≡ shared_of straight.now) }
-    ensures memory { IfErr result (λ refusal. IsWantOfMemory refusal.rule refusal.place) }
-{
-    let parts = shared_parts(alloc, straight)?;
-    Ok(straight.with_body(parts.body, parts.value))
+    Ok(straight.rewritten(straight.declared(), parts.body, parts.value))
 }

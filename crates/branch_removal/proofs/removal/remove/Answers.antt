@@ -25,8 +25,8 @@ push_removed_all-requires c =
           omega (arith, ap controls_in_all body, few_controls c.flat-flat.result.now c.body-body.ensures.kept.sized);
     }
 
-pub new-requires : goal.new-requires
-new-requires c =
+pub new-straight-requires : goal.new-straight-requires
+new-straight-requires c =
     let r = c.args.ranged.now in
     let listed = as_listed r _ _ _ _ _ _ _ c.flat-flat.ensures.flat c.body-body.ensures.body
     c.controls_in_all-controls.ensures c.new-code.ensures.items c.in_ok-push_removed_all.ensures c.value.ensures
@@ -36,28 +36,28 @@ new-requires c =
     subst (λ (p : StraightProgram). IsStraight p) (sym listed)
     (record { typed = promised.typed; bounded = promised.bounded })
 
+pub new-requires : goal.new-requires
+new-requires c =
+    let r = c.args.ranged.now in
+    let listed = as_listed r _ _ _ _ _ _ _ c.flat-flat.ensures.flat c.body-body.ensures.body
+    c.controls_in_all-controls.ensures c.new-code.ensures.items c.in_ok-push_removed_all.ensures c.value.ensures
+    c.in_ok-value.ensures in
+    let whole : c.new-straight.result ≡ straightened r = c.new-straight.ensures ∙ listed in
+    subst IsCounted (sym whole) (removed_counted r (subst IsFlat c.flat-flat.ensures.flat c.body-body.ensures.kept)
+    c.flat-flat.ensures.kept)
+
 pub returns-clause-removed : goal.returns-clause-removed
 returns-clause-removed c =
     let r = c.args.ranged.now in
     let listed = as_listed r _ _ _ _ _ _ _ c.flat-flat.ensures.flat c.body-body.ensures.body
     c.controls_in_all-controls.ensures c.new-code.ensures.items c.in_ok-push_removed_all.ensures c.value.ensures
     c.in_ok-value.ensures in
-    let whole : c.new.result ≡ straightened r = c.new.ensures ∙ listed in
+    let whole : c.new.result ≡ straightened r = c.new.ensures ∙ (c.new-straight.ensures ∙ listed) in
     rw (sym whole) at (removed_as_promised r (subst IsFlat c.flat-flat.ensures.flat c.body-body.ensures.kept)
     c.flat-flat.ensures.kept)
 
-pub returns-clause-counted : goal.returns-clause-counted
-returns-clause-counted c =
-    let r = c.args.ranged.now in
-    let listed = as_listed r _ _ _ _ _ _ _ c.flat-flat.ensures.flat c.body-body.ensures.body
-    c.controls_in_all-controls.ensures c.new-code.ensures.items c.in_ok-push_removed_all.ensures c.value.ensures
-    c.in_ok-value.ensures in
-    let whole : c.new.result ≡ straightened r = c.new.ensures ∙ listed in
-    subst IsCounted (sym whole) (removed_counted r (subst IsFlat c.flat-flat.ensures.flat c.body-body.ensures.kept)
-    c.flat-flat.ensures.kept)
-
 pub returns-clause-declared : goal.returns-clause-declared
-returns-clause-declared c = ap (λ (p : StraightProgram). p.declared) c.new.ensures
+returns-clause-declared c = ap (λ (p : StraightProgram). p.declared) (c.new.ensures ∙ c.new-straight.ensures)
 
 pub returns-clause-exact : goal.returns-clause-exact
 unfolding straight_of
@@ -66,4 +66,4 @@ returns-clause-exact c =
     let listed = as_listed r _ _ _ _ _ _ _ c.flat-flat.ensures.flat c.body-body.ensures.body
     c.controls_in_all-controls.ensures c.new-code.ensures.items c.in_ok-push_removed_all.ensures c.value.ensures
     c.in_ok-value.ensures in
-    c.new.ensures ∙ listed
+    c.new.ensures ∙ (c.new-straight.ensures ∙ listed)

@@ -94,7 +94,3 @@ begun p = record { copies = p.turns; room = room_for p.nodes; nodes = 0 }
 -- how many turns the loop of each counter may become
 abbrev pub copies_of : StraightProgram → List ℕ
 copies_of p = (chosen_all (begun p) p.body).copies
-
--- no loop may become more turns than are counted for it
-abbrev pub AreAllowed : List ℕ → List ℕ → Type 0
-AreAllowed copies turns = (x : ℕ) → slice_index copies x ≤ slice_index turns x

@@ -10,15 +10,6 @@ use Rattle.optimisation.specs.declared.live_words.choice.Placed.{Placed}
 use Rattle.optimisation.specs.private.SameWords.{are_alike}
 use Rattle.optimisation.specs.live_words.private.Held.{Table, Holders, holder}
 
--- a word may live in this variable as it is declared
-abbrev pub is_allowed : List FlatVariable → ℕ → ℕ → Bool
-is_allowed declared x v = (v == x) || are_alike (slice_get declared x) (slice_get declared v)
-
--- so may all words of a table, the first of which has this number
-abbrev pub all_allowed : List FlatVariable → ℕ → Table → Bool
-all_allowed declared x [] = true
-all_allowed declared x (v ∷ table) = is_allowed declared x v && all_allowed declared (x + 1) table
-
 -- two words are in conflict: that of one with the other is noted
 abbrev pub is_noted : List Bool → ℕ → ℕ → ℕ → Bool
 is_noted conflicts width x y = unwrap_or (slice_get conflicts (x * width + y)) true

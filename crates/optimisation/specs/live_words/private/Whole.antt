@@ -3,6 +3,7 @@ use Rattle.std.specs.Prelude.{ℕ, ◌+◌, ◌*◌, ◌==◌, ◌&&◌, Bool, t
 use Rattle.std.specs.Prelude.{replicate, Option}
 use Rattle.std.specs.Prelude.{None, Some, if◌then◌else◌}
 use Rattle.std.specs.Option.{option_map}
+use Rattle.branch_removal.specs.Checked.{checked}
 use Rattle.branch_removal.specs.Straight.{StraightProgram, with_body}
 use Rattle.branch_removal.specs.Uses.{weights_of}
 use Rattle.inline.specs.Flat.{TermTree}
@@ -10,7 +11,7 @@ use Rattle.language.specs.Typing.{is_mutable}
 use Rattle.language.specs.declared.signature.Param.{Param}
 use Rattle.optimisation.specs.live_words.private.Held.{Table, Held, share, fitting, living, hold_own}
 use Rattle.optimisation.specs.live_words.private.Terms.{reading, renamed}
-use Rattle.optimisation.specs.live_words.private.Choice.{all_allowed, chosen}
+use Rattle.optimisation.specs.live_words.private.Choice.{chosen}
 use Rattle.optimisation.specs.live_words.private.Sharing.{before_all, shared_all}
 
 -- so many words may share, the first ones: each pair of them is looked at
@@ -53,10 +54,9 @@ abbrev pub over : Table → Held → StraightProgram → StraightProgram
 over table held p =
     with_body p (shared_all table (at_end table held p) p.body) (option_map (renamed table) p.value)
 
--- sharing fits: no variable has to hold two words at once, what is live at the beginning keeps its number, and words
--- live in variables of their type
-abbrev pub all_fits : Table → Held → StraightProgram → Bool
-all_fits table held p = held.fits && hold_own 0 held.holders && all_allowed p.declared 0 table
+-- sharing fits: no variable has to hold two words at once, and what is live at the beginning keeps its number
+abbrev pub all_fits : Held → Bool
+all_fits held = held.fits && hold_own 0 held.holders
 
 abbrev pub nothing_live : StraightProgram → ℕ → Held
 nothing_live p width = none_live (length p.declared) width
@@ -68,11 +68,10 @@ table_by p held = chosen p.declared held.holders held.width (weights_of p) held.
 abbrev pub table_for : StraightProgram → Table
 table_for p = table_by p (at_start [] (nothing_live p (min (length p.declared) most_sharing)) p)
 
--- where sharing does not fit, the program stays as it is
-abbrev pub shared_by : Table → StraightProgram → StraightProgram
+-- the program, where sharing fits
+abbrev pub shared_by : Table → StraightProgram → Option StraightProgram
 shared_by table p =
-    if all_fits table (at_start table (nothing_live p 0) p) p then over table (nothing_live p 0) p
-    else over [] (fitting (nothing_live p 0) false) p
+    if all_fits (at_start table (nothing_live p 0) p) then checked (over table (nothing_live p 0) p) else None
 
-abbrev pub shared_program : StraightProgram → StraightProgram
+abbrev pub shared_program : StraightProgram → Option StraightProgram
 shared_program p = shared_by (table_for p) p

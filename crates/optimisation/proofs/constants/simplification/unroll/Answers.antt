@@ -1,13 +1,7 @@
 use Rattle.std.proofs.Common.{refl, ap}
 use Rattle.optimisation.specs.constants.Exact.{unrolled_of}
 use Rattle.optimisation.specs.constants.private.Choice.{Chosen}
-use Rattle.optimisation.proofs.constants_lemmas.ChoiceLemmas.{copies_allowed}
 use Rattle.optimisation.proofs.constants.simplification.unroll.Goals as goal
-
-pub simpler-requires : goal.simpler-requires
-simpler-requires c =
-    rw (c.as_slice.ensures.value, ap (λ (so_far : Chosen). so_far.copies) c.in_ok-choice.ensures)
-    (copies_allowed c.args.straight.now)
 
 pub returns-clause-exact : goal.returns-clause-exact
 unfolding unrolled_of

@@ -1,30 +1,24 @@
-use Rattle.std.proofs.Common.{sym, subst, ap, ◌∙◌}
-use Rattle.branch_removal.specs.Kept.{IsStraight}
+use Rattle.std.proofs.Common.{ap, ◌∙◌}
+use Rattle.branch_removal.proofs.Checked.{where_checked}
+use Rattle.branch_removal.specs.Checked.{checked}
+use Rattle.branch_removal.specs.Replaced.{IsReplaced}
 use Rattle.optimisation.specs.element_words.Exact.{words_of, split_of}
 use Rattle.optimisation.specs.element_words.private.Plan.{WordPlan}
 use Rattle.optimisation.proofs.element_words_lemmas.Whole.{as_split, replaced}
 use Rattle.optimisation.proofs.element_words.plan.Words.apply.Goals as goal
 
-pub with_variables-requires : goal.with_variables-requires
-unfolding words_of
-with_variables-requires c =
-    let p = c.args.straight.now in
-    let view = c.self.view_is in
-    let whole = as_split p c.args.self.now _ _ _ _ _ _ c.requires
-    (c.as_slice.ensures.value ∙ ap (λ (w : WordPlan). w.declared) view)
-    (ap (λ (w : WordPlan). w.parts) view) c.body.ensures.body c.in_ok-code.ensures c.value.ensures
-    c.in_ok-value.ensures in
-    subst IsStraight (sym whole) (replaced p c.body.ensures.kept).straight
-
 pub returns-clause-exact : goal.returns-clause-exact
 unfolding words_of split_of
 returns-clause-exact c =
     let view = c.self.view_is in
-    c.with_variables.ensures ∙ as_split c.args.straight.now c.args.self.now _ _ _ _ _ _ c.requires
+    c.rewritten.ensures.exact ∙ ap checked (as_split c.args.straight.now c.args.self.now _ _ _ _ _ _ c.requires
     (c.as_slice.ensures.value ∙ ap (λ (w : WordPlan). w.declared) view)
     (ap (λ (w : WordPlan). w.parts) view) c.body.ensures.body c.in_ok-code.ensures c.value.ensures
-    c.in_ok-value.ensures
+    c.in_ok-value.ensures)
 
 pub returns-clause-replaced : goal.returns-clause-replaced
 unfolding split_of
-returns-clause-replaced c = rw (returns-clause-exact c) (replaced c.args.straight.now c.body.ensures.kept)
+returns-clause-replaced c =
+    let p = c.args.straight.now in
+    where_checked (IsReplaced p) _ _ (returns-clause-exact c) c.rewritten.ensures.straight
+    (replaced p c.body.ensures.kept)

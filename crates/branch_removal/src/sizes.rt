@@ -1,0 +1,252 @@
+// How large straight code is: what `StraightCode` asks of other statements before it takes them. A count stops at the
+// greatest number of 64 bits.
+
+ghost use Rattle.std.specs.Prelude.{◌≡◌, ◌+◌, ◌*◌, ◌^◌, ◌<◌, map, max, slice_index};
+ghost use Rattle.std.specs.Option.{option_map};
+ghost use Rattle.inline.specs.Flat.{term_tree};
+ghost use Rattle.inline.specs.FlatSize.{declared_words, term_nodes, terms_nodes, value_nodes, words_of};
+ghost use Rattle.branch_removal.specs.Bounds.{block_work, set_work, statement_work};
+ghost use Rattle.branch_removal.specs.Heights.{depth_in, depth_in_all, height_in, height_in_all, height_of};
+ghost use Rattle.branch_removal.specs.Heights.{height_of_all, result_height};
+ghost use Rattle.branch_removal.specs.Straight.{straight_tree, straight_block};
+ghost use Rattle.branch_removal.specs.private.Counts.{counted};
+
+use crate::StraightStatement;
+use inline::{FlatVariable, Term};
+
+/// How many words a variable takes.
+pub fn words_taken(variable: &FlatVariable) -> u64
+    ensures { result ≡ words_of variable.now }
+{
+    match variable.elements {
+        None => 1,
+        Some(size) => {
+            let bytes = u64::from(size) * u64::from(variable.word.kind.element_bytes());
+            bytes.div_ceil(4)
+        }
+    }
+}
+
+/// How many words variables take in all.
+pub fn all_words_taken(declared: &[FlatVariable]) -> u64
+    ensures { result ≡ counted (declared_words declared.now) }
+{
+    let mut sum = 0u64;
+    for variable in declared {
+        sum = sum.saturating_add(words_taken(variable));
+    }
+    sum
+}
+
+/// How many nodes an expression has.
+fn term_nodes(term: &Term) -> u64
+    ensures { result ≡ counted (term_nodes (term_tree term.now)) }
+{
+    match term {
+        Term::Number(_, _) => 1,
+        Term::Truth(_) => 1,
+        Term::Variable(_) => 1,
+        Term::Prefix(_, _, operand) => term_nodes(operand).saturating_add(1),
+        Term::Binary(_, _, _, left, right) => term_nodes(left)
+            .saturating_add(term_nodes(right))
+            .saturating_add(1),
+        Term::Rotate(_, operand, _) => term_nodes(operand).saturating_add(1),
+        Term::Convert(_, operand) => term_nodes(operand).saturating_add(1),
+        Term::Select(condition, accepted, otherwise) => term_nodes(condition)
+            .saturating_add(term_nodes(accepted))
+            .saturating_add(term_nodes(otherwise))
+            .saturating_add(1),
+        Term::Element(_, _, _, index) => term_nodes(index).saturating_add(1),
+    }
+}
+
+/// How many temporaries an expression has at once, beside the first.
+fn height(term: &Term) -> u64
+    ensures { result ≡ counted (height_of (term_tree term.now)) }
+{
+    match term {
+        Term::Number(_, _) => 0,
+        Term::Truth(_) => 0,
+        Term::Variable(_) => 0,
+        Term::Prefix(_, _, operand) => height(operand),
+        Term::Binary(_, _, _, left, right) => height(left).max(height(right).saturating_add(1)),
+        Term::Rotate(_, operand, _) => height(operand),
+        Term::Convert(_, operand) => height(operand),
+        Term::Select(condition, accepted, otherwise) => {
+            let arms = height(accepted).max(height(otherwise).saturating_add(1));
+            height(condition).max(arms.saturating_add(1))
+        }
+        Term::Element(_, _, _, index) => height(index),
+    }
+}
+
+/// How large code is.
+#[derive(Clone, Copy)]
+pub struct Size {
+    /// How many nodes a run evaluates at most.
+    pub work: u64,
+    /// How many temporaries there are at once, beside the first.
+    pub height: u64,
+    /// How many loops there are, one in the other.
+    pub depth: u64,
+}
+
+/// How large expressions are, of which each value is needed by itself.
+fn size_of_all(terms: &[Term]) -> Size
+    ensures work { result.work ≡ counted (terms_nodes (map term_tree terms.now)) }
+    ensures height { result.height ≡ counted (height_of_all (map term_tree terms.now)) }
+    ensures depth { result.depth ≡ 0 }
+{
+    let mut work = 0u64;
+    let mut greatest = 0u64;
+    for term in terms {
+        work = work.saturating_add(term_nodes(term));
+        greatest = height(term).max(greatest);
+    }
+    Size {
+        work,
+        height: greatest,
+        depth: 0,
+    }
+}
+
+/// The work of setting a word: a number needs none of its own where no control value decides.
+fn set_work(within: Option<u32>, value: &Term) -> u64
+    ensures { result ≡ counted (set_work within (term_tree value.now)) }
+{
+    match within {
+        Some(_) => term_nodes(value).saturating_add(1),
+        None => match value {
+            Term::Number(_, _) => 1,
+            _ => term_nodes(value).saturating_add(1),
+        },
+    }
+}
+
+/// How many turns are counted for the loop of a counter.
+fn turns_of(turns: &[u32], counter: u32) -> u64
+    ensures { result ≡ slice_index turns.now counter }
+{
+    u64::from(turns.get(counter as usize).copied().unwrap_or(0))
+}
+
+/// How large a branch is, by its condition and its arms.
+fn branch_size(condition: &Term, accepted: Size, otherwise: Size) -> Size
+    ensures work { result.work ≡ counted (1 + term_nodes (term_tree condition.now) + accepted.work + otherwise.work) }
+    ensures height { result.height ≡ max (counted (height_of (term_tree condition.now))) (max accepted.height otherwise.height) }
+    ensures depth { result.depth ≡ max accepted.depth otherwise.depth }
+{
+    Size {
+        work: term_nodes(condition)
+            .saturating_add(1)
+            .saturating_add(accepted.work)
+            .saturating_add(otherwise.work),
+        height: height(condition).max(accepted.height.max(otherwise.height)),
+        depth: accepted.depth.max(otherwise.depth),
+    }
+}
+
+/// How large a loop of so many turns is, by its bounds and its body.
+fn loop_size(turns: u64, low: &Term, high: &Term, turn: Size) -> Size
+    requires { turns < 2 ^ 32 }
+    ensures work { result.work ≡ counted (term_nodes (term_tree low.now) + term_nodes (term_tree high.now) + (turns + 1) * counted (1 + turn.work)) }
+    ensures height { result.height ≡ max (max (counted (height_of (term_tree low.now))) (counted (height_of (term_tree high.now)))) turn.height }
+    ensures depth { result.depth ≡ counted (1 + turn.depth) }
+{
+    let all = turn.work.saturating_add(1).saturating_mul(turns + 1);
+    Size {
+        work: term_nodes(low)
+            .saturating_add(term_nodes(high))
+            .saturating_add(all),
+        height: height(low).max(height(high)).max(turn.height),
+        depth: turn.depth.saturating_add(1),
+    }
+}
+
+/// How large a statement is, with so many turns for the loop of each counter.
+#[cycle(sizes)]
+fn statement_size(turns: &[u32], statement: &StraightStatement) -> Size
+    ensures work { result.work ≡ counted (statement_work turns.now (straight_tree statement.now)) }
+    ensures height { result.height ≡ counted (height_in (straight_tree statement.now)) }
+    ensures depth { result.depth ≡ counted (depth_in (straight_tree statement.now)) }
+{
+    match statement {
+        StraightStatement::Set(within, _, value) => Size {
+            work: set_work(*within, value),
+            height: height(value),
+            depth: 0,
+        },
+        StraightStatement::Array(_, size, values) => {
+            let all = size_of_all(values);
+            Size {
+                work: all.work.saturating_add(u64::from(*size) + 1),
+                height: all.height,
+                depth: 0,
+            }
+        }
+        StraightStatement::Put(_, _, _, _, index, value) => Size {
+            work: term_nodes(index)
+                .saturating_add(term_nodes(value))
+                .saturating_add(2),
+            height: height(index).max(height(value).saturating_add(1)),
+            depth: 0,
+        },
+        StraightStatement::Take(_, _, condition) => Size {
+            work: term_nodes(condition).saturating_add(1),
+            height: height(condition),
+            depth: 0,
+        },
+        StraightStatement::Branch(condition, accepted, otherwise) => {
+            let one = block_size(turns, accepted);
+            let other = block_size(turns, otherwise);
+            branch_size(condition, one, other)
+        }
+        StraightStatement::Repeat(counter, low, high, body) => {
+            let turn = block_size(turns, body);
+            loop_size(turns_of(turns, *counter), low, high, turn)
+        }
+    }
+}
+
+/// How large statements are, one after the other.
+#[cycle(sizes)]
+pub fn block_size(turns: &[u32], statements: &[StraightStatement]) -> Size
+    ensures work { result.work ≡ counted (block_work turns.now (straight_block statements.now)) }
+    ensures height { result.height ≡ counted (height_in_all (straight_block statements.now)) }
+    ensures depth { result.depth ≡ counted (depth_in_all (straight_block statements.now)) }
+{
+    let mut work = 0u64;
+    let mut height = 0u64;
+    let mut depth = 0u64;
+    for statement in statements {
+        let one = statement_size(turns, statement);
+        work = work.saturating_add(one.work);
+        height = one.height.max(height);
+        depth = one.depth.max(depth);
+    }
+    Size {
+        work,
+        height,
+        depth,
+    }
+}
+
+/// How large a result is, where there is one.
+pub fn result_size(value: Option<&Term>) -> Size
+    ensures work { result.work ≡ counted (value_nodes (option_map (λ term. term_tree term.now) value.entry)) }
+    ensures height { result.height ≡ counted (result_height (option_map (λ term. term_tree term.now) value.entry)) }
+    ensures depth { result.depth ≡ 0 }
+{
+    match value {
+        None => Size {
+            work: 0,
+            height: 0,
+            depth: 0,
+        },
+        Some(value) => Size {
+            work: term_nodes(value).saturating_add(1),
+            height: height(value),
+            depth: 0,
+        },
+    }
+}
