@@ -1,6 +1,6 @@
 // Optimised code: rows of passes over straight code, each program of which may stand in the place of the one before.
 
-ghost use Rattle.std.specs.Prelude.{◌≡◌, IfOk, IfErr, IfSome};
+ghost use Rattle.std.specs.Prelude.{◌≡◌, IfOk, IfErr, IfSome, unwrap_or};
 ghost use Rattle.codegen.specs.Exact.{optimised_fields_of};
 ghost use Rattle.optimisation.specs.constants.Exact.{simplified_of, unrolled_of};
 ghost use Rattle.hepurita.specs.CodeFor.{IsCodeFor};
@@ -16,6 +16,19 @@ use optimisation::element_words::Words;
 use optimisation::live_words::share_words;
 use std::alloc::Global;
 
+/// What a pass made, or else the code that it was given.
+fn made_or_given<'a, 'f>(
+    made: &'a Option<StraightCode<'f>>,
+    given: &'a StraightCode<'f>,
+) -> &'a StraightCode<'f>
+    ensures { result.now ≡ unwrap_or made.now given.now }
+{
+    match made {
+        Some(code) => code,
+        None => given,
+    }
+}
+
 /// The optimised code of a program whose loops are as they stay, where it is within the limit on words: short arrays become
 /// words, what is known then is a number, and words share variables. Only memory refuses it.
 fn finished(alloc: Global, straight: &StraightCode<'_>) -> Result<Option<Code>, Refusal>
@@ -26,11 +39,11 @@ fn finished(alloc: Global, straight: &StraightCode<'_>) -> Result<Option<Code>, 
 {
     let words = Words::of(alloc, straight)?;
     let with_words = words.apply(alloc, straight)?;
-    let split = with_words.as_ref().unwrap_or(straight);
+    let split = made_or_given(&with_words, straight);
     let with_numbers = simplify(alloc, split)?;
-    let simpler = with_numbers.as_ref().unwrap_or(split);
+    let simpler = made_or_given(&with_numbers, split);
     let with_shares = share_words(alloc, simpler)?;
-    let shared = with_shares.as_ref().unwrap_or(simpler);
+    let shared = made_or_given(&with_shares, simpler);
     replaced_is_removed();
     generate_optimised(alloc, shared)
 }
@@ -45,7 +58,7 @@ pub fn unrolled(alloc: Global, straight: &StraightCode<'_>) -> Result<Option<Cod
 {
     let without_loops = unroll(alloc, straight)?;
     replaced_is_removed();
-    finished(alloc, without_loops.as_ref().unwrap_or(straight))
+    finished(alloc, made_or_given(&without_loops, straight))
 }
 
 /// The optimised code of a program in which all loops that make turns stay, where it is within the limit on words. Only
@@ -58,5 +71,5 @@ pub fn rolled(alloc: Global, straight: &StraightCode<'_>) -> Result<Option<Code>
 {
     let simpler = simplify(alloc, straight)?;
     replaced_is_removed();
-    finished(alloc, simpler.as_ref().unwrap_or(straight))
+    finished(alloc, made_or_given(&simpler, straight))
 }

@@ -1,10 +1,7 @@
 -- Choosing: counts.
-use Rattle.std.proofs.Common.{◌≡◌, ℕ, zero, suc, ◌+◌, ◌*◌, List, [], ◌∷◌, nat_le, ◌&&◌, slice_index, slice_set, arith}
-use Rattle.std.proofs.lemmas.Bool.{cond_both}
-use Rattle.branch_removal.specs.Straight.{StraightTree, set, array, put, take, branch, repeats, StraightBlock, nothing}
-use Rattle.branch_removal.specs.Straight.{first, StraightProgram}
-use Rattle.optimisation.specs.constants.private.Choice.{AreAllowed, Chosen, begun, chosen, chosen_all, copies_of}
-use Rattle.optimisation.specs.constants.private.Choice.{counted, grown, most_nodes_of, settled, term_size}
+use Rattle.std.proofs.Common.{◌≡◌, ℕ, ◌+◌, arith}
+use Rattle.optimisation.specs.constants.private.Choice.{Chosen}
+use Rattle.optimisation.specs.constants.private.Choice.{counted, grown, settled}
 
 -- a count of nodes serves as they do
 pub grown_by : (so_far : Chosen) (count n : ℕ) → count ≡ counted n → grown so_far count ≡ grown so_far n

@@ -1,9 +1,9 @@
 -- A simpler expression suits where the expression suits: it is of the same kind, and public where that one is.
-use Rattle.std.proofs.Common.{◌≡◌, ℕ, ◌-◌, ◌<◌, ◌^◌, Bool, List, [], ◌∷◌, map, inl, inr, Option, None, Some, option_map}
+use Rattle.std.proofs.Common.{◌≡◌, ℕ, ◌-◌, ◌<◌, ◌^◌, Bool, inl, inr, Option, None, Some}
 use Rattle.std.proofs.Common.{refl, sym, ap, ◌∙◌, subst, arith}
 use Rattle.inline.specs.Flat.{TermTree, number, variable, prefix, binary, rotate, convert, word_as}
 use Rattle.inline.specs.FlatTyping.{Types, HasType, of_number, of_truth, of_variable, of_prefix, of_binary, of_rotation}
-use Rattle.inline.specs.FlatTyping.{of_conversion, of_selection, of_element, Suits, AllSuit, IsResult}
+use Rattle.inline.specs.FlatTyping.{of_conversion, of_selection, of_element, Suits}
 use Rattle.language.specs.declared.signature.Kind.{Kind}
 use Rattle.language.specs.declared.signature.Kind.TheVariants.{Uint32}
 use Rattle.language.specs.declared.signature.Label.{Label}

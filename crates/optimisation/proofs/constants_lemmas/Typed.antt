@@ -1,5 +1,5 @@
 -- What is known behind statements is of its kind where the statements are well typed.
-use Rattle.std.proofs.Common.{◌≡◌, ℕ, Bool, false, List, map, Option, None, Some, slice_get}
+use Rattle.std.proofs.Common.{◌≡◌, ℕ, Bool, false, List, Option, None, Some, slice_get}
 use Rattle.std.proofs.Common.{◌+◌, ◌-◌, ◌≤◌, ◌<◌, refl, sym, ap, ◌∙◌, arith}
 use Rattle.std.proofs.lemmas.Option.{same_Some}
 use Rattle.language.specs.declared.typing.WordType.{WordType}
@@ -7,9 +7,8 @@ use Rattle.inline.specs.declared.flat.FlatVariable.{FlatVariable}
 use Rattle.inline.specs.Flat.{TermTree, number, counter_type, word_as, array_as}
 use Rattle.inline.specs.FlatTyping.{Types, types_of, HasType, of_number}
 use Rattle.word.specs.declared.profile.Profile.{Profile}
-use Rattle.branch_removal.specs.Straight.{StraightTree, set, StraightBlock, first}
-use Rattle.branch_removal.specs.StraightTyping.{IsSet, IsFilled, IsPut, types_but, IsTyped, AreTyped, IsHidden}
-use Rattle.branch_removal.specs.StraightTyping.{AreHidden}
+use Rattle.branch_removal.specs.Straight.{StraightTree, StraightBlock}
+use Rattle.branch_removal.specs.StraightTyping.{IsSet, types_but, IsTyped, AreTyped}
 use Rattle.optimisation.specs.declared.constants.known.Constant.{Constant}
 use Rattle.optimisation.specs.constants.private.Folding.{simple, constant_of}
 use Rattle.optimisation.specs.constants.private.Known.{Words, behind, in_loop}
@@ -126,8 +125,8 @@ module _ (profile : Profile) (declared : List FlatVariable) where
           → IsTyped profile declared controls statement → AreKinds after
       kinds_after (sets {words = words} {within = within} {x = x} {value = value}) kinds is =
           set_kinds words within x (simple words value) kinds (still_set words kinds x value is.1)
-      kinds_after (fills {words = words} {x = x}) kinds is f found = kinds f (without_known words x f found).0
-      kinds_after (puts {words = words} {x = x}) kinds is f found = kinds f (without_known words x f found).0
+      kinds_after (fills {words = words} {x = x}) kinds is = λ f found. kinds f (without_known words x f found).0
+      kinds_after (puts {words = words} {x = x}) kinds is = λ f found. kinds f (without_known words x f found).0
       kinds_after takes kinds is = kinds
       kinds_after (accepts decides one) kinds is = kinds_after_all one kinds is.1
       kinds_after (declines decides other) kinds is = kinds_after_all other kinds is.2

@@ -1,9 +1,9 @@
 -- What the words hold, and of which types they are.
-use Rattle.std.proofs.Common.{◌≡◌, ℕ, ◌+◌, ◌<◌, Bool, true, List, [], ◌∷◌, length, Option, None, Some, slice_get}
+use Rattle.std.proofs.Common.{◌≡◌, ℕ, ◌+◌, ◌<◌, Bool, List, [], ◌∷◌, length, Option, None, Some, slice_get}
 use Rattle.std.proofs.Common.{slice_index, ◌⊎◌, inl, inr, refl, sym, ap, ◌∙◌}
 use Rattle.std.proofs.lemmas.Option.{none-some, same_Some}
 use Rattle.inline.specs.declared.flat.FlatVariable.{FlatVariable}
-use Rattle.inline.specs.Flat.{word_as, array_as}
+use Rattle.inline.specs.Flat.{array_as}
 use Rattle.inline.specs.FlatMeaning.{Values}
 use Rattle.language.specs.declared.typing.WordType.{WordType}
 use Rattle.optimisation.specs.declared.element_words.parts.Part.{Part}

@@ -1,17 +1,15 @@
 -- The program with words may stand in the place of the program.
-use Rattle.std.proofs.Common.{◌≡◌, ℕ, zero, suc, ◌+◌, ◌*◌, ◌<◌, ◌≤◌, Bool, true, false, if◌then◌else◌, List, [], ◌∷◌}
-use Rattle.std.proofs.Common.{◌++◌, map, drop, length, replicate, Option, None, Some, option_map, slice_get}
+use Rattle.std.proofs.Common.{◌≡◌, ℕ, zero, suc, ◌+◌, ◌<◌, ◌≤◌, Bool, true, false, if◌then◌else◌, List, [], ◌∷◌}
+use Rattle.std.proofs.Common.{◌++◌, drop, length, replicate, Option, None, Some, option_map, slice_get}
 use Rattle.std.proofs.Common.{get_or, slice_index, refl, sym, ap, ap₂, ◌∙◌, arith, take as first_of}
 use Rattle.std.specs.Prelude.{nat_lt}
-use Rattle.std.proofs.lemmas.List.{length-map, length-replicate, length-take, take-append-le}
+use Rattle.std.proofs.lemmas.List.{length-map, length-replicate, length-take}
 use Rattle.std.proofs.lemmas.Option.{none-some, same_Some, slice_get-get_or, slice_get_within}
 use Rattle.language.proofs.arguments_lemmas.FaultLemmas.{length-AreWithin}
 use Rattle.language.specs.arguments.Within.{AreWithin}
 use Rattle.inline.specs.declared.flat.FlatVariable.{FlatVariable}
 use Rattle.inline.specs.Flat.{counter_type, TermTree, word_as, array_as, declaration_of, numbers_in}
 use Rattle.inline.specs.FlatMeaning.{Values, given, array_of, arrays_from}
-use Rattle.inline.specs.FlatSize.{declared_words}
-use Rattle.inline.specs.Limits.{most_variable_bytes}
 use Rattle.language.specs.declared.signature.Param.{Param}
 use Rattle.language.specs.declared.values.Arg.{Arg}
 use Rattle.branch_removal.specs.Kept.{IsStraight}

@@ -1,6 +1,6 @@
 -- The program over the variables that words live in may stand in the place of the program.
-use Rattle.std.proofs.Common.{◌≡◌, ℕ, ◌+◌, ◌<◌, ◌≤◌, ◌^◌, ◌==◌, ◌&&◌, ◌++◌, Bool, true, false, if◌then◌else◌, List, []}
-use Rattle.std.proofs.Common.{◌∷◌, length, map, Option, None, Some, option_map, refl, sym, ap, ap₂, ◌∙◌, subst, arith}
+use Rattle.std.proofs.Common.{◌≡◌, ℕ, ◌+◌, ◌<◌, ◌≤◌, ◌^◌, ◌==◌, ◌++◌, Bool, true, false, if◌then◌else◌, List, []}
+use Rattle.std.proofs.Common.{◌∷◌, length, map, Option, None, Some, option_map, refl, sym, ap, ap₂, ◌∙◌, arith}
 use Rattle.std.proofs.lemmas.Bool.{and_parts, eqb-true}
 use Rattle.inline.specs.Flat.{TermTree, declaration_of, elements_by}
 use Rattle.inline.specs.FlatMeaning.{array_of, arrays_from}
@@ -17,17 +17,17 @@ use Rattle.std.specs.List.{AllByRecursion}
 use Rattle.inline.specs.FlatSize.{HasLength, words_by, declared_words}
 use Rattle.branch_removal.specs.Kept.{IsStraight}
 use Rattle.branch_removal.specs.Replaced.{IsReplaced}
-use Rattle.branch_removal.specs.Straight.{StraightBlock, StraightProgram, with_body}
+use Rattle.branch_removal.specs.Straight.{StraightBlock, StraightProgram}
 use Rattle.branch_removal.specs.StraightMeaning.{StraightState, start, end_of, outcome_of, after_all}
 use Rattle.optimisation.specs.live_words.private.Held.{Table, Held, share, fitting, living, hold_own}
 use Rattle.optimisation.specs.live_words.private.Terms.{renamed}
 use Rattle.optimisation.specs.live_words.private.Sharing.{shared_all}
 use Rattle.optimisation.specs.live_words.private.Whole.{kept, with_results, reading_any, at_end, at_start, over}
-use Rattle.optimisation.specs.live_words.private.Whole.{nothing_live, all_fits, shared_by}
+use Rattle.optimisation.specs.live_words.private.Whole.{nothing_live, all_fits}
 use Rattle.optimisation.proofs.live_words_lemmas.HeldLemmas.{Grows, grows_same, grows_on, grows_holding, alike_living}
 use Rattle.optimisation.proofs.live_words_lemmas.HeldLemmas.{alike_first}
 use Rattle.optimisation.proofs.live_words_lemmas.TermLemmas.{grows_reading}
-use Rattle.optimisation.proofs.live_words_lemmas.Rules.{layout, over_result, all_become}
+use Rattle.optimisation.proofs.live_words_lemmas.Rules.{layout, all_become}
 use Rattle.optimisation.proofs.live_words_lemmas.Same.{AreReady, Alike, ready_before, reads, all_follow}
 use Rattle.optimisation.proofs.over_lemmas.Rules.{AllBecome}
 use Rattle.optimisation.proofs.over_lemmas.Values.{same_path, both, IsResultAlike}

@@ -1,22 +1,21 @@
 use Rattle.std.proofs.lemmas.Option.{IfSome_then}
 use Rattle.std.proofs.lemmas.Result.{IfOk-weaker}
+use Rattle.hepurita.proofs.PassedOn.{stands_on}
 use Rattle.hepurita.proofs.optimising.finished.Goals as goal
 
 -- each of the programs may stand in the place of the one before
 pub returns-clause-generated : goal.returns-clause-generated
 returns-clause-generated c =
     let law = c.replaced_is_removed.ensures in
-    let first = c.args.straight.now in
-    let split = c.in_ok-split.split in
-    let simpler = c.in_ok-simpler.simpler in
-    let shared = c.in_ok-shared.shared in
     IfOk-weaker c.generate_optimised.result _ _
     (λ made generated.
     IfSome_then made generated (λ code is. record {
-      source = shared;
+      source = c.made_or_given-shared.result.now;
       stands = λ ranged removed.
-          law ranged simpler shared (law ranged split simpler (law ranged first split removed
-          c.in_ok-split.ensures.replaced) c.in_ok-simpler.ensures.replaced) c.in_ok-shared.ensures.replaced;
+          stands_on ranged _ _ _ (law ranged) c.in_ok-with_shares.ensures.replaced c.made_or_given-shared.ensures
+          (stands_on ranged _ _ _ (law ranged) c.in_ok-with_numbers.ensures.replaced c.made_or_given-simpler.ensures
+          (stands_on ranged _ _ _ (law ranged) c.in_ok-with_words.ensures.replaced c.made_or_given-split.ensures
+          removed));
       generated = is;
     }))
     c.generate_optimised.ensures.generated

@@ -3,7 +3,7 @@
 -- that keeps the building of large sources short. Counted are about the nodes that a turn will have: an index is mostly
 -- made of counters and numbers, so a quarter of its nodes counts. The turns of a loop that makes only few may be far
 -- longer: they take little more room than the loop did, and what hangs on the counter is known in each of them.
-use Rattle.std.specs.Prelude.{ℕ, ◌+◌, ◌-◌, ◌*◌, ◌/◌, ◌^◌, ◌≤◌, ◌&&◌, List, [], ◌∷◌, min, nat_le, slice_index, slice_set}
+use Rattle.std.specs.Prelude.{ℕ, ◌+◌, ◌-◌, ◌*◌, ◌/◌, ◌^◌, ◌&&◌, List, [], ◌∷◌, min, nat_le, slice_index, slice_set}
 use Rattle.std.specs.Prelude.{if◌then◌else◌}
 use Rattle.branch_removal.specs.Straight.{StraightTree, set, array, put, take, branch, repeats}
 use Rattle.branch_removal.specs.Straight.{StraightBlock, nothing, first, StraightProgram}

@@ -1,10 +1,51 @@
-use Rattle.std.proofs.Common.{◌≡◌, Bool, true, refl, sym, ap, ap₂, ◌∙◌}
+use Rattle.std.proofs.Common.{◌≡◌, List, option_map, refl, sym, ap, ap₂, ◌∙◌}
+use Rattle.inline.specs.declared.flat.FlatVariable.{FlatVariable}
+use Rattle.inline.specs.Flat.{term_tree}
 use Rattle.branch_removal.proofs.Checked.{where_checked}
 use Rattle.branch_removal.specs.Checked.{checked}
 use Rattle.branch_removal.specs.Replaced.{IsReplaced}
-use Rattle.branch_removal.specs.Straight.{StraightProgram}
+use Rattle.branch_removal.specs.Straight.{straight_block, with_variables}
 use Rattle.optimisation.specs.live_words.Exact.{shared_of}
 use Rattle.optimisation.specs.live_words.private.Held.{Table, Held}
 use Rattle.optimisation.specs.live_words.private.Whole.{all_fits, at_start, nothing_live, over, table_for}
 use Rattle.optimisation.proofs.live_words_lemmas.Whole.{replaced}
 use Rattle.optimisation.proofs.live_words.sharing.share_words.Goals as goal
+
+pub returns-then-not-all_fits-clause-exact : goal.returns-then-not-all_fits-clause-exact
+unfolding shared_of
+returns-then-not-all_fits-clause-exact c =
+    let p = c.args.straight.now in
+    let table = c.as_slice.ensures.value ∙ c.in_ok-table.ensures in
+    let fits = c.all_fits.ensures ∙ ap all_fits
+    (c.in_ok-parts.ensures.live ∙ ap₂ (λ (t : Table) (h : Held). at_start t h p) table c.in_ok-live.ensures) in
+    rw (sym fits ∙ c.if-not-all_fits.true) refl
+
+pub returns-clause-exact : goal.returns-clause-exact
+unfolding shared_of
+returns-clause-exact c =
+    let p = c.args.straight.now in
+    let table = c.as_slice.ensures.value ∙ c.in_ok-table.ensures in
+    let fits = c.all_fits.ensures ∙ ap all_fits
+    (c.in_ok-parts.ensures.live ∙ ap₂ (λ (t : Table) (h : Held). at_start t h p) table c.in_ok-live.ensures) in
+    let body = straight_block c.in_ok-parts.parts.body.items in
+    let value = option_map term_tree c.in_ok-parts.parts.value in
+    let made : c.rewritten.result ≡ checked (over (table_for p) (nothing_live p 0) p) =
+    c.rewritten.ensures.exact
+    ∙ ap checked (ap (λ (ds : List FlatVariable). with_variables p ds body value) c.declared.ensures
+    ∙ (c.in_ok-parts.ensures.code ∙ ap₂ (λ (t : Table) (h : Held). over t h p) table c.in_ok-live.ensures)) in
+    rw (sym fits ∙ c.if-not-all_fits.false) made
+
+pub returns-clause-replaced : goal.returns-clause-replaced
+returns-clause-replaced c =
+    let p = c.args.straight.now in
+    let table = c.as_slice.ensures.value ∙ c.in_ok-table.ensures in
+    let fits = c.all_fits.ensures ∙ ap all_fits
+    (c.in_ok-parts.ensures.live ∙ ap₂ (λ (t : Table) (h : Held). at_start t h p) table c.in_ok-live.ensures) in
+    let body = straight_block c.in_ok-parts.parts.body.items in
+    let value = option_map term_tree c.in_ok-parts.parts.value in
+    let made : c.rewritten.result ≡ checked (over (table_for p) (nothing_live p 0) p) =
+    c.rewritten.ensures.exact
+    ∙ ap checked (ap (λ (ds : List FlatVariable). with_variables p ds body value) c.declared.ensures
+    ∙ (c.in_ok-parts.ensures.code ∙ ap₂ (λ (t : Table) (h : Held). over t h p) table c.in_ok-live.ensures)) in
+    where_checked (IsReplaced p) _ (over (table_for p) (nothing_live p 0) p) made c.rewritten.ensures.straight
+    (replaced (table_for p) p (sym fits ∙ c.if-not-all_fits.false))
