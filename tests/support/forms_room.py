@@ -59,6 +59,7 @@ LOOPS = [
 # Recursions with a measure in which memory grows: file, the function or the `#[cycle(..)]`, and what bounds it.
 RECURSIONS = [
     ("branch_removal/src/removal.rt", "removal", "the statements of the body: each is followed once, and its copies have its size"),
+    ("branch_removal/src/type_checks.rt", "types", "nothing is added: types are compared"),
     ("codegen/src/statements.rt", "statements", "the statements of straight code, each of which is followed once"),
     ("inline/src/numbering.rt", "numbering", "the nodes of the inlined body, which are counted before: 6,000 at most"),
     ("optimisation/src/constants/statements.rt", "simplification", "the statements, and the turns that `choice` allows to unroll"),
