@@ -1,6 +1,8 @@
 use crate::memory_files::{FAST, MemoryFiles, Motion, SLOW};
 use crate::performing::{cut_off, image_of, perform};
+use commands::{Fault, FileFault};
 use std::process::Abort;
+use std::test::Fail;
 
 const TEXT: &[u8] = b"export public uint32 f() { return 1; }";
 
@@ -32,6 +34,7 @@ fn fails(rt: &(impl Abort + AllocGlobal), motion: Motion, line: &[u8], created: 
         motion.good_reads
     );
     assert_eq!(rt; done.err.as_slice(), line);
+    assert_eq!(rt; files.failures, 1);
     assert_eq!(rt; files.created, created);
     assert_eq!(rt; files.written.as_slice().len() as u64, length);
 }
@@ -58,6 +61,21 @@ fn each_write_of_an_image_fails_once(rt: HostRuntime) {
         };
         fails(&rt, motion, b"file: cannot write image\n", 1, good_calls);
     }
+}
+
+/// What is derived for a fault of a file says the same as the line that is proved.
+#[test]
+fn a_fault_of_a_file_has_one_text(rt: HostRuntime) -> Result<(), Fail> {
+    for fault in [
+        FileFault::CannotRead("a"),
+        FileFault::CannotWrite("a"),
+        FileFault::NotUtf8("a"),
+    ] {
+        let derived = format!(in rt.alloc(); "file: {fault}")?;
+        let line = format!(in rt.alloc(); "{}", Fault::File(fault))?;
+        assert_eq!(rt; derived.as_str(), line.as_str());
+    }
+    Ok(())
 }
 
 #[test]

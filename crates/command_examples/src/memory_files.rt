@@ -1,9 +1,10 @@
-ghost use Rattle.std.specs.Prelude.{◌≤◌, false, None};
+ghost use Rattle.std.specs.Prelude.{false, None};
 
+use crate::slow_streams::{SlowSink, SlowSource};
 use commands::Files;
-use std::alloc::Global;
+use std::alloc::{AllocError, Global};
 use std::process::Abort;
-use streams::{ByteSink, ByteSource, Faltering, ReadFault, SinkFault, get_up_to, put_all};
+use streams::{ByteSink, ByteSource, SinkFault, SourceFault};
 
 /// How streams move their bytes.
 #[derive(Clone, Copy)]
@@ -39,6 +40,7 @@ pub struct MemoryFiles {
     bytes: Vec<u8>,
     plan: Vec<u8>,
     motion: Motion,
+    pub failures: u64,
     pub created: u64,
     pub written: ByteSink,
 }
@@ -61,52 +63,56 @@ impl MemoryFiles {
             bytes: Vec::from_slice(alloc, bytes).expect(rt, "memory for a file"),
             plan: Vec::from_slice(alloc, plan).expect(rt, "memory for a file of harts"),
             motion,
+            failures: 0,
             created: 0,
             written: ByteSink::new(alloc),
         }
     }
 }
 
-impl MemoryFiles {
-    /// How many bytes a call of a stream moves at most.
-    fn piece(&self) -> usize
-        ensures { 1 ≤ result }
-    {
-        if self.motion.slow { 1 } else { usize::MAX }
-    }
-}
-
 impl Files for MemoryFiles {
+    type Source = SlowSource;
+
+    type Sink = SlowSink;
+
     ghost TELLS = { false };
 
-    ghost contents = { λ _ _. None };
+    ghost store = { λ f. record { contents = λ _. None; failures = f.failures } };
 
-    fn read(&self, alloc: Global, path: &str, limit: usize) -> Result<Vec<u8>, ReadFault> {
+    fn open(&mut self, path: &str) -> Result<SlowSource, SourceFault> {
         let bytes = if path == PLAN {
             self.plan.as_slice()
         } else {
             self.bytes.as_slice()
         };
-        let source = ByteSource::new(Vec::from_slice(self.alloc, bytes)?);
-        let mut source = Faltering {
-            stream: source,
-            piece: self.piece(),
-            good_calls: self.motion.good_reads,
-            failures: 0,
-        };
-        get_up_to(alloc, &mut source, limit)
+        match Vec::from_slice(self.alloc, bytes) {
+            Ok(bytes) => Ok(SlowSource::new(
+                ByteSource::new(bytes),
+                self.motion.slow,
+                self.motion.good_reads,
+            )),
+            Err(AllocError) => {
+                self.failures = self.failures.saturating_add(1);
+                Err(SourceFault)
+            }
+        }
     }
 
-    fn write(&mut self, _path: &str, bytes: &[u8]) -> Result<(), SinkFault> {
+    fn close(&mut self, source: SlowSource) {
+        self.failures = self.failures.saturating_add(source.failures());
+    }
+
+    fn create(&mut self, _path: &str) -> Result<SlowSink, SinkFault> {
         self.created = self.created.saturating_add(1);
-        let mut sink = Faltering {
-            stream: ByteSink::new(self.alloc),
-            piece: self.piece(),
-            good_calls: self.motion.good_writes,
-            failures: 0,
-        };
-        let written = put_all(&mut sink, bytes);
-        self.written = sink.stream;
-        written
+        Ok(SlowSink::new(
+            ByteSink::new(self.alloc),
+            self.motion.slow,
+            self.motion.good_writes,
+        ))
+    }
+
+    fn finish(&mut self, _path: &str, sink: SlowSink) {
+        self.failures = self.failures.saturating_add(sink.failures());
+        self.written = sink.into_inner();
     }
 }

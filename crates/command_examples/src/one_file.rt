@@ -2,43 +2,61 @@ ghost use Rattle.std.specs.Prelude.{true, Some, None, if◌then◌else◌};
 ghost use Rattle.std.specs.Str.{bytes_eq};
 ghost use Rattle.std.specs.String.{string_bytes};
 
+use crate::slow_streams::{SlowSink, SlowSource};
 use commands::{Files, command};
 use std::alloc::Global;
 use std::process::Abort;
 use std::test::Fail;
-use streams::{ByteSink, ReadFault, SinkFault};
+use streams::{ByteSink, ByteSource, SinkFault, SourceFault, put_all};
 
 /// Files of which there is one, in memory: what it holds is known. No other can be written.
 #[derive(Drop)]
 struct OneFile {
     alloc: Global,
     path: String,
-    bytes: Vec<u8>,
+    file: ByteSink,
+    failures: u64,
 }
 
 impl Files for OneFile {
+    type Source = SlowSource;
+
+    type Sink = SlowSink;
+
     ghost TELLS = { true };
 
-    ghost contents = { λ f path. if bytes_eq path (string_bytes f.path) then Some f.bytes.items else None };
+    ghost store = { λ f. record {
+      contents = λ path. if bytes_eq path (string_bytes f.path) then Some f.file.bytes else None;
+      failures = f.failures;
+    } };
 
-    fn read(&self, alloc: Global, path: &str, limit: usize) -> Result<Vec<u8>, ReadFault> {
-        if path != self.path.as_str() {
-            return Err(ReadFault::Source);
+    fn open(&mut self, path: &str) -> Result<SlowSource, SourceFault> {
+        if path == self.path.as_str() {
+            if let Ok(bytes) = Vec::from_slice(self.alloc, self.file.as_slice()) {
+                return Ok(SlowSource::new(ByteSource::new(bytes), false, None));
+            }
         }
-        let count = self.bytes.len().min(limit);
-        Ok(Vec::from_slice(alloc, &self.bytes[..count])?)
+        self.failures = self.failures.saturating_add(1);
+        Err(SourceFault)
     }
 
-    fn write(&mut self, path: &str, bytes: &[u8]) -> Result<(), SinkFault> {
+    fn close(&mut self, source: SlowSource) {
+        self.failures = self.failures.saturating_add(source.failures());
+    }
+
+    fn create(&mut self, path: &str) -> Result<SlowSink, SinkFault> {
         if path != self.path.as_str() {
+            self.failures = self.failures.saturating_add(1);
             return Err(SinkFault);
         }
-        match Vec::from_slice(self.alloc, bytes) {
-            Ok(bytes) => {
-                self.bytes = bytes;
-                Ok(())
-            }
-            Err(_) => Err(SinkFault),
+        self.file = ByteSink::new(self.alloc);
+        Ok(SlowSink::new(ByteSink::new(self.alloc), false, None))
+    }
+
+    fn finish(&mut self, path: &str, sink: SlowSink) {
+        self.failures = self.failures.saturating_add(sink.failures());
+        if path == self.path.as_str() {
+            self.file = sink.into_inner();
         }
     }
 }
@@ -60,10 +78,12 @@ fn an_image_takes_the_place_of_its_text(rt: HostRuntime) -> Result<(), Fail> {
     let mut files = OneFile {
         alloc: rt.alloc(),
         path: String::from_str(rt.alloc(), "it")?,
-        bytes: Vec::from_slice(rt.alloc(), TEXT)?,
+        file: ByteSink::new(rt.alloc()),
+        failures: 0,
     };
+    assert!(&rt; put_all(&mut files.file, TEXT).is_ok());
     answers(&rt, &mut files, &["factc", "build", "it", "other"], 3);
-    assert_eq!(rt; files.bytes.as_slice(), TEXT);
+    assert_eq!(rt; files.file.as_slice(), TEXT);
     answers(&rt, &mut files, &["factc", "build", "it", "it"], 0);
     answers(&rt, &mut files, &["factc", "run", "it"], 0);
     answers(&rt, &mut files, &["factc", "run", "other"], 3);

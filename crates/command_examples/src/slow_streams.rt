@@ -1,8 +1,8 @@
-// A sink in memory that moves one byte a call, or fails once.
+// Streams in memory that move one byte a call, or fail once.
 
-ghost use Rattle.std.specs.Prelude.{◌≤◌, true};
+ghost use Rattle.std.specs.Prelude.{◌≡◌, ◌≤◌, [], true};
 
-use streams::{ByteSink, Faltering, Sink, SinkFault};
+use streams::{ByteSink, ByteSource, Faltering, Sink, SinkFault, Source, SourceFault};
 
 fn piece(slow: bool) -> usize
     ensures { 1 ≤ result }
@@ -11,12 +11,55 @@ fn piece(slow: bool) -> usize
 }
 
 #[derive(Drop)]
+pub struct SlowSource {
+    inner: Faltering<ByteSource>,
+}
+
+impl SlowSource {
+    pub fn new(stream: ByteSource, slow: bool, good_calls: Option<u64>) -> Self
+        ensures stream { result.inner.stream ≡ stream }
+        ensures failures { result.inner.failures ≡ 0 }
+    {
+        let inner = Faltering {
+            stream,
+            piece: piece(slow),
+            good_calls,
+            failures: 0,
+        };
+        SlowSource { inner }
+    }
+
+    pub fn failures(&self) -> u64
+        ensures { result ≡ self.now.inner.failures }
+    {
+        self.inner.failures
+    }
+}
+
+impl Source for SlowSource {
+    const TELLS: bool = true;
+
+    ghost TELLS = { true };
+
+    ghost coming = { λ s. s.inner.stream };
+
+    ghost failures = { λ s. s.inner.failures };
+
+    fn get(&mut self, buffer: &mut [u8]) -> Result<usize, SourceFault> {
+        self.inner.get(buffer)
+    }
+}
+
+#[derive(Drop)]
 pub struct SlowSink {
     inner: Faltering<ByteSink>,
 }
 
 impl SlowSink {
-    pub fn new(stream: ByteSink, slow: bool, good_calls: Option<u64>) -> Self {
+    pub fn new(stream: ByteSink, slow: bool, good_calls: Option<u64>) -> Self
+        ensures stream { result.inner.stream ≡ stream }
+        ensures failures { result.inner.failures ≡ 0 }
+    {
         let inner = Faltering {
             stream,
             piece: piece(slow),
@@ -26,7 +69,15 @@ impl SlowSink {
         SlowSink { inner }
     }
 
-    pub fn into_inner(self) -> ByteSink {
+    pub fn failures(&self) -> u64
+        ensures { result ≡ self.now.inner.failures }
+    {
+        self.inner.failures
+    }
+
+    pub fn into_inner(self) -> ByteSink
+        ensures { result ≡ self.inner.stream }
+    {
         let SlowSink { inner } = self;
         inner.stream
     }

@@ -1,6 +1,5 @@
 -- Images of files, and faults that are handed on.
 use Rattle.std.proofs.Common.{◌≡◌, ℕ, ◌+◌, List, Result, Ok, Err, refl, sym, ap, ◌∙◌}
-use Rattle.std.specs.Result.{IfErr, IsErrAnd}
 use Rattle.commands.specs.Contents.{Contents, Begins}
 use Rattle.commands.specs.Images.{HoldsImage, NoImage, not_read, not_spelled}
 use Rattle.commands.specs.Unread.{out_of_memory}

@@ -1,10 +1,10 @@
 -- A listing that was not written failed at standard output, or nothing was written.
-use Rattle.std.proofs.Common.{◌≡◌, ◌⊎◌, inl, inr, ℕ, List, Result, Ok, refl, sym, subst, ◌∙◌}
+use Rattle.std.proofs.Common.{◌≡◌, ◌≢◌, inl, inr, ℕ, List, Result, Ok, refl, sym, subst, ◌∙◌}
 use Rattle.codegen.specs.Loaded.{params_of}
-use Rattle.commands.specs.Contents.{Contents}
-use Rattle.commands.specs.ImageRefusals.{no_image, no_arguments, no_answer, out_of_memory}
+use Rattle.commands.specs.Contents.{Contents, Store}
+use Rattle.commands.specs.Failures.{IsReadBy, IsReadOrPrinted}
 use Rattle.commands.specs.Images.{HoldsImage, NoImage, not_read, not_spelled}
-use Rattle.commands.specs.Leaks.{SaysLeak, RefusesLeak, IsOutputFault, IsFaultOfLeak, standard_output}
+use Rattle.commands.specs.Leaks.{SaysLeak, IsOutputFault, IsFaultOfLeak, standard_output}
 use Rattle.commands.specs.Stops.{status_of}
 use Rattle.commands.specs.Unread as unread_specs
 use Rattle.commands.specs.Unread.{IsOutOfMemory, IsUnread, IsUnwritten, NotRead, unread}
@@ -23,6 +23,7 @@ use Rattle.listing.specs.declared.fault.LeakFault.{LeakFault}
 use Rattle.listing.specs.declared.fault.LeakFault.TheVariants.{Argument, Memory, Write}
 use Rattle.rv_machine.specs.declared.stops.Stop.{Stop}
 use Rattle.streams.specs.Streams.{Writes, WritesPart}
+use Rattle.word.specs.Counts.{one_more}
 
 not_memory : (fault : Fault) → IsOutOfMemory fault → IsOutputFault fault → ⊥
 not_memory (Text refusal) memory output = let is = output.2 in cc
@@ -54,24 +55,21 @@ pub not_imageless : (files : Contents) (path : List ℕ) (fault : Fault) → NoI
 not_imageless files path fault (not_read why) output = not_reading path fault why output
 not_imageless files path fault (not_spelled held first) output = let is = output.2 in cc
 
-by_leak : (why : LeakFault) (fault : Fault) → IsFaultOfLeak why fault
-    → IsOutputFault fault ⊎ (IsOutputFault fault → ⊥)
-by_leak (Argument rule index) fault is = inr (λ output. let both = sym is ∙ output.2 in cc)
-by_leak Memory fault is = inr (λ output. let both = sym is ∙ output.2 in cc)
-by_leak Write fault is = inl is
-
-pub at_output_or_not : (files : Contents) (path : List ℕ) (words : List (List ℕ)) (fault : Fault)
-    → RefusesLeak files path words fault → IsOutputFault fault ⊎ (IsOutputFault fault → ⊥)
-at_output_or_not files path words fault (no_image why) = inr (not_imageless files path fault why)
-at_output_or_not files path words fault (no_arguments held why) = inr (λ output. let is = output.2 in cc)
-at_output_or_not files path words fault (no_answer held why) = by_leak why.1 fault why.4
-at_output_or_not files path words fault (out_of_memory memory) = inr (not_memory fault memory)
-
 -- only a sink that failed is standard output that failed
 is_write : (why : LeakFault) (fault : Fault) → IsFaultOfLeak why fault → IsOutputFault fault → why ≡ Write
 is_write (Argument rule index) fault is output = let both = sym is ∙ output.2 in cc
 is_write Memory fault is output = let both = sym is ∙ output.2 in cc
 is_write Write fault is output = refl
+
+-- which calls have failed, by the fault of a listing
+pub leak_counts : (why : LeakFault) (fault : Fault) {before after : Store} {printed printed' : ℕ}
+    → IsFaultOfLeak why fault → after ≡ before → (why ≢ Write → printed' ≡ printed)
+    → (why ≡ Write → printed' ≡ one_more printed) → IsReadOrPrinted fault before after printed printed'
+leak_counts (Argument rule index) fault {before} {after} is same calm counts =
+    inl (subst (λ (f : Fault). IsReadBy f before after) (sym is) same, calm (λ h. cc))
+leak_counts Memory fault {before} {after} is same calm counts =
+    inl (subst (λ (f : Fault). IsReadBy f before after) (sym is) same, calm (λ h. cc))
+leak_counts Write fault is same calm counts = inr (is, same, counts refl)
 
 -- a run that was made has a listing
 listed_by : (image : Fields) (args : List Arg) (answer : Result Stop LeakFault) (stop : Stop)

@@ -5,6 +5,8 @@ mod CodeLemmas
 mod LeakFaults
 pub mod ImageLemmas
 mod Writing
+mod Counting
+pub mod StreamCounts
 mod MeasuringLemmas
 mod PictureLemmas
 mod ProgressLemmas

@@ -1,5 +1,5 @@
 -- What the first bytes of a file say of all of it, where its costs are asked for.
-use Rattle.std.proofs.Common.{◌≡◌, ◌+◌, ℕ, List, Some, Result, Ok, Err, take, refl, sym, ap, ◌∙◌, arith}
+use Rattle.std.proofs.Common.{◌≡◌, ◌+◌, ℕ, List, Result, Ok, Err, take, refl, ap, ◌∙◌, arith}
 use Rattle.std.proofs.lemmas.List.{take-take}
 use Rattle.std.specs.Result.{IfOk, IfErr}
 use Rattle.commands.specs.Contents.{Contents, Begins}

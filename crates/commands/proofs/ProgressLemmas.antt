@@ -95,9 +95,9 @@ pub tells_known : (Has : Counting) (request known : Request) → request ≡ kno
 tells_known Has request known same files before after told =
     subst (λ (r : Request). RequestTells Has r files before after) (sym same) told
 
-pub part_known : (request known : Request) → request ≡ known → (files : Contents) (before after : List ℕ)
-    → (after ≡ before) ⊎ RequestTells Reaches known files before after
-    → (after ≡ before) ⊎ RequestTells Reaches request files before after
+pub part_known : {Same : Type 0} (request known : Request) → request ≡ known → (files : Contents)
+    (before after : List ℕ) → Same ⊎ RequestTells Reaches known files before after
+    → Same ⊎ RequestTells Reaches request files before after
 part_known request known same files before after (inl quiet) = inl quiet
 part_known request known same files before after (inr told) =
     inr (tells_known Reaches request known same files before after told)

@@ -1,9 +1,27 @@
--- What files hold, by their paths, and how that changes where a file is written.
+-- What files hold, by their paths, and how many calls of them failed; and how that changes where a file is written, or
+-- a call fails.
 use Rattle.std.specs.Prelude.{◌≡◌, ◌≢◌, ◌⊎◌, ℕ, List, take, Option, Some}
+use Rattle.std.proofs.Common.{zero, suc}
+use Rattle.word.specs.Counts.{one_more}
 
 -- the bytes of the file at a path, where there is one
 abbrev pub Contents : Type 0
 Contents = List ℕ → Option (List ℕ)
+
+-- what files hold, and how many calls failed: those that were to open or to create one, and those of the sources and
+-- sinks that were handed back
+pub record Store : Type 0 where
+  pub contents : Contents
+  pub failures : ℕ
+
+-- no file changed, and one more call failed
+abbrev pub failed : Store → Store
+failed before = record { contents = before.contents; failures = one_more before.failures }
+
+-- no file changed, and so many more calls failed
+abbrev pub failed_times : ℕ → Store → Store
+failed_times zero before = before
+failed_times (suc times) before = failed (failed_times times before)
 
 -- these bytes are those of a file, to their end or until there are so many of them
 pub record Begins (files : Contents) (path : List ℕ) (limit : ℕ) (bytes : List ℕ) : Type 0 where

@@ -22,6 +22,7 @@ pub mod WrappedCode
 pub mod TwoFiles
 pub mod FunctionFiles
 pub mod FaultText
+pub mod Failures
 pub mod Vectors
 pub mod Progress
 pub mod Requests

@@ -3,8 +3,9 @@ use Rattle.std.specs.Prelude.{◌≡◌, ◌⊎◌, ℕ, List, [], ◌++◌, map
 use Rattle.commands.specs.declared.command_line.words.Request.{Request}
 use Rattle.commands.specs.declared.command_line.words.Request.TheVariants as requests
 use Rattle.commands.specs.Certificates.{SaysCertificate, RefusesCertificate, shifts_seen}
-use Rattle.commands.specs.Contents.{Contents}
+use Rattle.commands.specs.Contents.{Contents, Store}
 use Rattle.commands.specs.Costs.{SaysCosts, RefusesCosts}
+use Rattle.commands.specs.Failures.{failures_by}
 use Rattle.commands.specs.FaultText.{fault_line, fault_status}
 use Rattle.commands.specs.FunctionFiles.{AreFunctionTexts, RefusesFunction}
 use Rattle.commands.specs.Harts.{SaysHarts}
@@ -24,8 +25,9 @@ use Rattle.commands.specs.Written.{WritesFile, FailsToWrite}
 use Rattle.commands.specs.declared.fault.Fault.{Fault}
 use Rattle.explanations.specs.Text.{explanation_text}
 use Rattle.run_reports.specs.progress.GoingOn.{Reaches, HasLines}
-use Rattle.streams.specs.Streams.{GainsPart}
+use Rattle.streams.specs.Streams.{GainsPart, Collected}
 use Rattle.input_files.specs.declared.wrapping.asked.Asked.{Asked}
+use Rattle.word.specs.Counts.{one_more}
 
 -- the text that answers a request, and the exit status, by what files hold
 abbrev pub Answers : Request → Contents → List ℕ → ℕ → Type 0
@@ -112,35 +114,60 @@ Refuses (requests.Vectors file vectors profile) before after fault =
     RefusesVectors profile before file.now vectors.now fault × (after ≡ before)
 Refuses (requests.Explain explanation) before after fault = IsOutOfMemory fault × (after ≡ before)
 
--- bytes went out, all of them, or where a call failed a beginning of them
-abbrev pub IsPut : List ℕ → List ℕ → List ℕ → Type 0
-IsPut bytes before after = (after ≡ before ++ bytes) ⊎ GainsPart before after bytes
+-- what a sink has taken, and how many of its calls have failed
+abbrev pub collected : List ℕ → ℕ → Collected
+collected bytes failures = record { bytes = bytes; failures = failures }
+
+-- bytes went out to a sink, all of them, and no call of it failed
+abbrev pub IsPutWhole : List ℕ → Collected → Collected → Type 0
+IsPutWhole bytes before after = (after.bytes ≡ before.bytes ++ bytes) × (after.failures ≡ before.failures)
+
+-- a beginning of bytes went out, and not all of them, and one more call failed
+abbrev pub IsPutInPart : List ℕ → Collected → Collected → Type 0
+IsPutInPart bytes before after = GainsPart before.bytes after.bytes bytes × (after.failures ≡ one_more before.failures)
+
+-- bytes went out: all of them, or where a call failed a beginning of them
+abbrev pub IsPut : List ℕ → Collected → Collected → Type 0
+IsPut bytes before after = IsPutWhole bytes before after ⊎ IsPutInPart bytes before after
 
 -- how a fault is reported on standard error, with which exit status: by its lines; or, where there is no memory for
 -- that, as out of memory
-pub data Reports (fault : Fault) (before after : List ℕ) : ℕ → Type 0 where
+pub data Reports (fault : Fault) (before after : Collected) : ℕ → Type 0 where
   by_line : IsPut (fault_line fault ++ codes "\n") before after → Reports fault before after (fault_status fault)
   no_memory : IsPut (codes "refused: M1: memory\n") before after → Reports fault before after 4
 
--- a request is done, with this exit status: standard output gains its text
-pub record IsDone (request : Request) (before after : Contents) (out out' : List ℕ) (status : ℕ) : Type 0 where
+-- a request is done, with this exit status: standard output gains its text, and no call failed
+pub record IsDone (request : Request) (before after : Store) (out out' : Collected) (status : ℕ) : Type 0 where
   pub text : List ℕ
-  pub answered : Answers request before text status
-  pub left : Leaves request before after
-  pub printed : out' ≡ out ++ text
+  pub answered : Answers request before.contents text status
+  pub left : Leaves request before.contents after.contents
+  pub calm : after.failures ≡ before.failures
+  pub printed : IsPutWhole text out out'
 
--- a request fails by a fault: it is refused, and nothing is printed; or it is done, and standard output failed
-pub data Fails (request : Request) (before after : Contents) (out out' : List ℕ) : Fault → Type 0 where
-  refused : {fault : Fault} → Refuses request before after fault → out' ≡ out
+-- a request fails by a fault: it is refused, with one more failed call of files where one could not be read or written,
+-- and nothing is printed; or it is done, and standard output failed
+pub data Fails (request : Request) (before after : Store) (out out' : Collected) : Fault → Type 0 where
+  refused : {fault : Fault} → Refuses request before.contents after.contents fault
+      → after.failures ≡ failures_by fault before.failures → out' ≡ out
       → Fails request before after out out' fault
-  unprinted : {text : List ℕ} {fault : Fault} (status : ℕ) → Answers request before text status
-      → Leaves request before after → GainsPart out out' text
-      → IsOutputFault fault → Fails request before after out out' fault
+  unprinted : {text : List ℕ} {fault : Fault} (status : ℕ) → Answers request before.contents text status
+      → Leaves request before.contents after.contents → after.failures ≡ before.failures
+      → IsPutInPart text out out' → IsOutputFault fault → Fails request before after out out' fault
 
 -- what comes of a request, with the exit status: on standard error the lines of progress go out first
-pub data Performs (request : Request) (before after : Contents) (out out' err err' : List ℕ) : ℕ → Type 0 where
-  done : {status : ℕ} → IsDone request before after out out' status → RequestTells HasLines request before err err'
+pub data Performs (request : Request) (before after : Store) (out out' err err' : Collected) : ℕ → Type 0 where
+  done : {status : ℕ} → IsDone request before after out out' status
+      → RequestTells HasLines request before.contents err.bytes err'.bytes
       → Performs request before after out out' err err' status
-  failed : {fault : Fault} {told : List ℕ} {status : ℕ} → Fails request before after out out' fault
-      → (told ≡ err) ⊎ RequestTells Reaches request before err told → Reports fault told err' status
+  failed : {fault : Fault} {told : Collected} {status : ℕ} → Fails request before after out out' fault
+      → (told ≡ err) ⊎ RequestTells Reaches request before.contents err.bytes told.bytes → Reports fault told err' status
       → Performs request before after out out' err err' status
+
+-- which calls of files and of standard output failed, by the exit status, whether or not it is known what they hold
+-- and have taken: none; or one of either, which is answered by status 3, or by 4 where there was no memory to say so
+pub data Ends (before after printed printed' : ℕ) : ℕ → Type 0 where
+  calm : {status : ℕ} → after ≡ before → printed' ≡ printed → Ends before after printed printed' status
+  files_failed : {status : ℕ} → after ≡ one_more before → printed' ≡ printed → (status ≡ 3) ⊎ (status ≡ 4)
+      → Ends before after printed printed' status
+  output_failed : {status : ℕ} → after ≡ before → printed' ≡ one_more printed → (status ≡ 3) ⊎ (status ≡ 4)
+      → Ends before after printed printed' status

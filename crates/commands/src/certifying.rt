@@ -4,6 +4,7 @@ ghost use Rattle.std.specs.Prelude.{◌≡◌, ◌≢◌, ◌≤◌, ◌++◌, �
 ghost use Rattle.std.specs.Fmt.{decimal};
 ghost use Rattle.codegen.specs.Loaded.{code_at};
 ghost use Rattle.commands.specs.Certificates.{StandsInCode, PrintsCertificate, certificate_status, shifts_seen, SaysCertificate, RefusesCertificate};
+ghost use Rattle.commands.specs.Failures.{IsReadBy};
 ghost use Rattle.commands.specs.Progress.{FileCertificateTells};
 ghost use Rattle.hepurita.specs.Bases.{code_base};
 ghost use Rattle.listing.specs.Code.{IsLineAt};
@@ -33,15 +34,17 @@ pub fn certify_image<'a, F: Files, E: Sink>(
     arguments: &[&str],
     shifts: bool,
     progress: bool,
-    files: &F,
+    files: &mut F,
     err: &mut E,
 ) -> Result<(Vec<u8>, u8), Fault<'a>>
     ensures known { IfOk result (λ said. said.1 ≤ 5) }
-    ensures told { IsTrue F.TELLS → IsTrue E.TELLS → OnOk result (FileCertificateTells HasLines progress shifts (F.contents files.now) path.now (map (λ word. word.now) arguments.now) (E.taken err.old) (E.taken err.new)) }
-    ensures part { IsTrue F.TELLS → IsTrue E.TELLS → OnErr result ((E.taken err.new ≡ E.taken err.old)
-        ⊎ FileCertificateTells Reaches progress shifts (F.contents files.now) path.now (map (λ word. word.now) arguments.now) (E.taken err.old) (E.taken err.new)) }
-    ensures said { IsTrue F.TELLS → IfOk result (λ said. SaysCertificate (shifts_seen shifts) (F.contents files.now) path.now (map (λ word. word.now) arguments.now) said.0.items said.1) }
-    ensures refused { IsTrue F.TELLS → IfErr result (RefusesCertificate (shifts_seen shifts) (F.contents files.now) path.now (map (λ word. word.now) arguments.now)) }
+    ensures told { IsTrue F.TELLS → IsTrue E.TELLS → OnOk result (FileCertificateTells HasLines progress shifts (F.store files.old).contents path.now (map (λ word. word.now) arguments.now) (E.taken err.old) (E.taken err.new)) }
+    ensures part { IsTrue F.TELLS → IsTrue E.TELLS → OnErr result ((err.new ≡ err.old)
+        ⊎ FileCertificateTells Reaches progress shifts (F.store files.old).contents path.now (map (λ word. word.now) arguments.now) (E.taken err.old) (E.taken err.new)) }
+    ensures said { IsTrue F.TELLS → IfOk result (λ said. SaysCertificate (shifts_seen shifts) (F.store files.old).contents path.now (map (λ word. word.now) arguments.now) said.0.items said.1) }
+    ensures refused { IsTrue F.TELLS → IfErr result (RefusesCertificate (shifts_seen shifts) (F.store files.old).contents path.now (map (λ word. word.now) arguments.now)) }
+    ensures calm { OnOk result (F.store files.new ≡ F.store files.old) }
+    ensures counted { IfErr result (λ fault. IsReadBy fault (F.store files.old) (F.store files.new)) }
 {
     let image = image_of(alloc, path, files)?;
     let params = params(alloc, &image)?;

@@ -1,7 +1,8 @@
 // What is done with a text and arguments: it is worked out what the text means on them.
 
-ghost use Rattle.std.specs.Prelude.{◌≡◌, map, IsTrue, IfOk, IfErr};
+ghost use Rattle.std.specs.Prelude.{◌≡◌, map, IsTrue, IfOk, IfErr, OnOk};
 ghost use Rattle.std.specs.String.{string_bytes};
+ghost use Rattle.commands.specs.Failures.{IsReadBy};
 ghost use Rattle.commands.specs.Meanings.{evaluation_budget, SaysMeaning, RefusesMeaning};
 
 use crate::fault::Fault;
@@ -27,10 +28,12 @@ pub fn evaluate_text<'a, F: Files>(
     file: &'a str,
     arguments: &[&str],
     explain: bool,
-    files: &F,
+    files: &mut F,
 ) -> Result<String, Fault<'a>>
-    ensures said { IsTrue F.TELLS → IfOk result (λ text. SaysMeaning (F.contents files.now) file.now (map (λ word. word.now) arguments.now) (string_bytes text)) }
-    ensures refused { IsTrue F.TELLS → IfErr result (RefusesMeaning explain (F.contents files.now) file.now (map (λ word. word.now) arguments.now)) }
+    ensures said { IsTrue F.TELLS → IfOk result (λ text. SaysMeaning (F.store files.old).contents file.now (map (λ word. word.now) arguments.now) (string_bytes text)) }
+    ensures refused { IsTrue F.TELLS → IfErr result (RefusesMeaning explain (F.store files.old).contents file.now (map (λ word. word.now) arguments.now)) }
+    ensures calm { OnOk result (F.store files.new ≡ F.store files.old) }
+    ensures counted { IfErr result (λ fault. IsReadBy fault (F.store files.old) (F.store files.new)) }
 {
     accepted_texts_are_evaluated();
     let text = text_of_file(alloc, file, files)?;

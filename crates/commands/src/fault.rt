@@ -14,29 +14,17 @@ use language::{Place, Refusal, Rule};
 use source_eval::EvalFault;
 use std::alloc::{AllocError, AllocFailed};
 use std::fmt;
+use thiserror::Error;
 
 /// What a file failed by, with its path; that of standard output is `-`.
-#[derive(Clone, Copy, Debug)]
+#[derive(Clone, Copy, Debug, Error)]
 pub enum FileFault<'a> {
+    #[error("cannot read {0}")]
     CannotRead(&'a str),
+    #[error("cannot write {0}")]
     CannotWrite(&'a str),
+    #[error("not UTF-8 {0}")]
     NotUtf8(&'a str),
-}
-
-/// `cannot read text.fact`.
-impl fmt::Display for FileFault<'_> {
-    ghost use Rattle.std.specs.Prelude.{Some};
-    ghost use Rattle.commands.specs.FaultText.{file_fault_text};
-
-    ghost output = { λ fault. Some (file_fault_text fault) };
-
-    fn fmt<W: fmt::Write>(&self, f: &mut fmt::Formatter<W>) -> fmt::Result {
-        match *self {
-            FileFault::CannotRead(path) => write!(f, "cannot read {path}"),
-            FileFault::CannotWrite(path) => write!(f, "cannot write {path}"),
-            FileFault::NotUtf8(path) => write!(f, "not UTF-8 {path}"),
-        }
-    }
 }
 
 /// Why a command was not done.
@@ -99,7 +87,8 @@ impl Fault<'_> {
     }
 }
 
-/// Its lines for standard error, without the last one's end.
+/// Its lines for standard error, without the last one's end. Those of a file's fault are written out here, since what is
+/// derived has no contract.
 impl fmt::Display for Fault<'_> {
     ghost use Rattle.std.specs.Prelude.{Some};
     ghost use Rattle.commands.specs.FaultText.{fault_line};
@@ -134,7 +123,9 @@ impl fmt::Display for Fault<'_> {
                 let fault: FunctionFault<Refusal> = FunctionFault::Name(*place);
                 write!(f, "refused: {fault}")
             }
-            Fault::File(fault) => write!(f, "file: {fault}"),
+            Fault::File(FileFault::CannotRead(path)) => write!(f, "file: cannot read {path}"),
+            Fault::File(FileFault::CannotWrite(path)) => write!(f, "file: cannot write {path}"),
+            Fault::File(FileFault::NotUtf8(path)) => write!(f, "file: not UTF-8 {path}"),
         }
     }
 }

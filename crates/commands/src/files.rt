@@ -1,28 +1,49 @@
-ghost use Rattle.std.specs.Prelude.{◌≡◌, ◌≤◌, Bool, vec_len, IsTrue, IfOk, OnOk, OnErr};
-ghost use Rattle.commands.specs.Contents.{Contents, Begins, IsWritten, IsCutOff};
+ghost use Rattle.std.specs.Prelude.{◌≡◌, ◌≢◌, [], Bool, Some, None, IsTrue, IfOk, OnOk, OnErr};
+ghost use Rattle.commands.specs.Contents.{Store, failed, failed_times, IsWritten};
 
-use std::alloc::Global;
-use streams::{ReadFault, SinkFault};
+use streams::{Sink, SinkFault, Source, SourceFault};
 
-/// Files by their paths.
+/// Files by their paths. They have a view: what they hold, and how many calls of them have failed, a count that stays at
+/// 2^64 - 1. In it are the failed calls of a source or a sink once that is handed back.
 pub trait Files {
+    type Source: Source;
+
+    type Sink: Sink;
+
     /// Whether it is known what the files hold. Where this is false, as for those of a system, the clauses on
     /// what they hold say nothing.
     ghost TELLS: { Bool };
 
-    ghost contents: { Self → Contents };
+    ghost store: { Self → Store };
 
-    /// The bytes of a file, to their end or until there are `limit` of them. Reading changes no file.
-    fn read(&self, alloc: Global, path: &str, limit: usize) -> Result<Vec<u8>, ReadFault>
-        ensures bound { IfOk result (λ bytes. vec_len bytes ≤ limit) }
-        ensures begins { IsTrue TELLS
-            → IfOk result (λ bytes. Begins (contents self.now) path.now limit bytes.items) };
+    /// A file, to be read from its beginning.
+    fn open(&mut self, path: &str) -> Result<Self::Source, SourceFault>
+        ensures told { IsTrue TELLS → OnOk result (IsTrue Self.Source.TELLS) }
+        ensures opens { IsTrue TELLS
+            → IfOk result (λ source. (store self.old).contents path.now ≡ Some (Self.Source.coming source)) }
+        ensures fresh { IfOk result (λ source. Self.Source.failures source ≡ 0) }
+        ensures calm { OnOk result (store self.new ≡ store self.old) }
+        ensures counts { OnErr result (store self.new ≡ failed (store self.old)) };
 
-    /// Makes a file of these bytes, or puts them in the place of what the file holds. Where that fails it may
-    /// hold a beginning of them. No other file changes.
-    fn write(&mut self, path: &str, bytes: &[u8]) -> Result<(), SinkFault>
-        ensures written { IsTrue TELLS
-            → OnOk result (IsWritten path.now bytes.now (contents self.old) (contents self.new)) }
-        ensures cut_off { IsTrue TELLS
-            → OnErr result (IsCutOff path.now bytes.now (contents self.old) (contents self.new)) };
+    /// Takes back a source, whether it was read to its end or not.
+    fn close(&mut self, source: Self::Source)
+        ensures { store self.new ≡ failed_times (Self.Source.failures source) (store self.old) };
+
+    /// A file, emptied or made anew, to be written. No other file changes.
+    fn create(&mut self, path: &str) -> Result<Self::Sink, SinkFault>
+        ensures told { IsTrue TELLS → OnOk result (IsTrue Self.Sink.TELLS) }
+        ensures empty { IsTrue TELLS → IfOk result (λ sink. Self.Sink.taken sink ≡ []) }
+        ensures emptied { IsTrue TELLS
+            → OnOk result (IsWritten path.now [] (store self.old).contents (store self.new).contents) }
+        ensures fresh { IfOk result (λ sink. Self.Sink.failures sink ≡ 0) }
+        ensures calm { OnOk result ((store self.new).failures ≡ (store self.old).failures) }
+        ensures counts { OnErr result (store self.new ≡ failed (store self.old)) };
+
+    /// Takes back the sink of the file that was created at a path: the file holds what the sink has taken, also where
+    /// a call of it failed. No other file changes.
+    fn finish(&mut self, path: &str, sink: Self::Sink)
+        ensures holds { IsTrue TELLS → (store self.old).contents path.now ≢ None
+            → IsWritten path.now (Self.Sink.taken sink) (store self.old).contents (store self.new).contents }
+        ensures counts { (store self.new).failures
+            ≡ (failed_times (Self.Sink.failures sink) (store self.old)).failures };
 }

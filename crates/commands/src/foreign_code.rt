@@ -1,12 +1,14 @@
 // An image of code that another compiler made.
 
 ghost use Rattle.std.specs.Prelude.{◌≡◌, IsTrue, IfErr, OnOk};
+ghost use Rattle.commands.specs.Failures.{failures_by};
 ghost use Rattle.commands.specs.WrappedCode.{IsImageOfCode, RefusesCode};
 ghost use Rattle.commands.specs.Written.{IsWriteFault, WritesFile, FailsToWrite};
 
 use crate::fault::Fault;
 use crate::files::Files;
-use crate::texts::{read_fault, text_of_file, write_file};
+use crate::reading::bytes_of;
+use crate::texts::{text_of_file, write_file};
 use codegen::image_fields::MOST_WORDS;
 use input_files::wrapping::{Asked, WrapFault, wrap};
 use std::alloc::Global;
@@ -24,16 +26,15 @@ pub fn wrap_code<'a, F: Files>(
     asked: Asked,
     files: &mut F,
 ) -> Result<(), Fault<'a>>
-    ensures said { IsTrue F.TELLS → OnOk result (WritesFile image.now (IsImageOfCode asked (F.contents files.old) file.now code.now) (F.contents files.old) (F.contents files.new)) }
-    ensures refused { IsTrue F.TELLS → IfErr result (FailsToWrite image.now (IsImageOfCode asked (F.contents files.old) file.now code.now)
-        (RefusesCode asked (F.contents files.old) file.now code.now) (F.contents files.old) (F.contents files.new)) }
-    ensures untouched { IfErr result (λ fault. (IsWriteFault image.now fault → ⊥) → files.new ≡ files.old) }
+    ensures said { IsTrue F.TELLS → OnOk result (WritesFile image.now (IsImageOfCode asked (F.store files.old).contents file.now code.now) (F.store files.old).contents (F.store files.new).contents) }
+    ensures refused { IsTrue F.TELLS → IfErr result (FailsToWrite image.now (IsImageOfCode asked (F.store files.old).contents file.now code.now)
+        (RefusesCode asked (F.store files.old).contents file.now code.now) (F.store files.old).contents (F.store files.new).contents) }
+    ensures untouched { IfErr result (λ fault. (IsWriteFault image.now fault → ⊥) → (F.store files.new).contents ≡ (F.store files.old).contents) }
+    ensures calm { OnOk result ((F.store files.new).failures ≡ (F.store files.old).failures) }
+    ensures counted { IfErr result (λ fault. (F.store files.new).failures ≡ failures_by fault (F.store files.old).failures) }
 {
     let text = text_of_file(alloc, file, files)?;
-    let words = match files.read(alloc, code, CODE_LIMIT) {
-        Ok(bytes) => bytes,
-        Err(fault) => return Err(read_fault(code, fault)),
-    };
+    let words = bytes_of(alloc, code, CODE_LIMIT, files)?;
     match wrap(alloc, text.as_str(), words.as_slice(), asked) {
         Ok(bytes) => write_file(image, bytes.as_slice(), files),
         Err(WrapFault::Text(refusal)) => Err(Fault::Text(refusal)),

@@ -10,6 +10,7 @@ ghost use Rattle.language.specs.arguments.Faults.{shifted};
 ghost use Rattle.hepurita.specs.Paired.{Paired};
 ghost use Rattle.codegen.specs.image_fields.Limits.{most_parameters};
 ghost use Rattle.streams.specs.Streams.{Writes, WritesPart};
+ghost use Rattle.commands.specs.Failures.{IsReadBy, IsReadOrPrinted};
 ghost use Rattle.commands.specs.Images.{HoldsImage, NoImage};
 ghost use Rattle.commands.specs.Leaks.{SaysLeak, RefusesLeak, IsFaultOfLeak, IsOutputFault};
 ghost use Rattle.commands.specs.Pairs.{SaysPair, RefusesPair, SaysList, PrintsPairing, pairing_text};
@@ -24,8 +25,8 @@ use crate::fault::{Fault, FileFault};
 use crate::files::Files;
 use crate::outcome;
 use crate::performing::{DONE, STANDARD_OUTPUT, STOPPED};
+use crate::reading::bytes_of;
 use crate::telling::{outcome_of, pairing_of};
-use crate::texts::read_fault;
 use hepurita::{RunFault, params, read_args};
 use image::{Image, LONGEST_IMAGE, read};
 use image_reports::pair_explanations::explain_difference;
@@ -37,14 +38,17 @@ use std::alloc::{AllocError, Global};
 use streams::Sink;
 
 /// The image of a file. One byte more than the longest image has is read, so that a longer file is refused.
-pub fn image_of<'a, F: Files>(alloc: Global, path: &'a str, files: &F) -> Result<Image, Fault<'a>>
-    ensures said { IsTrue F.TELLS → IfOk result (HoldsImage (F.contents files.now) path.now) }
-    ensures refused { IsTrue F.TELLS → IfErr result (NoImage (F.contents files.now) path.now) }
+pub fn image_of<'a, F: Files>(
+    alloc: Global,
+    path: &'a str,
+    files: &mut F,
+) -> Result<Image, Fault<'a>>
+    ensures said { IsTrue F.TELLS → IfOk result (HoldsImage (F.store files.old).contents path.now) }
+    ensures refused { IsTrue F.TELLS → IfErr result (NoImage (F.store files.old).contents path.now) }
+    ensures calm { OnOk result (F.store files.new ≡ F.store files.old) }
+    ensures counted { IfErr result (λ fault. IsReadBy fault (F.store files.old) (F.store files.new)) }
 {
-    let bytes = match files.read(alloc, path, LONGEST_IMAGE + 1) {
-        Ok(bytes) => bytes,
-        Err(fault) => return Err(read_fault(path, fault)),
-    };
+    let bytes = bytes_of(alloc, path, LONGEST_IMAGE + 1, files)?;
     let image = read(alloc, bytes.as_slice())?;
     Ok(image)
 }
@@ -55,14 +59,16 @@ pub fn run_image<'a, F: Files, E: Sink>(
     path: &'a str,
     arguments: &[&str],
     progress: bool,
-    files: &F,
+    files: &mut F,
     err: &mut E,
 ) -> Result<String, Fault<'a>>
-    ensures told { IsTrue F.TELLS → IsTrue E.TELLS → OnOk result (FileRunTells HasLines progress (F.contents files.now) path.now (map (λ word. word.now) arguments.now) (E.taken err.old) (E.taken err.new)) }
-    ensures part { IsTrue F.TELLS → IsTrue E.TELLS → OnErr result ((E.taken err.new ≡ E.taken err.old)
-        ⊎ FileRunTells Reaches progress (F.contents files.now) path.now (map (λ word. word.now) arguments.now) (E.taken err.old) (E.taken err.new)) }
-    ensures said { IsTrue F.TELLS → IfOk result (λ text. SaysRun (F.contents files.now) path.now (map (λ word. word.now) arguments.now) (string_bytes text)) }
-    ensures refused { IsTrue F.TELLS → IfErr result (RefusesRun (F.contents files.now) path.now (map (λ word. word.now) arguments.now)) }
+    ensures told { IsTrue F.TELLS → IsTrue E.TELLS → OnOk result (FileRunTells HasLines progress (F.store files.old).contents path.now (map (λ word. word.now) arguments.now) (E.taken err.old) (E.taken err.new)) }
+    ensures part { IsTrue F.TELLS → IsTrue E.TELLS → OnErr result ((err.new ≡ err.old)
+        ⊎ FileRunTells Reaches progress (F.store files.old).contents path.now (map (λ word. word.now) arguments.now) (E.taken err.old) (E.taken err.new)) }
+    ensures said { IsTrue F.TELLS → IfOk result (λ text. SaysRun (F.store files.old).contents path.now (map (λ word. word.now) arguments.now) (string_bytes text)) }
+    ensures refused { IsTrue F.TELLS → IfErr result (RefusesRun (F.store files.old).contents path.now (map (λ word. word.now) arguments.now)) }
+    ensures calm { OnOk result (F.store files.new ≡ F.store files.old) }
+    ensures counted { IfErr result (λ fault. IsReadBy fault (F.store files.old) (F.store files.new)) }
 {
     let image = image_of(alloc, path, files)?;
     let params = params(alloc, &image)?;
@@ -78,17 +84,18 @@ pub fn leak_image<'a, F: Files, O: Sink>(
     alloc: Global,
     path: &'a str,
     arguments: &[&str],
-    files: &F,
+    files: &mut F,
     out: &mut O,
 ) -> Result<u8, Fault<'a>>
     ensures known { IfOk result (λ status. status ≤ 5) }
-    ensures calm { OnOk result (O.failures out.new ≡ O.failures out.old) }
-    ensures said { IsTrue F.TELLS → IfOk result (λ status. (text : List ℕ) × SaysLeak (F.contents files.now) path.now (map (λ word. word.now) arguments.now) status text) }
+    ensures calm { OnOk result ((F.store files.new ≡ F.store files.old) × (O.failures out.new ≡ O.failures out.old)) }
+    ensures counted { IfErr result (λ fault. IsReadOrPrinted fault (F.store files.old) (F.store files.new) (O.failures out.old) (O.failures out.new)) }
+    ensures said { IsTrue F.TELLS → IfOk result (λ status. (text : List ℕ) × SaysLeak (F.store files.old).contents path.now (map (λ word. word.now) arguments.now) status text) }
     ensures written { IsTrue F.TELLS → IsTrue O.TELLS → IfOk result (λ status.
-        Writes (SaysLeak (F.contents files.now) path.now (map (λ word. word.now) arguments.now) status) (O.taken out.old) (O.taken out.new)) }
-    ensures refused { IsTrue F.TELLS → IfErr result (RefusesLeak (F.contents files.now) path.now (map (λ word. word.now) arguments.now)) }
+        Writes (SaysLeak (F.store files.old).contents path.now (map (λ word. word.now) arguments.now) status) (O.taken out.old) (O.taken out.new)) }
+    ensures refused { IsTrue F.TELLS → IfErr result (RefusesLeak (F.store files.old).contents path.now (map (λ word. word.now) arguments.now)) }
     ensures beginning { IsTrue F.TELLS → IsTrue O.TELLS → IfErr result (λ fault. IsOutputFault fault
-        → WritesPart (λ text. (status : ℕ) × SaysLeak (F.contents files.now) path.now (map (λ word. word.now) arguments.now) status text) (O.taken out.old) (O.taken out.new)) }
+        → WritesPart (λ text. (status : ℕ) × SaysLeak (F.store files.old).contents path.now (map (λ word. word.now) arguments.now) status text) (O.taken out.old) (O.taken out.new)) }
     ensures untouched { IfErr result (λ fault. (IsOutputFault fault → ⊥) → out.new ≡ out.old) }
 {
     let image = image_of(alloc, path, files)?;
@@ -131,10 +138,12 @@ fn leak_fault(fault: LeakFault) -> Fault<'static>
 pub fn list_image<'a, F: Files>(
     alloc: Global,
     path: &'a str,
-    files: &F,
+    files: &mut F,
 ) -> Result<Vec<u8>, Fault<'a>>
-    ensures said { IsTrue F.TELLS → IfOk result (λ lines. SaysList (F.contents files.now) path.now lines.items) }
-    ensures refused { IsTrue F.TELLS → IfErr result (NoImage (F.contents files.now) path.now) }
+    ensures said { IsTrue F.TELLS → IfOk result (λ lines. SaysList (F.store files.old).contents path.now lines.items) }
+    ensures refused { IsTrue F.TELLS → IfErr result (NoImage (F.store files.old).contents path.now) }
+    ensures calm { OnOk result (F.store files.new ≡ F.store files.old) }
+    ensures counted { IfErr result (λ fault. IsReadBy fault (F.store files.old) (F.store files.new)) }
 {
     let image = image_of(alloc, path, files)?;
     let lines = list(alloc, &image)?;
@@ -148,14 +157,16 @@ pub fn pair_image<'a, F: Files, E: Sink>(
     path: &'a str,
     arguments: &[&str],
     options: PairOptions,
-    files: &F,
+    files: &mut F,
     err: &mut E,
 ) -> Result<Vec<u8>, Fault<'a>>
-    ensures told { IsTrue F.TELLS → IsTrue E.TELLS → OnOk result (FilePairTells HasLines options.progress (F.contents files.now) path.now (map (λ word. word.now) arguments.now) (E.taken err.old) (E.taken err.new)) }
-    ensures part { IsTrue F.TELLS → IsTrue E.TELLS → OnErr result ((E.taken err.new ≡ E.taken err.old)
-        ⊎ FilePairTells Reaches options.progress (F.contents files.now) path.now (map (λ word. word.now) arguments.now) (E.taken err.old) (E.taken err.new)) }
-    ensures said { IsTrue F.TELLS → IfOk result (λ text. SaysPair options.explain (F.contents files.now) path.now (map (λ word. word.now) arguments.now) text.items) }
-    ensures refused { IsTrue F.TELLS → IfErr result (RefusesPair (F.contents files.now) path.now (map (λ word. word.now) arguments.now)) }
+    ensures told { IsTrue F.TELLS → IsTrue E.TELLS → OnOk result (FilePairTells HasLines options.progress (F.store files.old).contents path.now (map (λ word. word.now) arguments.now) (E.taken err.old) (E.taken err.new)) }
+    ensures part { IsTrue F.TELLS → IsTrue E.TELLS → OnErr result ((err.new ≡ err.old)
+        ⊎ FilePairTells Reaches options.progress (F.store files.old).contents path.now (map (λ word. word.now) arguments.now) (E.taken err.old) (E.taken err.new)) }
+    ensures said { IsTrue F.TELLS → IfOk result (λ text. SaysPair options.explain (F.store files.old).contents path.now (map (λ word. word.now) arguments.now) text.items) }
+    ensures refused { IsTrue F.TELLS → IfErr result (RefusesPair (F.store files.old).contents path.now (map (λ word. word.now) arguments.now)) }
+    ensures calm { OnOk result (F.store files.new ≡ F.store files.old) }
+    ensures counted { IfErr result (λ fault. IsReadBy fault (F.store files.old) (F.store files.new)) }
 {
     let image = image_of(alloc, path, files)?;
     let params = params(alloc, &image)?;

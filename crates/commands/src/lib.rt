@@ -16,6 +16,7 @@ mod measuring;
 mod outcome;
 mod performing;
 mod picturing;
+mod reading;
 mod side_by_side;
 mod telling;
 mod texts;

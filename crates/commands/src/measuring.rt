@@ -1,15 +1,17 @@
 // What the source or the image of a file costs.
 
-ghost use Rattle.std.specs.Prelude.{◌≡◌, ◌+◌, ℕ, List, Some, take, IsTrue, IfOk, IfErr};
+ghost use Rattle.std.specs.Prelude.{◌≡◌, ◌+◌, ℕ, List, Some, take, IsTrue, IfOk, IfErr, OnOk};
 ghost use Rattle.std.specs.String.{string_bytes};
-ghost use Rattle.commands.specs.Contents.{Contents};
+ghost use Rattle.commands.specs.Contents.{Contents, Store};
 ghost use Rattle.commands.specs.Costs.{SaysCosts, RefusesCosts};
+ghost use Rattle.commands.specs.Failures.{IsReadBy};
 ghost use Rattle.commands.specs.Judged.{IsRefused, SaysStatistics};
 ghost use Rattle.image.specs.Limits.{longest_image};
 
 use crate::fault::Fault;
 use crate::files::Files;
-use crate::texts::{read_fault, text_fault};
+use crate::reading::bytes_of;
+use crate::texts::text_fault;
 use image::LONGEST_IMAGE;
 use image_reports::image_statistics::image_statistics;
 use image_reports::source_statistics::source_statistics;
@@ -32,6 +34,7 @@ fn source_costs<'a>(
     ensures refused { (files : Contents) (whole : List ℕ) → files file.now ≡ Some whole
         → bytes.items ≡ take (longest_image + 1) whole
         → IfErr result (IsRefused profile files file.now) }
+    ensures calm { (files : Store) → IfErr result (λ fault. IsReadBy fault files files) }
 {
     bytes.truncate(TEXT_LIMIT + 1);
     let text = match text_of(bytes) {
@@ -48,16 +51,15 @@ pub fn measure_file<'a, F: Files>(
     alloc: Global,
     file: &'a str,
     profile: Profile,
-    files: &F,
+    files: &mut F,
 ) -> Result<String, Fault<'a>>
     ensures said { IsTrue F.TELLS
-        → IfOk result (λ text. SaysCosts profile (F.contents files.now) file.now (string_bytes text)) }
-    ensures refused { IsTrue F.TELLS → IfErr result (RefusesCosts profile (F.contents files.now) file.now) }
+        → IfOk result (λ text. SaysCosts profile (F.store files.old).contents file.now (string_bytes text)) }
+    ensures refused { IsTrue F.TELLS → IfErr result (RefusesCosts profile (F.store files.old).contents file.now) }
+    ensures calm { OnOk result (F.store files.new ≡ F.store files.old) }
+    ensures counted { IfErr result (λ fault. IsReadBy fault (F.store files.old) (F.store files.new)) }
 {
-    let bytes = match files.read(alloc, file, LONGEST_IMAGE + 1) {
-        Ok(bytes) => bytes,
-        Err(fault) => return Err(read_fault(file, fault)),
-    };
+    let bytes = bytes_of(alloc, file, LONGEST_IMAGE + 1, files)?;
     match image_statistics(alloc, bytes.as_slice())? {
         Some(lines) => Ok(lines),
         None => source_costs(alloc, file, bytes, profile),

@@ -1,11 +1,13 @@
 // A request, done.
 
 ghost use Rattle.std.specs.Prelude.{◌≡◌, ◌≤◌, ◌++◌, ◌⊎◌, IsTrue, IfOk, IfErr, OnOk, OnErr};
+ghost use Rattle.commands.specs.Failures.{Counts};
+ghost use Rattle.commands.specs.FaultText.{fault_status};
 ghost use Rattle.commands.specs.Leaks.{IsOutputFault};
 ghost use Rattle.commands.specs.Progress.{RequestTells};
-ghost use Rattle.commands.specs.Requests.{IsPut, IsDone, Fails, Reports, Performs};
+ghost use Rattle.commands.specs.Requests.{collected, IsPut, IsPutWhole, IsPutInPart, IsDone, Fails, Reports, Performs, Ends};
 ghost use Rattle.run_reports.specs.progress.GoingOn.{Reaches, HasLines};
-ghost use Rattle.streams.specs.Streams.{GainsPart};
+ghost use Rattle.word.specs.Counts.{one_more};
 
 use crate::certifying::certify_image;
 use crate::command_line::{NoRequest, Request, parse};
@@ -67,10 +69,12 @@ pub fn perform<F: Files, O: Sink, E: Sink>(
     err: &mut E,
 ) -> u8
     ensures performed { IsTrue F.TELLS → IsTrue O.TELLS → IsTrue E.TELLS
-        → Performs request.entry (F.contents files.old) (F.contents files.new) (O.taken out.old) (O.taken out.new)
-        (E.taken err.old) (E.taken err.new) result }
+        → Performs request.entry (F.store files.old) (F.store files.new)
+        (collected (O.taken out.old) (O.failures out.old)) (collected (O.taken out.new) (O.failures out.new))
+        (collected (E.taken err.old) (E.failures err.old)) (collected (E.taken err.new) (E.failures err.new)) result }
     ensures known { result ≤ 5 }
     ensures calm { result ≡ 0 → O.failures out.new ≡ O.failures out.old }
+    ensures counted { Ends (F.store files.old).failures (F.store files.new).failures (O.failures out.old) (O.failures out.new) result }
 {
     let mut text = String::new(alloc);
     match answer(alloc, request, files, &mut text, out, err) {
@@ -82,7 +86,10 @@ pub fn perform<F: Files, O: Sink, E: Sink>(
 /// Prints the fault's line, and answers its exit status. Where there is no memory for the line, the
 /// fault is out of memory. That the line could not be printed is nowhere to be said.
 fn report<E: Sink>(alloc: Global, fault: &Fault<'_>, err: &mut E) -> u8
-    ensures reported { IsTrue E.TELLS → Reports fault.now (E.taken err.old) (E.taken err.new) result }
+    ensures reported { IsTrue E.TELLS → Reports fault.now (collected (E.taken err.old) (E.failures err.old))
+        (collected (E.taken err.new) (E.failures err.new)) result }
+    ensures status { (result ≡ fault_status fault.now) ⊎ (result ≡ 4) }
+    ensures counted { (E.failures err.new ≡ E.failures err.old) ⊎ (E.failures err.new ≡ one_more (E.failures err.old)) }
     ensures low { 1 ≤ result }
     ensures high { result ≤ 5 }
 {
@@ -127,14 +134,17 @@ fn answer<'a, F: Files, O: Sink, E: Sink>(
     err: &mut E,
 ) -> Result<u8, Fault<'a>>
     ensures done { IsTrue F.TELLS → IsTrue O.TELLS
-        → IfOk result (IsDone request.entry (F.contents files.old) (F.contents files.new) (O.taken out.old) (O.taken out.new)) }
+        → IfOk result (IsDone request.entry (F.store files.old) (F.store files.new)
+        (collected (O.taken out.old) (O.failures out.old)) (collected (O.taken out.new) (O.failures out.new))) }
     ensures failed { IsTrue F.TELLS → IsTrue O.TELLS
-        → IfErr result (Fails request.entry (F.contents files.old) (F.contents files.new) (O.taken out.old) (O.taken out.new)) }
-    ensures told { IsTrue F.TELLS → IsTrue E.TELLS → OnOk result (RequestTells HasLines request.entry (F.contents files.old) (E.taken err.old) (E.taken err.new)) }
-    ensures part { IsTrue F.TELLS → IsTrue E.TELLS → OnErr result ((E.taken err.new ≡ E.taken err.old)
-        ⊎ RequestTells Reaches request.entry (F.contents files.old) (E.taken err.old) (E.taken err.new)) }
+        → IfErr result (Fails request.entry (F.store files.old) (F.store files.new)
+        (collected (O.taken out.old) (O.failures out.old)) (collected (O.taken out.new) (O.failures out.new))) }
+    ensures told { IsTrue F.TELLS → IsTrue E.TELLS → OnOk result (RequestTells HasLines request.entry (F.store files.old).contents (E.taken err.old) (E.taken err.new)) }
+    ensures part { IsTrue F.TELLS → IsTrue E.TELLS → OnErr result ((err.new ≡ err.old)
+        ⊎ RequestTells Reaches request.entry (F.store files.old).contents (E.taken err.old) (E.taken err.new)) }
     ensures known { IfOk result (λ status. status ≤ 5) }
-    ensures calm { OnOk result (O.failures out.new ≡ O.failures out.old) }
+    ensures calm { OnOk result (((F.store files.new).failures ≡ (F.store files.old).failures) × (O.failures out.new ≡ O.failures out.old)) }
+    ensures counted { IfErr result (Counts (F.store files.old).failures (F.store files.new).failures (O.failures out.old) (O.failures out.new)) }
 {
     match request {
         Request::Check {
@@ -247,14 +257,17 @@ fn answer<'a, F: Files, O: Sink, E: Sink>(
 fn answer_harts<'a, F: Files, O: Sink>(
     alloc: Global,
     file: &'a str,
-    files: &F,
+    files: &mut F,
     text: &'a mut String,
     out: &mut O,
 ) -> Result<u8, Fault<'a>>
     ensures known { IfOk result (λ status. status ≤ 5) }
-    ensures calm { OnOk result (O.failures out.new ≡ O.failures out.old) }
-    ensures done { IsTrue F.TELLS → IsTrue O.TELLS → IfOk result (IsDone (Request.Harts file.entry) (F.contents files.now) (F.contents files.now) (O.taken out.old) (O.taken out.new)) }
-    ensures failed { IsTrue F.TELLS → IsTrue O.TELLS → IfErr result (Fails (Request.Harts file.entry) (F.contents files.now) (F.contents files.now) (O.taken out.old) (O.taken out.new)) }
+    ensures calm { OnOk result ((F.store files.new ≡ F.store files.old) × (O.failures out.new ≡ O.failures out.old)) }
+    ensures counted { IfErr result (Counts (F.store files.old).failures (F.store files.new).failures (O.failures out.old) (O.failures out.new)) }
+    ensures done { IsTrue F.TELLS → IsTrue O.TELLS → IfOk result (IsDone (Request.Harts file.entry) (F.store files.old) (F.store files.new)
+        (collected (O.taken out.old) (O.failures out.old)) (collected (O.taken out.new) (O.failures out.new))) }
+    ensures failed { IsTrue F.TELLS → IsTrue O.TELLS → IfErr result (Fails (Request.Harts file.entry) (F.store files.old) (F.store files.new)
+        (collected (O.taken out.old) (O.failures out.old)) (collected (O.taken out.new) (O.failures out.new))) }
 {
     *text = whole_text(alloc, file, files)?;
     let (lines, status) = run_side_by_side(alloc, text.as_str(), files)?;
@@ -264,9 +277,12 @@ fn answer_harts<'a, F: Files, O: Sink>(
 /// Prints bytes to standard output, and answers this exit status.
 fn print<'a, O: Sink>(out: &mut O, bytes: &[u8], status: u8) -> Result<u8, Fault<'a>>
     ensures answer { IfOk result (λ given. given ≡ status) }
-    ensures whole { IsTrue O.TELLS → OnOk result (O.taken out.new ≡ O.taken out.old ++ bytes.now) }
+    ensures whole { IsTrue O.TELLS → OnOk result (IsPutWhole bytes.now (collected (O.taken out.old) (O.failures out.old))
+        (collected (O.taken out.new) (O.failures out.new))) }
     ensures calm { OnOk result (O.failures out.new ≡ O.failures out.old) }
-    ensures beginning { IsTrue O.TELLS → OnErr result (GainsPart (O.taken out.old) (O.taken out.new) bytes.now) }
+    ensures beginning { IsTrue O.TELLS → OnErr result (IsPutInPart bytes.now (collected (O.taken out.old) (O.failures out.old))
+        (collected (O.taken out.new) (O.failures out.new))) }
+    ensures counts { OnErr result (O.failures out.new ≡ one_more (O.failures out.old)) }
     ensures fault { IfErr result IsOutputFault }
 {
     match put_all(out, bytes) {

@@ -1,8 +1,9 @@
 // The picture of an image's runs.
 
-ghost use Rattle.std.specs.Prelude.{◌≡◌, map, IsTrue, IfOk, IfErr};
+ghost use Rattle.std.specs.Prelude.{◌≡◌, map, IsTrue, IfOk, IfErr, OnOk};
 ghost use Rattle.codegen.specs.Loaded.{params_of};
 ghost use Rattle.codegen.specs.image_fields.Fields.{IsImage};
+ghost use Rattle.commands.specs.Failures.{IsReadBy};
 ghost use Rattle.commands.specs.Pictures.{PicturesOne, PicturesTwo, PicturesImage, RefusesOne, RefusesTwo, RefusesLists, SaysPicture, RefusesPicture};
 
 use crate::certifying::text_of;
@@ -29,10 +30,12 @@ pub fn picture_image<'a, F: Files>(
     alloc: Global,
     path: &'a str,
     arguments: &[&str],
-    files: &F,
+    files: &mut F,
 ) -> Result<Vec<u8>, Fault<'a>>
-    ensures said { IsTrue F.TELLS → IfOk result (λ page. SaysPicture (F.contents files.now) path.now (map (λ word. word.now) arguments.now) page.items) }
-    ensures refused { IsTrue F.TELLS → IfErr result (RefusesPicture (F.contents files.now) path.now (map (λ word. word.now) arguments.now)) }
+    ensures said { IsTrue F.TELLS → IfOk result (λ page. SaysPicture (F.store files.old).contents path.now (map (λ word. word.now) arguments.now) page.items) }
+    ensures refused { IsTrue F.TELLS → IfErr result (RefusesPicture (F.store files.old).contents path.now (map (λ word. word.now) arguments.now)) }
+    ensures calm { OnOk result (F.store files.new ≡ F.store files.old) }
+    ensures counted { IfErr result (λ fault. IsReadBy fault (F.store files.old) (F.store files.new)) }
 {
     let image = image_of(alloc, path, files)?;
     let params = params(alloc, &image)?;

@@ -7,6 +7,7 @@ ghost use Rattle.codegen.specs.Loaded.{params_of};
 ghost use Rattle.hepurita.specs.Bases.{most_images};
 ghost use Rattle.harts.specs.Frames.{job_of};
 ghost use Rattle.input_files.specs.harts_file.Jobs.{hart_of};
+ghost use Rattle.commands.specs.Failures.{IsReadBy};
 ghost use Rattle.commands.specs.FileTexts.{NoWholeText};
 ghost use Rattle.commands.specs.Harts.{IsJobOf, SaysPlan};
 ghost use Rattle.commands.specs.HartsText.{behind, turns_text, ended_line, ended_text, ends_text, harts_text, is_well, status_of_ends};
@@ -17,7 +18,7 @@ use crate::files::Files;
 use crate::images::image_of;
 use crate::outcome;
 use crate::performing::{DONE, STOPPED};
-use crate::texts::read_fault;
+use crate::reading::bytes_of;
 use harts::{HartEnd, run_harts};
 use hepurita::read_args;
 use image::Image;
@@ -31,15 +32,14 @@ use std::alloc::{AllocError, Global};
 pub fn whole_text<'a, F: Files>(
     alloc: Global,
     file: &'a str,
-    files: &F,
+    files: &mut F,
 ) -> Result<String, Fault<'a>>
-    ensures said { IsTrue F.TELLS → IfOk result (λ text. F.contents files.now file.now ≡ Some (string_bytes text)) }
-    ensures refused { IsTrue F.TELLS → IfErr result (NoWholeText (F.contents files.now) file.now) }
+    ensures said { IsTrue F.TELLS → IfOk result (λ text. (F.store files.old).contents file.now ≡ Some (string_bytes text)) }
+    ensures refused { IsTrue F.TELLS → IfErr result (NoWholeText (F.store files.old).contents file.now) }
+    ensures calm { OnOk result (F.store files.new ≡ F.store files.old) }
+    ensures counted { IfErr result (λ fault. IsReadBy fault (F.store files.old) (F.store files.new)) }
 {
-    let bytes = match files.read(alloc, file, usize::MAX) {
-        Ok(bytes) => bytes,
-        Err(fault) => return Err(read_fault(file, fault)),
-    };
+    let bytes = bytes_of(alloc, file, usize::MAX, files)?;
     match String::from_utf8(bytes) {
         Ok(text) => Ok(text),
         Err(_) => Err(Fault::File(FileFault::NotUtf8(file))),
@@ -51,10 +51,12 @@ pub fn whole_text<'a, F: Files>(
 pub fn run_side_by_side<'a, F: Files>(
     alloc: Global,
     text: &'a str,
-    files: &F,
+    files: &mut F,
 ) -> Result<(Vec<u8>, u8), Fault<'a>>
-    ensures said { IsTrue F.TELLS → IfOk result (λ said. SaysPlan (F.contents files.now) text.now said.0.items said.1) }
+    ensures said { IsTrue F.TELLS → IfOk result (λ said. SaysPlan (F.store files.old).contents text.now said.0.items said.1) }
     ensures known { IfOk result (λ said. said.1 ≤ 5) }
+    ensures calm { OnOk result (F.store files.new ≡ F.store files.old) }
+    ensures counted { IfErr result (λ fault. IsReadBy fault (F.store files.old) (F.store files.new)) }
 {
     let plan = read(alloc, text)?;
     let jobs = load_jobs(alloc, plan.jobs.as_slice(), files)?;
@@ -73,10 +75,12 @@ pub fn run_side_by_side<'a, F: Files>(
 fn load_jobs<'a, F: Files>(
     alloc: Global,
     jobs: &[Job<'a>],
-    files: &F,
+    files: &mut F,
 ) -> Result<Vec<(Image, Args)>, Fault<'a>>
     ensures count { IfOk result (λ loaded. vec_len loaded ≡ length jobs.now) }
-    ensures said { IsTrue F.TELLS → IfOk result (λ loaded. AllZip (IsJobOf (F.contents files.now)) (map hart_of jobs.now) (map job_of loaded.items)) }
+    ensures said { IsTrue F.TELLS → IfOk result (λ loaded. AllZip (IsJobOf (F.store files.old).contents) (map hart_of jobs.now) (map job_of loaded.items)) }
+    ensures calm { OnOk result (F.store files.new ≡ F.store files.old) }
+    ensures counted { IfErr result (λ fault. IsReadBy fault (F.store files.old) (F.store files.new)) }
 {
     let mut loaded = Vec::new(alloc);
     for job in jobs {

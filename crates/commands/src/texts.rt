@@ -1,39 +1,31 @@
 // What is done with a source alone: it is judged, or compiled.
 
-ghost use Rattle.std.specs.Prelude.{◌≡◌, ℕ, List, Some, IsTrue, IfOk, IfErr, OnOk, OnErr};
+ghost use Rattle.std.specs.Prelude.{◌≡◌, ◌≢◌, ℕ, List, Some, IsTrue, IfOk, IfErr, OnOk, OnErr};
 ghost use Rattle.std.specs.String.{string_bytes};
-ghost use Rattle.commands.specs.Contents.{Contents, IsWritten, IsCutOff};
+ghost use Rattle.commands.specs.Contents.{Contents, Store, failed, IsWritten, IsCutOff};
+ghost use Rattle.commands.specs.Failures.{IsReadBy, failures_by};
 ghost use Rattle.commands.specs.FileTexts.{HoldsText, NoText};
 ghost use Rattle.commands.specs.Judged.{Tells, IsAccepted, IsRefusedSo, IsImageOf};
-ghost use Rattle.commands.specs.Unread.{NotRead};
 ghost use Rattle.commands.specs.Written.{IsWriteFault, WritesFile, FailsToWrite};
 ghost use Rattle.input_files.specs.stream_build.Faults as texts;
+ghost use Rattle.word.specs.Counts.{one_more};
 
 use crate::command_line::CompileOptions;
 use crate::fault::{Fault, FileFault};
 use crate::files::Files;
 use explanations::explained_refusals::explain_refusal;
 use hepurita::{build_with, judge_as};
-use input_files::stream_build::{BuildFault, text_of};
+use input_files::stream_build::{BuildFault, read_text};
 use language::{Profile, Refusal};
 use std::alloc::Global;
-use streams::ReadFault;
-use syntax::TEXT_LIMIT;
-
-/// Why a file was not read.
-pub fn read_fault(path: &str, fault: ReadFault) -> Fault<'_>
-    ensures { NotRead path.now result }
-{
-    match fault {
-        ReadFault::Source => Fault::File(FileFault::CannotRead(path)),
-        ReadFault::Memory => Fault::Text(Refusal::memory()),
-    }
-}
+use streams::put_all;
 
 /// Why the bytes of a file are no text.
 pub fn text_fault(file: &str, fault: BuildFault<Refusal>) -> Fault<'_>
-    ensures { (files : Contents) (bytes : List ℕ) → files file.now ≡ Some bytes → texts.NoText bytes fault
+    ensures fault { (files : Contents) (bytes : List ℕ) → files file.now ≡ Some bytes → texts.NoText bytes fault
         → NoText files file.now result }
+    ensures counts { (before : Store) → fault ≡ BuildFault.Read → IsReadBy result before (failed before) }
+    ensures calm { (before : Store) → fault ≢ BuildFault.Read → fault ≢ BuildFault.Write → IsReadBy result before before }
 {
     match fault {
         BuildFault::Read => Fault::File(FileFault::CannotRead(file)),
@@ -47,16 +39,19 @@ pub fn text_fault(file: &str, fault: BuildFault<Refusal>) -> Fault<'_>
 pub fn text_of_file<'a, F: Files>(
     alloc: Global,
     file: &'a str,
-    files: &F,
+    files: &mut F,
 ) -> Result<String, Fault<'a>>
-    ensures said { IsTrue F.TELLS → IfOk result (λ text. HoldsText (F.contents files.now) file.now (string_bytes text)) }
-    ensures refused { IsTrue F.TELLS → IfErr result (NoText (F.contents files.now) file.now) }
+    ensures said { IsTrue F.TELLS → IfOk result (λ text. HoldsText (F.store files.old).contents file.now (string_bytes text)) }
+    ensures refused { IsTrue F.TELLS → IfErr result (NoText (F.store files.old).contents file.now) }
+    ensures calm { OnOk result (F.store files.new ≡ F.store files.old) }
+    ensures counted { IfErr result (λ fault. IsReadBy fault (F.store files.old) (F.store files.new)) }
 {
-    let bytes = match files.read(alloc, file, TEXT_LIMIT + 1) {
-        Ok(bytes) => bytes,
-        Err(fault) => return Err(read_fault(file, fault)),
+    let Ok(mut source) = files.open(file) else {
+        return Err(Fault::File(FileFault::CannotRead(file)));
     };
-    match text_of(bytes) {
+    let text = read_text(alloc, &mut source);
+    files.close(source);
+    match text {
         Ok(text) => Ok(text),
         Err(fault) => Err(text_fault(file, fault)),
     }
@@ -64,11 +59,18 @@ pub fn text_of_file<'a, F: Files>(
 
 /// Writes a file.
 pub fn write_file<'a, F: Files>(path: &'a str, bytes: &[u8], files: &mut F) -> Result<(), Fault<'a>>
-    ensures written { IsTrue F.TELLS → OnOk result (IsWritten path.now bytes.now (F.contents files.old) (F.contents files.new)) }
-    ensures cut_off { IsTrue F.TELLS → OnErr result (IsCutOff path.now bytes.now (F.contents files.old) (F.contents files.new)) }
+    ensures written { IsTrue F.TELLS → OnOk result (IsWritten path.now bytes.now (F.store files.old).contents (F.store files.new).contents) }
+    ensures cut_off { IsTrue F.TELLS → OnErr result (IsCutOff path.now bytes.now (F.store files.old).contents (F.store files.new).contents) }
     ensures fault { IfErr result (IsWriteFault path.now) }
+    ensures calm { OnOk result ((F.store files.new).failures ≡ (F.store files.old).failures) }
+    ensures counts { OnErr result ((F.store files.new).failures ≡ one_more (F.store files.old).failures) }
 {
-    match files.write(path, bytes) {
+    let Ok(mut sink) = files.create(path) else {
+        return Err(Fault::File(FileFault::CannotWrite(path)));
+    };
+    let put = put_all(&mut sink, bytes);
+    files.finish(path, sink);
+    match put {
         Ok(()) => Ok(()),
         Err(_) => Err(Fault::File(FileFault::CannotWrite(path))),
     }
@@ -93,10 +95,12 @@ pub fn check_text<'a, F: Files>(
     file: &'a str,
     profile: Profile,
     explain: bool,
-    files: &F,
+    files: &mut F,
 ) -> Result<(), Fault<'a>>
-    ensures said { IsTrue F.TELLS → OnOk result (IsAccepted profile (F.contents files.now) file.now) }
-    ensures refused { IsTrue F.TELLS → IfErr result (IsRefusedSo explain profile (F.contents files.now) file.now) }
+    ensures said { IsTrue F.TELLS → OnOk result (IsAccepted profile (F.store files.old).contents file.now) }
+    ensures refused { IsTrue F.TELLS → IfErr result (IsRefusedSo explain profile (F.store files.old).contents file.now) }
+    ensures calm { OnOk result (F.store files.new ≡ F.store files.old) }
+    ensures counted { IfErr result (λ fault. IsReadBy fault (F.store files.old) (F.store files.new)) }
 {
     let text = text_of_file(alloc, file, files)?;
     match judge_as(alloc, text.as_str(), profile) {
@@ -105,8 +109,9 @@ pub fn check_text<'a, F: Files>(
     }
 }
 
-/// Compiles the source of one file, for an observer, to the plain or the optimised image of another, which is written only
-/// once the source was accepted. A refusal is explained where that is asked for; it does not depend on the optimisation.
+/// Compiles the source of one file, for an observer, to the plain or the optimised image of another. This is the engine
+/// `build_stream_with` in two calls: the text is read as it reads one, and stays at hand for who explains a refusal; and the
+/// image is created, and its bytes are put, only once the text was accepted. A refusal does not depend on the optimisation.
 pub fn build_image<'a, F: Files>(
     alloc: Global,
     file: &'a str,
@@ -114,10 +119,12 @@ pub fn build_image<'a, F: Files>(
     options: CompileOptions,
     files: &mut F,
 ) -> Result<(), Fault<'a>>
-    ensures said { IsTrue F.TELLS → OnOk result (WritesFile image.now (IsImageOf options.optimisation options.profile (F.contents files.old) file.now) (F.contents files.old) (F.contents files.new)) }
-    ensures refused { IsTrue F.TELLS → IfErr result (FailsToWrite image.now (IsImageOf options.optimisation options.profile (F.contents files.old) file.now)
-        (IsRefusedSo options.explain options.profile (F.contents files.old) file.now) (F.contents files.old) (F.contents files.new)) }
-    ensures untouched { IfErr result (λ fault. (IsWriteFault image.now fault → ⊥) → files.new ≡ files.old) }
+    ensures said { IsTrue F.TELLS → OnOk result (WritesFile image.now (IsImageOf options.optimisation options.profile (F.store files.old).contents file.now) (F.store files.old).contents (F.store files.new).contents) }
+    ensures refused { IsTrue F.TELLS → IfErr result (FailsToWrite image.now (IsImageOf options.optimisation options.profile (F.store files.old).contents file.now)
+        (IsRefusedSo options.explain options.profile (F.store files.old).contents file.now) (F.store files.old).contents (F.store files.new).contents) }
+    ensures untouched { IfErr result (λ fault. (IsWriteFault image.now fault → ⊥) → (F.store files.new).contents ≡ (F.store files.old).contents) }
+    ensures calm { OnOk result ((F.store files.new).failures ≡ (F.store files.old).failures) }
+    ensures counted { IfErr result (λ fault. (F.store files.new).failures ≡ failures_by fault (F.store files.old).failures) }
 {
     let text = text_of_file(alloc, file, files)?;
     match build_with(alloc, text.as_str(), options.profile, options.optimisation) {

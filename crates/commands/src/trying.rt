@@ -1,7 +1,8 @@
 // What is done with vectors: those of one file are tried on the source of another.
 
-ghost use Rattle.std.specs.Prelude.{◌≡◌, ◌≤◌, IsTrue, IfOk, IfErr};
+ghost use Rattle.std.specs.Prelude.{◌≡◌, ◌≤◌, IsTrue, IfOk, IfErr, OnOk};
 ghost use Rattle.std.specs.String.{string_bytes};
+ghost use Rattle.commands.specs.Failures.{IsReadBy};
 ghost use Rattle.commands.specs.Vectors.{status_of_failures, SaysVectors, RefusesVectors};
 
 use crate::fault::Fault;
@@ -31,11 +32,13 @@ pub fn try_file<'a, F: Files>(
     file: &'a str,
     list: &'a str,
     profile: Profile,
-    files: &F,
+    files: &mut F,
 ) -> Result<(String, u8), Fault<'a>>
     ensures known { IfOk result (λ said. said.1 ≤ 5) }
-    ensures said { IsTrue F.TELLS → IfOk result (λ said. SaysVectors profile (F.contents files.now) file.now list.now (string_bytes said.0) said.1) }
-    ensures refused { IsTrue F.TELLS → IfErr result (RefusesVectors profile (F.contents files.now) file.now list.now) }
+    ensures said { IsTrue F.TELLS → IfOk result (λ said. SaysVectors profile (F.store files.old).contents file.now list.now (string_bytes said.0) said.1) }
+    ensures refused { IsTrue F.TELLS → IfErr result (RefusesVectors profile (F.store files.old).contents file.now list.now) }
+    ensures calm { OnOk result (F.store files.new ≡ F.store files.old) }
+    ensures counted { IfErr result (λ fault. IsReadBy fault (F.store files.old) (F.store files.new)) }
 {
     let source = text_of_file(alloc, file, files)?;
     let lines = whole_text(alloc, list, files)?;

@@ -5,7 +5,7 @@ use std::alloc::{AllocError, Global};
 use std::io::{ErrorKind, Read, Write};
 use std::rt::{Env, Files as FileSystem};
 use std::{env, fs};
-use streams::{ReadFault, Sink, SinkFault, Source, SourceFault, get_up_to, put_all};
+use streams::{Sink, SinkFault, Source, SourceFault, put_all};
 
 /// Runs the program on the process's own words and files, and answers the exit status.
 pub fn run<R: Env + FileSystem + AllocGlobal, O: Write + Drop, E: Write + Drop>(
@@ -20,7 +20,7 @@ pub fn run<R: Env + FileSystem + AllocGlobal, O: Write + Drop, E: Write + Drop>(
             Ok(texts) => command(
                 rt.alloc(),
                 texts.as_slice(),
-                &mut HostFiles { rt },
+                &mut HostFiles { rt, failures: 0 },
                 &mut out,
                 &mut err,
             ),
@@ -61,25 +61,44 @@ fn texts_of(alloc: Global, words: &[String]) -> Result<Vec<&str>, AllocError> {
 #[derive(Drop)]
 struct HostFiles<'a, R> {
     rt: &'a R,
+    failures: u64,
 }
 
 impl<R: FileSystem> Files for HostFiles<'_, R> {
+    type Source = Unbuffered<R::File>;
+
+    type Sink = Unbuffered<R::File>;
+
     ghost TELLS = { false };
 
-    ghost contents = { λ _ _. None };
+    ghost store = { λ f. record { contents = λ _. None; failures = f.failures } };
 
-    fn read(&self, alloc: Global, path: &str, limit: usize) -> Result<Vec<u8>, ReadFault> {
+    fn open(&mut self, path: &str) -> Result<Unbuffered<R::File>, SourceFault> {
         match fs::open(self.rt, path) {
-            Ok(file) => get_up_to(alloc, &mut Unbuffered::new(file), limit),
-            Err(_) => Err(ReadFault::Source),
+            Ok(file) => Ok(Unbuffered::new(file)),
+            Err(_) => {
+                self.failures = self.failures.saturating_add(1);
+                Err(SourceFault)
+            }
         }
     }
 
-    fn write(&mut self, path: &str, bytes: &[u8]) -> Result<(), SinkFault> {
+    fn close(&mut self, source: Unbuffered<R::File>) {
+        self.failures = self.failures.saturating_add(source.failures);
+    }
+
+    fn create(&mut self, path: &str) -> Result<Unbuffered<R::File>, SinkFault> {
         match fs::create(self.rt, path) {
-            Ok(file) => put_all(&mut Unbuffered::new(file), bytes),
-            Err(_) => Err(SinkFault),
+            Ok(file) => Ok(Unbuffered::new(file)),
+            Err(_) => {
+                self.failures = self.failures.saturating_add(1);
+                Err(SinkFault)
+            }
         }
+    }
+
+    fn finish(&mut self, _path: &str, sink: Unbuffered<R::File>) {
+        self.failures = self.failures.saturating_add(sink.failures);
     }
 }
 
@@ -91,7 +110,9 @@ struct Unbuffered<T> {
 }
 
 impl<T> Unbuffered<T> {
-    fn new(stream: T) -> Self {
+    fn new(stream: T) -> Self
+        ensures { result.failures ≡ 0 }
+    {
         Unbuffered {
             stream,
             failures: 0,

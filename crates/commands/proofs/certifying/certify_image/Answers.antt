@@ -13,6 +13,7 @@ use Rattle.codegen.specs.image_fields.Fields.{Fields}
 use Rattle.run_reports.specs.progress.GoingOn.{Counting, HasLines}
 use Rattle.commands.specs.ImageRefusals.{no_image, no_arguments, no_answer, out_of_memory}
 use Rattle.commands.specs.Words.{IsFaultOfWords, AreGiven}
+use Rattle.commands.proofs.Counting.{memory_calm}
 use Rattle.commands.proofs.CertificateLemmas.{stands_in_code}
 use Rattle.language.proofs.Handed.{handed_on, turned_on}
 use Rattle.commands.proofs.ProgressLemmas.{on_err, file_certificate_tells, certificate_reaches}
@@ -107,3 +108,23 @@ returns-clause-told g c = λ tells both.
     (given_from _ _ (c.as_slice.ensures.value ∙ c.in_ok-params.ensures.params) c.in_ok-given.ensures.faultless
     c.in_ok-given.ensures.found) c.as_slice-2.ensures.value
     c.shifts_seen.ensures (c.in_ok-certificate.ensures.told both)
+
+pub returns-in_err-image-clause-counted : goal.returns-in_err-image-clause-counted
+returns-in_err-image-clause-counted g c =
+    handed_on _ _ c.from_residual.ensures.1 c.in_err-image.ensures.counted
+
+pub returns-in_err-params-clause-counted : goal.returns-in_err-params-clause-counted
+returns-in_err-params-clause-counted g c =
+    turned_on _ c.from_residual-in_err-params.ensures.1 (λ e memory. memory_calm e memory c.in_ok-image.ensures.calm)
+
+pub returns-in_err-given-clause-counted : goal.returns-in_err-given-clause-counted
+returns-in_err-given-clause-counted g c =
+    handed_on _ _ c.from_residual-in_err-given.ensures.1 c.in_ok-image.ensures.calm
+
+pub returns-in_err-certificate-clause-counted : goal.returns-in_err-certificate-clause-counted
+returns-in_err-certificate-clause-counted g c =
+    handed_on _ _ c.from_residual-in_err-certificate.ensures.1 c.in_ok-image.ensures.calm
+
+pub returns-in_err-text-clause-counted : goal.returns-in_err-text-clause-counted
+returns-in_err-text-clause-counted g c =
+    turned_on _ c.from_residual-in_err-text.ensures.1 (λ e memory. memory_calm e memory c.in_ok-image.ensures.calm)

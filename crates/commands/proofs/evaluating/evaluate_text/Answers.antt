@@ -12,6 +12,7 @@ use Rattle.commands.specs.OutcomeText.{outcome_text}
 use Rattle.commands.specs.Words.{IsFaultOfWords}
 use Rattle.commands.specs.declared.fault.Fault.TheVariants.{Eval}
 use Rattle.language.proofs.Handed.{handed_on, turned_on}
+use Rattle.commands.proofs.Counting.{memory_calm, told_calm}
 use Rattle.commands.proofs.MeaningLemmas.{program_held, only_memory, same_outcome, answered}
 use Rattle.commands.proofs.WordLemmas.{fault_of_words, spelled_from}
 use Rattle.commands.proofs.evaluating.evaluate_text.Goals as goal
@@ -28,7 +29,7 @@ returns-in-Err-clause-refused g c = λ tells.
 
 pub returns-in_err-args-clause-refused : goal.returns-in_err-args-clause-refused
 returns-in_err-args-clause-refused g c = λ tells.
-    let files = g.F.Files.contents c.args.files.now in
+    let files = (g.F.Files.store c.args.files.now).contents in
     let words = map (λ word. word.now) c.args.arguments.now in
     let why = c.in_err-args.field-0.0 in
     let ok = c.in-Ok.ensures.accepted in
@@ -74,10 +75,30 @@ returns-clause-said g c = λ tells.
       export = ok.1;
       args = args;
       outcome = outcome;
-      held = program_held (g.F.Files.contents c.args.files.now) c.args.file.now (string_bytes c.in_ok-text.text)
+      held = program_held (g.F.Files.store c.args.files.now).contents c.args.file.now (string_bytes c.in_ok-text.text)
           c.as_str.result.now program ok.0 ok.1 (c.in_ok-text.ensures.said tells) c.as_str.ensures.value ok.2;
       spelled = spelled;
       means = subst (λ (results : Results). Means program args results) is meant.1;
       within = answered outcome meant.0 (answer program args evaluation_budget) meant.2 is;
       printed = c.in_ok-lines.ensures ∙ ap (λ (params : List Param). outcome_text params outcome) same;
     }
+
+pub returns-in_err-text-clause-counted : goal.returns-in_err-text-clause-counted
+returns-in_err-text-clause-counted g c =
+    handed_on _ _ c.from_residual.ensures.1 c.in_err-text.ensures.counted
+
+pub returns-in_err-args-clause-counted : goal.returns-in_err-args-clause-counted
+returns-in_err-args-clause-counted g c =
+    handed_on _ _ c.from_residual-in_err-args.ensures.1 c.in_ok-text.ensures.calm
+
+pub returns-in_err-outcome-clause-counted : goal.returns-in_err-outcome-clause-counted
+returns-in_err-outcome-clause-counted g c =
+    handed_on _ _ c.from_residual-in_err-outcome.ensures.1 c.in_ok-text.ensures.calm
+
+pub returns-in_err-lines-clause-counted : goal.returns-in_err-lines-clause-counted
+returns-in_err-lines-clause-counted g c =
+    turned_on _ c.from_residual-in_err-lines.ensures.1 (λ e memory. memory_calm e memory c.in_ok-text.ensures.calm)
+
+pub returns-in-Err-clause-counted : goal.returns-in-Err-clause-counted
+returns-in-Err-clause-counted g c =
+    told_calm c.args.explain _ _ c.refused.result c.refused.ensures c.in_ok-text.ensures.calm

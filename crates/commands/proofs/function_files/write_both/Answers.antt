@@ -7,8 +7,8 @@ use Rattle.commands.proofs.function_files.write_both.Goals as goal
 
 pub returns-in_err-write_file-clause-cut_off : goal.returns-in_err-write_file-clause-cut_off
 returns-in_err-write_file-clause-cut_off g c = λ tells.
-    let before = g.F.Files.contents c.args.files.now in
-    let after = g.F.Files.contents c.write_file.new.files in
+    let before = (g.F.Files.store c.args.files.now).contents in
+    let after = (g.F.Files.store c.write_file.new.files).contents in
     let texts = c.args.texts.now in
     handed_on _ _ c.from_residual.ensures.1
     (in_first (subst (λ (bytes : List ℕ). IsCutOff c.args.one.now bytes before after) c.as_bytes.ensures.value
@@ -16,9 +16,9 @@ returns-in_err-write_file-clause-cut_off g c = λ tells.
 
 pub returns-clause-cut_off : goal.returns-clause-cut_off
 returns-clause-cut_off g c = λ tells.
-    let before = g.F.Files.contents c.args.files.now in
-    let between = g.F.Files.contents c.write_file.new.files in
-    let after = g.F.Files.contents c.write_file-2.new.files in
+    let before = (g.F.Files.store c.args.files.now).contents in
+    let between = (g.F.Files.store c.write_file.new.files).contents in
+    let after = (g.F.Files.store c.write_file-2.new.files).contents in
     let first = subst (λ (bytes : List ℕ). IsWritten c.args.one.now bytes before between) c.as_bytes.ensures.value
     (c.in_ok-write_file.ensures.written tells) in
     err_both _ _ _ c.write_file-2.result

@@ -1,10 +1,11 @@
-use Rattle.std.proofs.Common.{List, Result, Err, map, refl, ap, ◌∙◌, subst}
+use Rattle.std.proofs.Common.{List, Result, Err, map, inl, refl, ap, ◌∙◌, subst}
 use Rattle.language.specs.arguments.Texts.{fault_of_texts}
 use Rattle.language.specs.declared.signature.Param.{Param}
 use Rattle.commands.specs.ImageRefusals.{no_image, no_arguments, no_answer, out_of_memory}
 use Rattle.commands.specs.Words.{IsFaultOfWords}
 use Rattle.language.proofs.Handed.{handed_on, turned_on}
-use Rattle.commands.proofs.LeakFaults.{not_imageless, said_leak, wrote_leak, cut_at_output}
+use Rattle.commands.proofs.Counting.{memory_calm, err_inj}
+use Rattle.commands.proofs.LeakFaults.{not_imageless, said_leak, wrote_leak, cut_at_output, leak_counts}
 use Rattle.commands.proofs.WordLemmas.{fault_of_words, spelled_from}
 use Rattle.listing.specs.declared.fault.LeakFault.{LeakFault}
 use Rattle.rv_machine.specs.declared.stops.Stop.{Stop}
@@ -29,7 +30,7 @@ returns-in_err-args-clause-refused g c = λ tells.
 
 pub returns-in_err-image-clause-beginning : goal.returns-in_err-image-clause-beginning
 returns-in_err-image-clause-beginning g c = λ tells tells_too.
-    let files = g.F.Files.contents c.args.files.now in
+    let files = (g.F.Files.store c.args.files.now).contents in
     let path = c.args.path.now in
     let words = map (λ word. word.now) c.args.arguments.now in
     let out = g.O.Sink.taken c.args.out.now in
@@ -69,3 +70,22 @@ returns-clause-beginning g c = λ tells tells_too output.
     c.in_ok-args.ensures.within c.in_ok-args.ensures.found)
     c.in-Err.fault c.leak_fault.result _ _ c.leak_fault.ensures output
     (λ is. c.in-Err.ensures.beginning tells_too (ap gives is))
+
+pub returns-in_err-image-clause-counted : goal.returns-in_err-image-clause-counted
+returns-in_err-image-clause-counted g c =
+    handed_on _ _ c.from_residual.ensures.1 (inl (c.in_err-image.ensures.counted, refl))
+
+pub returns-in_err-params-clause-counted : goal.returns-in_err-params-clause-counted
+returns-in_err-params-clause-counted g c =
+    turned_on _ c.from_residual-in_err-params.ensures.1
+    (λ e memory. inl (memory_calm e memory c.in_ok-image.ensures.calm, refl))
+
+pub returns-in_err-args-clause-counted : goal.returns-in_err-args-clause-counted
+returns-in_err-args-clause-counted g c =
+    handed_on _ _ c.from_residual-in_err-args.ensures.1 (inl (c.in_ok-image.ensures.calm, refl))
+
+pub returns-clause-counted : goal.returns-clause-counted
+returns-clause-counted g c =
+    let gives : LeakFault → Result Stop LeakFault = λ why. Err why in
+    leak_counts c.in-Err.fault c.leak_fault.result c.leak_fault.ensures c.in_ok-image.ensures.calm
+    (λ other. c.in-Err.ensures.calm (λ is. other (err_inj is))) (λ is. c.in-Err.ensures.counts (ap gives is))

@@ -1,6 +1,7 @@
 use Rattle.commands.specs.Images.{not_read}
 use Rattle.commands.specs.Unread.{out_of_memory}
 use Rattle.language.proofs.Handed.{handed_on, turned_on}
+use Rattle.commands.proofs.Counting.{memory_calm}
 use Rattle.commands.proofs.images.list_image.Goals as goal
 
 pub returns-in_err-image-clause-refused : goal.returns-in_err-image-clause-refused
@@ -17,3 +18,11 @@ returns-clause-said g c = λ tells. record {
   held = c.in_ok-image.ensures.said tells;
   listed = c.in_ok-lines.ensures;
 }
+
+pub returns-in_err-image-clause-counted : goal.returns-in_err-image-clause-counted
+returns-in_err-image-clause-counted g c =
+    handed_on _ _ c.from_residual.ensures.1 c.in_err-image.ensures.counted
+
+pub returns-in_err-lines-clause-counted : goal.returns-in_err-lines-clause-counted
+returns-in_err-lines-clause-counted g c =
+    turned_on _ c.from_residual-in_err-lines.ensures.1 (λ e memory. memory_calm e memory c.in_ok-image.ensures.calm)

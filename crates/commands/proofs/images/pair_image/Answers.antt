@@ -5,6 +5,7 @@ use Rattle.language.specs.declared.signature.Param.{Param}
 use Rattle.commands.specs.ImageRefusals.{no_image, no_arguments, no_answer, out_of_memory}
 use Rattle.commands.specs.Words.{AreBothSpelled, IsFaultOfWords, fault_of_both}
 use Rattle.language.proofs.Handed.{handed_on, turned_on}
+use Rattle.commands.proofs.Counting.{memory_calm}
 use Rattle.commands.proofs.ProgressLemmas.{on_err, file_pair_tells, pair_reaches}
 use Rattle.run_reports.specs.progress.GoingOn.{HasLines}
 use Rattle.commands.proofs.images.pair_image.Goals as goal
@@ -82,3 +83,23 @@ returns-clause-told g c = λ tells both.
     file_pair_tells HasLines _ _ (c.in_ok-image.ensures.said tells) c.args.options.progress
     (rw (c.as_slice.ensures.value ∙ c.in_ok-params.ensures.params) at c.in_ok-first.ensures.found)
     (c.in_ok-pairing.ensures.told both)
+
+pub returns-in_err-image-clause-counted : goal.returns-in_err-image-clause-counted
+returns-in_err-image-clause-counted g c =
+    handed_on _ _ c.from_residual.ensures.1 c.in_err-image.ensures.counted
+
+pub returns-in_err-params-clause-counted : goal.returns-in_err-params-clause-counted
+returns-in_err-params-clause-counted g c =
+    turned_on _ c.from_residual-in_err-params.ensures.1 (λ e memory. memory_calm e memory c.in_ok-image.ensures.calm)
+
+pub returns-in_err-first-clause-counted : goal.returns-in_err-first-clause-counted
+returns-in_err-first-clause-counted g c =
+    handed_on _ _ c.from_residual-in_err-first.ensures.1 c.in_ok-image.ensures.calm
+
+pub returns-in_err-pairing-clause-counted : goal.returns-in_err-pairing-clause-counted
+returns-in_err-pairing-clause-counted g c =
+    handed_on _ _ c.from_residual-in_err-pairing.ensures.1 c.in_ok-image.ensures.calm
+
+pub returns-in_err-text-clause-counted : goal.returns-in_err-text-clause-counted
+returns-in_err-text-clause-counted g c =
+    turned_on _ c.from_residual-in_err-text.ensures.1 (λ e memory. memory_calm e memory c.in_ok-image.ensures.calm)

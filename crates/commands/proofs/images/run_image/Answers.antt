@@ -5,6 +5,7 @@ use Rattle.commands.specs.ImageRefusals.{no_image, no_arguments, no_answer, out_
 use Rattle.commands.specs.OutcomeText.{outcome_text}
 use Rattle.commands.specs.Words.{IsFaultOfWords}
 use Rattle.language.proofs.Handed.{handed_on, turned_on}
+use Rattle.commands.proofs.Counting.{memory_calm}
 use Rattle.commands.proofs.ProgressLemmas.{on_err, file_run_tells, run_reaches}
 use Rattle.run_reports.specs.progress.GoingOn.{Reaches, HasLines}
 use Rattle.commands.proofs.WordLemmas.{fault_of_words, spelled_from}
@@ -75,3 +76,23 @@ returns-clause-told g c = λ tells both.
     file_run_tells HasLines _ _ (c.in_ok-image.ensures.said tells) c.args.progress
     (spelled_from _ _ (c.as_slice.ensures.value ∙ c.in_ok-params.ensures.params) c.in_ok-args.ensures.within
     c.in_ok-args.ensures.found) (c.in_ok-outcome.ensures.told both)
+
+pub returns-in_err-image-clause-counted : goal.returns-in_err-image-clause-counted
+returns-in_err-image-clause-counted g c =
+    handed_on _ _ c.from_residual.ensures.1 c.in_err-image.ensures.counted
+
+pub returns-in_err-params-clause-counted : goal.returns-in_err-params-clause-counted
+returns-in_err-params-clause-counted g c =
+    turned_on _ c.from_residual-in_err-params.ensures.1 (λ e memory. memory_calm e memory c.in_ok-image.ensures.calm)
+
+pub returns-in_err-args-clause-counted : goal.returns-in_err-args-clause-counted
+returns-in_err-args-clause-counted g c =
+    handed_on _ _ c.from_residual-in_err-args.ensures.1 c.in_ok-image.ensures.calm
+
+pub returns-in_err-outcome-clause-counted : goal.returns-in_err-outcome-clause-counted
+returns-in_err-outcome-clause-counted g c =
+    handed_on _ _ c.from_residual-in_err-outcome.ensures.1 c.in_ok-image.ensures.calm
+
+pub returns-in_err-text-clause-counted : goal.returns-in_err-text-clause-counted
+returns-in_err-text-clause-counted g c =
+    turned_on _ c.from_residual-in_err-text.ensures.1 (λ e memory. memory_calm e memory c.in_ok-image.ensures.calm)

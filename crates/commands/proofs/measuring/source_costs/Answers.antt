@@ -1,4 +1,4 @@
-use Rattle.std.proofs.Common.{Some, refl, sym, ap, ◌∙◌}
+use Rattle.std.proofs.Common.{Some, Err, refl, sym, ap, ◌∙◌}
 use Rattle.std.proofs.lemmas.Str.{IsUtf8-string_bytes}
 use Rattle.std.specs.String.{string_bytes}
 use Rattle.commands.specs.FileTexts.{HoldsText}
@@ -9,7 +9,7 @@ use Rattle.commands.proofs.measuring.source_costs.Goals as goal
 
 pub returns-in-Err-clause-refused : goal.returns-in-Err-clause-refused
 returns-in-Err-clause-refused c = λ files whole held begun.
-    no_text (c.text_fault.ensures files whole held
+    no_text (c.text_fault.ensures.fault files whole held
     (c.in-Err.ensures.fault whole (cut_shorter whole _ _ begun c.truncate.ensures.items)))
 
 pub returns-in_err-lines-clause-refused : goal.returns-in_err-lines-clause-refused
@@ -37,3 +37,10 @@ returns-clause-said c = λ files whole held begun.
       };
       said = rw c.as_str.ensures.value at c.in_ok-lines.ensures.said;
     }
+
+pub returns-in-Err-clause-calm : goal.returns-in-Err-clause-calm
+returns-in-Err-clause-calm c = λ files.
+    c.text_fault.ensures.calm files (λ is. c.in-Err.ensures.unread (ap Err is)) (λ is. c.in-Err.ensures.unwritten (ap Err is))
+
+pub returns-in_err-lines-clause-calm : goal.returns-in_err-lines-clause-calm
+returns-in_err-lines-clause-calm c = λ files. handed_on _ _ c.from_residual.ensures.1 refl

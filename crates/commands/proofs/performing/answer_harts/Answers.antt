@@ -1,20 +1,33 @@
-use Rattle.std.proofs.Common.{◌≡◌, ℕ, List, Some, String, Global, refl, sym, subst}
+use Rattle.std.proofs.Common.{◌≡◌, ℕ, List, Some, String, Global, refl, sym, ap, ◌∙◌, subst}
 use Rattle.std.proofs.lemmas.Str.{IsUtf8-string_bytes}
 use Rattle.std.specs.String.{string_bytes}
-use Rattle.commands.specs.Contents.{Contents}
+use Rattle.commands.specs.Contents.{Contents, Store}
+use Rattle.commands.specs.Failures.{of_files}
 use Rattle.commands.specs.Harts.{SaysPlan, SaysHarts}
-use Rattle.commands.proofs.RequestLemmas.{harts_refused, printed_by, unprinted_by}
+use Rattle.commands.proofs.Counting.{counted_by}
+use Rattle.commands.proofs.RequestLemmas.{harts_refused, printed_by, unprinted_by, output_counts}
+use Rattle.language.proofs.Handed.{handed_on}
 use Rattle.commands.proofs.performing.answer_harts.Goals as goal
 
 pub returns-in_err-text-clause-failed : goal.returns-in_err-text-clause-failed
 returns-in_err-text-clause-failed g c =
-    λ files out. harts_refused c.args.file (g.F.Files.contents c.args.files.now) (g.O.Sink.taken c.args.out.now)
-    c.from_residual.result
+    λ files out. harts_refused c.args.file _ _ _ c.from_residual.result
+    (handed_on _ _ c.from_residual.ensures.1 c.in_err-text.ensures.counted)
 
 pub returns-in_err-lines-clause-failed : goal.returns-in_err-lines-clause-failed
 returns-in_err-lines-clause-failed g c = λ files out.
-    harts_refused c.args.file (g.F.Files.contents c.args.files.now) (g.O.Sink.taken c.args.out.now)
-    c.from_residual-in_err-lines.result
+    harts_refused c.args.file _ _ _ c.from_residual-in_err-lines.result
+    (handed_on _ _ c.from_residual-in_err-lines.ensures.1
+    (rw c.in_ok-text.ensures.calm at c.in_err-lines.ensures.counted))
+
+pub returns-in_err-text-clause-counted : goal.returns-in_err-text-clause-counted
+returns-in_err-text-clause-counted g c =
+    handed_on _ _ c.from_residual.ensures.1 (of_files (counted_by _ _ _ c.in_err-text.ensures.counted) refl)
+
+pub returns-in_err-lines-clause-counted : goal.returns-in_err-lines-clause-counted
+returns-in_err-lines-clause-counted g c =
+    handed_on _ _ c.from_residual-in_err-lines.ensures.1
+    (of_files (counted_by _ _ _ (rw c.in_ok-text.ensures.calm at c.in_err-lines.ensures.counted)) refl)
 
 -- what the lines say of the string's text they say of the file's
 says : (files : Contents) (path : List ℕ) (plan : String Global) (as_str items as_slice : List ℕ) (status : ℕ)
@@ -31,18 +44,27 @@ says files path plan as_str items as_slice status held same_text same_lines said
 
 pub returns-clause-failed : goal.returns-clause-failed
 returns-clause-failed g c = λ files out.
-    let said = says (g.F.Files.contents c.args.files.now) c.args.file.now c.in_ok-text.field-0 c.as_str.result.now
+    let same = c.in_ok-lines.ensures.calm ∙ c.in_ok-text.ensures.calm in
+    let said = says (g.F.Files.store c.args.files.now).contents c.args.file.now c.in_ok-text.field-0 c.as_str.result.now
     c.in_ok-lines.lines.items c.as_slice.result.now c.in_ok-lines.status
     (c.in_ok-text.ensures.said files) c.as_str.ensures.value c.as_slice.ensures.value
-    (c.in_ok-lines.ensures.said files) in
-    unprinted_by _ _ _ _ _ c.as_slice.result.now c.in_ok-lines.status c.print.result said refl
+    (rw c.in_ok-text.ensures.calm at (c.in_ok-lines.ensures.said files)) in
+    unprinted_by _ _ _ _ _ c.as_slice.result.now c.in_ok-lines.status c.print.result said
+    (ap (λ (s : Store). s.contents) same) (ap (λ (s : Store). s.failures) same)
     (c.print.ensures.beginning out) c.print.ensures.fault
 
 pub returns-clause-done : goal.returns-clause-done
 returns-clause-done g c = λ files out.
-    let said = says (g.F.Files.contents c.args.files.now) c.args.file.now c.in_ok-text.field-0 c.as_str.result.now
+    let same = c.in_ok-lines.ensures.calm ∙ c.in_ok-text.ensures.calm in
+    let said = says (g.F.Files.store c.args.files.now).contents c.args.file.now c.in_ok-text.field-0 c.as_str.result.now
     c.in_ok-lines.lines.items c.as_slice.result.now c.in_ok-lines.status
     (c.in_ok-text.ensures.said files) c.as_str.ensures.value c.as_slice.ensures.value
-    (c.in_ok-lines.ensures.said files) in
-    printed_by _ _ _ _ _ c.as_slice.result.now c.in_ok-lines.status c.print.result said refl c.print.ensures.answer
+    (rw c.in_ok-text.ensures.calm at (c.in_ok-lines.ensures.said files)) in
+    printed_by _ _ _ _ _ c.as_slice.result.now c.in_ok-lines.status c.print.result said
+    (ap (λ (s : Store). s.contents) same) (ap (λ (s : Store). s.failures) same) c.print.ensures.answer
     (c.print.ensures.whole out)
+
+pub returns-clause-counted : goal.returns-clause-counted
+returns-clause-counted g c =
+    output_counts _ _ _ (c.in_ok-lines.ensures.calm ∙ c.in_ok-text.ensures.calm)
+    c.print.ensures.fault c.print.ensures.counts

@@ -1,9 +1,25 @@
-use Rattle.commands.specs.Requests.{done, failed}
+use Rattle.std.proofs.Common.{◌≡◌, ◌⊎◌, inl, inr, ap}
+use Rattle.commands.specs.Requests.{collected, done, failed, calm}
+use Rattle.commands.proofs.Counting.{ends}
 use Rattle.commands.proofs.performing.perform.Goals as goal
 
 pub returns-in-Ok-clause-performed : goal.returns-in-Ok-clause-performed
 returns-in-Ok-clause-performed g c = λ files out err. done (c.in-Ok.ensures.done files out) (c.in-Ok.ensures.told files err)
 
+pub returns-in-Ok-clause-counted : goal.returns-in-Ok-clause-counted
+returns-in-Ok-clause-counted g c = calm c.in-Ok.ensures.calm.0 c.in-Ok.ensures.calm.1
+
+-- what is not changed is seen as it was
+seen_same : {S T Told : Type 0} (view : S → T) {before after : S} → (after ≡ before) ⊎ Told
+    → (view after ≡ view before) ⊎ Told
+seen_same view (inl same) = inl (ap view same)
+seen_same view (inr told) = inr told
+
 pub returns-clause-performed : goal.returns-clause-performed
 returns-clause-performed g c = λ files out err.
-    failed (c.in-Err.ensures.failed files out) (c.in-Err.ensures.part files err) (c.report.ensures.reported err)
+    failed (c.in-Err.ensures.failed files out)
+    (seen_same (λ e. collected (g.E.Sink.taken e) (g.E.Sink.failures e)) (c.in-Err.ensures.part files err))
+    (c.report.ensures.reported err)
+
+pub returns-clause-counted : goal.returns-clause-counted
+returns-clause-counted g c = ends _ c.in-Err.ensures.counted c.report.ensures.status

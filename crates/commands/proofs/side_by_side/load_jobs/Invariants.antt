@@ -9,7 +9,8 @@ use Rattle.commands.proofs.side_by_side.load_jobs.Given as goal
 abbrev pub invariant-loop-job : goal.invariant-loop-job
 invariant-loop-job g l = record {
   count : vec_len l.loaded ≡ l.job-index;
+  same : g.F.Files.store l.files ≡ g.F.Files.store l.fn.files;
   said : IsTrue g.F.Files.TELLS
-      → AllZip (IsJobOf (g.F.Files.contents l.files)) (map hart_of (take l.job-index l.jobs))
+      → AllZip (IsJobOf (g.F.Files.store l.fn.files).contents) (map hart_of (take l.job-index l.jobs))
       (map job_of l.loaded.items);
 }

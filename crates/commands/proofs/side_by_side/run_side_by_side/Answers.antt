@@ -1,16 +1,18 @@
 -- What was read, loaded, run and printed.
-use Rattle.std.proofs.Common.{List, map, ap, subst}
+use Rattle.std.proofs.Common.{List, map, refl, ap, subst}
 use Rattle.std.specs.List.{AllZip}
 use Rattle.commands.specs.Harts.{IsJobOf}
 use Rattle.harts.specs.Frames.{job_of}
 use Rattle.input_files.specs.harts_file.Jobs.{hart_of}
 use Rattle.input_files.specs.declared.harts_file.jobs.Job.{Job}
+use Rattle.language.proofs.Handed.{handed_on, turned_on}
+use Rattle.commands.proofs.Counting.{memory_calm}
 use Rattle.commands.proofs.HartLemmas.{plan_said}
 use Rattle.commands.proofs.side_by_side.run_side_by_side.Goals as goal
 
 pub returns-clause-said : goal.returns-clause-said
 returns-clause-said g c = λ tells.
-    let files = g.F.Files.contents c.args.files.now in
+    let files = (g.F.Files.store c.args.files.now).contents in
     let jobs = map job_of c.in_ok-jobs.jobs.items in
     let loaded = subst (λ (named : List Job). AllZip (IsJobOf files) (map hart_of named) jobs)
     c.as_slice.ensures.value (c.in_ok-jobs.ensures.said tells) in
@@ -22,3 +24,18 @@ returns-clause-said g c = λ tells.
     (ap (map job_of) c.as_slice-2.ensures.value) c.as_slice-3.ensures.value
     c.in_ok-lines.ensures (ap (map job_of) c.as_slice-4.ensures.value) c.list.ensures c.as_slice-5.ensures.value
     c.status_of.ensures.exact c.as_slice-6.ensures.value
+
+pub returns-in_err-jobs-clause-counted : goal.returns-in_err-jobs-clause-counted
+returns-in_err-jobs-clause-counted g c =
+    handed_on _ _ c.from_residual-in_err-jobs.ensures.1 c.in_err-jobs.ensures.counted
+
+pub returns-in_err-plan-clause-counted : goal.returns-in_err-plan-clause-counted
+returns-in_err-plan-clause-counted g c = handed_on _ _ c.from_residual.ensures.1 refl
+
+pub returns-in_err-ends-clause-counted : goal.returns-in_err-ends-clause-counted
+returns-in_err-ends-clause-counted g c =
+    handed_on _ _ c.from_residual-in_err-ends.ensures.1 c.in_ok-jobs.ensures.calm
+
+pub returns-in_err-lines-clause-counted : goal.returns-in_err-lines-clause-counted
+returns-in_err-lines-clause-counted g c =
+    turned_on _ c.from_residual-in_err-lines.ensures.1 (λ e memory. memory_calm e memory c.in_ok-jobs.ensures.calm)

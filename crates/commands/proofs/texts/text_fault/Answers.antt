@@ -15,14 +15,20 @@ by_refusal : (files : Contents) (path bytes : List ℕ) (refusal : Refusal) → 
 by_refusal files path bytes refusal held (inl memory) = not_read (out_of_memory memory)
 by_refusal files path bytes refusal held (inr long) = too_long held long
 
-pub returns-in-Read : goal.returns-in-Read
-returns-in-Read c = λ files bytes held why. not_read (unread refl)
+pub returns-in-Read-clause-fault : goal.returns-in-Read-clause-fault
+returns-in-Read-clause-fault c = λ files bytes held why. not_read (unread refl)
 
-pub returns-in-NotUtf8 : goal.returns-in-NotUtf8
-returns-in-NotUtf8 c = λ files bytes held why.
+pub returns-in-NotUtf8-clause-fault : goal.returns-in-NotUtf8-clause-fault
+returns-in-NotUtf8-clause-fault c = λ files bytes held why.
     let broken : texts.NoText bytes NotUtf8 = subst (texts.NoText bytes) c.in-NotUtf8.is why in
     not_utf8 held broken.0 broken.1 refl
 
-pub returns-in-Refused : goal.returns-in-Refused
-returns-in-Refused c = λ files bytes held why.
+pub returns-in-Refused-clause-fault : goal.returns-in-Refused-clause-fault
+returns-in-Refused-clause-fault c = λ files bytes held why.
     by_refusal files c.args.file.now bytes c.in-Refused.refusal held (subst (texts.NoText bytes) c.in-Refused.is why)
+
+pub returns-in-Read-clause-calm : goal.returns-in-Read-clause-calm
+returns-in-Read-clause-calm c = λ before read write. absurd (read c.in-Read.is)
+
+pub returns-in-Write-clause-calm : goal.returns-in-Write-clause-calm
+returns-in-Write-clause-calm c = λ before read write. absurd (write c.in-Write.is)

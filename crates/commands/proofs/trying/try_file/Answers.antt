@@ -1,4 +1,4 @@
-use Rattle.std.proofs.Common.{ℕ, List, Err, map, sym, ap, subst}
+use Rattle.std.proofs.Common.{ℕ, List, Err, map, sym, ap, ◌∙◌, subst}
 use Rattle.std.proofs.lemmas.Str.{IsUtf8-string_bytes}
 use Rattle.std.specs.String.{string_bytes}
 use Rattle.hepurita.specs.Built.{Judges, IsRefusal}
@@ -17,15 +17,15 @@ returns-in_err-source-clause-refused g c = λ tells.
 pub returns-in_err-lines-clause-refused : goal.returns-in_err-lines-clause-refused
 returns-in_err-lines-clause-refused g c = λ tells.
     handed_on _ _ c.from_residual-in_err-lines.ensures.1
-    (no_lines (c.in_ok-source.ensures.said tells) (c.in_err-lines.ensures.refused tells))
+    (no_lines (c.in_ok-source.ensures.said tells) (rw c.in_ok-source.ensures.calm at (c.in_err-lines.ensures.refused tells)))
 
 pub returns-in_err-vectors-clause-refused : goal.returns-in_err-vectors-clause-refused
 returns-in_err-vectors-clause-refused g c = λ tells.
     let fault = c.in_err-vectors.field-0.0 in
     handed_on _ _ c.from_residual-in_err-vectors.ensures.1
-    (unsaid c.args.profile (g.F.Files.contents c.args.files.now) c.args.file.now c.args.list.now
+    (unsaid c.args.profile (g.F.Files.store c.args.files.now).contents c.args.file.now c.args.list.now
     (string_bytes c.in_ok-source.source) (string_bytes c.in_ok-lines.lines) fault
-    (c.in_ok-source.ensures.said tells) (c.in_ok-lines.ensures.said tells)
+    (c.in_ok-source.ensures.said tells) (rw c.in_ok-source.ensures.calm at (c.in_ok-lines.ensures.said tells))
     (λ line is. rw (sym c.as_str.ensures.value) (c.in_err-vectors.ensures.fault line (ap Err is))))
 
 pub returns-in_err-report-clause-refused : goal.returns-in_err-report-clause-refused
@@ -37,9 +37,9 @@ returns-in_err-report-clause-refused g c = λ tells.
     subst (λ (t : List ℕ). IsRefusal (Judges c.args.profile t) refusal) c.as_str-2.ensures.value
     c.in_err-report.ensures.refused in
     handed_on _ _ c.from_residual-in_err-report.ensures.1 (not_accepted
-    (both_held (g.F.Files.contents c.args.files.now) c.args.file.now c.args.list.now source lines c.as_str.result.now
+    (both_held (g.F.Files.store c.args.files.now).contents c.args.file.now c.args.list.now source lines c.as_str.result.now
     (map named c.in_ok-vectors.vectors.items) (c.in_ok-source.ensures.said tells)
-    (c.in_ok-lines.ensures.said tells)
+    (rw c.in_ok-source.ensures.calm at (c.in_ok-lines.ensures.said tells))
     (IsUtf8-string_bytes c.in_ok-lines.lines) c.as_str.ensures.value c.in_ok-vectors.ensures.vectors)
     why)
 
@@ -52,9 +52,9 @@ returns-clause-said g c = λ tells.
       source = source;
       vectors = map named c.in_ok-vectors.vectors.items;
       failures = report.failures;
-      held = both_held (g.F.Files.contents c.args.files.now) c.args.file.now c.args.list.now source lines
+      held = both_held (g.F.Files.store c.args.files.now).contents c.args.file.now c.args.list.now source lines
           c.as_str.result.now (map named c.in_ok-vectors.vectors.items) (c.in_ok-source.ensures.said tells)
-          (c.in_ok-lines.ensures.said tells)
+          (rw c.in_ok-source.ensures.calm at (c.in_ok-lines.ensures.said tells))
           (IsUtf8-string_bytes c.in_ok-lines.lines) c.as_str.ensures.value c.in_ok-vectors.ensures.vectors;
       report =
           subst (λ (t : List ℕ). IsReport c.args.profile t (map named c.in_ok-vectors.vectors.items)
@@ -64,3 +64,19 @@ returns-clause-said g c = λ tells.
           c.in_ok-report.ensures.report);
       ended = c.status_of-status.ensures.exact;
     }
+
+pub returns-in_err-source-clause-counted : goal.returns-in_err-source-clause-counted
+returns-in_err-source-clause-counted g c = handed_on _ _ c.from_residual.ensures.1 c.in_err-source.ensures.counted
+
+pub returns-in_err-lines-clause-counted : goal.returns-in_err-lines-clause-counted
+returns-in_err-lines-clause-counted g c =
+    handed_on _ _ c.from_residual-in_err-lines.ensures.1
+    (rw c.in_ok-source.ensures.calm at c.in_err-lines.ensures.counted)
+
+pub returns-in_err-vectors-clause-counted : goal.returns-in_err-vectors-clause-counted
+returns-in_err-vectors-clause-counted g c =
+    handed_on _ _ c.from_residual-in_err-vectors.ensures.1 (c.in_ok-lines.ensures.calm ∙ c.in_ok-source.ensures.calm)
+
+pub returns-in_err-report-clause-counted : goal.returns-in_err-report-clause-counted
+returns-in_err-report-clause-counted g c =
+    handed_on _ _ c.from_residual-in_err-report.ensures.1 (c.in_ok-lines.ensures.calm ∙ c.in_ok-source.ensures.calm)

@@ -1,0 +1,172 @@
+-- Which faults say that a call of files failed, case by case.
+use Rattle.std.proofs.Common.{Result, Ok, Err, IfErr, OnErr}
+use Rattle.std.proofs.Common.{◌≡◌, ◌≢◌, ℕ, Bool, true, false, List, refl, sym, ap, ◌∙◌, inl, inr, ◌⊎◌, subst}
+use Rattle.commands.specs.Contents.{Store, failed, failed_times}
+use Rattle.commands.specs.FaultText.{fault_status}
+use Rattle.commands.specs.Failures.{IsReadBy, failures_by, Counts, of_files, of_output}
+use Rattle.commands.specs.Judged.{Tells, IsExplained}
+use Rattle.commands.specs.Leaks.{IsOutputFault}
+use Rattle.commands.specs.Requests.{Ends, calm, files_failed, output_failed}
+use Rattle.commands.specs.Unread.{IsOutOfMemory}
+use Rattle.commands.specs.Written.{IsWriteFault}
+use Rattle.commands.specs.declared.fault.Fault.{Fault}
+use Rattle.commands.specs.declared.fault.Fault.TheVariants.{Text, Explained, Image, Run, Eval, Plan, Harts, Vectors}
+use Rattle.commands.specs.declared.fault.Fault.TheVariants.{Code, Name, File}
+use Rattle.commands.specs.declared.fault.FileFault.TheVariants.{CannotRead, CannotWrite, NotUtf8}
+use Rattle.language.specs.declared.refusal.Refusal.{Refusal}
+use Rattle.input_files.specs.declared.stream_build.fault.BuildFault.{BuildFault}
+use Rattle.input_files.specs.declared.stream_build.fault.BuildFault.TheVariants.{Read, Refused, Write}
+use Rattle.input_files.specs.declared.stream_build.fault.BuildFault.TheVariants as texts
+use Rattle.word.specs.Counts.{one_more}
+
+-- where memory was refused, none did
+pub memory_calm : (fault : Fault) {before after : Store} → IsOutOfMemory fault → after ≡ before
+    → IsReadBy fault before after
+memory_calm (Text refusal) memory same = same
+memory_calm (Explained refusal lines) memory same = same
+memory_calm (Image why) memory same = same
+memory_calm (Run why) memory same = same
+memory_calm (Eval why) memory same = same
+memory_calm (Plan why) memory same = same
+memory_calm (Harts why) memory same = same
+memory_calm (Vectors why) memory same = same
+memory_calm (Code rule) memory same = same
+memory_calm (Name place) memory same = same
+memory_calm (File file) memory same = absurd memory
+
+pub explained_calm : (source : List ℕ) (refusal : Refusal) (fault : Fault) {before after : Store}
+    → IsExplained source refusal fault → after ≡ before → IsReadBy fault before after
+explained_calm source refusal (Text told) is same = same
+explained_calm source refusal (Explained told lines) is same = same
+explained_calm source refusal (Image why) is same = same
+explained_calm source refusal (Run why) is same = same
+explained_calm source refusal (Eval why) is same = same
+explained_calm source refusal (Plan why) is same = same
+explained_calm source refusal (Harts why) is same = same
+explained_calm source refusal (Vectors why) is same = same
+explained_calm source refusal (Code rule) is same = same
+explained_calm source refusal (Name place) is same = same
+explained_calm source refusal (File file) is same = absurd is
+
+-- where a source is refused, explained or not, none did
+pub told_calm : (explain : Bool) (source : List ℕ) (refusal : Refusal) (fault : Fault) {before after : Store}
+    → Tells explain source refusal fault → after ≡ before → IsReadBy fault before after
+told_calm false source refusal fault {before} {after} is same =
+    subst (λ (f : Fault). IsReadBy f before after) (sym is) same
+told_calm true source refusal fault (inl memory) same = memory_calm fault memory same
+told_calm true source refusal fault (inr is) same = explained_calm source refusal fault is same
+
+-- files that were only read have as many failed calls as the fault says
+pub counted_by : (fault : Fault) (before after : Store) → IsReadBy fault before after
+    → after.failures ≡ failures_by fault before.failures
+counted_by (Text refusal) before after read = ap (λ (s : Store). s.failures) read
+counted_by (Explained refusal lines) before after read = ap (λ (s : Store). s.failures) read
+counted_by (Image why) before after read = ap (λ (s : Store). s.failures) read
+counted_by (Run why) before after read = ap (λ (s : Store). s.failures) read
+counted_by (Eval why) before after read = ap (λ (s : Store). s.failures) read
+counted_by (Plan why) before after read = ap (λ (s : Store). s.failures) read
+counted_by (Harts why) before after read = ap (λ (s : Store). s.failures) read
+counted_by (Vectors why) before after read = ap (λ (s : Store). s.failures) read
+counted_by (Code rule) before after read = ap (λ (s : Store). s.failures) read
+counted_by (Name place) before after read = ap (λ (s : Store). s.failures) read
+counted_by (File (CannotRead path)) before after read = ap (λ (s : Store). s.failures) read
+counted_by (File (CannotWrite path)) before after read = absurd read
+counted_by (File (NotUtf8 path)) before after read = ap (λ (s : Store). s.failures) read
+
+-- and hold what they held
+pub kept_by : (fault : Fault) (before after : Store) → IsReadBy fault before after → after.contents ≡ before.contents
+kept_by (Text refusal) before after read = ap (λ (s : Store). s.contents) read
+kept_by (Explained refusal lines) before after read = ap (λ (s : Store). s.contents) read
+kept_by (Image why) before after read = ap (λ (s : Store). s.contents) read
+kept_by (Run why) before after read = ap (λ (s : Store). s.contents) read
+kept_by (Eval why) before after read = ap (λ (s : Store). s.contents) read
+kept_by (Plan why) before after read = ap (λ (s : Store). s.contents) read
+kept_by (Harts why) before after read = ap (λ (s : Store). s.contents) read
+kept_by (Vectors why) before after read = ap (λ (s : Store). s.contents) read
+kept_by (Code rule) before after read = ap (λ (s : Store). s.contents) read
+kept_by (Name place) before after read = ap (λ (s : Store). s.contents) read
+kept_by (File (CannotRead path)) before after read = ap (λ (s : Store). s.contents) read
+kept_by (File (CannotWrite path)) before after read = absurd read
+kept_by (File (NotUtf8 path)) before after read = ap (λ (s : Store). s.contents) read
+
+-- a stream of which no call failed, and one of which one did
+pub no_more : {times : ℕ} {before after : Store} → after ≡ failed_times times before → times ≡ 0 → after ≡ before
+no_more {times} {before} is none = is ∙ ap (λ n. failed_times n before) none
+
+pub once_more : {times : ℕ} (before : Store) {after : Store} → after ≡ failed_times times before → times ≡ 1
+    → after ≡ failed before
+once_more {times} before is once = is ∙ ap (λ n. failed_times n before) once
+
+-- where a file could not be written, one more call of files has failed
+pub write_counts : (path : List ℕ) (fault : Fault) (before : ℕ) → IsWriteFault path fault
+    → failures_by fault before ≡ one_more before
+write_counts path fault before (CannotRead named, is, same) = absurd is
+write_counts path fault before (CannotWrite named, is, same) = rw same refl
+write_counts path fault before (NotUtf8 named, is, same) = absurd is
+
+-- a command that only reads files has no fault of standard output
+pub not_output : (fault : Fault) (before after : Store) → IsReadBy fault before after → IsOutputFault fault → ⊥
+not_output fault before after read (CannotRead named, is, same) = is
+not_output fault before after read (CannotWrite named, is, same) =
+    subst (λ (f : Fault). IsReadBy f before after) same read
+not_output fault before after read (NotUtf8 named, is, same) = is
+
+output_status : (fault : Fault) {status : ℕ} → IsOutputFault fault → (status ≡ fault_status fault) ⊎ (status ≡ 4)
+    → (status ≡ 3) ⊎ (status ≡ 4)
+output_status fault (file, is, same) (inl status) = inl (status ∙ ap fault_status same)
+output_status fault output (inr status) = inr status
+
+-- the exit status says which calls may have failed
+pub ends : {before after printed printed' : ℕ} (fault : Fault) {status : ℕ} → Counts before after printed printed' fault
+    → (status ≡ fault_status fault) ⊎ (status ≡ 4) → Ends before after printed printed' status
+ends fault (of_output output same one) status = output_failed same one (output_status fault output status)
+ends (Text refusal) (of_files is same) status = calm is same
+ends (Explained refusal lines) (of_files is same) status = calm is same
+ends (Image why) (of_files is same) status = calm is same
+ends (Run why) (of_files is same) status = calm is same
+ends (Eval why) (of_files is same) status = calm is same
+ends (Plan why) (of_files is same) status = calm is same
+ends (Harts why) (of_files is same) status = calm is same
+ends (Vectors why) (of_files is same) status = calm is same
+ends (Code rule) (of_files is same) status = calm is same
+ends (Name place) (of_files is same) status = calm is same
+ends (File (CannotRead path)) (of_files is same) status = files_failed is same status
+ends (File (CannotWrite path)) (of_files is same) status = files_failed is same status
+ends (File (NotUtf8 path)) (of_files is same) status = calm is same
+
+-- a file that could not be written, and two of which one could not
+pub write_failed : {T : Type 0} (answer : Result T Fault) (before after : ℕ)
+    → IfErr answer (λ fault. failures_by fault before ≡ one_more before) → OnErr answer (after ≡ one_more before)
+    → IfErr answer (λ fault. after ≡ failures_by fault before)
+write_failed (Ok done) before after why counts = tt
+write_failed (Err fault) before after why counts = counts ∙ sym why
+
+pub if_write_counts : {T : Type 0} (path : List ℕ) (before : ℕ) (answer : Result T Fault)
+    → IfErr answer (IsWriteFault path) → IfErr answer (λ fault. failures_by fault before ≡ one_more before)
+if_write_counts path before (Ok done) why = tt
+if_write_counts path before (Err fault) why = write_counts path fault before why
+
+pub either_write_counts : {T : Type 0} (one other : List ℕ) (before : ℕ) (answer : Result T Fault)
+    → IfErr answer (λ fault. IsWriteFault one fault ⊎ IsWriteFault other fault)
+    → IfErr answer (λ fault. failures_by fault before ≡ one_more before)
+either_write_counts one other before (Ok done) why = tt
+either_write_counts one other before (Err fault) (inl why) = write_counts one fault before why
+either_write_counts one other before (Err fault) (inr why) = write_counts other fault before why
+
+pub err_inj : {T E : Type 0} {one other : E} → ◌≡◌ {A = Result T E} (Err one) (Err other) → one ≡ other
+err_inj is = cc
+
+-- a text that was not had: a call of its source failed, or none did
+pub text_counts : (fault : BuildFault Refusal) (told : Fault) {times : ℕ} (before : Store) {after : Store}
+    → after ≡ failed_times times before → (fault ≡ Read → times ≡ 1) → (fault ≢ Read → times ≡ 0) → fault ≢ Write
+    → ((files : Store) → fault ≡ Read → IsReadBy told files (failed files))
+    → ((files : Store) → fault ≢ Read → fault ≢ Write → IsReadBy told files files) → IsReadBy told before after
+text_counts Read told before is once none unwritten counts same =
+    subst (IsReadBy told before) (sym (once_more before is (once refl))) (counts before refl)
+text_counts texts.NotUtf8 told before is once none unwritten counts same =
+    let other : ◌≡◌ {A = BuildFault Refusal} texts.NotUtf8 Read → ⊥ = λ h. cc in
+    subst (IsReadBy told before) (sym (no_more is (none other))) (same before other unwritten)
+text_counts (Refused refusal) told before is once none unwritten counts same =
+    let other : Refused refusal ≢ Read = λ h. cc in
+    subst (IsReadBy told before) (sym (no_more is (none other))) (same before other unwritten)
+text_counts Write told before is once none unwritten counts same = absurd (unwritten refl)
