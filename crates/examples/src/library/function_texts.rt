@@ -61,7 +61,13 @@ fn keeps_names_of_parameters_apart(rt: HostRuntime) {
         Ok(texts) => {
             let header = texts.header.as_str();
             assert!(rt; header.contains(PROTOTYPE));
-            assert!(rt; header.contains("for an observer of profile 2. */\n"));
+            assert!(rt;
+                header.contains("   For an observer of profile 2: neither the instructions")
+            );
+            assert!(rt;
+                header.contains("nor the operands of its divisions and multiplications depend")
+            );
+            assert!(rt; header.contains("Nothing is proved of time. */\n"));
         }
         Err(_) => assert!(rt; false),
     }
