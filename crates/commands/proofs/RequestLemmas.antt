@@ -112,7 +112,8 @@ pub harts_refused : {A : Type 0} (file : Bor (List ℕ)) (before after : Store) 
     (answer : Result A Fault) → IfErr answer (λ fault. IsReadBy fault before after)
     → IfErr answer (Fails (requests.Harts file) before after out out)
 harts_refused file before after out (Ok done) read = tt
-harts_refused file before after out (Err fault) read = refused (kept_by fault before after read) (counted_by fault before after read) refl
+harts_refused file before after out (Err fault) read =
+    refused (kept_by fault before after read) (counted_by fault before after read) refl
 
 -- which calls failed, where standard output did
 pub output_counts : {A : Type 0} {before after : Store} (answer : Result A Fault) (printed printed' : ℕ)
@@ -170,7 +171,8 @@ fails_to_list view request image arguments same before after s s' (Err fault) wh
     by : IsReadOrPrinted fault before after (view s).failures (view s').failures
         → Fails (requests.Leak image arguments) before after (view s) (view s') fault
     by (inl (read, printed)) =
-        refused (why, kept_by fault before after read) (counted_by fault before after read) (ap view (kept (not_output fault before after read)))
+        refused (why, kept_by fault before after read) (counted_by fault before after read)
+        (ap view (kept (not_output fault before after read)))
     by (inr (output, left, failed)) =
         let some = part output in
         unprinted some.such.0 some.such.1 (ap (λ (f : Store). f.contents) left) (ap (λ (f : Store). f.failures) left)

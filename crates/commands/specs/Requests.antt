@@ -160,7 +160,8 @@ pub data Performs (request : Request) (before after : Store) (out out' err err' 
       → RequestTells HasLines request before.contents err.bytes err'.bytes
       → Performs request before after out out' err err' status
   failed : {fault : Fault} {told : Collected} {status : ℕ} → Fails request before after out out' fault
-      → (told ≡ err) ⊎ RequestTells Reaches request before.contents err.bytes told.bytes → Reports fault told err' status
+      → (told ≡ err) ⊎ RequestTells Reaches request before.contents err.bytes told.bytes
+      → Reports fault told err' status
       → Performs request before after out out' err err' status
 
 -- which calls of files and of standard output failed, by the exit status, whether or not it is known what they hold

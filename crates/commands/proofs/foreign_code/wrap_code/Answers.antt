@@ -35,7 +35,8 @@ image_of_code asked files path code text as_str items as_slice bytes held same_t
 pub returns-in_err-text-clause-refused : goal.returns-in_err-text-clause-refused
 returns-in_err-text-clause-refused g c = λ tells.
     handed_on _ _ c.from_residual.ensures.1
-    (refused (not_accepted (no_text (c.in_err-text.ensures.refused tells))) (kept_by _ _ _ c.in_err-text.ensures.counted))
+    (refused (not_accepted (no_text (c.in_err-text.ensures.refused tells)))
+    (kept_by _ _ _ c.in_err-text.ensures.counted))
 
 pub returns-in_err-text-clause-untouched : goal.returns-in_err-text-clause-untouched
 returns-in_err-text-clause-untouched g c =
@@ -100,7 +101,8 @@ returns-in-Ok-clause-refused g c = λ tells.
 
 pub returns-in-Ok-clause-calm : goal.returns-in-Ok-clause-calm
 returns-in-Ok-clause-calm g c =
-    on_ok_weaker c.write_file.result (λ same. same ∙ ap (λ (s : Store). s.failures) (c.in_ok-words.ensures.calm ∙ c.in_ok-text.ensures.calm))
+    on_ok_weaker c.write_file.result
+    (λ same. same ∙ ap (λ (s : Store). s.failures) (c.in_ok-words.ensures.calm ∙ c.in_ok-text.ensures.calm))
     c.write_file.ensures.calm
 
 pub returns-in-Ok-clause-counted : goal.returns-in-Ok-clause-counted
@@ -133,4 +135,5 @@ returns-clause-refused g c = λ tells.
     (subst (λ (w : List ℕ). Breaks c.as_str.result.now w c.args.asked rule) (c.as_slice.ensures.value
     ∙ begun.begun) first) in
     refused (broken (c.in_ok-text.ensures.said tells) begun.held
-    (breaks_whole text begun.whole c.args.asked rule breaks)) (ap (λ (s : Store). s.contents) (c.in_ok-words.ensures.calm ∙ c.in_ok-text.ensures.calm))
+    (breaks_whole text begun.whole c.args.asked rule breaks))
+    (ap (λ (s : Store). s.contents) (c.in_ok-words.ensures.calm ∙ c.in_ok-text.ensures.calm))

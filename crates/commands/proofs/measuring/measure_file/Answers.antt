@@ -33,7 +33,8 @@ returns-in-Some-clause-said g c = λ tells.
     let shown = subst (λ o. IfSome o (λ text. SaysFields c.as_slice.result.now (string_bytes text))) c.in-Some.is
     c.in_ok-lines.ensures.said in
     let said = subst (λ (b : List ℕ). SaysFields b lines) c.as_slice.ensures.value shown in
-    image_costs c.args.profile (g.F.Files.store c.args.files.now).contents c.args.file.now c.in_ok-bytes.bytes.items lines
+    image_costs c.args.profile (g.F.Files.store c.args.files.now).contents c.args.file.now c.in_ok-bytes.bytes.items
+    lines
     (c.in_ok-bytes.ensures.begins tells) said
 
 pub returns-clause-said : goal.returns-clause-said

@@ -40,7 +40,8 @@ returns-clause-said c = λ files whole held begun.
 
 pub returns-in-Err-clause-calm : goal.returns-in-Err-clause-calm
 returns-in-Err-clause-calm c = λ files.
-    c.text_fault.ensures.calm files (λ is. c.in-Err.ensures.unread (ap Err is)) (λ is. c.in-Err.ensures.unwritten (ap Err is))
+    c.text_fault.ensures.calm files (λ is. c.in-Err.ensures.unread (ap Err is))
+    (λ is. c.in-Err.ensures.unwritten (ap Err is))
 
 pub returns-in_err-lines-clause-calm : goal.returns-in_err-lines-clause-calm
 returns-in_err-lines-clause-calm c = λ files. handed_on _ _ c.from_residual.ensures.1 refl

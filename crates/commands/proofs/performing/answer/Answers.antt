@@ -236,7 +236,8 @@ returns-in_ok-text-in-Certify-clause-done g c = λ files out.
 
 pub returns-in_ok-text-in-Certify-clause-counted : goal.returns-in_ok-text-in-Certify-clause-counted
 returns-in_ok-text-in-Certify-clause-counted g c =
-    output_counts _ _ _ c.in_ok-text-in-Certify.ensures.calm c.print-in-Certify.ensures.fault c.print-in-Certify.ensures.counts
+    output_counts _ _ _ c.in_ok-text-in-Certify.ensures.calm c.print-in-Certify.ensures.fault
+    c.print-in-Certify.ensures.counts
 
 pub returns-in_ok-page-in-Picture-clause-failed : goal.returns-in_ok-page-in-Picture-clause-failed
 returns-in_ok-page-in-Picture-clause-failed g c = λ files out.
@@ -252,7 +253,8 @@ returns-in_ok-page-in-Picture-clause-done g c = λ files out.
 
 pub returns-in_ok-page-in-Picture-clause-counted : goal.returns-in_ok-page-in-Picture-clause-counted
 returns-in_ok-page-in-Picture-clause-counted g c =
-    output_counts _ _ _ c.in_ok-page-in-Picture.ensures.calm c.print-in-Picture.ensures.fault c.print-in-Picture.ensures.counts
+    output_counts _ _ _ c.in_ok-page-in-Picture.ensures.calm c.print-in-Picture.ensures.fault
+    c.print-in-Picture.ensures.counts
 
 pub returns-in_ok-lines-in-List-clause-failed : goal.returns-in_ok-lines-in-List-clause-failed
 returns-in_ok-lines-in-List-clause-failed g c = λ files out.
@@ -284,7 +286,8 @@ returns-in_ok-text-in-Vectors-clause-done g c = λ files out.
 
 pub returns-in_ok-text-in-Vectors-clause-counted : goal.returns-in_ok-text-in-Vectors-clause-counted
 returns-in_ok-text-in-Vectors-clause-counted g c =
-    output_counts _ _ _ c.in_ok-text-in-Vectors.ensures.calm c.print-in-Vectors.ensures.fault c.print-in-Vectors.ensures.counts
+    output_counts _ _ _ c.in_ok-text-in-Vectors.ensures.calm c.print-in-Vectors.ensures.fault
+    c.print-in-Vectors.ensures.counts
 
 pub returns-in_ok-lines-in-Explain-clause-failed : goal.returns-in_ok-lines-in-Explain-clause-failed
 returns-in_ok-lines-in-Explain-clause-failed g c = λ files out.
@@ -300,7 +303,8 @@ returns-in_ok-lines-in-Explain-clause-done g c = λ files out.
 
 pub returns-in_ok-lines-in-Explain-clause-counted : goal.returns-in_ok-lines-in-Explain-clause-counted
 returns-in_ok-lines-in-Explain-clause-counted g c =
-    output_counts {before = g.F.Files.store c.args.files.now} _ _ _ refl c.print-in-Explain.ensures.fault c.print-in-Explain.ensures.counts
+    output_counts {before = g.F.Files.store c.args.files.now} _ _ _ refl c.print-in-Explain.ensures.fault
+    c.print-in-Explain.ensures.counts
 
 pub returns-in-Leak-clause-failed : goal.returns-in-Leak-clause-failed
 returns-in-Leak-clause-failed g c = λ files out.

@@ -4,7 +4,8 @@ use Rattle.commands.proofs.Counting.{ends}
 use Rattle.commands.proofs.performing.perform.Goals as goal
 
 pub returns-in-Ok-clause-performed : goal.returns-in-Ok-clause-performed
-returns-in-Ok-clause-performed g c = λ files out err. done (c.in-Ok.ensures.done files out) (c.in-Ok.ensures.told files err)
+returns-in-Ok-clause-performed g c = λ files out err.
+    done (c.in-Ok.ensures.done files out) (c.in-Ok.ensures.told files err)
 
 pub returns-in-Ok-clause-counted : goal.returns-in-Ok-clause-counted
 returns-in-Ok-clause-counted g c = calm c.in-Ok.ensures.calm.0 c.in-Ok.ensures.calm.1

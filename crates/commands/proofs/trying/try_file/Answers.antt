@@ -17,7 +17,8 @@ returns-in_err-source-clause-refused g c = λ tells.
 pub returns-in_err-lines-clause-refused : goal.returns-in_err-lines-clause-refused
 returns-in_err-lines-clause-refused g c = λ tells.
     handed_on _ _ c.from_residual-in_err-lines.ensures.1
-    (no_lines (c.in_ok-source.ensures.said tells) (rw c.in_ok-source.ensures.calm at (c.in_err-lines.ensures.refused tells)))
+    (no_lines (c.in_ok-source.ensures.said tells)
+    (rw c.in_ok-source.ensures.calm at (c.in_err-lines.ensures.refused tells)))
 
 pub returns-in_err-vectors-clause-refused : goal.returns-in_err-vectors-clause-refused
 returns-in_err-vectors-clause-refused g c = λ tells.
@@ -37,7 +38,8 @@ returns-in_err-report-clause-refused g c = λ tells.
     subst (λ (t : List ℕ). IsRefusal (Judges c.args.profile t) refusal) c.as_str-2.ensures.value
     c.in_err-report.ensures.refused in
     handed_on _ _ c.from_residual-in_err-report.ensures.1 (not_accepted
-    (both_held (g.F.Files.store c.args.files.now).contents c.args.file.now c.args.list.now source lines c.as_str.result.now
+    (both_held (g.F.Files.store c.args.files.now).contents c.args.file.now c.args.list.now source lines
+    c.as_str.result.now
     (map named c.in_ok-vectors.vectors.items) (c.in_ok-source.ensures.said tells)
     (rw c.in_ok-source.ensures.calm at (c.in_ok-lines.ensures.said tells))
     (IsUtf8-string_bytes c.in_ok-lines.lines) c.as_str.ensures.value c.in_ok-vectors.ensures.vectors)
