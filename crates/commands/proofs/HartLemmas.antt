@@ -1,16 +1,28 @@
 -- Harts that were loaded one after another, and files that were read to their end.
-use Rattle.std.proofs.Common.{◌≡◌, ℕ, ◌+◌, ◌<◌, ◌≤◌, true, List, [], ◌∷◌, ◌++◌, length, map, take, get_or, Ok, sym}
-use Rattle.std.proofs.Common.{ap, ◌∙◌, subst, arith}
+use Rattle.std.proofs.Common.{◌≡◌, ℕ, ◌+◌, ◌<◌, ◌≤◌, true, List, [], ◌∷◌, ◌++◌, ◌⊎◌, inl, inr, length, map, take, drop, get_or}
+use Rattle.std.proofs.Common.{Result, Ok, Err, append_assoc, refl, sym, ap, ◌∙◌, subst, arith}
 use Rattle.std.specs.List.{AllZip}
-use Rattle.std.proofs.lemmas.List.{take_more, map-append, length-take, take_all}
+use Rattle.std.proofs.lemmas.List.{take_more, take-append-drop, map-append, length-take, take_all}
 use Rattle.codegen.specs.Loaded.{params_of}
 use Rattle.commands.specs.Contents.{Contents}
-use Rattle.commands.specs.Harts.{IsJobOf, SaysPlan}
+use Rattle.commands.specs.Harts.{IsJobOf, SaysPlan, RefusesHart, RefusesJobs, by_hart, RefusesPlan, by_line, by_run}
+use Rattle.commands.specs.Harts.{plan_wants_memory}
 use Rattle.commands.specs.HartsText.{harts_text, status_of_ends}
 use Rattle.commands.specs.Images.{HoldsImage}
-use Rattle.commands.specs.Words.{AreSpelled}
+use Rattle.commands.specs.Words.{AreSpelled, IsFaultOfWords}
+use Rattle.commands.specs.declared.fault.Fault.{Fault}
+use Rattle.commands.specs.declared.fault.Fault.TheVariants as faults
 use Rattle.harts.specs.Frames.{job_of}
-use Rattle.harts.specs.RunHarts.{RunsHarts}
+use Rattle.harts.specs.Refused.{Refuses}
+use Rattle.harts.specs.RunHarts.{RunsHarts, refused, out_of_memory, cut_short, ran}
+use Rattle.harts.specs.declared.fault.HartsFault.{HartsFault}
+use Rattle.harts.specs.declared.fault.HartsFault.TheVariants as harts_faults
+use Rattle.harts.specs.declared.fault.HartsRule.{HartsRule}
+use Rattle.hepurita.specs.declared.fault.RunFault.{RunFault}
+use Rattle.input_files.specs.declared.harts_file.fault.PlanFault.{PlanFault}
+use Rattle.input_files.specs.declared.harts_file.fault.PlanFault.TheVariants.{Line, Memory}
+use Rattle.input_files.specs.harts_file.Faults.{IsFault}
+use Rattle.language.specs.arguments.Texts.{fault_of_texts}
 use Rattle.harts.specs.SideBySide as side_by_side
 use Rattle.harts.specs.declared.ends.HartEnd.{HartEnd}
 use Rattle.input_files.specs.harts_file.Jobs.{hart_of}
@@ -91,3 +103,64 @@ module _ (files : Contents) (plan : List ℕ) (harts : List PlannedHart) (schedu
             ∙ ap (λ list. harts_text jobs list ends') printed_seen ∙ ap (λ list. harts_text jobs seen list) printed_ends;
         ended = ended ∙ ap status_of_ends ended_ends;
       }
+
+-- what stands before and behind an element
+split_at : {A : Type 0} (xs : List A) (i : ℕ) (x : A) → i < length xs → x ≡ get_or xs i x
+    → xs ≡ take i xs ++ x ∷ drop (i + 1) xs
+split_at {A} xs i x low is =
+    sym (take-append-drop (i + 1) xs)
+    ∙ ap (λ front. front ++ drop (i + 1) xs) (take_more xs i x low ∙ ap (λ (y : A). take i xs ++ y ∷ []) (sym is))
+    ∙ append_assoc (take i xs) (x ∷ []) (drop (i + 1) xs)
+
+-- why a job among those named is not had, where those before it were loaded
+pub refused_at : (files : Contents) (named : List Job) (i : ℕ) (job : Job) (loaded : List (Fields × List Arg))
+    (fault : Fault) → i < length named → job ≡ get_or named i job
+    → AllZip (IsJobOf files) (map hart_of (take i named)) (map job_of loaded)
+    → RefusesHart files (hart_of job) fault → RefusesJobs files (map hart_of named) fault
+refused_at files named i job loaded fault low is all why =
+    let split : named ≡ take i named ++ job ∷ drop (i + 1) named = split_at named i job low is in
+    let names : map hart_of named ≡ map hart_of (take i named) ++ hart_of job ∷ map hart_of (drop (i + 1) named) =
+    ap (map hart_of) split ∙ map-append hart_of (take i named) (job ∷ drop (i + 1) named) in
+    by_hart names all why
+
+-- why words spell no arguments, from words in another form
+pub fault_from : {A : Type 0} {params others : List Param} {why : RunFault} (texts items : List A) (bytes : A
+    → List ℕ) → params ≡ others → texts ≡ items → IsFaultOfWords (fault_of_texts params (map bytes texts)) why
+    → IsFaultOfWords (fault_of_texts others (map bytes items)) why
+fault_from {A} {params} {others} {why} texts items bytes same is fault =
+    subst (λ (words : List A). IsFaultOfWords (fault_of_texts others (map bytes words)) why) is
+    (subst (λ (ps : List Param). IsFaultOfWords (fault_of_texts ps (map bytes texts)) why) same fault)
+
+-- a text that gives no plan
+pub plan_refused : {A : Type 0} (files : Contents) (plan : List ℕ) (why : PlanFault) (answer : Result A PlanFault)
+    → answer ≡ Err why
+    → ((rule : HartsRule) (line : ℕ) → answer ≡ Err (Line rule line) → IsFault plan rule line)
+    → RefusesPlan files plan (faults.Plan why)
+plan_refused files plan (Line rule line) answer is faulty = by_line (faulty rule line is)
+plan_refused files plan Memory answer is faulty = plan_wants_memory refl
+
+-- a run of harts that answers a fault refuses by it, or memory was refused
+run_answers : (jobs : List side_by_side.Job) (schedule : List ℕ) (before after : List HartObservation)
+    (answer : Result (List HartEnd) HartsFault) (why : HartsFault) → RunsHarts jobs schedule true before answer after
+    → answer ≡ Err why → Refuses jobs schedule why ⊎ (why ≡ harts_faults.Memory)
+run_answers jobs schedule before after answer why (refused {fault = fault} refuses) is =
+    let same : fault ≡ why = cc in inl (subst (λ (f : HartsFault). Refuses jobs schedule f) same refuses)
+run_answers jobs schedule before after answer why (out_of_memory allowed) is = inr (cc)
+run_answers jobs schedule before after answer why (cut_short allowed cut) is = inr (cc)
+run_answers jobs schedule before after answer why (ran allowed followed answered) is = cc
+
+-- harts that are not run
+pub run_refused : (files : Contents) (plan : List ℕ) (harts : List PlannedHart) (schedule schedule' : List ℕ)
+    (jobs jobs' : List side_by_side.Job) (before after : List HartObservation) (why : HartsFault)
+    → IsPlan plan harts schedule → AllZip (IsJobOf files) harts jobs
+    → RunsHarts jobs' schedule' true before (Err why) after → jobs' ≡ jobs → schedule' ≡ schedule
+    → RefusesPlan files plan (faults.Harts why)
+run_refused files plan harts schedule schedule' jobs jobs' before after why planned loaded was_run same_jobs
+    same_schedule = by (run_answers jobs' schedule' before after (Err why) why was_run refl)
+  where
+    by : Refuses jobs' schedule' why ⊎ (why ≡ harts_faults.Memory) → RefusesPlan files plan (faults.Harts why)
+    by (inl refuses) =
+        by_run planned loaded
+        (subst (λ (turns : List ℕ). Refuses jobs turns why) same_schedule
+        (subst (λ (js : List side_by_side.Job). Refuses js schedule' why) same_jobs refuses))
+    by (inr memory) = plan_wants_memory memory

@@ -14,6 +14,7 @@ use Rattle.language.specs.declared.values.Arg.{Arg}
 use Rattle.run_reports.proofs.progress_lemmas.Told.{reaches}
 use Rattle.run_reports.specs.progress.GoingOn.{Counting, GoesOn, BothGoOn, Reaches, HasLines, IsTold}
 use Rattle.rv_machine.specs.Machine.{State, Code}
+use Rattle.streams.specs.Streams.{Collected}
 
 -- where it holds whatever the answer is
 pub on_ok : {T E P : Type 0} (answer : Result T E) → P → OnOk answer P
@@ -25,7 +26,7 @@ on_err (Ok done) p = tt
 on_err (Err fault) p = p
 
 -- the lines of a run from the loaded state are those of the image's run
-pub told_of_image : (Has : Counting) {code : Code} {steps : ℕ} {s : State} {before after : List ℕ} (image : Fields)
+pub told_of_image : (Has : Counting) {code : Code} {steps : ℕ} {s : State} {before after : Collected} (image : Fields)
     (args : List Arg) → code ≡ code_at code_base image → steps ≡ image.max_steps
     → s ≡ loaded_at code_base frame_base image args → IsTold Has (GoesOn code steps s) before after
     → IsTold Has (RunGoesOn image args) before after
@@ -35,7 +36,7 @@ told_of_image Has {code} {steps} {s} {before} {after} image args code_is steps_i
     (subst (λ (x : Code). IsTold Has (GoesOn x steps s) before after) code_is told))
 
 -- those of two runs from loaded states are those of the image's two runs
-pub told_of_pair : (Has : Counting) {code : Code} {steps : ℕ} {s s' : State} {before after : List ℕ} (image : Fields)
+pub told_of_pair : (Has : Counting) {code : Code} {steps : ℕ} {s s' : State} {before after : Collected} (image : Fields)
     (one other : List Arg) → code ≡ code_at code_base image → steps ≡ image.max_steps
     → s ≡ loaded_at code_base frame_base image one → s' ≡ loaded_at code_base frame_base image other
     → IsTold Has (BothGoOn code steps s s') before after → IsTold Has (PairGoesOn image one other) before after
@@ -48,7 +49,7 @@ told_of_pair Has {code} {steps} {s} {s'} {before} {after} image one other code_i
     (subst (λ (x : Code). IsTold Has (BothGoOn x steps s s') before after) code_is told)))
 
 -- those of the image are those of its file
-module _ (Has : Counting) (before after : List ℕ) {files : Contents} {path : List ℕ} {words : List (List ℕ)}
+module _ (Has : Counting) (before after : Collected) {files : Contents} {path : List ℕ} {words : List (List ℕ)}
     {image : Fields} (held : HoldsImage files path image) where
   pub file_run_tells : {args : List Arg} (progress : Bool) → AreSpelled (params_of image) words args
       → Tells Has progress (RunGoesOn image args) before after
@@ -70,19 +71,19 @@ module _ (Has : Counting) (before after : List ℕ) {files : Contents} {path : L
   file_certificate_tells {given} true shifts as_said told = (image, given, held, as_said, told)
 
 -- all lines are some
-pub run_reaches : (files : Contents) (path : List ℕ) (words : List (List ℕ)) (before after : List ℕ)
+pub run_reaches : (files : Contents) (path : List ℕ) (words : List (List ℕ)) (before after : Collected)
     (progress : Bool) → FileRunTells HasLines progress files path words before after
     → FileRunTells Reaches progress files path words before after
 run_reaches files path words before after false told = told
 run_reaches files path words before after true told = (told.0, told.1, told.2, told.3, reaches told.4)
 
-pub pair_reaches : (files : Contents) (path : List ℕ) (words : List (List ℕ)) (before after : List ℕ)
+pub pair_reaches : (files : Contents) (path : List ℕ) (words : List (List ℕ)) (before after : Collected)
     (progress : Bool) → FilePairTells HasLines progress files path words before after
     → FilePairTells Reaches progress files path words before after
 pair_reaches files path words before after false told = told
 pair_reaches files path words before after true told = (told.0, told.1, told.2, told.3, told.4, reaches told.5)
 
-pub certificate_reaches : (files : Contents) (path : List ℕ) (words : List (List ℕ)) (before after : List ℕ)
+pub certificate_reaches : (files : Contents) (path : List ℕ) (words : List (List ℕ)) (before after : Collected)
     (progress shifts : Bool) → FileCertificateTells HasLines progress shifts files path words before after
     → FileCertificateTells Reaches progress shifts files path words before after
 certificate_reaches files path words before after false shifts told = told
@@ -90,14 +91,14 @@ certificate_reaches files path words before after true shifts told = (told.0, to
 
 -- a request that is known
 pub tells_known : (Has : Counting) (request known : Request) → request ≡ known
-    → (files : Contents) (before after : List ℕ) → RequestTells Has known files before after
+    → (files : Contents) (before after : Collected) → RequestTells Has known files before after
     → RequestTells Has request files before after
 tells_known Has request known same files before after told =
     subst (λ (r : Request). RequestTells Has r files before after) (sym same) told
 
-pub part_known : {Same : Type 0} (request known : Request) → request ≡ known → (files : Contents)
-    (before after : List ℕ) → Same ⊎ RequestTells Reaches known files before after
-    → Same ⊎ RequestTells Reaches request files before after
+pub part_known : {Quiet : Type 0} (request known : Request) → request ≡ known → (files : Contents)
+    (before after : Collected) → Quiet ⊎ RequestTells Reaches known files before after
+    → Quiet ⊎ RequestTells Reaches request files before after
 part_known request known same files before after (inl quiet) = inl quiet
 part_known request known same files before after (inr told) =
     inr (tells_known Reaches request known same files before after told)

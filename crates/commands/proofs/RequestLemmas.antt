@@ -8,11 +8,12 @@ use Rattle.commands.specs.Failures.{failures_by, IsReadBy, IsReadOrPrinted, Coun
 use Rattle.commands.specs.declared.command_line.words.Request.TheVariants as requests
 use Rattle.language.proofs.Handed.{handed_on, turned_on}
 use Rattle.commands.proofs.Counting.{memory_calm, counted_by, kept_by, not_output}
+use Rattle.commands.specs.Harts.{RefusesHarts}
 use Rattle.commands.specs.Leaks.{SaysLeak, RefusesLeak, IsOutputFault}
-use Rattle.commands.specs.Requests.{Answers, Leaves, Refuses, IsPut, IsPutWhole, IsPutInPart, IsDone, Fails}
-use Rattle.commands.specs.Requests.{refused, unprinted}
+use Rattle.commands.specs.Requests.{Answers, Leaves, Refuses, IsDone, Fails, refused, unprinted}
 use Rattle.commands.specs.Unread.{IsOutOfMemory}
 use Rattle.commands.specs.declared.fault.Fault.{Fault}
+use Rattle.streams.specs.Puts.{IsPut, IsPutWhole, IsPutInPart}
 use Rattle.streams.specs.Streams.{GainsPart, Writes, WritesPart, Collected}
 use Rattle.word.specs.Counts.{one_more}
 
@@ -107,13 +108,14 @@ fails_to_print {known = known} before after out out' {text = text} status answer
     (ap (λ (now : Store). now.failures) calm)
     (on_err_weaker answer (λ some. subst (λ (b : List ℕ). IsPutInPart b out out') are some) part) why)
 
--- of harts side by side each fault leaves what files hold, and standard output, as they were
+-- harts side by side that are refused
 pub harts_refused : {A : Type 0} (file : Bor (List ℕ)) (before after : Store) (out : Collected)
-    (answer : Result A Fault) → IfErr answer (λ fault. IsReadBy fault before after)
+    (answer : Result A Fault) → IfErr answer (RefusesHarts before.contents file.now)
+    → IfErr answer (λ fault. IsReadBy fault before after)
     → IfErr answer (Fails (requests.Harts file) before after out out)
-harts_refused file before after out (Ok done) read = tt
-harts_refused file before after out (Err fault) read =
-    refused (kept_by fault before after read) (counted_by fault before after read) refl
+harts_refused file before after out (Ok done) why read = tt
+harts_refused file before after out (Err fault) why read =
+    refused (why, kept_by fault before after read) (counted_by fault before after read) refl
 
 -- which calls failed, where standard output did
 pub output_counts : {A : Type 0} {before after : Store} (answer : Result A Fault) (printed printed' : ℕ)

@@ -92,7 +92,7 @@ spelled_from {args = args} texts bytes same within found = record {
 -- what was read of given values
 pub given_from : {A : Type 0} {params others : List Param} {given : List (Option Arg)} (texts : List A) (bytes : A
     → List ℕ) → params ≡ others → fault_of_given params given ≡ None
-    → map (λ one. option_map words_of one) given ≡ map (λ text. numbers_given (bytes text)) texts
+    → map (λ one. Some (option_map words_of one)) given ≡ map (λ text. numbers_given (bytes text)) texts
     → AreGiven others (map bytes texts) given
 given_from {given = given} texts bytes same faultless found = record {
   faultless = subst (λ (ps : List Param). fault_of_given ps given ≡ None) same faultless;

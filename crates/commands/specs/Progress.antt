@@ -15,6 +15,7 @@ use Rattle.codegen.specs.image_fields.Fields.{Fields}
 use Rattle.language.specs.declared.values.Arg.{Arg}
 use Rattle.run_reports.specs.progress.Certified.{GoesOnKnown}
 use Rattle.run_reports.specs.progress.GoingOn.{Counting, GoesOn, BothGoOn, IsTold}
+use Rattle.streams.specs.Streams.{Collected}
 
 -- an image's run on arguments goes on after so many turns
 abbrev pub RunGoesOn : Fields → List Arg → ℕ → Type 0
@@ -32,34 +33,34 @@ CertificateGoesOn image given shifts =
     GoesOnKnown (code_at code_base image) image.max_steps (known_at code_base frame_base image given shifts)
 
 -- what goes out of a run, where it is asked for
-abbrev pub Tells : Counting → Bool → (ℕ → Type 0) → List ℕ → List ℕ → Type 0
+abbrev pub Tells : Counting → Bool → (ℕ → Type 0) → Collected → Collected → Type 0
 Tells Has false GoesOnAfter before after = after ≡ before
 Tells Has true GoesOnAfter before after = IsTold Has GoesOnAfter before after
 
 -- the same of the run of the file's image on the arguments that the words spell
-abbrev pub FileRunTells : Counting → Bool → Contents → List ℕ → List (List ℕ) → List ℕ → List ℕ → Type 0
+abbrev pub FileRunTells : Counting → Bool → Contents → List ℕ → List (List ℕ) → Collected → Collected → Type 0
 FileRunTells Has false files path words before after = after ≡ before
 FileRunTells Has true files path words before after =
     (image : Fields) × (args : List Arg) × HoldsImage files path image × AreSpelled (params_of image) words args
     × IsTold Has (RunGoesOn image args) before after
 
 -- of its runs on the two lists that they spell
-abbrev pub FilePairTells : Counting → Bool → Contents → List ℕ → List (List ℕ) → List ℕ → List ℕ → Type 0
+abbrev pub FilePairTells : Counting → Bool → Contents → List ℕ → List (List ℕ) → Collected → Collected → Type 0
 FilePairTells Has false files path words before after = after ≡ before
 FilePairTells Has true files path words before after =
     (image : Fields) × (one other : List Arg) × HoldsImage files path image
     × AreBothSpelled (params_of image) words one other × IsTold Has (PairGoesOn image one other) before after
 
 -- and of its certified run on what they give
-abbrev pub FileCertificateTells : Counting → Bool → Bool → Contents → List ℕ → List (List ℕ) → List ℕ → List ℕ
-    → Type 0
+abbrev pub FileCertificateTells : Counting → Bool → Bool → Contents → List ℕ → List (List ℕ) → Collected
+    → Collected → Type 0
 FileCertificateTells Has false shifts files path words before after = after ≡ before
 FileCertificateTells Has true shifts files path words before after =
     (image : Fields) × (given : List (Option Arg)) × HoldsImage files path image
     × AreGiven (params_of image) words given × IsTold Has (CertificateGoesOn image given (shifts_seen shifts)) before after
 
 -- what goes out for a request, by what files hold
-abbrev pub RequestTells : Counting → Request → Contents → List ℕ → List ℕ → Type 0
+abbrev pub RequestTells : Counting → Request → Contents → Collected → Collected → Type 0
 RequestTells Has (requests.Run image arguments progress) files before after =
     FileRunTells Has progress files image.now (map (λ word. word.now) arguments.now) before after
 RequestTells Has (requests.Pair image arguments options) files before after =

@@ -8,7 +8,7 @@ use Rattle.commands.specs.Costs.{SaysCosts, RefusesCosts}
 use Rattle.commands.specs.Failures.{failures_by}
 use Rattle.commands.specs.FaultText.{fault_line, fault_status}
 use Rattle.commands.specs.FunctionFiles.{AreFunctionTexts, RefusesFunction}
-use Rattle.commands.specs.Harts.{SaysHarts}
+use Rattle.commands.specs.Harts.{SaysHarts, RefusesHarts}
 use Rattle.commands.specs.Images.{NoImage}
 use Rattle.commands.specs.Judged.{IsAccepted, IsRefusedSo, IsImageOf}
 use Rattle.commands.specs.Leaks.{SaysLeak, RefusesLeak, IsOutputFault}
@@ -25,7 +25,8 @@ use Rattle.commands.specs.Written.{WritesFile, FailsToWrite}
 use Rattle.commands.specs.declared.fault.Fault.{Fault}
 use Rattle.explanations.specs.Text.{explanation_text}
 use Rattle.run_reports.specs.progress.GoingOn.{Reaches, HasLines}
-use Rattle.streams.specs.Streams.{GainsPart, Collected}
+use Rattle.streams.specs.Puts.{IsPut, IsPutWhole, IsPutInPart}
+use Rattle.streams.specs.Streams.{Collected}
 use Rattle.input_files.specs.declared.wrapping.asked.Asked.{Asked}
 use Rattle.word.specs.Counts.{one_more}
 
@@ -109,26 +110,10 @@ Refuses (requests.Wrap file code image frame steps profile) before after fault =
     let asked : Asked = record { frame_bytes = frame; max_steps = steps; profile = profile } in
     FailsToWrite image.now (IsImageOfCode asked before file.now code.now) (RefusesCode asked before file.now code.now)
     before after fault
-Refuses (requests.Harts file) before after fault = after ≡ before
+Refuses (requests.Harts file) before after fault = RefusesHarts before file.now fault × (after ≡ before)
 Refuses (requests.Vectors file vectors profile) before after fault =
     RefusesVectors profile before file.now vectors.now fault × (after ≡ before)
 Refuses (requests.Explain explanation) before after fault = IsOutOfMemory fault × (after ≡ before)
-
--- what a sink has taken, and how many of its calls have failed
-abbrev pub collected : List ℕ → ℕ → Collected
-collected bytes failures = record { bytes = bytes; failures = failures }
-
--- bytes went out to a sink, all of them, and no call of it failed
-abbrev pub IsPutWhole : List ℕ → Collected → Collected → Type 0
-IsPutWhole bytes before after = (after.bytes ≡ before.bytes ++ bytes) × (after.failures ≡ before.failures)
-
--- a beginning of bytes went out, and not all of them, and one more call failed
-abbrev pub IsPutInPart : List ℕ → Collected → Collected → Type 0
-IsPutInPart bytes before after = GainsPart before.bytes after.bytes bytes × (after.failures ≡ one_more before.failures)
-
--- bytes went out: all of them, or where a call failed a beginning of them
-abbrev pub IsPut : List ℕ → Collected → Collected → Type 0
-IsPut bytes before after = IsPutWhole bytes before after ⊎ IsPutInPart bytes before after
 
 -- how a fault is reported on standard error, with which exit status: by its lines; or, where there is no memory for
 -- that, as out of memory
@@ -157,10 +142,10 @@ pub data Fails (request : Request) (before after : Store) (out out' : Collected)
 -- what comes of a request, with the exit status: on standard error the lines of progress go out first
 pub data Performs (request : Request) (before after : Store) (out out' err err' : Collected) : ℕ → Type 0 where
   done : {status : ℕ} → IsDone request before after out out' status
-      → RequestTells HasLines request before.contents err.bytes err'.bytes
+      → RequestTells HasLines request before.contents err err'
       → Performs request before after out out' err err' status
   failed : {fault : Fault} {told : Collected} {status : ℕ} → Fails request before after out out' fault
-      → (told ≡ err) ⊎ RequestTells Reaches request before.contents err.bytes told.bytes
+      → (told ≡ err) ⊎ RequestTells Reaches request before.contents err told
       → Reports fault told err' status
       → Performs request before after out out' err err' status
 

@@ -1,5 +1,5 @@
 -- What is printed of a run of the image of a file, by its outcome.
-use Rattle.std.specs.Prelude.{◌≡◌, ℕ, false, List, [], Ok, Err}
+use Rattle.std.specs.Prelude.{◌≡◌, ◌≢◌, ℕ, false, List, [], Ok, Err}
 use Rattle.language.specs.arguments.Texts.{fault_of_texts}
 use Rattle.codegen.specs.Loaded.{params_of}
 use Rattle.commands.specs.Contents.{Contents}
@@ -11,9 +11,11 @@ use Rattle.commands.specs.declared.fault.Fault.{Fault}
 use Rattle.commands.specs.declared.fault.Fault.TheVariants.{Run}
 use Rattle.hepurita.specs.Executed.{Executed}
 use Rattle.hepurita.specs.declared.fault.RunFault.{RunFault}
+use Rattle.hepurita.specs.declared.fault.RunFault.TheVariants.{Stopped}
 use Rattle.codegen.specs.image_fields.Fields.{Fields}
 use Rattle.language.specs.Results.{Results}
 use Rattle.language.specs.declared.values.Arg.{Arg}
+use Rattle.rv_machine.specs.declared.stops.Stop.TheVariants.{RecorderRefused}
 
 -- the text of the outcome of the file's image on the arguments that the words spell
 pub record SaysRun (files : Contents) (path : List ℕ) (words : List (List ℕ)) (text : List ℕ) : Type 0 where
@@ -25,11 +27,12 @@ pub record SaysRun (files : Contents) (path : List ℕ) (words : List (List ℕ)
   pub executed : Executed image args false [] (Ok outcome) []
   pub printed : text ≡ outcome_text (params_of image) outcome
 
--- the run on these arguments has this fault: it stops otherwise than by ECALL
+-- the run on these arguments has this fault: it stops otherwise than by ECALL, and not by a recorder, which there is
+-- none of
 abbrev pub FaultsByRun : List (List ℕ) → Fields → Fault → Type 0
 FaultsByRun words image fault =
     (args : List Arg) × (why : RunFault) × AreSpelled (params_of image) words args
-    × Executed image args false [] (Err why) [] × (fault ≡ Run why)
+    × Executed image args false [] (Err why) [] × (why ≢ Stopped RecorderRefused) × (fault ≡ Run why)
 
 -- why no outcome is printed
 abbrev pub RefusesRun : Contents → List ℕ → List (List ℕ) → Fault → Type 0

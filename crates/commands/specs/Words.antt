@@ -33,10 +33,11 @@ fault_of_both params words =
     (option_map (shifted (length params)) (fault_of_texts params (drop (length params) words)))
     else Some count_fault
 
--- what is given of arguments, as the words say: `?` stands for every value of a secret parameter
+-- what is given of arguments, as the words say, each of which is `?` or spells numbers: `?`, and nothing else, stands
+-- for every value of a secret parameter
 pub record AreGiven (params : List Param) (words : List (List ℕ)) (given : List (Option Arg)) : Type 0 where
   pub faultless : fault_of_given params given ≡ None
-  pub numbers : map (λ one. option_map words_of one) given ≡ map numbers_given words
+  pub numbers : map (λ one. Some (option_map words_of one)) given ≡ map numbers_given words
 
 -- why words give no arguments, of which this is the first fault
 abbrev pub IsFaultOfWords : Option ArgumentFault → RunFault → Type 0

@@ -9,6 +9,7 @@ ghost use Rattle.codegen.specs.Loaded.{params_of};
 ghost use Rattle.language.specs.arguments.Faults.{shifted};
 ghost use Rattle.hepurita.specs.Paired.{Paired};
 ghost use Rattle.codegen.specs.image_fields.Limits.{most_parameters};
+ghost use Rattle.streams.specs.Puts.{collected};
 ghost use Rattle.streams.specs.Streams.{Writes, WritesPart};
 ghost use Rattle.commands.specs.Failures.{IsReadBy, IsReadOrPrinted};
 ghost use Rattle.commands.specs.Images.{HoldsImage, NoImage};
@@ -62,9 +63,9 @@ pub fn run_image<'a, F: Files, E: Sink>(
     files: &mut F,
     err: &mut E,
 ) -> Result<String, Fault<'a>>
-    ensures told { IsTrue F.TELLS → IsTrue E.TELLS → OnOk result (FileRunTells HasLines progress (F.store files.old).contents path.now (map (λ word. word.now) arguments.now) (E.taken err.old) (E.taken err.new)) }
+    ensures told { IsTrue F.TELLS → IsTrue E.TELLS → OnOk result (FileRunTells HasLines progress (F.store files.old).contents path.now (map (λ word. word.now) arguments.now) (collected (E.taken err.old) (E.failures err.old)) (collected (E.taken err.new) (E.failures err.new))) }
     ensures part { IsTrue F.TELLS → IsTrue E.TELLS → OnErr result ((err.new ≡ err.old)
-        ⊎ FileRunTells Reaches progress (F.store files.old).contents path.now (map (λ word. word.now) arguments.now) (E.taken err.old) (E.taken err.new)) }
+        ⊎ FileRunTells Reaches progress (F.store files.old).contents path.now (map (λ word. word.now) arguments.now) (collected (E.taken err.old) (E.failures err.old)) (collected (E.taken err.new) (E.failures err.new))) }
     ensures said { IsTrue F.TELLS → IfOk result (λ text. SaysRun (F.store files.old).contents path.now (map (λ word. word.now) arguments.now) (string_bytes text)) }
     ensures refused { IsTrue F.TELLS → IfErr result (RefusesRun (F.store files.old).contents path.now (map (λ word. word.now) arguments.now)) }
     ensures calm { OnOk result (F.store files.new ≡ F.store files.old) }
@@ -160,9 +161,9 @@ pub fn pair_image<'a, F: Files, E: Sink>(
     files: &mut F,
     err: &mut E,
 ) -> Result<Vec<u8>, Fault<'a>>
-    ensures told { IsTrue F.TELLS → IsTrue E.TELLS → OnOk result (FilePairTells HasLines options.progress (F.store files.old).contents path.now (map (λ word. word.now) arguments.now) (E.taken err.old) (E.taken err.new)) }
+    ensures told { IsTrue F.TELLS → IsTrue E.TELLS → OnOk result (FilePairTells HasLines options.progress (F.store files.old).contents path.now (map (λ word. word.now) arguments.now) (collected (E.taken err.old) (E.failures err.old)) (collected (E.taken err.new) (E.failures err.new))) }
     ensures part { IsTrue F.TELLS → IsTrue E.TELLS → OnErr result ((err.new ≡ err.old)
-        ⊎ FilePairTells Reaches options.progress (F.store files.old).contents path.now (map (λ word. word.now) arguments.now) (E.taken err.old) (E.taken err.new)) }
+        ⊎ FilePairTells Reaches options.progress (F.store files.old).contents path.now (map (λ word. word.now) arguments.now) (collected (E.taken err.old) (E.failures err.old)) (collected (E.taken err.new) (E.failures err.new))) }
     ensures said { IsTrue F.TELLS → IfOk result (λ text. SaysPair options.explain (F.store files.old).contents path.now (map (λ word. word.now) arguments.now) text.items) }
     ensures refused { IsTrue F.TELLS → IfErr result (RefusesPair (F.store files.old).contents path.now (map (λ word. word.now) arguments.now)) }
     ensures calm { OnOk result (F.store files.new ≡ F.store files.old) }

@@ -5,8 +5,9 @@ ghost use Rattle.commands.specs.Failures.{Counts};
 ghost use Rattle.commands.specs.FaultText.{fault_status};
 ghost use Rattle.commands.specs.Leaks.{IsOutputFault};
 ghost use Rattle.commands.specs.Progress.{RequestTells};
-ghost use Rattle.commands.specs.Requests.{collected, IsPut, IsPutWhole, IsPutInPart, IsDone, Fails, Reports, Performs, Ends};
+ghost use Rattle.commands.specs.Requests.{IsDone, Fails, Reports, Performs, Ends};
 ghost use Rattle.run_reports.specs.progress.GoingOn.{Reaches, HasLines};
+ghost use Rattle.streams.specs.Puts.{collected, IsPutWhole, IsPutInPart};
 ghost use Rattle.word.specs.Counts.{one_more};
 
 use crate::certifying::certify_image;
@@ -139,9 +140,9 @@ fn answer<'a, F: Files, O: Sink, E: Sink>(
     ensures failed { IsTrue F.TELLS → IsTrue O.TELLS
         → IfErr result (Fails request.entry (F.store files.old) (F.store files.new)
         (collected (O.taken out.old) (O.failures out.old)) (collected (O.taken out.new) (O.failures out.new))) }
-    ensures told { IsTrue F.TELLS → IsTrue E.TELLS → OnOk result (RequestTells HasLines request.entry (F.store files.old).contents (E.taken err.old) (E.taken err.new)) }
+    ensures told { IsTrue F.TELLS → IsTrue E.TELLS → OnOk result (RequestTells HasLines request.entry (F.store files.old).contents (collected (E.taken err.old) (E.failures err.old)) (collected (E.taken err.new) (E.failures err.new))) }
     ensures part { IsTrue F.TELLS → IsTrue E.TELLS → OnErr result ((err.new ≡ err.old)
-        ⊎ RequestTells Reaches request.entry (F.store files.old).contents (E.taken err.old) (E.taken err.new)) }
+        ⊎ RequestTells Reaches request.entry (F.store files.old).contents (collected (E.taken err.old) (E.failures err.old)) (collected (E.taken err.new) (E.failures err.new))) }
     ensures known { IfOk result (λ status. status ≤ 5) }
     ensures calm { OnOk result (((F.store files.new).failures ≡ (F.store files.old).failures) × (O.failures out.new ≡ O.failures out.old)) }
     ensures counted { IfErr result (Counts (F.store files.old).failures (F.store files.new).failures (O.failures out.old) (O.failures out.new)) }

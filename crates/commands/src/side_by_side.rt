@@ -9,7 +9,7 @@ ghost use Rattle.harts.specs.Frames.{job_of};
 ghost use Rattle.input_files.specs.harts_file.Jobs.{hart_of};
 ghost use Rattle.commands.specs.Failures.{IsReadBy};
 ghost use Rattle.commands.specs.FileTexts.{NoWholeText};
-ghost use Rattle.commands.specs.Harts.{IsJobOf, SaysPlan};
+ghost use Rattle.commands.specs.Harts.{IsJobOf, SaysPlan, RefusesJobs, RefusesPlan};
 ghost use Rattle.commands.specs.HartsText.{behind, turns_text, ended_line, ended_text, ends_text, harts_text, is_well, status_of_ends};
 ghost use Rattle.commands.specs.OutcomeText.{outcome_text};
 
@@ -47,13 +47,15 @@ pub fn whole_text<'a, F: Files>(
 }
 
 /// Runs the harts of a file with this text: what an observer sees of each turn and how each hart ended, as lines, and the
-/// exit status.
+/// exit status. They are refused by the first faulty line, by the first hart whose image or arguments are faulty, or by
+/// what `run_harts` refuses.
 pub fn run_side_by_side<'a, F: Files>(
     alloc: Global,
     text: &'a str,
     files: &mut F,
 ) -> Result<(Vec<u8>, u8), Fault<'a>>
     ensures said { IsTrue F.TELLS → IfOk result (λ said. SaysPlan (F.store files.old).contents text.now said.0.items said.1) }
+    ensures refused { IsTrue F.TELLS → IfErr result (RefusesPlan (F.store files.old).contents text.now) }
     ensures known { IfOk result (λ said. said.1 ≤ 5) }
     ensures calm { OnOk result (F.store files.new ≡ F.store files.old) }
     ensures counted { IfErr result (λ fault. IsReadBy fault (F.store files.old) (F.store files.new)) }
@@ -71,7 +73,7 @@ pub fn run_side_by_side<'a, F: Files>(
     Ok((lines, status_of(ends.as_slice())))
 }
 
-/// The images of harts and their arguments, hart by hart.
+/// The images of harts and their arguments, hart by hart, or the fault of the first hart that has one.
 fn load_jobs<'a, F: Files>(
     alloc: Global,
     jobs: &[Job<'a>],
@@ -79,6 +81,7 @@ fn load_jobs<'a, F: Files>(
 ) -> Result<Vec<(Image, Args)>, Fault<'a>>
     ensures count { IfOk result (λ loaded. vec_len loaded ≡ length jobs.now) }
     ensures said { IsTrue F.TELLS → IfOk result (λ loaded. AllZip (IsJobOf (F.store files.old).contents) (map hart_of jobs.now) (map job_of loaded.items)) }
+    ensures refused { IsTrue F.TELLS → IfErr result (RefusesJobs (F.store files.old).contents (map hart_of jobs.now)) }
     ensures calm { OnOk result (F.store files.new ≡ F.store files.old) }
     ensures counted { IfErr result (λ fault. IsReadBy fault (F.store files.old) (F.store files.new)) }
 {

@@ -1,11 +1,12 @@
 // Runs of an image that say on standard error how many turns they have made, where that is asked for.
 
-ghost use Rattle.std.specs.Prelude.{◌≡◌, false, [], IsTrue, OnOk, OnErr};
+ghost use Rattle.std.specs.Prelude.{◌≡◌, ◌≢◌, false, [], Err, IsTrue, OnOk, OnErr};
 ghost use Rattle.image_reports.specs.certificates.Certified.{Certified};
 ghost use Rattle.commands.specs.Progress.{RunGoesOn, PairGoesOn, CertificateGoesOn, Tells};
 ghost use Rattle.hepurita.specs.Executed.{Executed};
 ghost use Rattle.hepurita.specs.Paired.{Paired};
 ghost use Rattle.run_reports.specs.progress.GoingOn.{Reaches, HasLines, IsTold};
+ghost use Rattle.streams.specs.Puts.{collected};
 
 use hepurita::{
     RunFault, answer, code, execute, fault_of_both, first_fault, load, pair, result_space,
@@ -14,7 +15,7 @@ use image::Image;
 use image_reports::certificates::{Certificate, Shifts, certify, certify_telling};
 use language::{Arg, Args, Outcome};
 use run_reports::progress::{compare_telling, run_in_pieces};
-use rv_machine::{NullRecorder, Pairing};
+use rv_machine::{NullRecorder, Pairing, Stop};
 use std::alloc::Global;
 use streams::Sink;
 
@@ -26,8 +27,9 @@ fn execute_telling<E: Sink>(
     err: &mut E,
 ) -> Result<Outcome, RunFault>
     ensures executed { Executed image.now args.now false [] result [] }
-    ensures told { IsTrue E.TELLS → OnOk result (IsTold HasLines (RunGoesOn image.now args.now) (E.taken err.old) (E.taken err.new)) }
-    ensures part { IsTrue E.TELLS → OnErr result (IsTold Reaches (RunGoesOn image.now args.now) (E.taken err.old) (E.taken err.new)) }
+    ensures calm { result ≢ Err (RunFault.Stopped Stop.RecorderRefused) }
+    ensures told { IsTrue E.TELLS → OnOk result (IsTold HasLines (RunGoesOn image.now args.now) (collected (E.taken err.old) (E.failures err.old)) (collected (E.taken err.new) (E.failures err.new))) }
+    ensures part { IsTrue E.TELLS → OnErr result (IsTold Reaches (RunGoesOn image.now args.now) (collected (E.taken err.old) (E.failures err.old)) (collected (E.taken err.new) (E.failures err.new))) }
 {
     if let Some(fault) = first_fault(image, args) {
         return Err(RunFault::from(fault));
@@ -48,8 +50,9 @@ pub fn outcome_of<E: Sink>(
     err: &mut E,
 ) -> Result<Outcome, RunFault>
     ensures executed { Executed image.now args.now false [] result [] }
-    ensures told { IsTrue E.TELLS → OnOk result (Tells HasLines progress (RunGoesOn image.now args.now) (E.taken err.old) (E.taken err.new)) }
-    ensures part { IsTrue E.TELLS → OnErr result (Tells Reaches progress (RunGoesOn image.now args.now) (E.taken err.old) (E.taken err.new)) }
+    ensures calm { result ≢ Err (RunFault.Stopped Stop.RecorderRefused) }
+    ensures told { IsTrue E.TELLS → OnOk result (Tells HasLines progress (RunGoesOn image.now args.now) (collected (E.taken err.old) (E.failures err.old)) (collected (E.taken err.new) (E.failures err.new))) }
+    ensures part { IsTrue E.TELLS → OnErr result (Tells Reaches progress (RunGoesOn image.now args.now) (collected (E.taken err.old) (E.failures err.old)) (collected (E.taken err.new) (E.failures err.new))) }
 {
     if progress {
         execute_telling(alloc, image, args, err)
@@ -67,7 +70,7 @@ fn pair_telling<E: Sink>(
     err: &mut E,
 ) -> Result<Pairing, RunFault>
     ensures paired { Paired image.now one.now other.now result }
-    ensures told { IsTrue E.TELLS → OnOk result (IsTold HasLines (PairGoesOn image.now one.now other.now) (E.taken err.old) (E.taken err.new)) }
+    ensures told { IsTrue E.TELLS → OnOk result (IsTold HasLines (PairGoesOn image.now one.now other.now) (collected (E.taken err.old) (E.failures err.old)) (collected (E.taken err.new) (E.failures err.new))) }
     ensures untold { OnErr result (err.new ≡ err.old) }
 {
     if let Some(fault) = fault_of_both(image, one, other) {
@@ -89,7 +92,7 @@ pub fn pairing_of<E: Sink>(
     err: &mut E,
 ) -> Result<Pairing, RunFault>
     ensures paired { Paired image.now one.now other.now result }
-    ensures told { IsTrue E.TELLS → OnOk result (Tells HasLines progress (PairGoesOn image.now one.now other.now) (E.taken err.old) (E.taken err.new)) }
+    ensures told { IsTrue E.TELLS → OnOk result (Tells HasLines progress (PairGoesOn image.now one.now other.now) (collected (E.taken err.old) (E.failures err.old)) (collected (E.taken err.new) (E.failures err.new))) }
     ensures untold { OnErr result (err.new ≡ err.old) }
 {
     if progress {
@@ -109,7 +112,7 @@ pub fn certificate_of<E: Sink>(
     err: &mut E,
 ) -> Result<Certificate, RunFault>
     ensures certified { Certified image.now given.now shifts result }
-    ensures told { IsTrue E.TELLS → OnOk result (Tells HasLines progress (CertificateGoesOn image.now given.now shifts) (E.taken err.old) (E.taken err.new)) }
+    ensures told { IsTrue E.TELLS → OnOk result (Tells HasLines progress (CertificateGoesOn image.now given.now shifts) (collected (E.taken err.old) (E.failures err.old)) (collected (E.taken err.new) (E.failures err.new))) }
     ensures untold { OnErr result (err.new ≡ err.old) }
 {
     if progress {

@@ -1,5 +1,6 @@
 -- What texts say of arguments that are given or not: `?` stands for every value of a secret parameter.
-use Rattle.std.specs.Prelude.{ℕ, List, codes, Option, None, if◌then◌else◌}
+use Rattle.std.specs.Prelude.{ℕ, List, codes, Option, Some, None, if◌then◌else◌}
+use Rattle.std.specs.Option.{option_map}
 use Rattle.std.specs.Str.{bytes_eq}
 use Rattle.language.specs.arguments.Faults.{fault_by}
 use Rattle.language.specs.arguments.Texts.{numbers_of, rule_of_text}
@@ -12,9 +13,9 @@ use Rattle.image_reports.specs.certificates.Given.{rule_of_unknown}
 abbrev pub unknown_text : List ℕ
 unknown_text = codes "?"
 
--- the numbers that a text gives, if any
-abbrev pub numbers_given : List ℕ → Option (List ℕ)
-numbers_given text = if bytes_eq text unknown_text then None else numbers_of text
+-- what a text gives: `?`, and nothing else, gives no value; another gives the numbers that it spells, if it spells any
+abbrev pub numbers_given : List ℕ → Option (Option (List ℕ))
+numbers_given text = if bytes_eq text unknown_text then Some None else option_map Some (numbers_of text)
 
 -- the rule that a text breaks at its parameter
 abbrev pub rule_of_given_text : Param → List ℕ → Option ArgumentRule

@@ -7,6 +7,7 @@ ghost use Rattle.codegen.specs.Loaded.{code_at};
 ghost use Rattle.hepurita.specs.Bases.{code_base, frame_base};
 ghost use Rattle.run_reports.specs.progress.Certified.{GoesOnKnown};
 ghost use Rattle.run_reports.specs.progress.GoingOn.{HasLines, IsTold};
+ghost use Rattle.streams.specs.Puts.{collected};
 
 use crate::certificates::faults::first_fault;
 use crate::certificates::loading::load_given;
@@ -49,7 +50,7 @@ pub fn certify_telling<E: Sink>(
     ensures certified { Certified image.now given.now shifts result }
     ensures told { IsTrue E.TELLS → OnOk result (IsTold HasLines
         (GoesOnKnown (code_at code_base image.now) image.now.max_steps (known_at code_base frame_base image.now given.now shifts))
-        (E.taken err.old) (E.taken err.new)) }
+        (collected (E.taken err.old) (E.failures err.old)) (collected (E.taken err.new) (E.failures err.new))) }
     ensures untold { OnErr result (err.new ≡ err.old) }
 {
     if let Some(fault) = first_fault(image.slots(), given) {

@@ -43,7 +43,7 @@ fn first_fault(params: &[Param], texts: &[&str]) -> Option<ArgumentFault>
 /// What a text without fault gives.
 fn given_by(alloc: Global, param: &Param, text: &str) -> Result<Option<Arg>, AllocError>
     requires { rule_of_given_text param.now text.now ≡ None }
-    ensures numbers { IfOk result (λ given. option_map words_of given ≡ numbers_given text.now) }
+    ensures numbers { IfOk result (λ given. Some (option_map words_of given) ≡ numbers_given text.now) }
     ensures faultless { IfOk result (λ given. rule_of_given param.now given ≡ None) }
 {
     if text == UNKNOWN {
@@ -59,7 +59,7 @@ pub fn read_given(
     params: &[Param],
     texts: &[&str],
 ) -> Result<Vec<Option<Arg>>, RunFault>
-    ensures found { IfOk result (λ given. map (λ one. option_map words_of one) given.items ≡ map (λ text. numbers_given text.now) texts.now) }
+    ensures found { IfOk result (λ given. map (λ one. Some (option_map words_of one)) given.items ≡ map (λ text. numbers_given text.now) texts.now) }
     ensures faultless { IfOk result (λ given. fault_of_given params.now given.items ≡ None) }
     ensures fault { (fault : ArgumentFault) → (result ≡ Err (RunFault.Argument fault.rule fault.index)) ↔ (fault_of_given_texts params.now (map (λ text. text.now) texts.now) ≡ Some fault) }
     ensures only { OnOk result (fault_of_given_texts params.now (map (λ text. text.now) texts.now) ≡ None) }

@@ -96,3 +96,13 @@ lines_of_known {now = now} led made more over = record {
       let rest = leads_rest led.1 on.1.2 (omega arith) in
       over rest.0 on.1.1 rest.1;
 }
+
+-- and at most one more may be
+pub lines_of_known_at_end : {code : Code} {budget left count : ℕ} {k now : Known}
+    → (seen : List Observation) × KnownLeads code (count * turns_a_line) k seen now
+    → count * turns_a_line + left ≡ budget → (count ≡ 0) ⊎ (0 < left) → left ≤ turns_a_line
+    → HasLines (GoesOnKnown code budget k) count
+lines_of_known_at_end {now = now} led made more last = record {
+  reached = elim more [ inl none ↦ inl none | inr some ↦ inr (omega (arith, made, some), (led.0, now, led.1)) ];
+  no_more = λ on. omega (arith, made, last, on.0);
+}

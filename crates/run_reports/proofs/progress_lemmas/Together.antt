@@ -12,6 +12,7 @@ use Rattle.rv_machine.specs.Leakage.{Leads, stays, turns}
 use Rattle.rv_machine.specs.Machine.{State, Code}
 use Rattle.rv_machine.specs.Progress.{Makes, rests, advances, finishes, MakesAll, begins, further}
 use Rattle.rv_machine.specs.declared.observation.Observation.{Observation}
+use Rattle.streams.specs.Streams.{Collected}
 
 -- Turns that leave more to be made go on.
 
@@ -130,7 +131,7 @@ they_differ {o = o} {p = p} {entry = entry} is is' first same =
 
 -- so the lines that went out are all
 pub told_at_end : {code : Code} {m n k n' k' made : ℕ} {s t u s' t' u' : State} {seen : List Observation}
-    {one other : Option Observation} {before after : List ℕ} (whole : Bool) (count : ℕ)
+    {one other : Option Observation} {before after : Collected} (whole : Bool) (count : ℕ)
     → InStep code m s n t s' n' t' seen → length seen ≡ made → Makes code n t one k u → Makes code n' t' other k' u'
     → made ≤ suc count * turns_a_line → (0 < n → 0 < n' → made < suc count * turns_a_line)
     → (ShowSame one other → ⊥) → Reaches (BothGoOn code m s s') count → WentOut whole count before after

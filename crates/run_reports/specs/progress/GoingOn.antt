@@ -5,6 +5,7 @@ use Rattle.run_reports.specs.progress.Lines.{turns_a_line, AreTold}
 use Rattle.rv_machine.specs.Leakage.{Leads}
 use Rattle.rv_machine.specs.Machine.{State, Code}
 use Rattle.rv_machine.specs.declared.observation.Observation.{Observation}
+use Rattle.streams.specs.Streams.{Collected}
 
 -- so many turns are made from this state, of which none stops, and more may be made
 abbrev pub GoesOn : Code → ℕ → State → ℕ → Type 0
@@ -29,6 +30,6 @@ pub record HasLines (GoesOnAfter : ℕ → Type 0) (count : ℕ) : Type 0 where
 abbrev pub Counting : Type 1
 Counting = (ℕ → Type 0) → ℕ → Type 0
 
--- the lines of a run went out, or where a call failed a beginning of them
-abbrev pub IsTold : Counting → (ℕ → Type 0) → List ℕ → List ℕ → Type 0
+-- the lines of a run went out whole, and no call failed; or one more call failed, and only a beginning of them went out
+abbrev pub IsTold : Counting → (ℕ → Type 0) → Collected → Collected → Type 0
 IsTold Has GoesOnAfter before after = (count : ℕ) × Has GoesOnAfter count × AreTold count before after

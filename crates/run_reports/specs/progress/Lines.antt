@@ -1,8 +1,9 @@
 -- The lines that say how many turns a run has made.
-use Rattle.std.specs.Prelude.{◌≡◌, ℕ, ◌*◌, ◌⊎◌, Bool, true, false, List, [], ◌++◌, codes}
+use Rattle.std.specs.Prelude.{ℕ, ◌*◌, Bool, true, false, List, [], ◌++◌, codes}
 use Rattle.std.specs.Fmt.{decimal}
 use Rattle.std.proofs.Common.{zero, suc}
-use Rattle.streams.specs.Streams.{GainsPart}
+use Rattle.streams.specs.Puts.{IsPut, IsPutWhole, IsPutInPart}
+use Rattle.streams.specs.Streams.{Collected}
 
 -- how many turns there are to a line
 abbrev pub turns_a_line : ℕ
@@ -17,12 +18,11 @@ unfoldable pub progress_lines : ℕ → List ℕ
 progress_lines zero = []
 progress_lines (suc count) = progress_lines count ++ progress_line (suc count * turns_a_line)
 
--- so many lines went out; or a call failed, and a beginning of them did
-abbrev pub WentOut : Bool → ℕ → List ℕ → List ℕ → Type 0
-WentOut true count before after = after ≡ before ++ progress_lines count
-WentOut false count before after = GainsPart before after (progress_lines count)
+-- so many lines went out: all of them, or where a call failed a beginning of them
+abbrev pub AreTold : ℕ → Collected → Collected → Type 0
+AreTold count before after = IsPut (progress_lines count) before after
 
--- so many lines went out, all of them, or where a call failed a beginning of them
-abbrev pub AreTold : ℕ → List ℕ → List ℕ → Type 0
-AreTold count before after =
-    (after ≡ before ++ progress_lines count) ⊎ GainsPart before after (progress_lines count)
+-- which of the two, by whether they went out whole
+abbrev pub WentOut : Bool → ℕ → Collected → Collected → Type 0
+WentOut true count before after = IsPutWhole (progress_lines count) before after
+WentOut false count before after = IsPutInPart (progress_lines count) before after

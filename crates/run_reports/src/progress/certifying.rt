@@ -6,6 +6,7 @@ ghost use Rattle.certified_runs.specs.End.{end_of};
 ghost use Rattle.certified_runs.specs.Parts.{known_of};
 ghost use Rattle.run_reports.specs.progress.Certified.{GoesOnKnown, entries_at, end_behind};
 ghost use Rattle.run_reports.specs.progress.GoingOn.{HasLines, IsTold};
+ghost use Rattle.streams.specs.Puts.{collected};
 ghost use Rattle.rv_machine.specs.Harts.{state_of};
 ghost use Rattle.rv_machine.specs.Regions.{code_of};
 ghost use Rattle.rv_machine.specs.declared.observation.Observation.{Observation};
@@ -58,7 +59,7 @@ pub fn certify_in_pieces<M: Memory, E: Sink>(
         × (result ≡ end_of seen ending) }
     ensures told { IsTrue E.TELLS → IsTold HasLines (GoesOnKnown (code_of code.now) run.old.turns_left
         (known_of (state_of run.old.hart (M.bytes run.old.memory)) known.old.registers (M.bytes known.old.marks) known.old.shifts))
-        (E.taken err.old) (E.taken err.new) }
+        (collected (E.taken err.old) (E.failures err.old)) (collected (E.taken err.new) (E.failures err.new)) }
 {
     let mut lines = ProgressLines::new();
     let mut entries = 0;

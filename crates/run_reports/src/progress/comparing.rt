@@ -2,6 +2,7 @@
 
 ghost use Rattle.std.specs.Prelude.{◌≡◌, ℕ, ◌^◌, ◌<◌, List, IsTrue};
 ghost use Rattle.run_reports.specs.progress.GoingOn.{BothGoOn, HasLines, IsTold};
+ghost use Rattle.streams.specs.Puts.{collected};
 ghost use Rattle.rv_machine.specs.Entries.{entries_of, Compares};
 ghost use Rattle.rv_machine.specs.Harts.{state_of};
 ghost use Rattle.rv_machine.specs.Leakage.{IsShown};
@@ -33,7 +34,7 @@ pub fn compare_telling<M: Memory, E: Sink>(
         × Compares (entries_of seen) (entries_of seen') result }
     ensures told { IsTrue E.TELLS → IsTold HasLines
         (BothGoOn (code_of code.now) one.old.turns_left (state_of one.old.hart (M.bytes one.old.memory)) (state_of other.old.hart (M.bytes other.old.memory)))
-        (E.taken err.old) (E.taken err.new) }
+        (collected (E.taken err.old) (E.failures err.old)) (collected (E.taken err.new) (E.failures err.new)) }
 {
     let mut lines = ProgressLines::new();
     let mut made: u64 = 0;

@@ -1,11 +1,13 @@
 // The lines of progress.
 
-ghost use Rattle.std.specs.Prelude.{◌≡◌, ℕ, ◌+◌, ◌*◌, ◌^◌, ◌<◌, ◌++◌, List, IsTrue, OnOk, OnErr};
+ghost use Rattle.std.specs.Prelude.{◌≡◌, ◌+◌, ◌*◌, ◌^◌, ◌<◌, ◌++◌, IsTrue, OnOk, OnErr};
 ghost use Rattle.run_reports.specs.progress.Lines.{turns_a_line, progress_line, WentOut};
-ghost use Rattle.streams.specs.Streams.{GainsPart};
+ghost use Rattle.streams.specs.Puts.{collected};
+ghost use Rattle.streams.specs.Streams.{Collected, GainsPart};
+ghost use Rattle.word.specs.Counts.{one_more};
 
 use arrayvec::ArrayString;
-use std::fmt::Write;
+use itoa::Buffer;
 use streams::{Sink, SinkFault, put_all};
 
 /// How many turns there are to a line.
@@ -14,14 +16,16 @@ pub const TURNS_A_LINE: u64 = 1 << 27;
 /// Writes the line of so many turns.
 fn put_line<E: Sink>(err: &mut E, turns: u64) -> Result<(), SinkFault>
     ensures whole { IsTrue E.TELLS → OnOk result (E.taken err.new ≡ E.taken err.old ++ progress_line turns) }
+    ensures calm { OnOk result (E.failures err.new ≡ E.failures err.old) }
     ensures beginning { IsTrue E.TELLS → OnErr result (GainsPart (E.taken err.old) (E.taken err.new) (progress_line turns)) }
+    ensures counts { OnErr result (E.failures err.new ≡ one_more (E.failures err.old)) }
 {
+    let mut digits = Buffer::new();
     let mut line = ArrayString::<48>::new();
-    match writeln!(line, "progress: {turns} turns") {
-        Ok(()) => put_all(err, line.as_bytes()),
-        // There is room.
-        Err(_) => Err(SinkFault),
-    }
+    line.push_str("progress: ");
+    line.push_str(digits.format(turns));
+    line.push_str(" turns\n");
+    put_all(err, line.as_bytes())
 }
 
 /// How many lines a run has, and whether all went out. Where a call fails no further line is tried.
@@ -47,8 +51,9 @@ impl ProgressLines {
     pub fn tell<E: Sink>(&mut self, err: &mut E)
         requires few { (self.old.count + 1) * turns_a_line < 2 ^ 64 }
         ensures next { self.new.count ≡ self.old.count + 1 }
-        ensures told { (before : List ℕ) → IsTrue E.TELLS → WentOut self.old.whole self.old.count before (E.taken err.old)
-            → WentOut self.new.whole self.new.count before (E.taken err.new) }
+        ensures told { (before : Collected) → IsTrue E.TELLS
+            → WentOut self.old.whole self.old.count before (collected (E.taken err.old) (E.failures err.old))
+            → WentOut self.new.whole self.new.count before (collected (E.taken err.new) (E.failures err.new)) }
     {
         self.count += 1;
         if self.whole {

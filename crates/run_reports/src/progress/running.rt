@@ -2,6 +2,7 @@
 
 ghost use Rattle.std.specs.Prelude.{◌≡◌, ◌≢◌, ℕ, ◌^◌, ◌<◌, ◌≤◌, true, false, List, [], IsTrue};
 ghost use Rattle.run_reports.specs.progress.Lines.{turns_a_line};
+ghost use Rattle.streams.specs.Puts.{collected};
 ghost use Rattle.run_reports.specs.progress.GoingOn.{GoesOn, HasLines, IsTold};
 ghost use Rattle.rv_machine.specs.Harts.{state_of};
 ghost use Rattle.rv_machine.specs.Leakage.{Runs};
@@ -65,7 +66,7 @@ pub fn run_in_pieces<M: Memory, E: Sink>(
     ensures calm { result ≢ Stop.RecorderRefused }
     ensures told { IsTrue E.TELLS → IsTold HasLines
         (GoesOn (code_of code.now) running.old.turns_left (state_of running.old.hart (M.bytes running.old.memory)))
-        (E.taken err.old) (E.taken err.new) }
+        (collected (E.taken err.old) (E.failures err.old)) (collected (E.taken err.new) (E.failures err.new)) }
 {
     let mut lines = ProgressLines::new();
     'pieces: loop {

@@ -11,6 +11,7 @@ use Rattle.commands.specs.Images.{HoldsImage}
 use Rattle.commands.specs.Progress.{CertificateGoesOn, Tells, FileCertificateTells}
 use Rattle.codegen.specs.image_fields.Fields.{Fields}
 use Rattle.run_reports.specs.progress.GoingOn.{Counting, HasLines}
+use Rattle.streams.specs.Streams.{Collected}
 use Rattle.commands.specs.ImageRefusals.{no_image, no_arguments, no_answer, out_of_memory}
 use Rattle.commands.specs.Words.{IsFaultOfWords, AreGiven}
 use Rattle.commands.proofs.Counting.{memory_calm}
@@ -81,7 +82,7 @@ returns-clause-said g c = λ tells.
     }
 
 -- what went out of the certified run, as of what the words give
-went_out : (Has : Counting) (before after : List ℕ) {files : Contents} {path : List ℕ} {words : List (List ℕ)}
+went_out : (Has : Counting) (before after : Collected) {files : Contents} {path : List ℕ} {words : List (List ℕ)}
     {image : Fields}
     {given given' : List (Option Arg)} {shifts' : Shifts} (progress shifts : Bool)
     → HoldsImage files path image → AreGiven (params_of image) words given → given' ≡ given

@@ -37,6 +37,7 @@ returns-in_err-outcome-clause-refused g c = λ tells.
       spelled_from _ _ (c.as_slice.ensures.value ∙ c.in_ok-params.ensures.params) c.in_ok-args.ensures.within
           c.in_ok-args.ensures.found,
       c.in_err-outcome.ensures.executed,
+      λ refused. c.in_err-outcome.ensures.calm (ap Err refused),
       memory,
     ))
 

@@ -1,6 +1,6 @@
 use Rattle.std.proofs.Common.{inr, refl}
 use Rattle.commands.specs.Failures.{of_files}
-use Rattle.commands.specs.Requests.{collected}
+use Rattle.streams.specs.Puts.{collected}
 use Rattle.commands.proofs.Counting.{counted_by, memory_calm}
 use Rattle.commands.proofs.ProgressLemmas.{on_ok, on_err, run_reaches, pair_reaches, certificate_reaches, tells_known}
 use Rattle.commands.proofs.ProgressLemmas.{part_known}

@@ -3,20 +3,33 @@ use Rattle.std.proofs.lemmas.Str.{IsUtf8-string_bytes}
 use Rattle.std.specs.String.{string_bytes}
 use Rattle.commands.specs.Contents.{Contents, Store}
 use Rattle.commands.specs.Failures.{of_files}
-use Rattle.commands.specs.Harts.{SaysPlan, SaysHarts}
+use Rattle.commands.specs.Harts.{SaysPlan, SaysHarts, RefusesPlan, RefusesHarts, by_text, by_plan}
+use Rattle.commands.specs.declared.fault.Fault.{Fault}
 use Rattle.commands.proofs.Counting.{counted_by}
 use Rattle.commands.proofs.RequestLemmas.{harts_refused, printed_by, unprinted_by, output_counts}
 use Rattle.language.proofs.Handed.{handed_on}
 use Rattle.commands.proofs.performing.answer_harts.Goals as goal
 
 pub returns-in_err-text-clause-failed : goal.returns-in_err-text-clause-failed
-returns-in_err-text-clause-failed g c =
-    λ files out. harts_refused c.args.file _ _ _ c.from_residual.result
+returns-in_err-text-clause-failed g c = λ files out.
+    harts_refused c.args.file (g.F.Files.store c.args.files.now) _ _ c.from_residual.result
+    (handed_on _ _ c.from_residual.ensures.1 (by_text (c.in_err-text.ensures.refused files)))
     (handed_on _ _ c.from_residual.ensures.1 c.in_err-text.ensures.counted)
+
+-- a plan that is refused is one of a file
+refuses : (files : Contents) (path : List ℕ) (plan : String Global) (as_str : List ℕ) {fault : Fault}
+    → files path ≡ Some (string_bytes plan) → as_str ≡ string_bytes plan → RefusesPlan files as_str fault
+    → RefusesHarts files path fault
+refuses files path plan as_str {fault} held same_text why =
+    by_plan held (IsUtf8-string_bytes plan) (subst (λ (text : List ℕ). RefusesPlan files text fault) same_text why)
 
 pub returns-in_err-lines-clause-failed : goal.returns-in_err-lines-clause-failed
 returns-in_err-lines-clause-failed g c = λ files out.
-    harts_refused c.args.file _ _ _ c.from_residual-in_err-lines.result
+    harts_refused c.args.file (g.F.Files.store c.args.files.now) _ _ c.from_residual-in_err-lines.result
+    (handed_on _ _ c.from_residual-in_err-lines.ensures.1
+    (refuses (g.F.Files.store c.args.files.now).contents c.args.file.now c.in_ok-text.field-0 c.as_str.result.now
+    (c.in_ok-text.ensures.said files) c.as_str.ensures.value
+    (rw c.in_ok-text.ensures.calm at (c.in_err-lines.ensures.refused files))))
     (handed_on _ _ c.from_residual-in_err-lines.ensures.1
     (rw c.in_ok-text.ensures.calm at c.in_err-lines.ensures.counted))
 

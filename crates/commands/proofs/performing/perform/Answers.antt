@@ -1,20 +1,21 @@
 use Rattle.std.proofs.Common.{◌≡◌, ◌⊎◌, inl, inr, ap}
-use Rattle.commands.specs.Requests.{collected, done, failed, calm}
+use Rattle.commands.specs.Requests.{done, failed, calm}
 use Rattle.commands.proofs.Counting.{ends}
 use Rattle.commands.proofs.performing.perform.Goals as goal
+use Rattle.streams.specs.Puts.{collected}
 
 pub returns-in-Ok-clause-performed : goal.returns-in-Ok-clause-performed
 returns-in-Ok-clause-performed g c = λ files out err.
     done (c.in-Ok.ensures.done files out) (c.in-Ok.ensures.told files err)
-
-pub returns-in-Ok-clause-counted : goal.returns-in-Ok-clause-counted
-returns-in-Ok-clause-counted g c = calm c.in-Ok.ensures.calm.0 c.in-Ok.ensures.calm.1
 
 -- what is not changed is seen as it was
 seen_same : {S T Told : Type 0} (view : S → T) {before after : S} → (after ≡ before) ⊎ Told
     → (view after ≡ view before) ⊎ Told
 seen_same view (inl same) = inl (ap view same)
 seen_same view (inr told) = inr told
+
+pub returns-in-Ok-clause-counted : goal.returns-in-Ok-clause-counted
+returns-in-Ok-clause-counted g c = calm c.in-Ok.ensures.calm.0 c.in-Ok.ensures.calm.1
 
 pub returns-clause-performed : goal.returns-clause-performed
 returns-clause-performed g c = λ files out err.

@@ -1,13 +1,13 @@
 -- What was read, loaded, run and printed.
-use Rattle.std.proofs.Common.{List, map, refl, ap, subst}
+use Rattle.std.proofs.Common.{List, map, Err, refl, ap, subst}
 use Rattle.std.specs.List.{AllZip}
-use Rattle.commands.specs.Harts.{IsJobOf}
+use Rattle.commands.specs.Harts.{IsJobOf, RefusesJobs, by_jobs, plan_wants_memory}
 use Rattle.harts.specs.Frames.{job_of}
 use Rattle.input_files.specs.harts_file.Jobs.{hart_of}
 use Rattle.input_files.specs.declared.harts_file.jobs.Job.{Job}
 use Rattle.language.proofs.Handed.{handed_on, turned_on}
 use Rattle.commands.proofs.Counting.{memory_calm}
-use Rattle.commands.proofs.HartLemmas.{plan_said}
+use Rattle.commands.proofs.HartLemmas.{plan_said, plan_refused, run_refused}
 use Rattle.commands.proofs.side_by_side.run_side_by_side.Goals as goal
 
 pub returns-clause-said : goal.returns-clause-said
@@ -24,6 +24,37 @@ returns-clause-said g c = λ tells.
     (ap (map job_of) c.as_slice-2.ensures.value) c.as_slice-3.ensures.value
     c.in_ok-lines.ensures (ap (map job_of) c.as_slice-4.ensures.value) c.list.ensures c.as_slice-5.ensures.value
     c.status_of.ensures.exact c.as_slice-6.ensures.value
+
+pub returns-in_err-plan-clause-refused : goal.returns-in_err-plan-clause-refused
+returns-in_err-plan-clause-refused g c = λ tells.
+    let why = c.in_err-plan.field-0.0 in
+    handed_on _ _ c.from_residual.ensures.1
+    (plan_refused (g.F.Files.store c.args.files.now).contents c.args.text.now why (Err why) refl c.in_err-plan.ensures.fault)
+
+pub returns-in_err-jobs-clause-refused : goal.returns-in_err-jobs-clause-refused
+returns-in_err-jobs-clause-refused g c = λ tells.
+    let files = (g.F.Files.store c.args.files.now).contents in
+    let why = c.in_err-jobs.field-0.0 in
+    handed_on _ _ c.from_residual-in_err-jobs.ensures.1
+    (by_jobs c.in_ok-plan.ensures.plan
+    (subst (λ (named : List Job). RefusesJobs files (map hart_of named) why) c.as_slice.ensures.value
+    (c.in_err-jobs.ensures.refused tells)))
+
+pub returns-in_err-ends-clause-refused : goal.returns-in_err-ends-clause-refused
+returns-in_err-ends-clause-refused g c = λ tells.
+    let files = (g.F.Files.store c.args.files.now).contents in
+    let jobs = map job_of c.in_ok-jobs.jobs.items in
+    let loaded = subst (λ (named : List Job). AllZip (IsJobOf files) (map hart_of named) jobs)
+    c.as_slice.ensures.value (c.in_ok-jobs.ensures.said tells) in
+    handed_on _ _ c.from_residual-in_err-ends.ensures.1
+    (run_refused files c.args.text.now (map hart_of c.in_ok-plan.plan.jobs.items) c.in_ok-plan.plan.schedule.items
+    c.as_slice-3.result.now jobs (map job_of c.as_slice-2.result.now) c.new-recorder.result.kept
+    c.run_harts.new.recorder.kept c.in_err-ends.field-0.0 c.in_ok-plan.ensures.plan loaded c.in_err-ends.ensures.ran
+    (ap (map job_of) c.as_slice-2.ensures.value) c.as_slice-3.ensures.value)
+
+pub returns-in_err-lines-clause-refused : goal.returns-in_err-lines-clause-refused
+returns-in_err-lines-clause-refused g c = λ tells.
+    turned_on _ c.from_residual-in_err-lines.ensures.1 (λ e memory. plan_wants_memory memory)
 
 pub returns-in_err-jobs-clause-counted : goal.returns-in_err-jobs-clause-counted
 returns-in_err-jobs-clause-counted g c =

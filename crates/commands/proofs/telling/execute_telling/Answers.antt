@@ -6,6 +6,7 @@ use Rattle.commands.specs.Progress.{RunGoesOn}
 use Rattle.hepurita.proofs.ExecutedLemmas.{memory_executed, refused_executed, ran_executed}
 use Rattle.run_reports.proofs.progress_lemmas.Told.{none_told, reaches}
 use Rattle.run_reports.specs.progress.GoingOn.{HasLines}
+use Rattle.streams.specs.Puts.{collected}
 use Rattle.rv_machine.specs.Harts.{state_of}
 use Rattle.rv_machine.specs.Paged.{paged_bytes}
 use Rattle.rv_machine.specs.Regions.{code_of}
@@ -18,7 +19,8 @@ returns-in-Some-clause-executed g c =
 
 pub returns-in-Some-clause-part : goal.returns-in-Some-clause-part
 returns-in-Some-clause-part g c = λ tells.
-    none_told (RunGoesOn c.args.image.now c.args.args.now) (g.E.Sink.taken c.args.err.now)
+    none_told (RunGoesOn c.args.image.now c.args.args.now)
+    (collected (g.E.Sink.taken c.args.err.now) (g.E.Sink.failures c.args.err.now))
 
 pub returns-in_err-code-clause-executed : goal.returns-in_err-code-clause-executed
 returns-in_err-code-clause-executed g c =
@@ -27,7 +29,8 @@ returns-in_err-code-clause-executed g c =
 
 pub returns-in_err-code-clause-part : goal.returns-in_err-code-clause-part
 returns-in_err-code-clause-part g c = λ tells.
-    on_err _ (none_told (RunGoesOn c.args.image.now c.args.args.now) (g.E.Sink.taken c.args.err.now))
+    on_err _ (none_told (RunGoesOn c.args.image.now c.args.args.now)
+    (collected (g.E.Sink.taken c.args.err.now) (g.E.Sink.failures c.args.err.now)))
 
 pub returns-in_err-space-clause-executed : goal.returns-in_err-space-clause-executed
 returns-in_err-space-clause-executed g c =
@@ -36,7 +39,8 @@ returns-in_err-space-clause-executed g c =
 
 pub returns-in_err-space-clause-part : goal.returns-in_err-space-clause-part
 returns-in_err-space-clause-part g c = λ tells.
-    on_err _ (none_told (RunGoesOn c.args.image.now c.args.args.now) (g.E.Sink.taken c.args.err.now))
+    on_err _ (none_told (RunGoesOn c.args.image.now c.args.args.now)
+    (collected (g.E.Sink.taken c.args.err.now) (g.E.Sink.failures c.args.err.now)))
 
 pub returns-in_err-loaded-clause-executed : goal.returns-in_err-loaded-clause-executed
 returns-in_err-loaded-clause-executed g c =
@@ -45,7 +49,8 @@ returns-in_err-loaded-clause-executed g c =
 
 pub returns-in_err-loaded-clause-part : goal.returns-in_err-loaded-clause-part
 returns-in_err-loaded-clause-part g c = λ tells.
-    on_err _ (none_told (RunGoesOn c.args.image.now c.args.args.now) (g.E.Sink.taken c.args.err.now))
+    on_err _ (none_told (RunGoesOn c.args.image.now c.args.args.now)
+    (collected (g.E.Sink.taken c.args.err.now) (g.E.Sink.failures c.args.err.now)))
 
 pub run_in_pieces-stop-requires : goal.run_in_pieces-stop-requires
 run_in_pieces-stop-requires g c = omega (arith, c.in_ok-loaded.ensures.steps, c.first_fault.ensures.allowed.steps)

@@ -13,6 +13,7 @@ use Rattle.image_reports.specs.certificates.KnownImage.{known_at}
 use Rattle.rv_machine.specs.Harts.{state_of}
 use Rattle.rv_machine.specs.Paged.{paged_bytes}
 use Rattle.rv_machine.specs.Regions.{code_of}
+use Rattle.streams.specs.Streams.{Collected}
 use Rattle.language.proofs.Handed.{err_is}
 use Rattle.image_reports.proofs.certificates_lemmas.AnswerLemmas.{first_is, refused_certified, memory_certified, run_certified}
 use Rattle.image_reports.proofs.certificates.certifying.certify_telling.Goals as goal
@@ -50,7 +51,7 @@ returns-clause-certified g c =
     none c.in_ok-code.ensures c.in_ok-loaded.ensures.steps c.in_ok-loaded.ensures.known run.2 run.3
 
 -- the lines of the run are those of the image's
-told_of_image : (Has : Counting) {code : Code} {steps : ℕ} {k : Known} {before after : List ℕ} (image : Fields)
+told_of_image : (Has : Counting) {code : Code} {steps : ℕ} {k : Known} {before after : Collected} (image : Fields)
     (given : List (Option Arg)) (shifts : Shifts) → code ≡ code_at code_base image → steps ≡ image.max_steps
     → k ≡ known_at code_base frame_base image given shifts → IsTold Has (GoesOnKnown code steps k) before after
     → IsTold Has

@@ -1,4 +1,4 @@
-use Rattle.std.proofs.Common.{◌≡◌, ◌<◌, length, map, take, None, Ok, Err, refl, ap, ◌∙◌, sym, arith, rules}
+use Rattle.std.proofs.Common.{◌≡◌, ◌<◌, length, map, take, Some, None, Ok, Err, refl, ap, ◌∙◌, sym, arith, rules}
 use Rattle.std.proofs.Math.Seq.{take-length}
 use Rattle.std.specs.Option.{option_map}
 use Rattle.image_reports.proofs.certificates_lemmas.Below.{fault_from-left, fault_from-next, fault_by-None, map-more, fault_by-map}
@@ -42,7 +42,7 @@ loop-index-init c =
     let none = fault_by-None (λ param text. rule_of_given_text param text.now) c.args.params.now c.args.texts.now
     (sym c.first_fault.ensures ∙ c.in_default.is) in
     record {
-      found = ap (map (λ one. option_map words_of one)) c.new-given.ensures.items;
+      found = ap (map (λ one. Some (option_map words_of one))) c.new-given.ensures.items;
       faultless = rw c.new-given.ensures.items refl;
       left = none.1;
     }
@@ -57,9 +57,9 @@ loop-index-preserved c =
     ∙ c.in_default.is) in
     let here : i < length texts = omega (arith, none.0) in
     record {
-      found = ap (map (λ one. option_map words_of one)) c.in_ok-push.ensures.items
-          ∙ map-more (λ one. option_map words_of one) (λ text. numbers_given text.now) c.loop-index.given.items one
-          texts i _ here c.loop-index.invariant.found c.in_ok-given_by.ensures.numbers;
+      found = ap (map (λ one. Some (option_map words_of one))) c.in_ok-push.ensures.items
+          ∙ map-more (λ one. Some (option_map words_of one)) (λ text. numbers_given text.now)
+          c.loop-index.given.items one texts i _ here c.loop-index.invariant.found c.in_ok-given_by.ensures.numbers;
       faultless =
           rw c.in_ok-push.ensures.items
           (faultless-more params c.loop-index.given.items i _ one c.loop-index-test.true

@@ -3,10 +3,11 @@ use Rattle.std.proofs.Common.{◌≡◌, ◌+◌, ◌*◌, [], ◌++◌, length,
 use Rattle.certified_runs.proofs.Ends.{run_after}
 use Rattle.certified_runs.specs.Certified.{stays}
 use Rattle.run_reports.proofs.progress_lemmas.KnownPieces.{leads_append, stretched, few_of_leads, few_at_end}
-use Rattle.run_reports.proofs.progress_lemmas.KnownPieces.{end_of_both, lines_of_known}
+use Rattle.run_reports.proofs.progress_lemmas.KnownPieces.{end_of_both, lines_of_known, lines_of_known_at_end}
 use Rattle.run_reports.proofs.progress_lemmas.Told.{none_yet, all_told}
 use Rattle.run_reports.specs.progress.Certified.{entries_at, end_behind}
 use Rattle.run_reports.specs.progress.Lines.{turns_a_line}
+use Rattle.streams.specs.Puts.{collected}
 use Rattle.rv_machine.proofs.Face.{entry_count-append}
 use Rattle.rv_machine.specs.Entries.{entries_of}
 use Rattle.run_reports.proofs.progress.certifying.certify_in_pieces.Goals as goal
@@ -19,7 +20,8 @@ loop-left-init g c =
       more = inl c.new-lines.ensures.none;
       led = ([], rw (sym none) stays, refl);
       extent = c.requires.extent;
-      told = λ tells. none_yet c.new-lines.result.whole c.new-lines.result.count (g.E.Sink.taken c.args.err.now)
+      told = λ tells. none_yet c.new-lines.result.whole c.new-lines.result.count
+          (collected (g.E.Sink.taken c.args.err.now) (g.E.Sink.failures c.args.err.now))
           c.new-lines.ensures.whole c.new-lines.ensures.none;
     }
 
@@ -75,7 +77,9 @@ loop-left-preserved g c =
         omega (arith, entry_count-append led.0 spent.0, led.2),
       );
       extent = c.certify-end.ensures.extent;
-      told = λ tells. c.tell.ensures.told (g.E.Sink.taken c.args.err.now) tells (c.loop-left.invariant.told tells);
+      told = λ tells. c.tell.ensures.told
+          (collected (g.E.Sink.taken c.args.err.now) (g.E.Sink.failures c.args.err.now))
+          tells (c.loop-left.invariant.told tells);
     }
 
 pub end_behind-requires-2 : goal.end_behind-requires-2
@@ -93,4 +97,13 @@ returns-clause-certified g c =
       run_after led.1 run.2 c.loop-left.invariant.made,
       c.end_behind-2.ensures ∙ ap (end_behind c.loop-left.entries) run.3
           ∙ end_of_both led.0 run.0 run.1 c.loop-left.entries led.2,
+    )
+
+pub returns-clause-told : goal.returns-clause-told
+returns-clause-told g c = λ tells.
+    let lines = c.loop-left.lines in
+    let led = c.loop-left.invariant.led in (
+      lines.count,
+      lines_of_known_at_end (led.0, led.1) c.loop-left.invariant.made c.loop-left.invariant.more (omega arith),
+      all_told lines.whole lines.count _ _ (c.loop-left.invariant.told tells),
     )

@@ -4,6 +4,7 @@ use Rattle.std.specs.Prelude.{is_some}
 use Rattle.certified_runs.specs.Certified.{KnownLeads}
 use Rattle.certified_runs.specs.Parts.{known_of}
 use Rattle.run_reports.specs.progress.Lines.{turns_a_line, WentOut}
+use Rattle.streams.specs.Puts.{collected}
 use Rattle.rv_machine.specs.Entries.{entries_of}
 use Rattle.rv_machine.specs.Harts.{state_of}
 use Rattle.rv_machine.specs.Regions.{code_of}
@@ -25,7 +26,8 @@ invariant-loop-left g l =
           × (length (entries_of seen) ≡ l.entries);
       extent : (a : ℕ) → is_some (bytes l.known.marks a) ≡ is_some (bytes l.run.memory a);
       told : IsTrue g.E.Sink.TELLS
-          → WentOut l.lines.whole l.lines.count (g.E.Sink.taken l.fn.err) (g.E.Sink.taken l.err);
+          → WentOut l.lines.whole l.lines.count (collected (g.E.Sink.taken l.fn.err) (g.E.Sink.failures l.fn.err))
+          (collected (g.E.Sink.taken l.err) (g.E.Sink.failures l.err));
     }
 
 abbrev pub decreases-loop-left : goal.decreases-loop-left

@@ -4,6 +4,7 @@ use Rattle.std.proofs.Common.{add-zero, arith}
 use Rattle.run_reports.proofs.progress_lemmas.Together.{InStep, both_step, both_go_on, told_at_end, one_ended}
 use Rattle.run_reports.proofs.progress_lemmas.Together.{other_ended, they_differ}
 use Rattle.run_reports.proofs.progress_lemmas.Told.{none_yet}
+use Rattle.streams.specs.Puts.{collected}
 use Rattle.rv_machine.proofs.Face.{entry_count-append, count-few, differ_after, same_after, something_shown}
 use Rattle.rv_machine.proofs.Face.{nothing_shown, one-ends, other-ends}
 use Rattle.rv_machine.proofs.Face as machine
@@ -31,7 +32,8 @@ turns-init g c = record {
   due = omega arith;
   next = λ some some'. omega arith;
   reached = inl c.new-lines.ensures.none;
-  told = λ tells. none_yet c.new-lines.result.whole c.new-lines.result.count (g.E.Sink.taken c.args.err.now)
+  told = λ tells. none_yet c.new-lines.result.whole c.new-lines.result.count
+      (collected (g.E.Sink.taken c.args.err.now) (g.E.Sink.failures c.args.err.now))
       c.new-lines.ensures.whole c.new-lines.ensures.none;
 }
 
@@ -126,7 +128,9 @@ turns-preserved-then-other-gt0 g c =
       next = λ some some'. omega arith;
       reached = inr (both_go_on steps c.if-one-gt0.true c.if-other-gt0.true
           (omega (arith, shown.1)));
-      told = λ tells. c.tell.ensures.told (g.E.Sink.taken c.args.err.now) tells (all.told tells);
+      told = λ tells. c.tell.ensures.told
+          (collected (g.E.Sink.taken c.args.err.now) (g.E.Sink.failures c.args.err.now))
+          tells (all.told tells);
     }
 
 pub turns-preserved : goal.turns-preserved

@@ -3,6 +3,7 @@ use Rattle.std.proofs.Common.{◌≡◌, suc, ◌+◌, ◌*◌, ◌≤◌, ◌<�
 use Rattle.run_reports.proofs.progress_lemmas.Together.{InStep}
 use Rattle.run_reports.specs.progress.GoingOn.{BothGoOn, Reaches}
 use Rattle.run_reports.specs.progress.Lines.{turns_a_line, WentOut}
+use Rattle.streams.specs.Puts.{collected}
 use Rattle.rv_machine.specs.Entries.{entries_of}
 use Rattle.rv_machine.specs.Harts.{state_of}
 use Rattle.rv_machine.specs.Regions.{code_of}
@@ -28,7 +29,8 @@ invariant-turns g l =
       next : 0 < l.one.turns_left → 0 < l.other.turns_left → l.made < suc l.lines.count * turns_a_line;
       reached : Reaches (BothGoOn code budget s s') l.lines.count;
       told : IsTrue g.E.Sink.TELLS
-          → WentOut l.lines.whole l.lines.count (g.E.Sink.taken l.fn.err) (g.E.Sink.taken l.err);
+          → WentOut l.lines.whole l.lines.count (collected (g.E.Sink.taken l.fn.err) (g.E.Sink.failures l.fn.err))
+          (collected (g.E.Sink.taken l.err) (g.E.Sink.failures l.err));
     }
 
 abbrev pub decreases-turns : goal.decreases-turns

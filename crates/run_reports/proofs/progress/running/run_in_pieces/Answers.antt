@@ -1,9 +1,10 @@
 -- Another piece, or the last one.
 use Rattle.std.proofs.Common.{◌≡◌, ◌+◌, ◌*◌, [], ◌++◌, inl, inr, sym, arith}
 use Rattle.run_reports.proofs.progress_lemmas.Pieces.{all_made, run_after, stop_after, not_on}
-use Rattle.run_reports.proofs.progress_lemmas.Told.{none_yet, all_told, lines_of_run}
+use Rattle.run_reports.proofs.progress_lemmas.Told.{none_yet, all_told, lines_of_run, lines_at_end}
 use Rattle.rv_machine.proofs.Face.{Leads-append}
 use Rattle.run_reports.specs.progress.Lines.{turns_a_line}
+use Rattle.streams.specs.Puts.{collected}
 use Rattle.rv_machine.specs.Leakage.{stays}
 use Rattle.run_reports.proofs.progress.running.run_in_pieces.Goals as goal
 
@@ -14,7 +15,8 @@ pieces-init g c =
       made = omega arith;
       more = inl c.new-lines.ensures.none;
       led = ([], rw (sym none) stays);
-      told = λ tells. none_yet c.new-lines.result.whole c.new-lines.result.count (g.E.Sink.taken c.args.err.now)
+      told = λ tells. none_yet c.new-lines.result.whole c.new-lines.result.count
+          (collected (g.E.Sink.taken c.args.err.now) (g.E.Sink.failures c.args.err.now))
           c.new-lines.ensures.whole c.new-lines.ensures.none;
     }
 
@@ -24,6 +26,15 @@ returns-then-running-le-TURNS_A_LINE-clause-ran g c =
     let run = c.run-stop.ensures.turns in
     let last = c.piece_of.ensures.last c.if-running-le-TURNS_A_LINE.true in
     (led.0 ++ run.0, run_after led.1 run.1 (omega arith) (c.run-stop.ensures.ready tt))
+
+pub returns-then-running-le-TURNS_A_LINE-clause-told : goal.returns-then-running-le-TURNS_A_LINE-clause-told
+returns-then-running-le-TURNS_A_LINE-clause-told g c = λ tells.
+    let lines = c.pieces.lines in (
+      lines.count,
+      lines_at_end c.pieces.invariant.led c.pieces.invariant.made c.pieces.invariant.more
+          c.if-running-le-TURNS_A_LINE.true,
+      all_told lines.whole lines.count _ _ (c.pieces.invariant.told tells),
+    )
 
 pub returns-then-not-is_spent : goal.returns-then-not-is_spent
 returns-then-not-is_spent g c =
@@ -63,5 +74,7 @@ pieces-preserved g c =
       made = omega arith;
       more = inr (omega arith);
       led = (led.0 ++ run.0, rw (sym next) (Leads-append led.1 (all_made run.1 spent)));
-      told = λ tells. c.tell.ensures.told (g.E.Sink.taken c.args.err.now) tells (c.pieces.invariant.told tells);
+      told = λ tells. c.tell.ensures.told
+          (collected (g.E.Sink.taken c.args.err.now) (g.E.Sink.failures c.args.err.now))
+          tells (c.pieces.invariant.told tells);
     }

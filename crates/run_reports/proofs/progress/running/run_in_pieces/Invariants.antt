@@ -1,6 +1,7 @@
 -- So many pieces were made, none of which stopped, and a line went out behind each.
 use Rattle.std.proofs.Common.{◌≡◌, ◌+◌, ◌*◌, ◌<◌, ◌⊎◌, List, IsTrue}
 use Rattle.run_reports.specs.progress.Lines.{turns_a_line, WentOut}
+use Rattle.streams.specs.Puts.{collected}
 use Rattle.rv_machine.specs.Harts.{state_of}
 use Rattle.rv_machine.specs.Leakage.{Leads}
 use Rattle.rv_machine.specs.Regions.{code_of}
@@ -15,7 +16,9 @@ invariant-pieces g l = record {
       × Leads (code_of l.code) (l.lines.count * turns_a_line)
       (state_of l.fn.running.hart (g.M.Memory.bytes l.fn.running.memory)) seen
       (state_of l.running.hart (g.M.Memory.bytes l.running.memory));
-  told : IsTrue g.E.Sink.TELLS → WentOut l.lines.whole l.lines.count (g.E.Sink.taken l.fn.err) (g.E.Sink.taken l.err);
+  told : IsTrue g.E.Sink.TELLS → WentOut l.lines.whole l.lines.count
+      (collected (g.E.Sink.taken l.fn.err) (g.E.Sink.failures l.fn.err))
+      (collected (g.E.Sink.taken l.err) (g.E.Sink.failures l.err));
 }
 
 abbrev pub decreases-pieces : goal.decreases-pieces
