@@ -121,13 +121,13 @@ refused_at files named i job loaded fault low is all why =
     let split : named ≡ take i named ++ job ∷ drop (i + 1) named = split_at named i job low is in
     let names : map hart_of named ≡ map hart_of (take i named) ++ hart_of job ∷ map hart_of (drop (i + 1) named) =
     ap (map hart_of) split ∙ map-append hart_of (take i named) (job ∷ drop (i + 1) named) in
-    by_hart names all why
+    by_hart _ _ (hart_of job) _ names all why
 
 -- why words spell no arguments, from words in another form
-pub fault_from : {A : Type 0} {params others : List Param} {why : RunFault} (texts items : List A) (bytes : A
+pub fault_from : {A : Type 0} {params others : List Param} (why : RunFault) (texts items : List A) (bytes : A
     → List ℕ) → params ≡ others → texts ≡ items → IsFaultOfWords (fault_of_texts params (map bytes texts)) why
     → IsFaultOfWords (fault_of_texts others (map bytes items)) why
-fault_from {A} {params} {others} {why} texts items bytes same is fault =
+fault_from {A} {params} {others} why texts items bytes same is fault =
     subst (λ (words : List A). IsFaultOfWords (fault_of_texts others (map bytes words)) why) is
     (subst (λ (ps : List Param). IsFaultOfWords (fault_of_texts ps (map bytes texts)) why) same fault)
 

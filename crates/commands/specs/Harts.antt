@@ -60,7 +60,7 @@ pub data RefusesHart (files : Contents) (hart : PlannedHart) : Fault → Type 0 
 
 -- why the jobs of harts are not had: by the first of them whose job is not had; or memory was refused
 pub data RefusesJobs (files : Contents) (harts : List PlannedHart) : Fault → Type 0 where
-  by_hart : {before later : List PlannedHart} {hart : PlannedHart} {jobs : List Job} {fault : Fault}
+  by_hart : (before later : List PlannedHart) (hart : PlannedHart) (jobs : List Job) {fault : Fault}
       → harts ≡ before ++ hart ∷ later → AllZip (IsJobOf files) before jobs → RefusesHart files hart fault
       → RefusesJobs files harts fault
   jobs_want_memory : {fault : Fault} → IsOutOfMemory fault → RefusesJobs files harts fault

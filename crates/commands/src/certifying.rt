@@ -39,11 +39,20 @@ pub fn certify_image<'a, F: Files, E: Sink>(
     err: &mut E,
 ) -> Result<(Vec<u8>, u8), Fault<'a>>
     ensures known { IfOk result (λ said. said.1 ≤ 5) }
-    ensures told { IsTrue F.TELLS → IsTrue E.TELLS → OnOk result (FileCertificateTells HasLines progress shifts (F.store files.old).contents path.now (map (λ word. word.now) arguments.now) (collected (E.taken err.old) (E.failures err.old)) (collected (E.taken err.new) (E.failures err.new))) }
+    ensures told { IsTrue F.TELLS → IsTrue E.TELLS
+        → OnOk result (FileCertificateTells HasLines progress shifts (F.store files.old).contents path.now
+        (map (λ word. word.now) arguments.now) (collected (E.taken err.old) (E.failures err.old))
+        (collected (E.taken err.new) (E.failures err.new))) }
     ensures part { IsTrue F.TELLS → IsTrue E.TELLS → OnErr result ((err.new ≡ err.old)
-        ⊎ FileCertificateTells Reaches progress shifts (F.store files.old).contents path.now (map (λ word. word.now) arguments.now) (collected (E.taken err.old) (E.failures err.old)) (collected (E.taken err.new) (E.failures err.new))) }
-    ensures said { IsTrue F.TELLS → IfOk result (λ said. SaysCertificate (shifts_seen shifts) (F.store files.old).contents path.now (map (λ word. word.now) arguments.now) said.0.items said.1) }
-    ensures refused { IsTrue F.TELLS → IfErr result (RefusesCertificate (shifts_seen shifts) (F.store files.old).contents path.now (map (λ word. word.now) arguments.now)) }
+        ⊎ FileCertificateTells Reaches progress shifts (F.store files.old).contents path.now
+        (map (λ word. word.now) arguments.now) (collected (E.taken err.old) (E.failures err.old))
+        (collected (E.taken err.new) (E.failures err.new))) }
+    ensures said { IsTrue F.TELLS
+        → IfOk result (λ said. SaysCertificate (shifts_seen shifts) (F.store files.old).contents path.now
+        (map (λ word. word.now) arguments.now) said.0.items said.1) }
+    ensures refused { IsTrue F.TELLS
+        → IfErr result (RefusesCertificate (shifts_seen shifts) (F.store files.old).contents path.now
+        (map (λ word. word.now) arguments.now)) }
     ensures calm { OnOk result (F.store files.new ≡ F.store files.old) }
     ensures counted { IfErr result (λ fault. IsReadBy fault (F.store files.old) (F.store files.new)) }
 {

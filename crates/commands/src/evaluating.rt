@@ -30,8 +30,12 @@ pub fn evaluate_text<'a, F: Files>(
     explain: bool,
     files: &mut F,
 ) -> Result<String, Fault<'a>>
-    ensures said { IsTrue F.TELLS → IfOk result (λ text. SaysMeaning (F.store files.old).contents file.now (map (λ word. word.now) arguments.now) (string_bytes text)) }
-    ensures refused { IsTrue F.TELLS → IfErr result (RefusesMeaning explain (F.store files.old).contents file.now (map (λ word. word.now) arguments.now)) }
+    ensures said { IsTrue F.TELLS
+        → IfOk result (λ text. SaysMeaning (F.store files.old).contents file.now (map (λ word. word.now) arguments.now)
+        (string_bytes text)) }
+    ensures refused { IsTrue F.TELLS
+        → IfErr result (RefusesMeaning explain (F.store files.old).contents file.now
+        (map (λ word. word.now) arguments.now)) }
     ensures calm { OnOk result (F.store files.new ≡ F.store files.old) }
     ensures counted { IfErr result (λ fault. IsReadBy fault (F.store files.old) (F.store files.new)) }
 {

@@ -26,12 +26,18 @@ pub fn wrap_code<'a, F: Files>(
     asked: Asked,
     files: &mut F,
 ) -> Result<(), Fault<'a>>
-    ensures said { IsTrue F.TELLS → OnOk result (WritesFile image.now (IsImageOfCode asked (F.store files.old).contents file.now code.now) (F.store files.old).contents (F.store files.new).contents) }
-    ensures refused { IsTrue F.TELLS → IfErr result (FailsToWrite image.now (IsImageOfCode asked (F.store files.old).contents file.now code.now)
-        (RefusesCode asked (F.store files.old).contents file.now code.now) (F.store files.old).contents (F.store files.new).contents) }
-    ensures untouched { IfErr result (λ fault. (IsWriteFault image.now fault → ⊥) → (F.store files.new).contents ≡ (F.store files.old).contents) }
+    ensures said { IsTrue F.TELLS
+        → OnOk result (WritesFile image.now (IsImageOfCode asked (F.store files.old).contents file.now code.now)
+        (F.store files.old).contents (F.store files.new).contents) }
+    ensures refused { IsTrue F.TELLS
+        → IfErr result (FailsToWrite image.now (IsImageOfCode asked (F.store files.old).contents file.now code.now)
+        (RefusesCode asked (F.store files.old).contents file.now code.now) (F.store files.old).contents
+        (F.store files.new).contents) }
+    ensures untouched { IfErr result (λ fault. (IsWriteFault image.now fault → ⊥)
+        → (F.store files.new).contents ≡ (F.store files.old).contents) }
     ensures calm { OnOk result ((F.store files.new).failures ≡ (F.store files.old).failures) }
-    ensures counted { IfErr result (λ fault. (F.store files.new).failures ≡ failures_by fault (F.store files.old).failures) }
+    ensures counted { IfErr result (λ fault. (F.store files.new).failures
+        ≡ failures_by fault (F.store files.old).failures) }
 {
     let text = text_of_file(alloc, file, files)?;
     let words = bytes_of(alloc, code, CODE_LIMIT, files)?;

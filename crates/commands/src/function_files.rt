@@ -23,8 +23,11 @@ fn function_texts<'a, F: Files>(
     options: CompileOptions,
     files: &mut F,
 ) -> Result<Texts, Fault<'a>>
-    ensures said { IsTrue F.TELLS → IfOk result (λ texts. AreFunctionTexts options.optimisation options.profile (F.store files.old).contents file.now (string_bytes texts.assembler) (string_bytes texts.header)) }
-    ensures refused { IsTrue F.TELLS → IfErr result (RefusesFunction options.explain options.profile (F.store files.old).contents file.now) }
+    ensures said { IsTrue F.TELLS
+        → IfOk result (λ texts. AreFunctionTexts options.optimisation options.profile
+        (F.store files.old).contents file.now (string_bytes texts.assembler) (string_bytes texts.header)) }
+    ensures refused { IsTrue F.TELLS
+        → IfErr result (RefusesFunction options.explain options.profile (F.store files.old).contents file.now) }
     ensures calm { OnOk result (F.store files.new ≡ F.store files.old) }
     ensures counted { IfErr result (λ fault. IsReadBy fault (F.store files.old) (F.store files.new)) }
 {
@@ -45,8 +48,12 @@ fn write_both<'a, F: Files>(
     texts: &Texts,
     files: &mut F,
 ) -> Result<(), Fault<'a>>
-    ensures written { IsTrue F.TELLS → OnOk result (AreWritten one.now other.now (string_bytes texts.now.assembler) (string_bytes texts.now.header) (F.store files.old).contents (F.store files.new).contents) }
-    ensures cut_off { IsTrue F.TELLS → IfErr result (AreCutOff one.now other.now (string_bytes texts.now.assembler) (string_bytes texts.now.header) (F.store files.old).contents (F.store files.new).contents) }
+    ensures written { IsTrue F.TELLS
+        → OnOk result (AreWritten one.now other.now (string_bytes texts.now.assembler) (string_bytes texts.now.header)
+        (F.store files.old).contents (F.store files.new).contents) }
+    ensures cut_off { IsTrue F.TELLS
+        → IfErr result (AreCutOff one.now other.now (string_bytes texts.now.assembler) (string_bytes texts.now.header)
+        (F.store files.old).contents (F.store files.new).contents) }
     ensures fault { IfErr result (λ fault. IsWriteFault one.now fault ⊎ IsWriteFault other.now fault) }
     ensures calm { OnOk result ((F.store files.new).failures ≡ (F.store files.old).failures) }
     ensures counts { OnErr result ((F.store files.new).failures ≡ one_more (F.store files.old).failures) }
@@ -66,12 +73,20 @@ pub fn write_function<'a, F: Files>(
     options: CompileOptions,
     files: &mut F,
 ) -> Result<(), Fault<'a>>
-    ensures said { IsTrue F.TELLS → OnOk result (WritesTwo assembler.now header.now (AreFunctionTexts options.optimisation options.profile (F.store files.old).contents file.now) (F.store files.old).contents (F.store files.new).contents) }
-    ensures refused { IsTrue F.TELLS → IfErr result (FailsToWriteTwo assembler.now header.now (AreFunctionTexts options.optimisation options.profile (F.store files.old).contents file.now)
-        (RefusesFunction options.explain options.profile (F.store files.old).contents file.now) (F.store files.old).contents (F.store files.new).contents) }
-    ensures untouched { IfErr result (λ fault. (IsWriteFault assembler.now fault ⊎ IsWriteFault header.now fault → ⊥) → (F.store files.new).contents ≡ (F.store files.old).contents) }
+    ensures said { IsTrue F.TELLS
+        → OnOk result (WritesTwo assembler.now header.now
+        (AreFunctionTexts options.optimisation options.profile (F.store files.old).contents file.now)
+        (F.store files.old).contents (F.store files.new).contents) }
+    ensures refused { IsTrue F.TELLS
+        → IfErr result (FailsToWriteTwo assembler.now header.now
+        (AreFunctionTexts options.optimisation options.profile (F.store files.old).contents file.now)
+        (RefusesFunction options.explain options.profile (F.store files.old).contents file.now)
+        (F.store files.old).contents (F.store files.new).contents) }
+    ensures untouched { IfErr result (λ fault. (IsWriteFault assembler.now fault ⊎ IsWriteFault header.now fault → ⊥)
+        → (F.store files.new).contents ≡ (F.store files.old).contents) }
     ensures calm { OnOk result ((F.store files.new).failures ≡ (F.store files.old).failures) }
-    ensures counted { IfErr result (λ fault. (F.store files.new).failures ≡ failures_by fault (F.store files.old).failures) }
+    ensures counted { IfErr result (λ fault. (F.store files.new).failures
+        ≡ failures_by fault (F.store files.old).failures) }
 {
     let texts = function_texts(alloc, file, options, files)?;
     write_both(assembler, header, &texts, files)

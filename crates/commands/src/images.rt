@@ -63,11 +63,18 @@ pub fn run_image<'a, F: Files, E: Sink>(
     files: &mut F,
     err: &mut E,
 ) -> Result<String, Fault<'a>>
-    ensures told { IsTrue F.TELLS → IsTrue E.TELLS → OnOk result (FileRunTells HasLines progress (F.store files.old).contents path.now (map (λ word. word.now) arguments.now) (collected (E.taken err.old) (E.failures err.old)) (collected (E.taken err.new) (E.failures err.new))) }
+    ensures told { IsTrue F.TELLS → IsTrue E.TELLS
+        → OnOk result (FileRunTells HasLines progress (F.store files.old).contents path.now
+        (map (λ word. word.now) arguments.now) (collected (E.taken err.old) (E.failures err.old))
+        (collected (E.taken err.new) (E.failures err.new))) }
     ensures part { IsTrue F.TELLS → IsTrue E.TELLS → OnErr result ((err.new ≡ err.old)
-        ⊎ FileRunTells Reaches progress (F.store files.old).contents path.now (map (λ word. word.now) arguments.now) (collected (E.taken err.old) (E.failures err.old)) (collected (E.taken err.new) (E.failures err.new))) }
-    ensures said { IsTrue F.TELLS → IfOk result (λ text. SaysRun (F.store files.old).contents path.now (map (λ word. word.now) arguments.now) (string_bytes text)) }
-    ensures refused { IsTrue F.TELLS → IfErr result (RefusesRun (F.store files.old).contents path.now (map (λ word. word.now) arguments.now)) }
+        ⊎ FileRunTells Reaches progress (F.store files.old).contents path.now (map (λ word. word.now) arguments.now)
+        (collected (E.taken err.old) (E.failures err.old)) (collected (E.taken err.new) (E.failures err.new))) }
+    ensures said { IsTrue F.TELLS
+        → IfOk result (λ text. SaysRun (F.store files.old).contents path.now (map (λ word. word.now) arguments.now)
+        (string_bytes text)) }
+    ensures refused { IsTrue F.TELLS
+        → IfErr result (RefusesRun (F.store files.old).contents path.now (map (λ word. word.now) arguments.now)) }
     ensures calm { OnOk result (F.store files.new ≡ F.store files.old) }
     ensures counted { IfErr result (λ fault. IsReadBy fault (F.store files.old) (F.store files.new)) }
 {
@@ -90,13 +97,21 @@ pub fn leak_image<'a, F: Files, O: Sink>(
 ) -> Result<u8, Fault<'a>>
     ensures known { IfOk result (λ status. status ≤ 5) }
     ensures calm { OnOk result ((F.store files.new ≡ F.store files.old) × (O.failures out.new ≡ O.failures out.old)) }
-    ensures counted { IfErr result (λ fault. IsReadOrPrinted fault (F.store files.old) (F.store files.new) (O.failures out.old) (O.failures out.new)) }
-    ensures said { IsTrue F.TELLS → IfOk result (λ status. (text : List ℕ) × SaysLeak (F.store files.old).contents path.now (map (λ word. word.now) arguments.now) status text) }
+    ensures counted { IfErr result (λ fault. IsReadOrPrinted fault (F.store files.old) (F.store files.new)
+        (O.failures out.old) (O.failures out.new)) }
+    ensures said { IsTrue F.TELLS
+        → IfOk result (λ status. (text : List ℕ)
+        × SaysLeak (F.store files.old).contents path.now (map (λ word. word.now) arguments.now) status text) }
     ensures written { IsTrue F.TELLS → IsTrue O.TELLS → IfOk result (λ status.
-        Writes (SaysLeak (F.store files.old).contents path.now (map (λ word. word.now) arguments.now) status) (O.taken out.old) (O.taken out.new)) }
-    ensures refused { IsTrue F.TELLS → IfErr result (RefusesLeak (F.store files.old).contents path.now (map (λ word. word.now) arguments.now)) }
+        Writes (SaysLeak (F.store files.old).contents path.now (map (λ word. word.now) arguments.now) status)
+        (O.taken out.old) (O.taken out.new)) }
+    ensures refused { IsTrue F.TELLS
+        → IfErr result (RefusesLeak (F.store files.old).contents path.now (map (λ word. word.now) arguments.now)) }
     ensures beginning { IsTrue F.TELLS → IsTrue O.TELLS → IfErr result (λ fault. IsOutputFault fault
-        → WritesPart (λ text. (status : ℕ) × SaysLeak (F.store files.old).contents path.now (map (λ word. word.now) arguments.now) status text) (O.taken out.old) (O.taken out.new)) }
+        → WritesPart
+        (λ text. (status : ℕ)
+        × SaysLeak (F.store files.old).contents path.now (map (λ word. word.now) arguments.now) status text)
+        (O.taken out.old) (O.taken out.new)) }
     ensures untouched { IfErr result (λ fault. (IsOutputFault fault → ⊥) → out.new ≡ out.old) }
 {
     let image = image_of(alloc, path, files)?;
@@ -161,11 +176,19 @@ pub fn pair_image<'a, F: Files, E: Sink>(
     files: &mut F,
     err: &mut E,
 ) -> Result<Vec<u8>, Fault<'a>>
-    ensures told { IsTrue F.TELLS → IsTrue E.TELLS → OnOk result (FilePairTells HasLines options.progress (F.store files.old).contents path.now (map (λ word. word.now) arguments.now) (collected (E.taken err.old) (E.failures err.old)) (collected (E.taken err.new) (E.failures err.new))) }
+    ensures told { IsTrue F.TELLS → IsTrue E.TELLS
+        → OnOk result (FilePairTells HasLines options.progress (F.store files.old).contents path.now
+        (map (λ word. word.now) arguments.now) (collected (E.taken err.old) (E.failures err.old))
+        (collected (E.taken err.new) (E.failures err.new))) }
     ensures part { IsTrue F.TELLS → IsTrue E.TELLS → OnErr result ((err.new ≡ err.old)
-        ⊎ FilePairTells Reaches options.progress (F.store files.old).contents path.now (map (λ word. word.now) arguments.now) (collected (E.taken err.old) (E.failures err.old)) (collected (E.taken err.new) (E.failures err.new))) }
-    ensures said { IsTrue F.TELLS → IfOk result (λ text. SaysPair options.explain (F.store files.old).contents path.now (map (λ word. word.now) arguments.now) text.items) }
-    ensures refused { IsTrue F.TELLS → IfErr result (RefusesPair (F.store files.old).contents path.now (map (λ word. word.now) arguments.now)) }
+        ⊎ FilePairTells Reaches options.progress (F.store files.old).contents path.now
+        (map (λ word. word.now) arguments.now) (collected (E.taken err.old) (E.failures err.old))
+        (collected (E.taken err.new) (E.failures err.new))) }
+    ensures said { IsTrue F.TELLS
+        → IfOk result (λ text. SaysPair options.explain (F.store files.old).contents path.now
+        (map (λ word. word.now) arguments.now) text.items) }
+    ensures refused { IsTrue F.TELLS
+        → IfErr result (RefusesPair (F.store files.old).contents path.now (map (λ word. word.now) arguments.now)) }
     ensures calm { OnOk result (F.store files.new ≡ F.store files.old) }
     ensures counted { IfErr result (λ fault. IsReadBy fault (F.store files.old) (F.store files.new)) }
 {

@@ -75,7 +75,8 @@ pub fn perform<F: Files, O: Sink, E: Sink>(
         (collected (E.taken err.old) (E.failures err.old)) (collected (E.taken err.new) (E.failures err.new)) result }
     ensures known { result ≤ 5 }
     ensures calm { result ≡ 0 → O.failures out.new ≡ O.failures out.old }
-    ensures counted { Ends (F.store files.old).failures (F.store files.new).failures (O.failures out.old) (O.failures out.new) result }
+    ensures counted { Ends (F.store files.old).failures (F.store files.new).failures
+        (O.failures out.old) (O.failures out.new) result }
 {
     let mut text = String::new(alloc);
     match answer(alloc, request, files, &mut text, out, err) {
@@ -140,12 +141,17 @@ fn answer<'a, F: Files, O: Sink, E: Sink>(
     ensures failed { IsTrue F.TELLS → IsTrue O.TELLS
         → IfErr result (Fails request.entry (F.store files.old) (F.store files.new)
         (collected (O.taken out.old) (O.failures out.old)) (collected (O.taken out.new) (O.failures out.new))) }
-    ensures told { IsTrue F.TELLS → IsTrue E.TELLS → OnOk result (RequestTells HasLines request.entry (F.store files.old).contents (collected (E.taken err.old) (E.failures err.old)) (collected (E.taken err.new) (E.failures err.new))) }
+    ensures told { IsTrue F.TELLS → IsTrue E.TELLS
+        → OnOk result (RequestTells HasLines request.entry (F.store files.old).contents
+        (collected (E.taken err.old) (E.failures err.old)) (collected (E.taken err.new) (E.failures err.new))) }
     ensures part { IsTrue F.TELLS → IsTrue E.TELLS → OnErr result ((err.new ≡ err.old)
-        ⊎ RequestTells Reaches request.entry (F.store files.old).contents (collected (E.taken err.old) (E.failures err.old)) (collected (E.taken err.new) (E.failures err.new))) }
+        ⊎ RequestTells Reaches request.entry (F.store files.old).contents
+        (collected (E.taken err.old) (E.failures err.old)) (collected (E.taken err.new) (E.failures err.new))) }
     ensures known { IfOk result (λ status. status ≤ 5) }
-    ensures calm { OnOk result (((F.store files.new).failures ≡ (F.store files.old).failures) × (O.failures out.new ≡ O.failures out.old)) }
-    ensures counted { IfErr result (Counts (F.store files.old).failures (F.store files.new).failures (O.failures out.old) (O.failures out.new)) }
+    ensures calm { OnOk result (((F.store files.new).failures ≡ (F.store files.old).failures)
+        × (O.failures out.new ≡ O.failures out.old)) }
+    ensures counted { IfErr result (Counts (F.store files.old).failures (F.store files.new).failures
+        (O.failures out.old) (O.failures out.new)) }
 {
     match request {
         Request::Check {
@@ -264,10 +270,13 @@ fn answer_harts<'a, F: Files, O: Sink>(
 ) -> Result<u8, Fault<'a>>
     ensures known { IfOk result (λ status. status ≤ 5) }
     ensures calm { OnOk result ((F.store files.new ≡ F.store files.old) × (O.failures out.new ≡ O.failures out.old)) }
-    ensures counted { IfErr result (Counts (F.store files.old).failures (F.store files.new).failures (O.failures out.old) (O.failures out.new)) }
-    ensures done { IsTrue F.TELLS → IsTrue O.TELLS → IfOk result (IsDone (Request.Harts file.entry) (F.store files.old) (F.store files.new)
+    ensures counted { IfErr result (Counts (F.store files.old).failures (F.store files.new).failures
+        (O.failures out.old) (O.failures out.new)) }
+    ensures done { IsTrue F.TELLS → IsTrue O.TELLS
+        → IfOk result (IsDone (Request.Harts file.entry) (F.store files.old) (F.store files.new)
         (collected (O.taken out.old) (O.failures out.old)) (collected (O.taken out.new) (O.failures out.new))) }
-    ensures failed { IsTrue F.TELLS → IsTrue O.TELLS → IfErr result (Fails (Request.Harts file.entry) (F.store files.old) (F.store files.new)
+    ensures failed { IsTrue F.TELLS → IsTrue O.TELLS
+        → IfErr result (Fails (Request.Harts file.entry) (F.store files.old) (F.store files.new)
         (collected (O.taken out.old) (O.failures out.old)) (collected (O.taken out.new) (O.failures out.new))) }
 {
     *text = whole_text(alloc, file, files)?;
@@ -278,10 +287,12 @@ fn answer_harts<'a, F: Files, O: Sink>(
 /// Prints bytes to standard output, and answers this exit status.
 fn print<'a, O: Sink>(out: &mut O, bytes: &[u8], status: u8) -> Result<u8, Fault<'a>>
     ensures answer { IfOk result (λ given. given ≡ status) }
-    ensures whole { IsTrue O.TELLS → OnOk result (IsPutWhole bytes.now (collected (O.taken out.old) (O.failures out.old))
+    ensures whole { IsTrue O.TELLS
+        → OnOk result (IsPutWhole bytes.now (collected (O.taken out.old) (O.failures out.old))
         (collected (O.taken out.new) (O.failures out.new))) }
     ensures calm { OnOk result (O.failures out.new ≡ O.failures out.old) }
-    ensures beginning { IsTrue O.TELLS → OnErr result (IsPutInPart bytes.now (collected (O.taken out.old) (O.failures out.old))
+    ensures beginning { IsTrue O.TELLS
+        → OnErr result (IsPutInPart bytes.now (collected (O.taken out.old) (O.failures out.old))
         (collected (O.taken out.new) (O.failures out.new))) }
     ensures counts { OnErr result (O.failures out.new ≡ one_more (O.failures out.old)) }
     ensures fault { IfErr result IsOutputFault }

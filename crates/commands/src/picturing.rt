@@ -32,8 +32,11 @@ pub fn picture_image<'a, F: Files>(
     arguments: &[&str],
     files: &mut F,
 ) -> Result<Vec<u8>, Fault<'a>>
-    ensures said { IsTrue F.TELLS → IfOk result (λ page. SaysPicture (F.store files.old).contents path.now (map (λ word. word.now) arguments.now) page.items) }
-    ensures refused { IsTrue F.TELLS → IfErr result (RefusesPicture (F.store files.old).contents path.now (map (λ word. word.now) arguments.now)) }
+    ensures said { IsTrue F.TELLS
+        → IfOk result (λ page. SaysPicture (F.store files.old).contents path.now
+        (map (λ word. word.now) arguments.now) page.items) }
+    ensures refused { IsTrue F.TELLS
+        → IfErr result (RefusesPicture (F.store files.old).contents path.now (map (λ word. word.now) arguments.now)) }
     ensures calm { OnOk result (F.store files.new ≡ F.store files.old) }
     ensures counted { IfErr result (λ fault. IsReadBy fault (F.store files.old) (F.store files.new)) }
 {

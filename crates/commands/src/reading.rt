@@ -18,7 +18,8 @@ pub fn bytes_of<'a, F: Files>(
     limit: usize,
     files: &mut F,
 ) -> Result<Vec<u8>, Fault<'a>>
-    ensures begins { IsTrue F.TELLS → IfOk result (λ bytes. Begins (F.store files.old).contents path.now limit bytes.items) }
+    ensures begins { IsTrue F.TELLS
+        → IfOk result (λ bytes. Begins (F.store files.old).contents path.now limit bytes.items) }
     ensures fault { IfErr result (NotRead path.now) }
     ensures calm { OnOk result (F.store files.new ≡ F.store files.old) }
     ensures counted { IfErr result (λ fault. IsReadBy fault (F.store files.old) (F.store files.new)) }

@@ -34,7 +34,8 @@ pub fn whole_text<'a, F: Files>(
     file: &'a str,
     files: &mut F,
 ) -> Result<String, Fault<'a>>
-    ensures said { IsTrue F.TELLS → IfOk result (λ text. (F.store files.old).contents file.now ≡ Some (string_bytes text)) }
+    ensures said { IsTrue F.TELLS
+        → IfOk result (λ text. (F.store files.old).contents file.now ≡ Some (string_bytes text)) }
     ensures refused { IsTrue F.TELLS → IfErr result (NoWholeText (F.store files.old).contents file.now) }
     ensures calm { OnOk result (F.store files.new ≡ F.store files.old) }
     ensures counted { IfErr result (λ fault. IsReadBy fault (F.store files.old) (F.store files.new)) }
@@ -54,7 +55,8 @@ pub fn run_side_by_side<'a, F: Files>(
     text: &'a str,
     files: &mut F,
 ) -> Result<(Vec<u8>, u8), Fault<'a>>
-    ensures said { IsTrue F.TELLS → IfOk result (λ said. SaysPlan (F.store files.old).contents text.now said.0.items said.1) }
+    ensures said { IsTrue F.TELLS
+        → IfOk result (λ said. SaysPlan (F.store files.old).contents text.now said.0.items said.1) }
     ensures refused { IsTrue F.TELLS → IfErr result (RefusesPlan (F.store files.old).contents text.now) }
     ensures known { IfOk result (λ said. said.1 ≤ 5) }
     ensures calm { OnOk result (F.store files.new ≡ F.store files.old) }
@@ -80,7 +82,9 @@ fn load_jobs<'a, F: Files>(
     files: &mut F,
 ) -> Result<Vec<(Image, Args)>, Fault<'a>>
     ensures count { IfOk result (λ loaded. vec_len loaded ≡ length jobs.now) }
-    ensures said { IsTrue F.TELLS → IfOk result (λ loaded. AllZip (IsJobOf (F.store files.old).contents) (map hart_of jobs.now) (map job_of loaded.items)) }
+    ensures said { IsTrue F.TELLS
+        → IfOk result (λ loaded. AllZip (IsJobOf (F.store files.old).contents) (map hart_of jobs.now)
+        (map job_of loaded.items)) }
     ensures refused { IsTrue F.TELLS → IfErr result (RefusesJobs (F.store files.old).contents (map hart_of jobs.now)) }
     ensures calm { OnOk result (F.store files.new ≡ F.store files.old) }
     ensures counted { IfErr result (λ fault. IsReadBy fault (F.store files.old) (F.store files.new)) }

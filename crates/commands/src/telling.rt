@@ -28,8 +28,12 @@ fn execute_telling<E: Sink>(
 ) -> Result<Outcome, RunFault>
     ensures executed { Executed image.now args.now false [] result [] }
     ensures calm { result ≢ Err (RunFault.Stopped Stop.RecorderRefused) }
-    ensures told { IsTrue E.TELLS → OnOk result (IsTold HasLines (RunGoesOn image.now args.now) (collected (E.taken err.old) (E.failures err.old)) (collected (E.taken err.new) (E.failures err.new))) }
-    ensures part { IsTrue E.TELLS → OnErr result (IsTold Reaches (RunGoesOn image.now args.now) (collected (E.taken err.old) (E.failures err.old)) (collected (E.taken err.new) (E.failures err.new))) }
+    ensures told { IsTrue E.TELLS
+        → OnOk result (IsTold HasLines (RunGoesOn image.now args.now) (collected (E.taken err.old) (E.failures err.old))
+        (collected (E.taken err.new) (E.failures err.new))) }
+    ensures part { IsTrue E.TELLS
+        → OnErr result (IsTold Reaches (RunGoesOn image.now args.now) (collected (E.taken err.old) (E.failures err.old))
+        (collected (E.taken err.new) (E.failures err.new))) }
 {
     if let Some(fault) = first_fault(image, args) {
         return Err(RunFault::from(fault));
@@ -51,8 +55,12 @@ pub fn outcome_of<E: Sink>(
 ) -> Result<Outcome, RunFault>
     ensures executed { Executed image.now args.now false [] result [] }
     ensures calm { result ≢ Err (RunFault.Stopped Stop.RecorderRefused) }
-    ensures told { IsTrue E.TELLS → OnOk result (Tells HasLines progress (RunGoesOn image.now args.now) (collected (E.taken err.old) (E.failures err.old)) (collected (E.taken err.new) (E.failures err.new))) }
-    ensures part { IsTrue E.TELLS → OnErr result (Tells Reaches progress (RunGoesOn image.now args.now) (collected (E.taken err.old) (E.failures err.old)) (collected (E.taken err.new) (E.failures err.new))) }
+    ensures told { IsTrue E.TELLS
+        → OnOk result (Tells HasLines progress (RunGoesOn image.now args.now)
+        (collected (E.taken err.old) (E.failures err.old)) (collected (E.taken err.new) (E.failures err.new))) }
+    ensures part { IsTrue E.TELLS
+        → OnErr result (Tells Reaches progress (RunGoesOn image.now args.now)
+        (collected (E.taken err.old) (E.failures err.old)) (collected (E.taken err.new) (E.failures err.new))) }
 {
     if progress {
         execute_telling(alloc, image, args, err)
@@ -70,7 +78,9 @@ fn pair_telling<E: Sink>(
     err: &mut E,
 ) -> Result<Pairing, RunFault>
     ensures paired { Paired image.now one.now other.now result }
-    ensures told { IsTrue E.TELLS → OnOk result (IsTold HasLines (PairGoesOn image.now one.now other.now) (collected (E.taken err.old) (E.failures err.old)) (collected (E.taken err.new) (E.failures err.new))) }
+    ensures told { IsTrue E.TELLS
+        → OnOk result (IsTold HasLines (PairGoesOn image.now one.now other.now)
+        (collected (E.taken err.old) (E.failures err.old)) (collected (E.taken err.new) (E.failures err.new))) }
     ensures untold { OnErr result (err.new ≡ err.old) }
 {
     if let Some(fault) = fault_of_both(image, one, other) {
@@ -92,7 +102,9 @@ pub fn pairing_of<E: Sink>(
     err: &mut E,
 ) -> Result<Pairing, RunFault>
     ensures paired { Paired image.now one.now other.now result }
-    ensures told { IsTrue E.TELLS → OnOk result (Tells HasLines progress (PairGoesOn image.now one.now other.now) (collected (E.taken err.old) (E.failures err.old)) (collected (E.taken err.new) (E.failures err.new))) }
+    ensures told { IsTrue E.TELLS
+        → OnOk result (Tells HasLines progress (PairGoesOn image.now one.now other.now)
+        (collected (E.taken err.old) (E.failures err.old)) (collected (E.taken err.new) (E.failures err.new))) }
     ensures untold { OnErr result (err.new ≡ err.old) }
 {
     if progress {
@@ -112,7 +124,9 @@ pub fn certificate_of<E: Sink>(
     err: &mut E,
 ) -> Result<Certificate, RunFault>
     ensures certified { Certified image.now given.now shifts result }
-    ensures told { IsTrue E.TELLS → OnOk result (Tells HasLines progress (CertificateGoesOn image.now given.now shifts) (collected (E.taken err.old) (E.failures err.old)) (collected (E.taken err.new) (E.failures err.new))) }
+    ensures told { IsTrue E.TELLS
+        → OnOk result (Tells HasLines progress (CertificateGoesOn image.now given.now shifts)
+        (collected (E.taken err.old) (E.failures err.old)) (collected (E.taken err.new) (E.failures err.new))) }
     ensures untold { OnErr result (err.new ≡ err.old) }
 {
     if progress {

@@ -25,7 +25,8 @@ pub fn text_fault(file: &str, fault: BuildFault<Refusal>) -> Fault<'_>
     ensures fault { (files : Contents) (bytes : List ℕ) → files file.now ≡ Some bytes → texts.NoText bytes fault
         → NoText files file.now result }
     ensures counts { (before : Store) → fault ≡ BuildFault.Read → IsReadBy result before (failed before) }
-    ensures calm { (before : Store) → fault ≢ BuildFault.Read → fault ≢ BuildFault.Write → IsReadBy result before before }
+    ensures calm { (before : Store) → fault ≢ BuildFault.Read → fault ≢ BuildFault.Write
+        → IsReadBy result before before }
 {
     match fault {
         BuildFault::Read => Fault::File(FileFault::CannotRead(file)),
@@ -41,7 +42,8 @@ pub fn text_of_file<'a, F: Files>(
     file: &'a str,
     files: &mut F,
 ) -> Result<String, Fault<'a>>
-    ensures said { IsTrue F.TELLS → IfOk result (λ text. HoldsText (F.store files.old).contents file.now (string_bytes text)) }
+    ensures said { IsTrue F.TELLS
+        → IfOk result (λ text. HoldsText (F.store files.old).contents file.now (string_bytes text)) }
     ensures refused { IsTrue F.TELLS → IfErr result (NoText (F.store files.old).contents file.now) }
     ensures calm { OnOk result (F.store files.new ≡ F.store files.old) }
     ensures counted { IfErr result (λ fault. IsReadBy fault (F.store files.old) (F.store files.new)) }
@@ -59,8 +61,10 @@ pub fn text_of_file<'a, F: Files>(
 
 /// Writes a file.
 pub fn write_file<'a, F: Files>(path: &'a str, bytes: &[u8], files: &mut F) -> Result<(), Fault<'a>>
-    ensures written { IsTrue F.TELLS → OnOk result (IsWritten path.now bytes.now (F.store files.old).contents (F.store files.new).contents) }
-    ensures cut_off { IsTrue F.TELLS → OnErr result (IsCutOff path.now bytes.now (F.store files.old).contents (F.store files.new).contents) }
+    ensures written { IsTrue F.TELLS
+        → OnOk result (IsWritten path.now bytes.now (F.store files.old).contents (F.store files.new).contents) }
+    ensures cut_off { IsTrue F.TELLS
+        → OnErr result (IsCutOff path.now bytes.now (F.store files.old).contents (F.store files.new).contents) }
     ensures fault { IfErr result (IsWriteFault path.now) }
     ensures calm { OnOk result ((F.store files.new).failures ≡ (F.store files.old).failures) }
     ensures counts { OnErr result ((F.store files.new).failures ≡ one_more (F.store files.old).failures) }
@@ -98,7 +102,8 @@ pub fn check_text<'a, F: Files>(
     files: &mut F,
 ) -> Result<(), Fault<'a>>
     ensures said { IsTrue F.TELLS → OnOk result (IsAccepted profile (F.store files.old).contents file.now) }
-    ensures refused { IsTrue F.TELLS → IfErr result (IsRefusedSo explain profile (F.store files.old).contents file.now) }
+    ensures refused { IsTrue F.TELLS
+        → IfErr result (IsRefusedSo explain profile (F.store files.old).contents file.now) }
     ensures calm { OnOk result (F.store files.new ≡ F.store files.old) }
     ensures counted { IfErr result (λ fault. IsReadBy fault (F.store files.old) (F.store files.new)) }
 {
@@ -119,12 +124,20 @@ pub fn build_image<'a, F: Files>(
     options: CompileOptions,
     files: &mut F,
 ) -> Result<(), Fault<'a>>
-    ensures said { IsTrue F.TELLS → OnOk result (WritesFile image.now (IsImageOf options.optimisation options.profile (F.store files.old).contents file.now) (F.store files.old).contents (F.store files.new).contents) }
-    ensures refused { IsTrue F.TELLS → IfErr result (FailsToWrite image.now (IsImageOf options.optimisation options.profile (F.store files.old).contents file.now)
-        (IsRefusedSo options.explain options.profile (F.store files.old).contents file.now) (F.store files.old).contents (F.store files.new).contents) }
-    ensures untouched { IfErr result (λ fault. (IsWriteFault image.now fault → ⊥) → (F.store files.new).contents ≡ (F.store files.old).contents) }
+    ensures said { IsTrue F.TELLS
+        → OnOk result (WritesFile image.now
+        (IsImageOf options.optimisation options.profile (F.store files.old).contents file.now)
+        (F.store files.old).contents (F.store files.new).contents) }
+    ensures refused { IsTrue F.TELLS
+        → IfErr result (FailsToWrite image.now
+        (IsImageOf options.optimisation options.profile (F.store files.old).contents file.now)
+        (IsRefusedSo options.explain options.profile (F.store files.old).contents file.now) (F.store files.old).contents
+        (F.store files.new).contents) }
+    ensures untouched { IfErr result (λ fault. (IsWriteFault image.now fault → ⊥)
+        → (F.store files.new).contents ≡ (F.store files.old).contents) }
     ensures calm { OnOk result ((F.store files.new).failures ≡ (F.store files.old).failures) }
-    ensures counted { IfErr result (λ fault. (F.store files.new).failures ≡ failures_by fault (F.store files.old).failures) }
+    ensures counted { IfErr result (λ fault. (F.store files.new).failures
+        ≡ failures_by fault (F.store files.old).failures) }
 {
     let text = text_of_file(alloc, file, files)?;
     match build_with(alloc, text.as_str(), options.profile, options.optimisation) {

@@ -35,8 +35,11 @@ pub fn try_file<'a, F: Files>(
     files: &mut F,
 ) -> Result<(String, u8), Fault<'a>>
     ensures known { IfOk result (λ said. said.1 ≤ 5) }
-    ensures said { IsTrue F.TELLS → IfOk result (λ said. SaysVectors profile (F.store files.old).contents file.now list.now (string_bytes said.0) said.1) }
-    ensures refused { IsTrue F.TELLS → IfErr result (RefusesVectors profile (F.store files.old).contents file.now list.now) }
+    ensures said { IsTrue F.TELLS
+        → IfOk result (λ said. SaysVectors profile (F.store files.old).contents file.now list.now
+        (string_bytes said.0) said.1) }
+    ensures refused { IsTrue F.TELLS
+        → IfErr result (RefusesVectors profile (F.store files.old).contents file.now list.now) }
     ensures calm { OnOk result (F.store files.new ≡ F.store files.old) }
     ensures counted { IfErr result (λ fault. IsReadBy fault (F.store files.old) (F.store files.new)) }
 {

@@ -45,7 +45,7 @@ returns-in_err-args-clause-refused g c = λ tells.
     (refused_at (g.F.Files.store c.args.files.now).contents c.args.jobs.now c.loop-job.job-index c.job-item.result
     c.loop-job.loaded.items _ c.loop-job-test.true c.job-item.is (c.loop-job.invariant.said tells)
     (no_arguments (rw c.loop-job.invariant.same at (c.in_ok-image.ensures.said tells))
-    (fault_from texts c.job-item.result.arguments.items (λ text. text.now)
+    (fault_from why texts c.job-item.result.arguments.items (λ text. text.now)
     (c.as_slice.ensures.value ∙ c.in_ok-params.ensures.params) c.as_slice-in-loop-job.ensures.value
     (fault_of_words _ why (Err why) refl c.in_err-args.ensures.fault c.in_err-args.ensures.unstopped))))
 
