@@ -39,7 +39,7 @@ use Rattle.rv_machine.specs.declared.observation.Event.{Event}
 
 -- the setting of a call: its code, and the accesses that it may make
 abbrev pub call_setting : Fields → Code → Site → Setting
-call_setting image code site = record { code = code; allowed = IsOfCall image site; silent = tt }
+call_setting image code site = record { code = code; allowed = IsOfCall image site; silent = λ sp. tt }
 
 -- what the code of arguments and arrays writes
 abbrev pub taken_registers : List ℕ
@@ -87,27 +87,29 @@ module _ (image : Fields) (site : Site) where
 
   pub record KnownWord (i : ℕ) (slot : Slot) : Type 0 where
     pub can : CanBePut image slot (room_base image site) i
-    pub may : (event : Option Event)
-        → IsPutting (room_base image site + argument_offset image i) (room_base image site + slot.offset) event
-        → IsOfCall image site event
+    pub may : (sp : ℕ) (event : Option Event)
+        → IsPutting (room_base image site + argument_offset image i) (room_base image site + slot.offset) sp event
+        → IsOfCall image site sp event
     pub place_inside : room_base image site + argument_offset image i + 4 ≤ arguments_end image site
     pub inside : slot.offset + 4 ≤ frame_room image
 
   -- an array
   pub record KnownArray (i : ℕ) (slot : Slot) : Type 0 where
     pub can : CanBeCopied image slot (spot_at i)
-    pub may_take : (event : Option Event)
-        → IsCopying (place_of image (spot_at i)) (array_bytes slot) (site.pointers i) (slot_of slot (spot_at i)) event
-        → IsOfCall image site event
+    pub may_take : (sp : ℕ) (event : Option Event)
+        → IsCopying (room_base image site) (place_of image (spot_at i)) (array_bytes slot) (site.pointers i)
+        (slot_of slot (spot_at i)) sp event
+        → IsOfCall image site sp event
     pub place_inside : room_base image site + argument_offset image i + 4 ≤ arguments_end image site
     pub inside : slot.offset + array_bytes slot ≤ frame_room image
 
   -- and one that is handed back
   pub record KnownOutput (i : ℕ) (slot : Slot) : Type 0 where
     pub known : KnownArray i slot
-    pub may_hand : (event : Option Event)
-        → IsCopying (place_of image (spot_at i)) (array_bytes slot) (slot_of slot (spot_at i)) (site.pointers i) event
-        → IsOfCall image site event
+    pub may_hand : (sp : ℕ) (event : Option Event)
+        → IsCopying (room_base image site) (place_of image (spot_at i)) (array_bytes slot) (slot_of slot (spot_at i))
+        (site.pointers i) sp event
+        → IsOfCall image site sp event
     pub beside : IsBesides (site.pointers i) (array_bytes slot) (room_base image site) (arguments_end image site)
 
   abbrev pub IsKnown : ℕ → Slot → Form → Type 0

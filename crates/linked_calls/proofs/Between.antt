@@ -1,7 +1,7 @@
 -- What the code before the body hands to it, and what the code behind it takes over: the two halves of a call, so
 -- that they can be proved apart from each other and from the body.
 use Rattle.std.specs.Prelude.{◌⊎◌, sum}
-use Rattle.std.proofs.Common.{◌≡◌, ℕ, suc, ◌+◌, ◌-◌, ◌*◌, ◌%◌, ◌^◌, ◌<◌, ◌≤◌, List, [], ◌∷◌, length, map, All, Some}
+use Rattle.std.proofs.Common.{◌≡◌, ℕ, suc, ◌+◌, ◌-◌, ◌*◌, ◌%◌, ◌^◌, ◌<◌, ◌≤◌, List, [], ◌∷◌, length, map, Some}
 use Rattle.std.proofs.Common.{None}
 use Rattle.codegen.specs.Anywhere.{IsLoaded, body_words}
 use Rattle.codegen.specs.Loaded.{results_in}
@@ -12,12 +12,12 @@ use Rattle.language.specs.declared.signature.Form.TheVariants.{SingleWord, Fixed
 use Rattle.linked_calls.specs.Called.{IsOfCall, IsLeft}
 use Rattle.linked_calls.specs.Calls.{Site, IsSite, IsCalled, room_base, arguments_end, arguments_of}
 use Rattle.linked_calls.specs.Convention.{saved_registers}
+use Rattle.linked_calls.specs.Does.{LeadsWithin}
 use Rattle.linked_calls.specs.FunctionCode.{enter_code, function_words, frame_room, argument_offset, array_bytes}
 use Rattle.linked_calls.specs.Sections.{enter_sections, leave_sections, section_turns}
 use Rattle.linked_calls.specs.Stretches.{AreData}
 use Rattle.linked_calls.proofs.SameRegisters.{AreSame}
 use Rattle.rv_machine.specs.Bytes.{ByteMap, number_at}
-use Rattle.rv_machine.specs.Leakage.{Leads}
 use Rattle.rv_machine.specs.Machine.{State, Code, Turn, goes_on, observed, moved_to}
 use Rattle.rv_machine.specs.declared.observation.Observation.{Observation}
 
@@ -82,12 +82,11 @@ pub record IsEntered (image : Fields) (site : Site) (s t : State) : Type 0 where
 pub record EntersFrom (image : Fields) (code : Code) (site : Site) (list : List Observation) (s : State) :
     Type 0 where
   pub end : State
-  pub leads : Leads code (enter_turns image) s list end
+  pub leads : LeadsWithin code (IsOfCall image site) (enter_turns image) s list end
   pub entered : IsEntered image site s end
 
 pub record Enters (image : Fields) (code : Code) (site : Site) : Type 0 where
   pub shown : List Observation
-  pub within : All (λ (o : Observation). IsOfCall image site o.event) shown
   pub runs : (s : State) → IsCalled image site s → EntersFrom image code site shown s
 
 abbrev pub EnteringLeads : Type 0
@@ -112,14 +111,13 @@ pub record LeavesFrom (image : Fields) (code : Code) (site : Site) (list : List 
   pub turns : ℕ
   pub counted : suc turns ≡ leave_turns image
   pub end : State
-  pub leads : Leads code turns s list end
+  pub leads : LeadsWithin code (IsOfCall image site) turns s list end
   pub at_last : end.pc ≡ site.entry + 4 * (length (function_words image) - 1)
   pub left : IsLeft image site regs s.bytes (results_in (room_base image site) image s.bytes) end
   pub goes_back : regs 1 % 4 ≡ 0 → Turn code end (goes_on (observed end None) (moved_to end (regs 1)))
 
 pub record Leaves (image : Fields) (code : Code) (site : Site) : Type 0 where
   pub shown : List Observation
-  pub within : All (λ (o : Observation). IsOfCall image site o.event) shown
   pub runs : (regs : ℕ → ℕ) (s : State) → CanLeave image site regs s → LeavesFrom image code site shown regs s
 
 abbrev pub LeavesEverywhere : Type 0

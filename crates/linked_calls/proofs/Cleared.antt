@@ -66,7 +66,7 @@ module _ (z : Setting) where
 
 pub registers_are_cleared : RegistersAreCleared
 registers_are_cleared code start there =
-    let z : Setting = record { code = code; allowed = IsSilent; silent = refl } in
+    let z : Setting = record { code = code; allowed = IsSilent; silent = λ sp. refl } in
     weaken_runs z {P' = λ s. Unit {0}} {R' = AreCleared scratch_registers} (clear_registers_code scratch_registers)
     (all_cleared z scratch_registers refl) (λ s given. given) (λ s t given clears. clears.cleared) start
     (placed code start (clear_registers_code scratch_registers) there)

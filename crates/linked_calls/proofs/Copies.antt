@@ -75,7 +75,11 @@ module _ (code : Code) (image : Fields) (slot : Slot) (spot : Pointed) (can : Ca
   to = chosen inward (slot_of slot spot) spot.pointer
 
   abbrev z : Setting
-  z = record { code = code; allowed = IsCopying (place_of image spot) (array_bytes slot) from to; silent = tt }
+  z = record {
+    code = code;
+    allowed = IsCopying spot.frame (place_of image spot) (array_bytes slot) from to;
+    silent = λ sp. tt;
+  }
 
   -- the elements that were copied, of so many
   abbrev copied : ℕ → ByteMap → ByteMap
@@ -100,8 +104,9 @@ module _ (code : Code) (image : Fields) (slot : Slot) (spot : Pointed) (can : Ca
 
   -- The loop.
 
-  -- x5 at the caller's array, x6 at its slot, x7 behind the array, and both are data
+  -- x2 at the frame's base, x5 at the caller's array, x6 at its slot, x7 behind the array, and both are data
   record BeginsCopy (s : Data) : Type 0 where
+    stack : s.regs 2 ≡ spot.frame
     pointer : s.regs 5 ≡ spot.pointer
     slot_at : s.regs 6 ≡ slot_of slot spot
     stop : s.regs 7 ≡ (spot.pointer + n * k) % 2 ^ 32
@@ -182,16 +187,17 @@ module _ (code : Code) (image : Fields) (slot : Slot) (spot : Pointed) (can : Ca
         let a = from + n * i in
         let b = to + n * i in
         let fits = inside in
-        straight_runs z copy_works (copied_code inward kind) (a ∷ b ∷ []) (copy_plain inward kind)
-        (copy_fit z.allowed inward kind a b
+        straight_runs z spot.frame copy_works (copied_code inward kind) (a ∷ b ∷ []) (copy_plain inward kind) refl
+        (copy_fit (z.allowed spot.frame) inward kind a b
         (record {
           even = element_even kind from i from_even;
-          allowed = inr (element_lies kind from (from + array_bytes slot) a (omega arith) (omega arith));
+          allowed = (inr (element_lies kind from (from + array_bytes slot) a (omega arith) (omega arith)), refl);
         })
         (record {
           even = element_even kind to i to_even;
-          allowed = element_lies kind to (to + array_bytes slot) b (omega arith) (omega arith);
+          allowed = (element_lies kind to (to + array_bytes slot) b (omega arith) (omega arith), refl);
         }))
+        (λ d given. given.1.others 2 (λ e. omega arith) (λ e. omega arith) (λ e. omega arith) ∙ given.1.begins.stack)
         (λ d given. copy_met inward kind a b d (source_reached given.0 d given.1) (target_reached given.0 d given.1))
         (λ d given s held.
         let made = copy_made inward kind a b d in
@@ -269,7 +275,7 @@ module _ (code : Code) (image : Fields) (slot : Slot) (spot : Pointed) (can : Ca
       let offset = argument_offset image spot.index in
       weaken_runs z {P' = HasArray image slot spot} {R' = Sets 5 (λ s. spot.pointer)} (load_code 5 offset)
       (load_runs z spot.frame offset (omega arith) can.place_ends 5 (omega arith) (λ e. omega arith)
-      (λ e. omega arith) (inl refl))
+      (λ e. omega arith) (inl refl, refl))
       (λ s has. record { stack = has.stack; there = ap is_some has.argument })
       (λ s t has sets. record {
         there = sets.there ∙ ap (λ o. unwrap_or o 0) has.argument;
@@ -295,15 +301,16 @@ module _ (code : Code) (image : Fields) (slot : Slot) (spot : Pointed) (can : Ca
         same = two.same ∙ one.same;
       })
 
-  bounds_begin : (s u : Data) → HasArray image slot spot s → u.regs 5 ≡ spot.pointer
+  bounds_begin : (s u : Data) → HasArray image slot spot s → u.regs 2 ≡ s.regs 2 → u.regs 5 ≡ spot.pointer
       → u.regs 6 ≡ sum_of slot.offset (s.regs 2) → u.regs 7 ≡ sum_of (array_bytes slot) spot.pointer
       → u.bytes ≡ s.bytes → BeginsCopy u
-  bounds_begin s u has pointer slot_at stop same =
+  bounds_begin s u has stack pointer slot_at stop same =
       let there = λ (x : ℕ) (data_there : AreData x (x + n * k) s.bytes).
       subst (λ (b : ByteMap). AreData x (x + n * k) b) (sym same) data_there in
       let array = there spot.pointer has.array_there in
       let held = there (slot_of slot spot) has.slot_there in
       record {
+        stack = stack ∙ has.stack;
         pointer = pointer;
         slot_at = slot_at ∙ omega arith;
         stop = stop ∙ omega arith;
@@ -333,7 +340,9 @@ module _ (code : Code) (image : Fields) (slot : Slot) (spot : Pointed) (can : Ca
       (λ e. omega arith) (λ e. omega arith))
       (λ s t has located. tt)
       (λ s t u has located sets. record {
-        begins = bounds_begin s u has (sets.others 5 (λ e. omega arith) ∙ located.pointer)
+        begins = bounds_begin s u has
+            (sets.others 2 (λ e. omega arith) ∙ located.others 2 (λ e. omega arith) (λ e. omega arith))
+            (sets.others 5 (λ e. omega arith) ∙ located.pointer)
             (sets.others 6 (λ e. omega arith) ∙ located.slot_at)
             (sets.there ∙ ap (λ x. sum_of (array_bytes slot) x) located.pointer) (sets.same ∙ located.same);
         others = λ q g h l. sets.others q l ∙ located.others q g h;

@@ -46,7 +46,7 @@ stored_too above a made rs s t u values entered stores = record {
 }
 
 module _ (z : Setting) (above : ℕ) (even : above % 16 ≡ 0) (below : above + 80 < 2 ^ 32)
-    (may : MayStore z 4 Word above (above + 80)) where
+    (may : MayStore z above 4 Word above (above + 80)) where
   lowered : (s t : Data) → BeginsCall above s → t.regs 2 ≡ sum_of (s.regs 2) 4294967216 → t.regs 2 ≡ above
   lowered s t begins moved = omega arith
 
@@ -57,8 +57,8 @@ module _ (z : Setting) (above : ℕ) (even : above % 16 ≡ 0) (below : above + 
       (stores_code 2 0 saved_registers)
       (sets_runs z {value = λ s. sum_of (s.regs 2) 4294967216} 2 (added 2 (4096 - 80) ∷ []) [] refl tt
       (λ s begins. tt) (λ s begins. refl) (λ s. refl))
-      (stores_runs z 2 (omega arith) 0 above saved_registers refl (omega arith) (omega arith)
-      (omega arith) (λ x low high. may x low (omega arith)))
+      (stores_runs z 2 (omega arith) above 0 above saved_registers refl (omega arith) (omega arith)
+      (omega arith) (λ x low high. may x low (omega arith)) (λ s begins. omega arith))
       (λ s t begins sets.
       let stack = lowered s t begins sets.there in
       record {
@@ -76,8 +76,8 @@ module _ (z : Setting) (above : ℕ) (even : above % 16 ≡ 0) (below : above + 
   entry_runs =
       then_runs z {P = BeginsCall above} {S = Entered above (entered_bytes above)}
       ((added 2 (4096 - 80) ∷ []) ++ stores_code 2 0 saved_registers) (stores_code 2 48 argument_registers) saved_runs
-      (stores_runs z 2 (omega arith) 48 (above + 48) argument_registers refl (omega arith) (omega arith)
-      (omega arith) (λ x low high. may x (omega arith) (omega arith)))
+      (stores_runs z 2 (omega arith) above 48 (above + 48) argument_registers refl (omega arith) (omega arith)
+      (omega arith) (λ x low high. may x (omega arith) (omega arith)) (λ s begins. omega arith))
       (λ s t begins saved.
       record {
         root = omega arith;

@@ -8,7 +8,8 @@ use Rattle.codegen.specs.Loaded.{word_in}
 use Rattle.codegen.specs.image_fields.Fields.{Fields, IsImage}
 use Rattle.linked_calls.specs.Calls.{Site, IsSite, IsCalled, room_base, arguments_end, arguments_of}
 use Rattle.linked_calls.specs.Convention.{saved_registers, argument_registers}
-use Rattle.linked_calls.specs.Does.{Data, at}
+use Rattle.linked_calls.specs.Called.{IsOfCall}
+use Rattle.linked_calls.specs.Does.{Data, LeadsWithin, at}
 use Rattle.linked_calls.specs.FunctionCode.{frame_room, entry_code, frame_code, arguments_code, enter_code}
 use Rattle.linked_calls.specs.FunctionCode.{argument_offset}
 use Rattle.linked_calls.specs.Stretches.{AreData}
@@ -33,7 +34,6 @@ use Rattle.linked_calls.proofs.SavedRegisters.{stored_are_saved, saved_same, sav
 use Rattle.linked_calls.proofs.Standing.{enter_placed}
 use Rattle.linked_calls.proofs.Zeros.{frame_is_zeroed}
 use Rattle.rv_machine.specs.Bytes.{ByteMap, number_at, zeros}
-use Rattle.rv_machine.specs.Leakage.{Leads}
 use Rattle.rv_machine.specs.Machine.{State, Code}
 use Rattle.rv_machine.specs.Registers.{register}
 
@@ -131,7 +131,7 @@ module _ (image : Fields) (code : Code) (site : Site) (is : IsImage image) (is_s
   entry_part : Runs z 21 entry_code Called (Entered above (entered_bytes above))
   entry_part =
       weaken_runs z {P' = Called} entry_code
-      (entry_runs z above (omega arith) (omega arith) (λ x low high. inl (omega arith, omega arith)))
+      (entry_runs z above (omega arith) (omega arith) (λ x low high. inl ((omega arith, omega arith), low)))
       (λ d called. record { stack = omega arith; there = above_there d called })
       (λ d t called entered. entered)
 
@@ -258,7 +258,6 @@ enters image code site is is_site =
     (enter_placed image code site is_site) in
     record {
       shown = part.shown;
-      within = part.within;
       runs = λ s called.
           let d : Data = record { regs = s.regs; bytes = s.bytes } in
           let own = at_own site image s called in
@@ -266,7 +265,8 @@ enters image code site is is_site =
           let end = at (body_at image site) run.end in
           record {
             end = end;
-            leads = subst (λ (x : State). Leads code (enter_turns image) x part.shown end) own run.leads;
+            leads = subst (λ (x : State). LeadsWithin code (IsOfCall image site) (enter_turns image) x part.shown end)
+                own run.leads;
             entered = subst (λ (x : State). IsEntered image site x end) own run.done;
           };
     }

@@ -2,7 +2,7 @@
 -- on the stack, and arrays apart from the room; and the accesses to them are the call's.
 use Rattle.std.specs.List.{AllByRecursion}
 use Rattle.std.proofs.Common.{◌≡◌, ℕ, ◌+◌, ◌*◌, ◌%◌, ◌<◌, ◌≤◌, nat_le, true, ◌&&◌, List, [], ◌∷◌, length, Option, Some}
-use Rattle.std.proofs.Common.{None, inl, inr, arith}
+use Rattle.std.proofs.Common.{None, inl, inr, arith, subst, sym}
 use Rattle.std.proofs.lemmas.Bool.Decides.{nat_tests}
 use Rattle.codegen.specs.image_fields.Fields.{Fields, IsImage, AreSlots, is_length, slot_bytes, slot_end}
 use Rattle.codegen.specs.declared.image_fields.slot.Slot.{Slot}
@@ -56,34 +56,40 @@ module _ (image : Fields) (site : Site) where
   -- Which accesses are the call's: stores of zeros, and those of an argument's word or elements.
 
   pub zero_allowed : (low high : ℕ) → room_base image site ≤ low → high ≤ site.stack
-      → (o : Option Event) → IsStoreIn low high o → IsOfCall image site o
-  zero_allowed low high from to None is = tt
-  zero_allowed low high from to (Some (event.Store a size)) is = inl (omega arith, omega arith)
-  zero_allowed low high from to (Some e) is = absurd is
+      → (sp : ℕ) (o : Option Event) → IsStoreIn low high sp o → IsOfCall image site sp o
+  zero_allowed low high from to sp None is = tt
+  zero_allowed low high from to sp (Some (event.Store a size)) is = inl ((omega arith, omega arith), is.1)
+  zero_allowed low high from to sp (Some e) is = absurd is
 
   put_allowed : (place slot : ℕ) → room_base image site ≤ place → place + 4 ≤ arguments_end image site
       → room_base image site ≤ slot → slot + 4 ≤ site.stack
-      → (o : Option Event) → IsPutting place slot o → IsOfCall image site o
-  put_allowed place slot low up from to None is = tt
-  put_allowed place slot low up from to (Some (event.Load a size)) is =
+      → (sp : ℕ) (o : Option Event) → IsPutting place slot sp o → IsOfCall image site sp o
+  put_allowed place slot low up from to sp None is = tt
+  put_allowed place slot low up from to sp (Some (event.Load a size)) is =
       let small = small_access size in
-      inl (omega arith, omega arith)
-  put_allowed place slot low up from to (Some (event.Store a size)) is =
+      inl ((omega arith, omega arith), is.2)
+  put_allowed place slot low up from to sp (Some (event.Store a size)) is =
       let small = small_access size in
-      inl (omega arith, omega arith)
-  put_allowed place slot low up from to (Some e) is = absurd is
+      inl ((omega arith, omega arith), is.2)
+  put_allowed place slot low up from to sp (Some e) is = absurd is
+
+  -- where the stack pointer is the room's base
+  abbrev MayAt : (ℕ → Size → Event) → ℕ → ℕ → Type 0
+  MayAt accesses low high =
+      (a : ℕ) (size : Size) → LiesIn low high a size → IsOfCall image site (room_base image site) (Some (accesses a size))
 
   copy_allowed : (place n from to : ℕ) → room_base image site ≤ place → place + 4 ≤ arguments_end image site
-      → ((a : ℕ) (size : Size) → LiesIn from (from + n) a size → IsOfCall image site (Some (event.Load a size)))
-      → ((a : ℕ) (size : Size) → LiesIn to (to + n) a size → IsOfCall image site (Some (event.Store a size)))
-      → (o : Option Event) → IsCopying place n from to o → IsOfCall image site o
-  copy_allowed place n from to low up loads stores None is = tt
-  copy_allowed place n from to low up loads stores (Some (event.Load a size)) (inl at) =
+      → MayAt event.Load from (from + n) → MayAt event.Store to (to + n)
+      → (sp : ℕ) (o : Option Event) → IsCopying (room_base image site) place n from to sp o → IsOfCall image site sp o
+  copy_allowed place n from to low up loads stores sp None is = tt
+  copy_allowed place n from to low up loads stores sp (Some (event.Load a size)) (inl at, base) =
       let small = small_access size in
-      inl (omega arith, omega arith)
-  copy_allowed place n from to low up loads stores (Some (event.Load a size)) (inr lies) = loads a size lies
-  copy_allowed place n from to low up loads stores (Some (event.Store a size)) lies = stores a size lies
-  copy_allowed place n from to low up loads stores (Some e) is = absurd is
+      inl ((omega arith, omega arith), omega arith)
+  copy_allowed place n from to low up loads stores sp (Some (event.Load a size)) (inr lies, base) =
+      subst (λ x. IsOfCall image site x (Some (event.Load a size))) (sym base) (loads a size lies)
+  copy_allowed place n from to low up loads stores sp (Some (event.Store a size)) (lies, base) =
+      subst (λ x. IsOfCall image site x (Some (event.Store a size))) (sym base) (stores a size lies)
+  copy_allowed place n from to low up loads stores sp (Some e) is = absurd is
 
 module _ (image : Fields) (site : Site) (is : IsImage image) (lie_well : LieWell image site 0 image.slots)
     (numbers : RoomNumbers image site) where
@@ -138,21 +144,22 @@ module _ (image : Fields) (site : Site) (is : IsImage image) (lie_well : LieWell
             may_take = copy_allowed image site (frame + argument_offset image i) (array_bytes slot) (site.pointers i)
                 (frame + slot.offset) (omega arith) place (λ a size lies. inr (reads a size lies))
                 (λ a size lies.
-                inl (omega arith, omega arith));
+                inl ((omega arith, omega arith), omega arith));
             place_inside = place;
             inside = omega arith;
           }
 
       may_hand : ((a : ℕ) (size : Size) → WritesArray site i slot MutableArray a size
           → WritesAnArray site 0 image.slots a size)
-          → (o : Option Event) → IsCopying (frame + argument_offset image i) (array_bytes slot) (frame + slot.offset)
-          (site.pointers i) o → IsOfCall image site o
+          → (sp : ℕ) (o : Option Event)
+          → IsCopying frame (frame + argument_offset image i) (array_bytes slot) (frame + slot.offset) (site.pointers i)
+          sp o → IsOfCall image site sp o
       may_hand writes =
           let inside = slot_inside in
           copy_allowed image site (frame + argument_offset image i) (array_bytes slot) (frame + slot.offset)
           (site.pointers i) (omega arith) (place_inside image site numbers i few)
           (λ a size lies.
-          inl (omega arith, omega arith))
+          inl ((omega arith, omega arith), omega arith))
           (λ a size lies. inr (writes a size lies))
 
     array_ends : slot.offset + 4 * array_words slot.param.kind slot.param.length ≤ image.frame_bytes

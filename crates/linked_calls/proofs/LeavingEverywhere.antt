@@ -12,12 +12,11 @@ use Rattle.rv_code.specs.declared.instructions.Instr.{Instr}
 use Rattle.rv_code.specs.declared.instructions.Instr.TheVariants.{Immediate, JumpRegister}
 use Rattle.rv_code.specs.declared.operations.ImmediateOperation.TheVariants.{Addi}
 use Rattle.rv_machine.specs.Bytes.{ByteMap}
-use Rattle.rv_machine.specs.Leakage.{Leads}
 use Rattle.rv_machine.specs.Machine.{State, Code, IsAt}
 use Rattle.rv_machine.specs.declared.observation.Event.{Event}
 use Rattle.rv_machine.specs.declared.observation.Event.TheVariants as event
 use Rattle.linked_calls.specs.Called.{IsOfCall, IsLeft, with_arrays, kept_registers}
-use Rattle.linked_calls.specs.Does.{Data, at}
+use Rattle.linked_calls.specs.Does.{Data, LeadsWithin, at}
 use Rattle.linked_calls.specs.Calls.{Site, IsSite, room_base, arguments_end}
 use Rattle.linked_calls.specs.Convention.{saved_registers, scratch_registers}
 use Rattle.linked_calls.specs.FunctionCode.{function_words, frame_room, result_code}
@@ -82,13 +81,13 @@ module _ (image : Fields) (code : Code) (site : Site) (is : IsImage image) (at_s
   abbrev result_of : ByteMap → Option ResultSlot → ℕ
   result_of bytes returned = unwrap_or (option_map (λ (slot : ResultSlot). word_in base bytes slot.offset) returned) 0
 
-  load_allowed : (offset : ℕ) → offset + 4 ≤ image.frame_bytes → (o : Option Event) → IsLoadOf (base + offset) o
-      → IsOfCall image site o
-  load_allowed offset inside None load = tt
-  load_allowed offset inside (Some (event.Load a size)) load =
+  load_allowed : (offset : ℕ) → offset + 4 ≤ image.frame_bytes → (sp : ℕ) (o : Option Event)
+      → IsLoadOf (base + offset) sp o → IsOfCall image site sp o
+  load_allowed offset inside sp None load = tt
+  load_allowed offset inside sp (Some (event.Load a size)) load =
       let small = small_access size in
-      inl (omega arith, omega arith)
-  load_allowed offset inside (Some e) load = absurd load
+      inl ((omega arith, omega arith), load.2)
+  load_allowed offset inside sp (Some e) load = absurd load
 
   result_runs : (returned : Option ResultSlot) (low : ℕ)
       → IfSome returned (λ (slot : ResultSlot). IsResultSlot low slot)
@@ -166,7 +165,7 @@ module _ (image : Fields) (code : Code) (site : Site) (is : IsImage image) (at_s
       (grouped first (restore_code room) wipe_code (clear_registers_code scratch_registers))
       (then_runs z {P = Starts} {S = Front} first rest handed_runs
       (lasts_run z base room numbers.even numbers.whole (omega arith)
-      (λ x low high. inl (omega arith, omega arith))
+      (λ x low high. inl ((omega arith, omega arith), omega arith))
       (zero_allowed image site base (base + (room + 80)) (omega arith) (omega arith)))
       (λ s t begins handed. record {
         stack = (same_beside (10 ∷ taken_registers) t.regs s.regs handed.others (2 ∷ []) refl).0 ∙ begins.stack;
@@ -234,7 +233,6 @@ module _ (image : Fields) (code : Code) (site : Site) (is : IsImage image) (at_s
       (leave_placed image code site at_site)) in
       record {
         shown = one.shown;
-        within = one.within;
         runs = λ regs s can.
             let a = one.runs (data_of s) (begins regs s can) in
             let there : at (leave_at image site) (data_of s) ≡ s = ap (λ p. at p (data_of s)) (sym can.at_leave) in
@@ -243,7 +241,8 @@ module _ (image : Fields) (code : Code) (site : Site) (is : IsImage image) (at_s
               turns = front_turns;
               counted = turns_counted;
               end = last;
-              leads = subst (λ (x : State). Leads code front_turns x one.shown last) there a.leads;
+              leads = subst (λ (x : State). LeadsWithin code (IsOfCall image site) front_turns x one.shown last) there
+                  a.leads;
               at_last = last_place image site;
               left = left regs s a.end can a.done;
               goes_back = λ even. goes_back code last (regs 1) last_at (a.done.kept.0 ∙ can.untouched.0)

@@ -1,22 +1,20 @@
 -- Loops that go back by a branch: rounds, of which each is so many turns, with one list for all states.
 use Rattle.std.specs.Prelude.{not}
 use Rattle.std.proofs.Common.{◌≡◌, ◌≢◌, ℕ, zero, suc, ◌+◌, ◌-◌, ◌*◌, ◌%◌, ◌^◌, ◌<◌, ◌≤◌, true, false, List, [], ◌∷◌}
-use Rattle.std.proofs.Common.{◌++◌, length, All, None, refl, ap, ◌∙◌, subst, arith, eq-eqb, ne_eqb, length-append}
+use Rattle.std.proofs.Common.{◌++◌, length, None, refl, ap, ◌∙◌, subst, arith, eq-eqb, ne_eqb, length-append}
 use Rattle.std.proofs.lemmas.Bool.Decides.{nat_tests}
-use Rattle.std.proofs.lemmas.List.Elements.{All-append, All-cons, All-nil}
 use Rattle.rv_code.specs.declared.instructions.Instr.{Instr}
 use Rattle.rv_code.specs.declared.instructions.Instr.TheVariants.{Branch}
 use Rattle.rv_code.specs.declared.operations.BranchTest.TheVariants.{Bne}
 use Rattle.rv_machine.specs.declared.observation.Observation.{Observation}
 use Rattle.rv_machine.specs.Effects.{holds, branch_target, sign_extended}
-use Rattle.rv_machine.specs.Leakage.{Leads}
 use Rattle.rv_machine.specs.Machine.{moved_to}
 use Rattle.rv_machine.specs.Registers.{register}
-use Rattle.linked_calls.specs.Does.{Data, at}
+use Rattle.linked_calls.specs.Does.{Data, LeadsWithin, at}
 use Rattle.linked_calls.specs.FunctionCode.{until_equal}
-use Rattle.linked_calls.proofs.Below.{Leads-append, Placed, Placed-left, Placed-right, branch_leads, branch_passes}
-use Rattle.linked_calls.proofs.Below.{stands}
+use Rattle.linked_calls.proofs.Below.{Placed, Placed-left, Placed-right, branch_leads, branch_passes, stands}
 use Rattle.linked_calls.proofs.Pieces.{Setting, Runs, in_turns, leads_as, weaken_runs}
+use Rattle.linked_calls.proofs.Within.{LeadsWithin-append, one_within}
 
 -- a branch back over so many instructions
 back : (p count : ℕ) → 0 < count → count < 1024 → p + 4 * count < 2 ^ 32
@@ -43,36 +41,32 @@ module _ (z : Setting) (one other : ℕ) (small : (one < 32) × (other < 32)) (b
   abbrev branch_shown : ℕ → List Observation
   branch_shown p = record { pc = end_of p; event = None } ∷ []
 
-  branch_within : (p : ℕ) → All (λ (o : Observation). z.allowed o.event) (branch_shown p)
-  branch_within p = All-cons (λ (o : Observation). z.allowed o.event) (record { pc = end_of p; event = None }) []
-      z.silent (All-nil (λ (o : Observation). z.allowed o.event))
-
   module _ (p : ℕ) (there : Placed z.code (end_of p) (branch ∷ [])) (d : Data) where
     -- the registers differ
     goes_back : register d.regs one ≢ register d.regs other
-        → Leads z.code 1 (at (end_of p) d) (branch_shown p) (at p d)
+        → LeadsWithin z.code z.allowed 1 (at (end_of p) d) (branch_shown p) (at p d)
     goes_back differ =
         let target = back p (length body) some few (omega arith) in
         let taken : holds Bne (register d.regs one) (register d.regs other) ≡ true =
         ap not (ne_eqb (register d.regs one) (register d.regs other) differ) in
-        subst (λ t. Leads z.code 1 (at (end_of p) d) (branch_shown p) t)
+        subst (λ t. LeadsWithin z.code z.allowed 1 (at (end_of p) d) (branch_shown p) t)
         (moved (end_of p) _ d ∙ ap (λ q. at q d) target)
-        (branch_leads z.code (at (end_of p) d) Bne one other (2 ^ 12 - 2 * length body)
+        (one_within (branch_leads z.code (at (end_of p) d) Bne one other (2 ^ 12 - 2 * length body)
         (stands z.code (end_of p) branch [] there (small.0, small.1, omega arith) (at (end_of p) d) refl)
-        taken (ap (λ x. x % 4) target ∙ omega arith))
+        taken (ap (λ x. x % 4) target ∙ omega arith)) (z.silent (d.regs 2)))
 
     -- they do not
     goes_on : register d.regs one ≡ register d.regs other
-        → Leads z.code 1 (at (end_of p) d) (branch_shown p) (at (end_of p + 4) d)
+        → LeadsWithin z.code z.allowed 1 (at (end_of p) d) (branch_shown p) (at (end_of p + 4) d)
     goes_on same =
         let next : (end_of p + 4) % 2 ^ 32 ≡ end_of p + 4 = omega arith in
         let untaken : holds Bne (register d.regs one) (register d.regs other) ≡ false =
         ap not (eq-eqb (register d.regs one) (register d.regs other) same) in
-        subst (λ t. Leads z.code 1 (at (end_of p) d) (branch_shown p) t)
+        subst (λ t. LeadsWithin z.code z.allowed 1 (at (end_of p) d) (branch_shown p) t)
         (moved (end_of p) _ d ∙ ap (λ q. at q d) next)
-        (branch_passes z.code (at (end_of p) d) Bne one other (2 ^ 12 - 2 * length body)
+        (one_within (branch_passes z.code (at (end_of p) d) Bne one other (2 ^ 12 - 2 * length body)
         (stands z.code (end_of p) branch [] there (small.0, small.1, omega arith) (at (end_of p) d) refl)
-        untaken)
+        untaken) (z.silent (d.regs 2)))
 
   -- What holds of a state after i of k rounds is said of it and of the state before the first (Inv i).
   module _ {n : ℕ} (k : ℕ) (Inv : ℕ → Data → Data → Type 0)
@@ -90,15 +84,13 @@ module _ (z : Setting) (one other : ℕ) (small : (one < 32) × (other < 32)) (b
         let is : suc i ≡ k = omega arith in
         record {
           shown = a.shown ++ branch_shown p;
-          within = All-append (λ (o : Observation). z.allowed o.event) a.shown (branch_shown p) a.within
-              (branch_within p);
           runs = λ d given.
               let run = a.runs d given in
               let done = λ (s : Data) (inv : Inv i s d). subst (λ (j : ℕ). Inv j s run.end) is (run.done s inv) in
               record {
                 end = run.end;
-                leads = leads_as z.code (at p d) (a.shown ++ branch_shown p) run.end (omega arith) (omega arith)
-                    (Leads-append run.leads
+                leads = leads_as z (at p d) (a.shown ++ branch_shown p) run.end (omega arith) (omega arith)
+                    (LeadsWithin-append run.leads
                     (goes_on p there run.end (over given.0 run.end (done given.0 given.1))));
                 done = done;
               };
@@ -110,18 +102,15 @@ module _ (z : Setting) (one other : ℕ) (small : (one < 32) × (other < 32)) (b
         let rest = branch_shown p ++ b.shown in
         record {
           shown = a.shown ++ rest;
-          within = All-append (λ (o : Observation). z.allowed o.event) a.shown rest a.within
-              (All-append (λ (o : Observation). z.allowed o.event) (branch_shown p) b.shown (branch_within p)
-              b.within);
           runs = λ d given.
               let run = a.runs d given in
               let inv = run.done given.0 given.1 in
               let again = b.runs run.end (given.0, inv) in
               record {
                 end = again.end;
-                leads = leads_as z.code (at p d) (a.shown ++ rest) again.end (omega arith) refl
-                    (Leads-append run.leads
-                    (Leads-append
+                leads = leads_as z (at p d) (a.shown ++ rest) again.end (omega arith) refl
+                    (LeadsWithin-append run.leads
+                    (LeadsWithin-append
                     (goes_back p there run.end (more (suc i) given.0 run.end (omega arith) inv))
                     again.leads));
                 done = λ s held. again.done s (run.done s held);

@@ -1,5 +1,5 @@
 -- The pieces that are emitted for words of the room, for numbers and for lists of registers.
-use Rattle.std.specs.Prelude.{is_some, unwrap_or}
+use Rattle.std.specs.Prelude.{is_some, unwrap_or, not}
 use Rattle.std.proofs.Common.{◌≡◌, ◌≢◌, ℕ, ◌+◌, ◌*◌, ◌%◌, ◌^◌, ◌<◌, ◌≤◌, ◌==◌, Bool, true, false, ◌&&◌, cond, nat_lt}
 use Rattle.std.proofs.Common.{List, [], ◌∷◌, ◌++◌, length, map, Option, Some, None, refl, sym, ap, ap₂, ◌∙◌, arith}
 use Rattle.std.proofs.Common.{eq-eqb, ne_eqb, if◌then◌else◌}
@@ -27,7 +27,8 @@ use Rattle.linked_calls.proofs.Below.{AreFit, AreMet, after, after_all, are_stra
 use Rattle.linked_calls.proofs.Below.{far_address, is_some-with_number, lower_fits, near_address, number_or_zero, parts}
 use Rattle.linked_calls.proofs.Below.{register-at, register_kept, unwritten, upper_fits, written}
 use Rattle.linked_calls.proofs.Bytes.{number_there}
-use Rattle.linked_calls.proofs.Pieces.{Setting, Runs, straight_runs, then_runs}
+use Rattle.linked_calls.proofs.Pieces.{Setting, Runs, silent_runs, straight_runs, then_runs}
+use Rattle.linked_calls.proofs.Within.{IsNone}
 
 -- One register.
 
@@ -37,15 +38,31 @@ pub record Sets (r : ℕ) (value : Data → ℕ) (s t : Data) : Type 0 where
   pub others : (q : ℕ) → q ≢ r → t.regs q ≡ s.regs q
   pub same : t.bytes ≡ s.bytes
 
--- by straight-line code
+-- by straight-line code without accesses
 pub sets_runs : (z : Setting) {P : Data → Type 0} {value : Data → ℕ} (r : ℕ) (is : List Instr) (places : List ℕ)
-    → are_straight (λ q. q == r) is ≡ true → AreFit z.allowed is places
+    → are_straight (λ q. q == r) is ≡ true → AreFit IsNone is places
     → ((s : Data) → P s → AreMet is places s)
     → ((s : Data) → P s → (after_all is places s).regs r ≡ value s)
     → ((s : Data) → (after_all is places s).bytes ≡ s.bytes)
     → Runs z (length is) is P (Sets r value)
 sets_runs z r is places plain fit met there same =
-    straight_runs z (λ q. q == r) is places plain fit met
+    silent_runs z (λ q. q == r) is places plain fit met
+    (λ s given. record {
+      there = there s given;
+      others = λ q h. register_kept (λ x. x == r) is places s q plain (ne_eqb q r h);
+      same = same s;
+    })
+
+-- and with loads, where x2 is there and another register is written
+loads_one : (z : Setting) {P : Data → Type 0} {value : Data → ℕ} (sp r : ℕ) (is : List Instr) (places : List ℕ)
+    → r ≢ 2 → are_straight (λ q. q == r) is ≡ true → AreFit (z.allowed sp) is places
+    → ((s : Data) → P s → s.regs 2 ≡ sp)
+    → ((s : Data) → P s → AreMet is places s)
+    → ((s : Data) → P s → (after_all is places s).regs r ≡ value s)
+    → ((s : Data) → (after_all is places s).bytes ≡ s.bytes)
+    → Runs z (length is) is P (Sets r value)
+loads_one z sp r is places other plain fit stands met there same =
+    straight_runs z sp (λ q. q == r) is places plain (ne_eqb 2 r (λ e. other (sym e))) fit stands met
     (λ s given. record {
       there = there s given;
       others = λ q h. register_kept (λ x. x == r) is places s q plain (ne_eqb q r h);
@@ -101,24 +118,24 @@ module _ (z : Setting) (base offset : ℕ) (even : (base + offset) % 4 ≡ 0) (b
       }
 
   -- into a register
-  pub load_runs : (r : ℕ) → r < 32 → r ≢ 0 → r ≢ 2 → z.allowed (Some (event.Load (base + offset) Word))
+  pub load_runs : (r : ℕ) → r < 32 → r ≢ 0 → r ≢ 2 → z.allowed base (Some (event.Load (base + offset) Word))
       → Runs z (length (load_code r offset)) (load_code r offset) (HasWord base offset)
       (Sets r (λ s. unwrap_or (number_at s.bytes 4 (base + offset)) 0))
   load_runs r few nonzero other allowed =
       let far = Upper Lui r (upper_part offset) ∷ Register Add r r 2 ∷ Load Lw r r (lower_part offset) ∷ [] in
       by_near z offset (Load Lw r 2 offset ∷ []) far
-      (λ near. sets_runs z r (Load Lw r 2 offset ∷ []) ((base + offset) ∷ [])
+      (λ near. loads_one z base r (Load Lw r 2 offset ∷ []) ((base + offset) ∷ []) other
       (simp (eq-eqb r r refl, lt-ltb r 32 few, lt-ltb offset 4096 (omega arith)))
-      (record { even = even; allowed = allowed }, tt) (λ s has. (near_met near s has, tt))
+      (record { even = even; allowed = allowed }, tt) (λ s has. has.stack) (λ s has. (near_met near s has, tt))
       (λ s has. written s.regs r _ nonzero ∙ same_number (number_at s.bytes 4 (base + offset))) (λ s. refl))
-      (sets_runs z r far ((base + offset) ∷ [])
+      (loads_one z base r far ((base + offset) ∷ []) other
       (simp (
         eq-eqb r r refl,
         lt-ltb r 32 few,
         lt-ltb (upper_part offset) 1048576 (upper_fits offset),
         lt-ltb (lower_part offset) 4096 (lower_fits offset),
       ))
-      (record { even = even; allowed = allowed }, tt) (λ s has. (far_met r nonzero other s has, tt))
+      (record { even = even; allowed = allowed }, tt) (λ s has. has.stack) (λ s has. (far_met r nonzero other s has, tt))
       (λ s has. written (raised s.regs r offset) r _ nonzero ∙ same_number (number_at s.bytes 4 (base + offset)))
       (λ s. refl))
 
@@ -127,7 +144,7 @@ module _ (z : Setting) (base offset : ℕ) (even : (base + offset) % 4 ≡ 0) (b
     pub written : t.bytes ≡ with_number s.bytes 4 (base + offset) (s.regs 5)
     pub others : (q : ℕ) → q ≢ 28 → t.regs q ≡ s.regs q
 
-  pub store_runs : z.allowed (Some (event.Store (base + offset) Word))
+  pub store_runs : z.allowed base (Some (event.Store (base + offset) Word))
       → Runs z (length (store_code 5 offset)) (store_code 5 offset) (HasWord base offset) Puts
   store_runs allowed =
       let far = Upper Lui 28 (upper_part offset) ∷ Register Add 28 28 2 ∷ Store Sw 5 28 (lower_part offset) ∷ [] in
@@ -136,10 +153,11 @@ module _ (z : Setting) (base offset : ℕ) (even : (base + offset) % 4 ≡ 0) (b
         lt-ltb (lower_part offset) 4096 (lower_fits offset),
       ) in
       by_near z offset (Store Sw 5 2 offset ∷ []) far
-      (λ near. straight_runs z (λ q. q == 28) (Store Sw 5 2 offset ∷ []) ((base + offset) ∷ [])
-      (simp (lt-ltb offset 4096 (omega arith))) (record { even = even; allowed = allowed }, tt)
-      (λ s has. (near_met near s has, tt)) (λ s has. record { written = refl; others = λ q h. refl }))
-      (straight_runs z (λ q. q == 28) far ((base + offset) ∷ []) plain (record { even = even; allowed = allowed }, tt)
+      (λ near. straight_runs z base (λ q. q == 28) (Store Sw 5 2 offset ∷ []) ((base + offset) ∷ [])
+      (simp (lt-ltb offset 4096 (omega arith))) refl (record { even = even; allowed = allowed }, tt)
+      (λ s has. has.stack) (λ s has. (near_met near s has, tt)) (λ s has. record { written = refl; others = λ q h. refl }))
+      (straight_runs z base (λ q. q == 28) far ((base + offset) ∷ []) plain refl
+      (record { even = even; allowed = allowed }, tt) (λ s has. has.stack)
       (λ s has. (far_met 28 (λ e. omega arith) (λ e. omega arith) s has, tt))
       (λ s has. record {
         written = refl;
@@ -192,12 +210,12 @@ module _ (z : Setting) (r n : ℕ) (few : r < 32) (nonzero : r ≢ 0) (below : n
 
 -- Lists of registers, in words one after another.
 
--- loads and stores of so many bytes at every place of a stretch
-abbrev pub MayLoad : Setting → ℕ → Size → ℕ → ℕ → Type 0
-MayLoad z n size low high = (x : ℕ) → low ≤ x → x + n ≤ high → z.allowed (Some (event.Load x size))
+-- loads and stores of so many bytes at every place of a stretch, where x2 is there
+abbrev pub MayLoad : Setting → ℕ → ℕ → Size → ℕ → ℕ → Type 0
+MayLoad z sp n size low high = (x : ℕ) → low ≤ x → x + n ≤ high → z.allowed sp (Some (event.Load x size))
 
-abbrev pub MayStore : Setting → ℕ → Size → ℕ → ℕ → Type 0
-MayStore z n size low high = (x : ℕ) → low ≤ x → x + n ≤ high → z.allowed (Some (event.Store x size))
+abbrev pub MayStore : Setting → ℕ → ℕ → Size → ℕ → ℕ → Type 0
+MayStore z sp n size low high = (x : ℕ) → low ≤ x → x + n ≤ high → z.allowed sp (Some (event.Store x size))
 
 -- the words' addresses
 abbrev pub words_at : ℕ → List ℕ → List ℕ
@@ -229,12 +247,12 @@ module _ (z : Setting) (base : ℕ) (few : base < 32) where
       )
       (stores_plain (offset + 4) rs (both_right (nat_lt r 32) (are_registers rs) registers) (omega arith))
 
-  stores_fit : (offset a : ℕ) (rs : List ℕ) → a % 4 ≡ 0 → MayStore z 4 Word a (a + 4 * length rs)
-      → AreFit z.allowed (stores_code base offset rs) (words_at a rs)
-  stores_fit offset a [] even may = tt
-  stores_fit offset a (r ∷ rs) even may = (
+  stores_fit : (sp offset a : ℕ) (rs : List ℕ) → a % 4 ≡ 0 → MayStore z sp 4 Word a (a + 4 * length rs)
+      → AreFit (z.allowed sp) (stores_code base offset rs) (words_at a rs)
+  stores_fit sp offset a [] even may = tt
+  stores_fit sp offset a (r ∷ rs) even may = (
     record { even = even; allowed = may a (omega arith) (omega arith) },
-    stores_fit (offset + 4) (a + 4) rs (omega arith)
+    stores_fit sp (offset + 4) (a + 4) rs (omega arith)
         (λ x low high. may x (omega arith) (omega arith)),
   )
 
@@ -262,13 +280,14 @@ module _ (z : Setting) (base : ℕ) (few : base < 32) where
   stored offset a [] d = refl
   stored offset a (r ∷ rs) d = stored (offset + 4) (a + 4) rs (after (Store Sw r base offset) a d)
 
-  pub stores_runs : (offset a : ℕ) (rs : List ℕ) → are_registers rs ≡ true → a % 4 ≡ 0
-      → offset + 4 * length rs ≤ 2048 → a + 4 * length rs ≤ 2 ^ 32 → MayStore z 4 Word a (a + 4 * length rs)
+  pub stores_runs : (sp offset a : ℕ) (rs : List ℕ) → are_registers rs ≡ true → a % 4 ≡ 0
+      → offset + 4 * length rs ≤ 2048 → a + 4 * length rs ≤ 2 ^ 32 → MayStore z sp 4 Word a (a + 4 * length rs)
+      → ((s : Data) → BeginsStores base offset a (length rs) s → s.regs 2 ≡ sp)
       → Runs z (length (stores_code base offset rs)) (stores_code base offset rs)
       (BeginsStores base offset a (length rs)) (Stores a rs)
-  stores_runs offset a rs registers even near below may =
-      straight_runs z (λ q. false) (stores_code base offset rs) (words_at a rs)
-      (stores_plain offset rs registers near) (stores_fit offset a rs even may)
+  stores_runs sp offset a rs registers even near below may stands =
+      straight_runs z sp (λ q. false) (stores_code base offset rs) (words_at a rs)
+      (stores_plain offset rs registers near) refl (stores_fit sp offset a rs even may) stands
       (λ s begins. stores_met offset a rs s near below begins)
       (λ s begins. record {
         regs = ap (λ (d : Data). d.regs) (stored offset a rs s);
@@ -281,12 +300,12 @@ abbrev pub are_others : List ℕ → Bool
 are_others [] = true
 are_others (r ∷ rs) = cond (5 == r) false (are_others rs)
 
-loads_fit : (z : Setting) (offset a : ℕ) (rs : List ℕ) → a % 4 ≡ 0 → MayLoad z 4 Word a (a + 4 * length rs)
-    → AreFit z.allowed (loads_code 5 offset rs) (words_at a rs)
-loads_fit z offset a [] even may = tt
-loads_fit z offset a (r ∷ rs) even may = (
+loads_fit : (z : Setting) (sp offset a : ℕ) (rs : List ℕ) → a % 4 ≡ 0 → MayLoad z sp 4 Word a (a + 4 * length rs)
+    → AreFit (z.allowed sp) (loads_code 5 offset rs) (words_at a rs)
+loads_fit z sp offset a [] even may = tt
+loads_fit z sp offset a (r ∷ rs) even may = (
   record { even = even; allowed = may a (omega arith) (omega arith) },
-  loads_fit z (offset + 4) (a + 4) rs (omega arith)
+  loads_fit z sp (offset + 4) (a + 4) rs (omega arith)
       (λ x low high. may x (omega arith) (omega arith)),
 )
 
@@ -310,15 +329,17 @@ loads_met offset a (r ∷ rs) d others root near below there =
           (omega arith) (λ x low high. there x (omega arith) (omega arith)),
     )
 
--- registers from words; of each it is known what it has then
-pub loads_runs : (z : Setting) {P : Data → Type 0} {R : Data → Data → Type 0} (a : ℕ) (rs : List ℕ)
-    → are_straight (λ q. true) (loads_code 5 0 rs) ≡ true → are_others rs ≡ true → a % 4 ≡ 0
-    → 4 * length rs ≤ 2048 → a + 4 * length rs ≤ 2 ^ 32 → MayLoad z 4 Word a (a + 4 * length rs)
+-- registers but x2 from words; of each it is known what it has then
+pub loads_runs : (z : Setting) {P : Data → Type 0} {R : Data → Data → Type 0} (sp a : ℕ) (rs : List ℕ)
+    → are_straight (λ q. not (q == 2)) (loads_code 5 0 rs) ≡ true → are_others rs ≡ true → a % 4 ≡ 0
+    → 4 * length rs ≤ 2048 → a + 4 * length rs ≤ 2 ^ 32 → MayLoad z sp 4 Word a (a + 4 * length rs)
+    → ((s : Data) → P s → s.regs 2 ≡ sp)
     → ((s : Data) → P s → (s.regs 5 ≡ a) × AreData a (a + 4 * length rs) s.bytes)
     → ((s : Data) → P s → R s (after_all (loads_code 5 0 rs) (words_at a rs) s))
     → Runs z (length (loads_code 5 0 rs)) (loads_code 5 0 rs) P R
-loads_runs z a rs plain others even near below may begins done =
-    straight_runs z (λ q. true) (loads_code 5 0 rs) (words_at a rs) plain (loads_fit z 0 a rs even may)
+loads_runs z sp a rs plain others even near below may stands begins done =
+    straight_runs z sp (λ q. not (q == 2)) (loads_code 5 0 rs) (words_at a rs) plain refl
+    (loads_fit z sp 0 a rs even may) stands
     (λ s given.
     let begin = begins s given in
     loads_met 0 a rs s others (omega arith) (omega arith) below begin.1) done

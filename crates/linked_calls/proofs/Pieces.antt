@@ -1,52 +1,68 @@
 -- Pieces of code, wherever they stand: an exact number of turns, and one list for all states that they may begin in, of
 -- allowed accesses alone. So what follows in a list is known before any state is given, which is equal leakage.
-use Rattle.std.proofs.Common.{◌≡◌, ℕ, ◌+◌, ◌*◌, Bool, true, List, [], ◌∷◌, ◌++◌, length, Option, None, subst, arith}
-use Rattle.std.proofs.Common.{refl, length-append}
-use Rattle.std.proofs.lemmas.List.Elements.{All-append}
+use Rattle.std.proofs.Common.{◌≡◌, ℕ, ◌+◌, ◌*◌, Bool, true, false, List, [], ◌∷◌, ◌++◌, length, Option, None, subst}
+use Rattle.std.proofs.Common.{arith, refl, length-append}
 use Rattle.rv_code.specs.declared.instructions.Instr.{Instr}
-use Rattle.rv_machine.specs.Leakage.{Leads}
-use Rattle.rv_machine.specs.Machine.{State, Code}
+use Rattle.rv_machine.specs.Machine.{Code}
 use Rattle.rv_machine.specs.declared.observation.Event.{Event}
 use Rattle.rv_machine.specs.declared.observation.Observation.{Observation}
-use Rattle.linked_calls.specs.Does.{AreThere, Data, Does, at}
-use Rattle.linked_calls.proofs.Below.{AreFit, AreMet, Leads-append, Placed, Placed-left, Placed-right, after_all}
-use Rattle.linked_calls.proofs.Below.{are_straight, shown_allowed, shown_by, straight_code_leads}
+use Rattle.rv_machine.specs.Machine.{State}
+use Rattle.linked_calls.specs.Does.{AreThere, Data, Does, LeadsWithin, at}
+use Rattle.linked_calls.proofs.Below.{AreFit, AreMet, Placed, Placed-left, Placed-right, after_all, are_straight}
+use Rattle.linked_calls.proofs.Below.{shown_by}
+use Rattle.linked_calls.proofs.Within.{IsNone, LeadsWithin-append, LeadsWithin-weaken, silent_within, still_within}
 
 -- the code, and the accesses that are allowed
 pub record Setting : Type 1 where
   pub code : Code
-  pub allowed : Option Event → Type 0
-  pub silent : allowed None
+  pub allowed : ℕ → Option Event → Type 0
+  pub silent : (sp : ℕ) → allowed sp None
 
 -- instructions wherever they stand
 abbrev pub Runs : Setting → ℕ → List Instr → (Data → Type 0) → (Data → Data → Type 0) → Type 0
 Runs z n is P R = (p : ℕ) → Placed z.code p is → Does z.code p is n z.allowed P R
 
 -- to the same address in as many turns, otherwise written
-pub leads_as : (code : Code) (s : State) (list : List Observation) (d : Data) {m n q r : ℕ} → m ≡ n → q ≡ r
-    → Leads code m s list (at q d) → Leads code n s list (at r d)
-leads_as code s list d {m = m} {r = r} turns there leads =
-    subst (λ k. Leads code k s list (at r d)) turns (subst (λ a. Leads code m s list (at a d)) there leads)
+pub leads_as : (z : Setting) (s : State) (list : List Observation) (d : Data) {m n q r : ℕ} → m ≡ n → q ≡ r
+    → LeadsWithin z.code z.allowed m s list (at q d) → LeadsWithin z.code z.allowed n s list (at r d)
+leads_as z s list d {m = m} {r = r} turns there leads =
+    subst (λ k. LeadsWithin z.code z.allowed k s list (at r d)) turns
+    (subst (λ a. LeadsWithin z.code z.allowed m s list (at a d)) there leads)
 
 module _ (z : Setting) where
-  -- straight-line code with accesses at these addresses
-  pub straight_runs : {P : Data → Type 0} {R : Data → Data → Type 0} (works : ℕ → Bool) (is : List Instr)
-      (places : List ℕ) → are_straight works is ≡ true → AreFit z.allowed is places
+  -- straight-line code with accesses at these addresses, which leaves x2 where it is
+  pub straight_runs : {P : Data → Type 0} {R : Data → Data → Type 0} (sp : ℕ) (works : ℕ → Bool) (is : List Instr)
+      (places : List ℕ) → are_straight works is ≡ true → works 2 ≡ false → AreFit (z.allowed sp) is places
+      → ((s : Data) → P s → s.regs 2 ≡ sp)
       → ((s : Data) → P s → AreMet is places s) → ((s : Data) → P s → R s (after_all is places s))
       → Runs z (length is) is P R
-  straight_runs works is places plain fit met done p placed = record {
+  straight_runs sp works is places plain still fit stands met done p placed = record {
     shown = shown_by p is places;
-    within = shown_allowed works z.allowed z.silent p is places plain fit;
     runs = λ s given. record {
       end = after_all is places s;
-      leads = straight_code_leads works z.allowed z.code p is places s plain placed fit (met s given);
+      leads = still_within z.code z.allowed z.silent works sp p is places s plain still placed fit (met s given)
+          (stands s given);
+      done = done s given;
+    };
+  }
+
+  -- and without accesses
+  pub silent_runs : {P : Data → Type 0} {R : Data → Data → Type 0} (works : ℕ → Bool) (is : List Instr)
+      (places : List ℕ) → are_straight works is ≡ true → AreFit IsNone is places
+      → ((s : Data) → P s → AreMet is places s) → ((s : Data) → P s → R s (after_all is places s))
+      → Runs z (length is) is P R
+  silent_runs works is places plain fit met done p placed = record {
+    shown = shown_by p is places;
+    runs = λ s given. record {
+      end = after_all is places s;
+      leads = silent_within z.code z.allowed z.silent works p is places s plain placed fit (met s given);
       done = done s given;
     };
   }
 
   -- no code
   pub no_code : {P : Data → Type 0} {R : Data → Data → Type 0} → ((s : Data) → P s → R s s) → Runs z 0 [] P R
-  no_code same = straight_runs (λ q. true) [] [] refl tt (λ s given. tt) same
+  no_code same = silent_runs (λ q. true) [] [] refl tt (λ s given. tt) same
 
   -- one after the other
   pub then_runs : {P P' : Data → Type 0} {R R' S : Data → Data → Type 0} {m n : ℕ} (xs ys : List Instr)
@@ -59,14 +75,13 @@ module _ (z : Setting) where
       let b = two (p + 4 * length xs) (Placed-right z.code p xs ys placed) in
       record {
         shown = a.shown ++ b.shown;
-        within = All-append (λ (o : Observation). z.allowed o.event) a.shown b.shown a.within b.within;
         runs = λ s given.
             let first = a.runs s given in
             let second = b.runs first.end (link s first.end given first.done) in
             record {
               end = second.end;
-              leads = leads_as z.code (at p s) (a.shown ++ b.shown) second.end refl (omega arith)
-                  (Leads-append first.leads second.leads);
+              leads = leads_as z (at p s) (a.shown ++ b.shown) second.end refl (omega arith)
+                  (LeadsWithin-append first.leads second.leads);
               done = both s first.end second.end given first.done second.done;
             };
       }
@@ -78,7 +93,6 @@ module _ (z : Setting) where
       let a = one p placed in
       record {
         shown = a.shown;
-        within = a.within;
         runs = λ s given.
             let run = a.runs s (before s given) in
             record { end = run.end; leads = run.leads; done = behind s run.end given run.done };
@@ -105,11 +119,16 @@ are_there code p [] h = tt
 are_there code p (i ∷ is) h = (h.0, h.1, h.2, are_there code (p + 4) is h.3)
 
 -- what is promised of code is so where its accesses are allowed
-pub promised_runs : (z : Setting) {n : ℕ} (is : List Instr) {Allowed : Option Event → Type 0} {Before : Data → Type 0}
-    {After : Data → Data → Type 0}
-    → ((event : Option Event) → Allowed event → z.allowed event)
+pub promised_runs : (z : Setting) {n : ℕ} (is : List Instr) {Allowed : ℕ → Option Event → Type 0}
+    {Before : Data → Type 0} {After : Data → Data → Type 0}
+    → ((sp : ℕ) (event : Option Event) → Allowed sp event → z.allowed sp event)
     → ((p : ℕ) → AreThere z.code p is → Does z.code p is n Allowed Before After)
     → Runs z n is Before After
 promised_runs z is may promise p there =
     let one = promise p (are_there z.code p is there) in
-    record { shown = one.shown; within = λ k d below. may _ (one.within k d below); runs = one.runs }
+    record {
+      shown = one.shown;
+      runs = λ s given.
+          let run = one.runs s given in
+          record { end = run.end; leads = LeadsWithin-weaken may run.leads; done = run.done };
+    }

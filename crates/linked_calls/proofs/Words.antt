@@ -62,7 +62,8 @@ module _ (z : Setting) (kind : Kind) (frame offset target : ℕ) where
   put_code = meant_code 5 kind ++ store_code 5 target
 
   -- what x5 means
-  put_runs : (frame + target) % 4 ≡ 0 → frame + target < 2 ^ 32 → z.allowed (Some (event.Store (frame + target) Word))
+  put_runs : (frame + target) % 4 ≡ 0 → frame + target < 2 ^ 32
+      → z.allowed frame (Some (event.Store (frame + target) Word))
       → Runs z (length (meant_code 5 kind) + length (store_code 5 target)) put_code (HasWord frame target)
       (PutsMeant (λ s. s.regs 5))
   put_runs even below allowed =
@@ -81,8 +82,10 @@ module _ (z : Setting) (kind : Kind) (frame offset target : ℕ) where
       })
 
   -- what the word at the offset means
-  word_runs : (frame + offset) % 4 ≡ 0 → frame + offset < 2 ^ 32 → z.allowed (Some (event.Load (frame + offset) Word))
-      → (frame + target) % 4 ≡ 0 → frame + target < 2 ^ 32 → z.allowed (Some (event.Store (frame + target) Word))
+  word_runs : (frame + offset) % 4 ≡ 0 → frame + offset < 2 ^ 32
+      → z.allowed frame (Some (event.Load (frame + offset) Word))
+      → (frame + target) % 4 ≡ 0 → frame + target < 2 ^ 32
+      → z.allowed frame (Some (event.Store (frame + target) Word))
       → Runs z (length (load_code 5 offset) + (length (meant_code 5 kind) + length (store_code 5 target)))
       (load_code 5 offset ++ put_code) HasBoth
       (PutsMeant (λ s. unwrap_or (number_at s.bytes 4 (frame + offset)) 0))
@@ -111,7 +114,7 @@ word_is_taken code start image slot frame i there can =
     let z : Setting = record {
       code = code;
       allowed = IsPutting (frame + offset) (frame + slot.offset);
-      silent = tt;
+      silent = λ sp. tt;
     } in
     let is = argument_code image i slot SingleWord in
     let a = length-append (load_code 5 offset ++ meant_code 5 kind) (store_code 5 slot.offset) in
@@ -120,8 +123,8 @@ word_is_taken code start image slot frame i there can =
     (in_turns z is (omega arith)
     (as_code z (load_code 5 offset ++ put_code z kind frame offset slot.offset) is
     (sym (append_assoc (load_code 5 offset) (meant_code 5 kind) (store_code 5 slot.offset)))
-    (word_runs z kind frame offset slot.offset (omega arith) can.place_ends (refl, refl) can.slot_aligned
-    can.slot_ends (refl, refl))))
+    (word_runs z kind frame offset slot.offset (omega arith) can.place_ends (refl, refl, omega arith)
+    can.slot_aligned can.slot_ends (refl, refl, omega arith))))
     (λ s has. record {
       stack = has.stack;
       there = number_there s.bytes 4 (frame + offset) has.argument_there;
@@ -132,9 +135,10 @@ word_is_taken code start image slot frame i there can =
 
 pub result_is_handed_back : ResultIsHandedBack
 result_is_handed_back code start slot frame there even below =
-    let z : Setting = record { code = code; allowed = IsLoadOf (frame + slot.offset); silent = tt } in
+    let z : Setting = record { code = code; allowed = IsLoadOf (frame + slot.offset); silent = λ sp. tt } in
     weaken_runs z {P' = HasResult slot frame} {R' = IsReturned slot frame} (load_code 10 slot.offset)
-    (load_runs z frame slot.offset even below 10 (omega arith) (λ e. omega arith) (λ e. omega arith) (refl, refl))
+    (load_runs z frame slot.offset even below 10 (omega arith) (λ e. omega arith) (λ e. omega arith)
+    (refl, refl, omega arith))
     (λ s has. record { stack = has.stack; there = number_there s.bytes 4 (frame + slot.offset) has.slot_there })
     (λ s t has sets. record { result = sets.there; others = sets.others; bytes = sets.same })
     start (placed code start (load_code 10 slot.offset) there)

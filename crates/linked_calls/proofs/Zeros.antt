@@ -33,7 +33,7 @@ abbrev some_frame : ℕ → List Instr
 some_frame room = constant_code 5 room ++ Register Sub 5 2 5 ∷ until_equal 2 5 down_code
 
 abbrev storing : Code → ℕ → ℕ → Setting
-storing code bottom room = record { code = code; allowed = IsStoreIn bottom (bottom + room); silent = tt }
+storing code bottom room = record { code = code; allowed = IsStoreIn bottom (bottom + room); silent = λ sp. tt }
 
 module _ (code : Code) (bottom room : ℕ) (even : bottom % 16 ≡ 0) (whole : room % 16 ≡ 0) (positive : 0 < room)
     (below : bottom + room < 2 ^ 32) where
@@ -58,8 +58,8 @@ module _ (code : Code) (bottom room : ℕ) (even : bottom % 16 ≡ 0) (whole : r
   zeros_run : (a : ℕ) → a % 16 ≡ 0 → bottom ≤ a → a + 16 ≤ top
       → Runs z 4 zeros_code (BeginsStores 2 0 a 4) (Stores a (0 ∷ 0 ∷ 0 ∷ 0 ∷ []))
   zeros_run a aligned from to =
-      stores_runs z 2 (omega arith) 0 a (0 ∷ 0 ∷ 0 ∷ 0 ∷ []) refl (omega arith) (omega arith)
-      (omega arith) (λ x low high. (omega arith, omega arith))
+      stores_runs z 2 (omega arith) a 0 a (0 ∷ 0 ∷ 0 ∷ 0 ∷ []) refl (omega arith) (omega arith)
+      (omega arith) (λ x low high. ((omega arith, omega arith), low)) (λ s begins. omega arith)
 
   block_down : (a : ℕ) → a % 16 ≡ 0 → bottom ≤ a → a + 16 ≤ top
       → Runs z 5 down_code (HasBlock (a + 16) a) (Block a a)

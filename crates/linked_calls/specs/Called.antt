@@ -1,6 +1,6 @@
 -- What a call of a function leaves, and which accesses it makes. The registers are written out here as the calling
 -- convention lists them, since which are kept is promised to C.
-use Rattle.std.specs.Prelude.{◌≡◌, ◌⊎◌, ℕ, ◌+◌, List, [], ◌∷◌, drop, All, Option, Some, None, unwrap_or}
+use Rattle.std.specs.Prelude.{◌≡◌, ◌⊎◌, ℕ, ◌+◌, ◌≤◌, List, [], ◌∷◌, drop, All, Option, Some, None, unwrap_or}
 use Rattle.codegen.specs.Loaded.{with_numbers}
 use Rattle.codegen.specs.image_fields.Fields.{Fields}
 use Rattle.codegen.specs.declared.image_fields.slot.Slot.{Slot}
@@ -41,16 +41,20 @@ WritesAnArray site i [] a size = ⊥
 WritesAnArray site i (slot ∷ slots) a size = WritesArray site i slot slot.param.form a size
     ⊎ WritesAnArray site (i + 1) slots a size
 
+-- an access of a stretch of the stack, and not below the stack pointer
+abbrev pub IsOnStack : ℕ → ℕ → ℕ → ℕ → Size → Type 0
+IsOnStack low high sp a size = LiesIn low high a size × (sp ≤ a)
+
 -- loads lie in the room, the arguments on the stack or the arrays, stores in the room or the arrays that may be
--- changed
-abbrev pub IsOfCall : Fields → Site → Option Event → Type 0
-IsOfCall image site None = Unit {0}
-IsOfCall image site (Some (Load a size)) = LiesIn (room_base image site) (arguments_end image site) a size
+-- changed; those of the stack not below the stack pointer
+abbrev pub IsOfCall : Fields → Site → ℕ → Option Event → Type 0
+IsOfCall image site sp None = Unit {0}
+IsOfCall image site sp (Some (Load a size)) = IsOnStack (room_base image site) (arguments_end image site) sp a size
     ⊎ ReadsAnArray site 0 image.slots a size
-IsOfCall image site (Some (Store a size)) = LiesIn (room_base image site) site.stack a size
+IsOfCall image site sp (Some (Store a size)) = IsOnStack (room_base image site) site.stack sp a size
     ⊎ WritesAnArray site 0 image.slots a size
-IsOfCall image site (Some (Div a b)) = Unit {0}
-IsOfCall image site (Some (Mul a b)) = Unit {0}
+IsOfCall image site sp (Some (Div a b)) = Unit {0}
+IsOfCall image site sp (Some (Mul a b)) = Unit {0}
 
 -- What is left.
 

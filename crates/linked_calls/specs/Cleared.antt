@@ -7,8 +7,8 @@ use Rattle.rv_machine.specs.declared.observation.Event.{Event}
 use Rattle.rv_machine.specs.Machine.{Code}
 
 -- no access at all
-abbrev pub IsSilent : Option Event → Type 0
-IsSilent event = event ≡ None
+abbrev pub IsSilent : ℕ → Option Event → Type 0
+IsSilent sp event = event ≡ None
 
 -- these registers are 0, and nothing else has changed
 pub record AreCleared (rs : List ℕ) (s t : Data) : Type 0 where

@@ -61,13 +61,14 @@ elements_at slot bytes a = numbers_at bytes (element_bytes slot.param.kind) a sl
 abbrev pub OthersAsBefore : Data → Data → Type 0
 OthersAsBefore s t = (q : ℕ) → q ≢ 5 → q ≢ 6 → q ≢ 7 → q ≢ 28 → t.regs q ≡ s.regs q
 
--- loads of the raw argument and of one stretch of so many bytes, stores to another, and no other access
-abbrev pub IsCopying : ℕ → ℕ → ℕ → ℕ → Option Event → Type 0
-IsCopying place n from to None = Unit {0}
-IsCopying place n from to (Some (Load a size)) = (a ≡ place) ⊎ LiesIn from (from + n) a size
-IsCopying place n from to (Some (Store a size)) = LiesIn to (to + n) a size
-IsCopying place n from to (Some (Div a b)) = ⊥
-IsCopying place n from to (Some (Mul a b)) = ⊥
+-- where the stack pointer is the frame's base: loads of the raw argument and of one stretch of so many bytes, stores to
+-- another, and no other access
+abbrev pub IsCopying : ℕ → ℕ → ℕ → ℕ → ℕ → ℕ → Option Event → Type 0
+IsCopying frame place n from to sp None = Unit {0}
+IsCopying frame place n from to sp (Some (Load a size)) = ((a ≡ place) ⊎ LiesIn from (from + n) a size) × (sp ≡ frame)
+IsCopying frame place n from to sp (Some (Store a size)) = LiesIn to (to + n) a size × (sp ≡ frame)
+IsCopying frame place n from to sp (Some (Div a b)) = ⊥
+IsCopying frame place n from to sp (Some (Mul a b)) = ⊥
 
 -- the slot holds the elements of the array, each as it is meant
 pub record IsTaken (slot : Slot) (spot : Pointed) (s t : Data) : Type 0 where
@@ -83,8 +84,8 @@ ArrayIsTaken =
     → CanBeCopied image slot spot
     → Does code start (argument_code image spot.index slot FixedArray)
     (argument_turns image spot.index slot FixedArray)
-    (IsCopying (place_of image spot) (array_bytes slot) spot.pointer (slot_of slot spot)) (HasArray image slot spot)
-    (IsTaken slot spot)
+    (IsCopying spot.frame (place_of image spot) (array_bytes slot) spot.pointer (slot_of slot spot))
+    (HasArray image slot spot) (IsTaken slot spot)
 
 -- the array holds what the slot holds
 pub record IsHandedBack (slot : Slot) (spot : Pointed) (s t : Data) : Type 0 where
@@ -99,5 +100,5 @@ ArrayIsHandedBack =
     → AreThere code start (copy_out_code image spot.index slot MutableArray)
     → CanBeCopied image slot spot
     → Does code start (copy_out_code image spot.index slot MutableArray) (array_turns image spot.index slot)
-    (IsCopying (place_of image spot) (array_bytes slot) (slot_of slot spot) spot.pointer) (HasArray image slot spot)
-    (IsHandedBack slot spot)
+    (IsCopying spot.frame (place_of image spot) (array_bytes slot) (slot_of slot spot) spot.pointer)
+    (HasArray image slot spot) (IsHandedBack slot spot)

@@ -1,5 +1,5 @@
 -- An argument that is a word, of which what it means is put into its slot before the body, and the result behind it.
-use Rattle.std.specs.Prelude.{◌≡◌, ◌≢◌, ℕ, ◌+◌, ◌%◌, ◌^◌, ◌<◌, length, Option, Some, None}
+use Rattle.std.specs.Prelude.{◌≡◌, ◌≢◌, ℕ, ◌+◌, ◌%◌, ◌^◌, ◌<◌, ◌≤◌, length, Option, Some, None}
 use Rattle.codegen.specs.Loaded.{with_argument, word_in}
 use Rattle.linked_calls.specs.Convention.{result_register}
 use Rattle.linked_calls.specs.FunctionCode.{argument_offset, argument_code, result_code}
@@ -39,13 +39,13 @@ pub record IsPut (image : Fields) (slot : Slot) (frame i : ℕ) (s t : Data) : T
   pub bytes : t.bytes ≡ with_argument frame s.bytes slot (Word (meant_in image slot frame i s))
   pub others : (q : ℕ) → q ≢ 5 → q ≢ 28 → t.regs q ≡ s.regs q
 
--- one load of a word, one store of a word, and no other access
-abbrev pub IsPutting : ℕ → ℕ → Option Event → Type 0
-IsPutting place target None = Unit {0}
-IsPutting place target (Some (event.Load a size)) = (a ≡ place) × (size ≡ sizes.Word)
-IsPutting place target (Some (event.Store a size)) = (a ≡ target) × (size ≡ sizes.Word)
-IsPutting place target (Some (event.Div a b)) = ⊥
-IsPutting place target (Some (event.Mul a b)) = ⊥
+-- one load of a word, one store of a word, neither below the stack pointer, and no other access
+abbrev pub IsPutting : ℕ → ℕ → ℕ → Option Event → Type 0
+IsPutting place target sp None = Unit {0}
+IsPutting place target sp (Some (event.Load a size)) = (a ≡ place) × (size ≡ sizes.Word) × (sp ≤ a)
+IsPutting place target sp (Some (event.Store a size)) = (a ≡ target) × (size ≡ sizes.Word) × (sp ≤ a)
+IsPutting place target sp (Some (event.Div a b)) = ⊥
+IsPutting place target sp (Some (event.Mul a b)) = ⊥
 
 -- the code that takes a word does so, and shows nothing of it
 abbrev pub WordIsTaken : Type 0
@@ -70,13 +70,13 @@ pub record IsReturned (slot : ResultSlot) (frame : ℕ) (s t : Data) : Type 0 wh
   pub others : (q : ℕ) → q ≢ result_register → t.regs q ≡ s.regs q
   pub bytes : t.bytes ≡ s.bytes
 
--- one load of a word, and no other access
-abbrev pub IsLoadOf : ℕ → Option Event → Type 0
-IsLoadOf place None = Unit {0}
-IsLoadOf place (Some (event.Load a size)) = (a ≡ place) × (size ≡ sizes.Word)
-IsLoadOf place (Some (event.Store a size)) = ⊥
-IsLoadOf place (Some (event.Div a b)) = ⊥
-IsLoadOf place (Some (event.Mul a b)) = ⊥
+-- one load of a word, not below the stack pointer, and no other access
+abbrev pub IsLoadOf : ℕ → ℕ → Option Event → Type 0
+IsLoadOf place sp None = Unit {0}
+IsLoadOf place sp (Some (event.Load a size)) = (a ≡ place) × (size ≡ sizes.Word) × (sp ≤ a)
+IsLoadOf place sp (Some (event.Store a size)) = ⊥
+IsLoadOf place sp (Some (event.Div a b)) = ⊥
+IsLoadOf place sp (Some (event.Mul a b)) = ⊥
 
 -- the code that hands a result back does so, and shows nothing of it
 abbrev pub ResultIsHandedBack : Type 0

@@ -1,5 +1,5 @@
 -- The frame of a call, zeroed before the body, and all its room, zeroed behind it.
-use Rattle.std.specs.Prelude.{◌≡◌, ◌≢◌, ℕ, ◌+◌, ◌%◌, ◌^◌, ◌<◌, ◌==◌, length, Option, Some, None, if◌then◌else◌}
+use Rattle.std.specs.Prelude.{◌≡◌, ◌≢◌, ℕ, ◌+◌, ◌%◌, ◌^◌, ◌<◌, ◌≤◌, ◌==◌, length, Option, Some, None, if◌then◌else◌}
 use Rattle.codegen.specs.expression_code.TermCode.{constant_code}
 use Rattle.linked_calls.specs.FunctionCode.{frame_code, wipe_code}
 use Rattle.linked_calls.specs.Sections.{block_turns}
@@ -9,13 +9,13 @@ use Rattle.rv_machine.specs.declared.observation.Event.{Event}
 use Rattle.rv_machine.specs.declared.observation.Event.TheVariants.{Load, Store, Div, Mul}
 use Rattle.rv_machine.specs.Machine.{Code}
 
--- stores that lie in a stretch, and no other access
-abbrev pub IsStoreIn : ℕ → ℕ → Option Event → Type 0
-IsStoreIn low high None = Unit {0}
-IsStoreIn low high (Some (Load a size)) = ⊥
-IsStoreIn low high (Some (Store a size)) = LiesIn low high a size
-IsStoreIn low high (Some (Div a b)) = ⊥
-IsStoreIn low high (Some (Mul a b)) = ⊥
+-- stores that lie in a stretch and not below the stack pointer, and no other access
+abbrev pub IsStoreIn : ℕ → ℕ → ℕ → Option Event → Type 0
+IsStoreIn low high sp None = Unit {0}
+IsStoreIn low high sp (Some (Load a size)) = ⊥
+IsStoreIn low high sp (Some (Store a size)) = LiesIn low high a size × (sp ≤ a)
+IsStoreIn low high sp (Some (Div a b)) = ⊥
+IsStoreIn low high sp (Some (Mul a b)) = ⊥
 
 -- so many bytes below x2 are data
 pub record HasFrame (bottom room : ℕ) (s : Data) : Type 0 where
