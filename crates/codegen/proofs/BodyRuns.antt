@@ -17,6 +17,10 @@ use Rattle.codegen.proofs.Machine.{IsGenerated, Ecall, type_in, Slot}
 use Rattle.codegen.proofs.Arguments.{loaded, arrays_are, returned_is}
 use Rattle.codegen.proofs.SetRuns.{steps_of_result}
 use Rattle.codegen.proofs.Standing.{words_alone, body_words_before, placed_alone, leads_among, stand_placed, placed}
+use Rattle.codegen.proofs.Standing.{within_among as words_within_among}
+use Rattle.codegen.proofs.program_logic_lemmas.TurnLaws.{leads_kept, still_there}
+use Rattle.codegen.specs.program_logic.Turns.{LeadsWithin}
+use Rattle.rv_machine.specs.declared.observation.Event.{Event}
 use Rattle.codegen.proofs.FreshRuns.{Ended, program_runs}
 use Rattle.codegen.specs.private.Fresh.{starts_fresh}
 use Rattle.std.proofs.lemmas.Bool.{and_parts, ltb-true}
@@ -131,6 +135,14 @@ module _ (a : Allocation) (p : StraightProgram) (room : HasRoom p) (fitting : Is
       (subst (λ (profile : Profile). Leads (words_alone profile start (map word_of (body_code a p))) n s seen t)
       same leads)
 
+  within_among : {Allowed : ℕ → Option Event → Type 0} {n : ℕ} {s t : machine.State} {seen : List Observation}
+      → LeadsWithin setting.code Allowed n s seen t → LeadsWithin code Allowed n s seen t
+  within_among {Allowed} {n} {s} {t} {seen} leads =
+      let same : p.profile ≡ code.profile = sym there.observed in
+      words_within_among code start (map word_of (body_code a p)) standing
+      (subst (λ (profile : Profile).
+      LeadsWithin (words_alone profile start (map word_of (body_code a p))) Allowed n s seen t) same leads)
+
   runs_behind : (args : List Arg) (s : machine.State) → s.pc ≡ start → IsLoaded (image_of a p) frame args s
       → AreWithin p.parameters args → AreFine p.turns (path_of p args)
       → RunsBehind p (image_of a p) code start frame args s
@@ -145,7 +157,8 @@ module _ (a : Allocation) (p : StraightProgram) (room : HasRoom p) (fitting : Is
         run = record {
           turns = done.turns;
           end = done.end;
-          leads = among done.leads;
+          leads = among (leads_kept done.leads);
+          at_base = within_among (still_there frame (λ t u kept. kept.regs 2 (omega arith)) laid.base done.leads);
           within_steps = omega (arith, done.within);
           within_frame = done.inside;
           behind = done.at ∙ ap (λ n. start + 4 * n) (sym (body_length a p));

@@ -25,6 +25,7 @@ use Rattle.codegen.proofs.Slots.{homed_runs, Laid, suits_fits}
 use Rattle.codegen.proofs.StatementRuns.{statement_runs}
 use Rattle.codegen.specs.private.Fresh.{homes_but, is_fresh, names, names_in, names_in_result, sets_fresh}
 use Rattle.codegen.specs.expression_code.Allocation.{IsAllocation}
+use Rattle.codegen.proofs.program_logic_lemmas.TurnLaws.{LeadsKeeping-weaken}
 use Rattle.rv_machine.specs.Machine as machine
 use Rattle.codegen.proofs.HomeWords.{with_homes, control_alike, ready_at_home}
 
@@ -89,7 +90,7 @@ module _ (z : Setting) where
                 turns = e.turns;
                 end = e.end;
                 seen = e.seen;
-                leads = e.leads;
+                leads = LeadsKeeping-weaken (λ t u kept. record { regs = kept.regs; beside = kept.beside }) e.leads;
                 within = e.within;
                 shown = e.shown;
                 inside = e.inside;

@@ -1,12 +1,14 @@
 -- The words of an image, from its base on, and words that stand among others: they run as they do alone.
 use Rattle.std.proofs.Common.{◌≡◌, ℕ, zero, suc, ◌+◌, ◌-◌, ◌*◌, ◌/◌, ◌%◌, ◌^◌, ◌<◌, ◌==◌, ◌&&◌, true}
 use Rattle.std.proofs.Common.{nat_le, List, [], ◌∷◌, ◌++◌, length, map, Some, slice_get, refl, sym, ap, ◌∙◌}
-use Rattle.std.proofs.Common.{subst, arith, ◌≤◌, length-append, append_assoc}
+use Rattle.std.proofs.Common.{subst, arith, ◌≤◌, length-append, append_assoc, Option}
 use Rattle.codegen.proofs.Language.{Profile}
 use Rattle.codegen.proofs.Machine.{body_words, Stand, Instr, word_of, Observation, Leads, stays, turns, State, Code}
 use Rattle.codegen.proofs.Machine.{goes_on, word_at, Turn, executes}
 use Rattle.codegen.proofs.Logic.{nat_tests, none-some, Placed}
 use Rattle.codegen.proofs.expression_code_lemmas.WorkRegisters.{when_some}
+use Rattle.codegen.specs.program_logic.Turns.{LeadsWithin, stays_within, turns_within}
+use Rattle.rv_machine.specs.declared.observation.Event.{Event}
 
 -- The words of an image.
 
@@ -117,3 +119,8 @@ module _ (code : Code) (start : ℕ) (words : List ℕ) (there : Stand code star
       → Leads (words_alone code.profile start words) n s seen t → Leads code n s seen t
   leads_among stays = stays
   leads_among (turns turn rest) = turns (turn_among turn) (leads_among rest)
+
+  pub within_among : {Allowed : ℕ → Option Event → Type 0} {n : ℕ} {s t : State} {seen : List Observation}
+      → LeadsWithin (words_alone code.profile start words) Allowed n s seen t → LeadsWithin code Allowed n s seen t
+  within_among stays_within = stays_within
+  within_among (turns_within turn may rest) = turns_within (turn_among turn) may (within_among rest)

@@ -1,4 +1,5 @@
 pub mod Below
+pub mod TurnLaws
 pub mod PlacedLaws
 pub mod StraightRuns
 pub mod Pieces

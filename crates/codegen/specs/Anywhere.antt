@@ -9,6 +9,7 @@ use Rattle.branch_removal.specs.StraightMeaning.{outcome_of, path_of}
 use Rattle.codegen.specs.Bases.{IsInside}
 use Rattle.codegen.specs.Loaded.{loaded_at, results_in}
 use Rattle.codegen.specs.image_fields.Fields.{Fields}
+use Rattle.codegen.specs.program_logic.Turns.{LeadsWithin}
 use Rattle.inline.specs.Path.{Path, AreFine, seen}
 use Rattle.language.specs.declared.values.Arg.{Arg}
 use Rattle.rv_machine.specs.Leakage.{Leads}
@@ -54,6 +55,8 @@ pub record BodyRun (image : Fields) (code : Code) (start frame : ℕ) (s : State
   pub turns : ℕ
   pub end : State
   pub leads : Leads code turns s list end
+  -- and x2 is the frame's base wherever a turn begins
+  pub at_base : LeadsWithin code (λ sp event. sp ≡ frame) turns s list end
   -- ECALL would be one turn more
   pub within_steps : turns < image.max_steps
   pub within_frame : All (λ (o : Observation). IsInside frame image.frame_bytes o.event) list

@@ -171,4 +171,8 @@ frame_runs z works is places plain none_low fit met =
       became,
     ))
     (logic.by_symbols works is places plain fit (λ env s given. (met env s given).1)
+    (λ i a p c F ok may. record {
+      regs = λ r low. logic.register_after works i a c r ok (none_low r low);
+      beside = λ x apart. logic.byte_after _ x (store_beside z x apart) i a c F may;
+    })
     (λ env s t given became. kept s t became))

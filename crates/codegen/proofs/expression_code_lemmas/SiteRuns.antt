@@ -10,6 +10,7 @@ use Rattle.codegen.proofs.expression_code_lemmas.Frame.{Setting, seen_by}
 use Rattle.codegen.proofs.expression_code_lemmas.WorkRegisters.{works_in, lower_stays}
 use Rattle.codegen.proofs.expression_code_lemmas.Values.{Ready, Kept, Leaves, Holds, homes_left, kept_number}
 use Rattle.codegen.proofs.expression_code_lemmas.ExpressionRuns.{expr_runs}
+use Rattle.codegen.proofs.program_logic_lemmas.TurnLaws.{leads_kept}
 
 -- no control value and no loop
 abbrev setting_of : (e : TermTree) (site : Site) → IsSiteOf e site → Setting
@@ -74,7 +75,7 @@ expressions_are_computed e word site has fit =
           record {
             turns = run.turns;
             end = run.end;
-            leads = rw same at run.leads;
+            leads = rw same at (leads_kept run.leads);
             few = run.within;
             inside = rw same at run.inside;
             behind = run.at;

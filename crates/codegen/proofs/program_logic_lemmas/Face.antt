@@ -8,7 +8,12 @@ pub use Rattle.codegen.proofs.program_logic_lemmas.Pieces.{weaken}
 pub use Rattle.codegen.proofs.program_logic_lemmas.PlacedLaws.{Placed-left, Placed-right, stands}
 pub use Rattle.codegen.proofs.program_logic_lemmas.StraightRuns.{both_left, both_right, found, shown_allowed}
 pub use Rattle.codegen.proofs.program_logic_lemmas.StraightRuns.{straight_code_leads}
-pub use Rattle.codegen.proofs.program_logic_lemmas.Symbols.{by_symbols, byte_kept, data_kept, register_kept}
+pub use Rattle.codegen.proofs.program_logic_lemmas.StraightRuns.{first_fit, first_met, rest_fit, rest_met}
+pub use Rattle.codegen.proofs.program_logic_lemmas.Symbols.{by_symbols, byte_after, byte_kept, data_kept}
+pub use Rattle.codegen.proofs.program_logic_lemmas.Symbols.{register_after, register_kept}
+pub use Rattle.codegen.proofs.program_logic_lemmas.TurnLaws.{LeadsKeeping-append, LeadsKeeping-weaken, leads_kept}
+pub use Rattle.codegen.proofs.program_logic_lemmas.TurnLaws.{still_there, LeadsWithin-append, LeadsWithin-weaken}
+pub use Rattle.codegen.proofs.program_logic_lemmas.TurnLaws.{one_within, both_within}
 pub use Rattle.codegen.specs.program_logic.Pieces.{Became, Runs, Setting, Still, Straight, Then, always, none}
 pub use Rattle.codegen.specs.program_logic.Placed.{Placed}
 pub use Rattle.codegen.specs.program_logic.StraightCode.{AreFit, AreMet, Contents, IsFit, IsMet, after, after_all}

@@ -7,8 +7,9 @@ use Rattle.codegen.proofs.program_logic_lemmas.PlacedLaws.{Placed-left, Placed-r
 use Rattle.codegen.specs.program_logic.Pieces.{Setting, Before, After, Steps, none, Leak, always, both, Ends, Runs}
 use Rattle.codegen.specs.program_logic.Pieces.{Then}
 use Rattle.rv_code.specs.declared.instructions.Instr.{Instr}
-use Rattle.codegen.proofs.program_logic_lemmas.Below.{Leads-append}
-use Rattle.rv_machine.specs.Leakage.{Leads, stays}
+use Rattle.codegen.proofs.program_logic_lemmas.TurnLaws.{LeadsKeeping-append, one_kept}
+use Rattle.codegen.specs.program_logic.Turns.{stays_kept}
+use Rattle.rv_machine.specs.Leakage.{Leads}
 use Rattle.rv_machine.specs.Machine.{State}
 use Rattle.rv_machine.specs.declared.observation.Event.{Event}
 use Rattle.rv_machine.specs.declared.observation.Observation.{Observation}
@@ -36,7 +37,7 @@ module _ {z : Setting} where
     turns = 0;
     end = s;
     seen = [];
-    leads = stays;
+    leads = stays_kept;
     within = omega arith;
     shown = refl;
     inside = All-nil (λ (o : Observation). z.Allows o.event);
@@ -56,8 +57,10 @@ module _ {z : Setting} where
     end = t;
     seen = record { pc = p; event = known } ∷ [];
     leads =
-        subst (λ e. Leads z.code 1 s (record { pc = p; event = e } ∷ []) t) same
-        (subst (λ x. Leads z.code 1 s (record { pc = x; event = shows } ∷ []) t) at leads);
+        one_kept
+        (subst (λ e. Leads z.code 1 s (record { pc = p; event = e } ∷ []) t) same
+        (subst (λ x. Leads z.code 1 s (record { pc = x; event = shows } ∷ []) t) at leads))
+        keeps;
     within = omega arith;
     shown = shown;
     inside = All-one (λ (o : Observation). z.Allows o.event) (record { pc = p; event = known }) inside;
@@ -77,7 +80,7 @@ module _ {z : Setting} where
         turns = e.turns + f.turns;
         end = f.end;
         seen = e.seen ++ f.seen;
-        leads = Leads-append e.leads f.leads;
+        leads = LeadsKeeping-append e.leads f.leads;
         within = omega arith;
         shown = rw (e.shown, f.shown) refl;
         inside = All-append (λ (o : Observation). z.Allows o.event) e.seen f.seen e.inside f.inside;

@@ -117,6 +117,19 @@ module _ (code : Code) (p : ℕ) (below : p + 4 < 2 ^ 32) (c : Contents) where
       stores operation rs2 rs1 offset a at fit.0.even met.0
   one_leads works Allows i a F M ok at fit met = absurd (false≢true ok)
 
+-- what is asked of the first instruction alone
+
+pub first_fit : (Allows : Option Event → Type 0) (i : Instr) (a : ℕ) (F : Type 0) → fit_and Allows i a F
+    → fit_and Allows i a (Unit {0})
+first_fit Allows (Load operation rd rs1 offset) a F fit = (fit.0, tt)
+first_fit Allows (Store operation rs2 rs1 offset) a F fit = (fit.0, tt)
+first_fit Allows i a F fit = tt
+
+pub first_met : (i : Instr) (a : ℕ) (c : Contents) (M : Type 0) → met_and i a c M → met_and i a c (Unit {0})
+first_met (Load operation rd rs1 offset) a c M met = (met.0, tt)
+first_met (Store operation rs2 rs1 offset) a c M met = (met.0, tt)
+first_met i a c M met = tt
+
 -- what is asked of the rest
 
 pub rest_fit : (Allows : Option Event → Type 0) (i : Instr) (a : ℕ) (F : Type 0) → fit_and Allows i a F → F

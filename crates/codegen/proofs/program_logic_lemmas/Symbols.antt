@@ -1,21 +1,23 @@
 -- Straight-line code as a piece, and what it keeps.
 use Rattle.std.specs.Prelude.{is_some}
-use Rattle.std.proofs.Common.{◌≡◌, ℕ, ◌+◌, ◌*◌, Bool, true, false, List, [], ◌∷◌, length, Option, Some, refl, sym, ◌∙◌}
+use Rattle.std.proofs.Common.{◌≡◌, ℕ, suc, ◌+◌, ◌*◌, Bool, true, false, List, [], ◌∷◌, length, Option, Some, refl, sym, ◌∙◌}
 use Rattle.std.proofs.Common.{subst, arith}
 use Rattle.std.proofs.lemmas.Bool.Decides.{nat_tests}
 use Rattle.codegen.proofs.program_logic_lemmas.Pieces.{seen_nothing, ends_on}
 use Rattle.codegen.proofs.program_logic_lemmas.StraightRuns.{straight_code_leads, shown_allowed, rest_fit, rest_met}
-use Rattle.codegen.proofs.program_logic_lemmas.StraightRuns.{both_left, both_right}
+use Rattle.codegen.proofs.program_logic_lemmas.StraightRuns.{both_left, both_right, first_fit, first_met}
+use Rattle.codegen.proofs.program_logic_lemmas.TurnLaws.{LeadsKeeping-append, one_kept}
+use Rattle.codegen.specs.program_logic.Placed.{Placed}
 use Rattle.codegen.specs.program_logic.Pieces.{Setting, Before, none, always, Runs, Became}
 use Rattle.codegen.specs.program_logic.StraightCode.{Contents, contents_of, state_at, is_straight, are_straight}
 use Rattle.codegen.specs.program_logic.StraightCode.{next_of, left_by, after, after_all, shown_by, fit_and, AreFit}
 use Rattle.codegen.specs.program_logic.StraightCode.{met_and, AreMet}
+use Rattle.codegen.specs.program_logic.Turns.{LeadsKeeping, stays_kept}
 use Rattle.rv_code.specs.declared.instructions.Instr.{Instr}
 use Rattle.rv_code.specs.declared.instructions.Instr.TheVariants.{Store}
 use Rattle.codegen.proofs.program_logic_lemmas.Below.{is_some-with_number}
 use Rattle.rv_machine.specs.Bytes.{ByteMap, with_number}
 use Rattle.rv_machine.specs.Effects.{store_size}
-use Rattle.rv_machine.specs.Leakage.{Leads}
 use Rattle.rv_machine.specs.Machine.{State}
 use Rattle.rv_machine.specs.Registers.{register}
 use Rattle.rv_machine.specs.Sizes.{byte_count}
@@ -23,14 +25,44 @@ use Rattle.rv_machine.specs.declared.memory.Size.{Size}
 use Rattle.rv_machine.specs.declared.observation.Event.{Event}
 use Rattle.rv_machine.specs.declared.observation.Event.TheVariants as event
 
+-- each instruction that writes such registers, with an allowed access, keeps what is to be kept
+abbrev pub EachKeeps : Setting → (ℕ → Bool) → Type 1
+EachKeeps z works =
+    (i : Instr) (a p : ℕ) (c : Contents) (F : Type 0) → is_straight works i ≡ true → fit_and z.Allows i a F
+    → z.Keeps (state_at p c) (state_at (p + 4) (after i a c))
+
+-- so straight-line code leads on, turn by turn
+straight_keeps : (z : Setting) (works : ℕ → Bool) (p : ℕ) (is : List Instr) (places : List ℕ) (c : Contents)
+    → are_straight works is ≡ true → EachKeeps z works → Placed z.code p is → AreFit z.Allows is places
+    → AreMet is places c
+    → LeadsKeeping z.code z.Keeps (length is) (state_at p c) (shown_by p is places)
+    (state_at (p + 4 * length is) (after_all is places c))
+straight_keeps z works p [] places c plain each placed fit met =
+    let e : p ≡ p + 4 * 0 = omega arith in
+    subst (λ q. LeadsKeeping z.code z.Keeps 0 (state_at p c) [] (state_at q c)) e stays_kept
+straight_keeps z works p (i ∷ is) places c plain each placed fit met =
+    let ok = both_left (is_straight works i) (are_straight works is) plain in
+    let a = next_of places in
+    let one = one_kept
+    (straight_code_leads works z.Allows z.code p (i ∷ []) places c (rw ok refl)
+    (placed.0, placed.1, placed.2, tt) (first_fit z.Allows i a _ fit) (first_met i a c _ met))
+    (each i a p c _ ok fit) in
+    let more = straight_keeps z works (p + 4) is (left_by i places) (after i a c)
+    (both_right (is_straight works i) (are_straight works is) plain) each placed.3 (rest_fit z.Allows i a _ fit)
+    (rest_met i a c _ met) in
+    let behind : p + 4 + 4 * length is ≡ p + 4 * suc (length is) = omega arith in
+    let count : 1 + length is ≡ suc (length is) = omega arith in
+    rw (behind, count) at (LeadsKeeping-append one more)
+
 module _ {z : Setting} where
   -- straight-line code with accesses at these addresses
   pub by_symbols : {P : Before z} (works : ℕ → Bool) (is : List Instr) (places : List ℕ)
       → are_straight works is ≡ true → AreFit z.Allows is places
       → ((env : z.Beside) (s : State) → P env s → AreMet is places (contents_of s))
+      → EachKeeps z works
       → ((env : z.Beside) (s t : State) → P env s → Became is places s t → z.Keeps s t)
       → Runs z (length is) none is P (λ env s t. Became is places s t)
-  by_symbols works is places plain fit met keeps = record {
+  by_symbols works is places plain fit met each keeps = record {
     placed_at = λ p placed. record {
       leak = always (shown_by p is places);
       runs = λ env s rest at fine given.
@@ -41,9 +73,9 @@ module _ {z : Setting} where
             end = state_at (p + 4 * length is) (after_all is places c);
             seen = shown_by p is places;
             leads =
-                subst (λ q. Leads z.code (length is) (state_at q c) (shown_by p is places)
+                subst (λ q. LeadsKeeping z.code z.Keeps (length is) (state_at q c) (shown_by p is places)
                 (state_at (p + 4 * length is) (after_all is places c))) (sym at)
-                (straight_code_leads works z.Allows z.code p is places c plain placed fit (met env s given));
+                (straight_keeps z works p is places c plain each placed fit (met env s given));
             within = omega arith;
             shown = refl;
             inside = shown_allowed works z.Allows z.silence p is places plain fit;
@@ -57,7 +89,7 @@ module _ {z : Setting} where
 
 -- A register that none of the instructions may write is as it was.
 
-register_after : (works : ℕ → Bool) (i : Instr) (a : ℕ) (c : Contents) (q : ℕ) → is_straight works i ≡ true
+pub register_after : (works : ℕ → Bool) (i : Instr) (a : ℕ) (c : Contents) (q : ℕ) → is_straight works i ≡ true
     → works q ≡ false → (after i a c).regs q ≡ c.regs q
 register_after works (Store operation rs2 rs1 offset) a c q ok other = refl
 register_after works i a c q ok other = grind (arith, nat_tests, ok, other)
@@ -90,7 +122,7 @@ data_kept (i ∷ is) places c x met =
 module _ (Allows : Option Event → Type 0) (x : ℕ)
     (beside : (bytes : ByteMap) (size : Size) (a v : ℕ) → Allows (Some (event.Store a size))
     → with_number bytes (byte_count size) a v x ≡ bytes x) where
-  byte_after : (i : Instr) (a : ℕ) (c : Contents) (F : Type 0) → fit_and Allows i a F
+  pub byte_after : (i : Instr) (a : ℕ) (c : Contents) (F : Type 0) → fit_and Allows i a F
       → (after i a c).bytes x ≡ c.bytes x
   byte_after (Store operation rs2 rs1 offset) a c F fit =
       beside c.bytes (store_size operation) a (register c.regs rs2) fit.0.allowed

@@ -9,8 +9,8 @@ use Rattle.std.specs.Prelude.{◌≡◌, ℕ, ◌+◌, ◌*◌, ◌≤◌, List,
 use Rattle.std.proofs.Common.{zero, suc}
 use Rattle.codegen.specs.program_logic.Placed.{Placed}
 use Rattle.codegen.specs.program_logic.StraightCode.{contents_of, after_all}
+use Rattle.codegen.specs.program_logic.Turns.{LeadsKeeping}
 use Rattle.rv_code.specs.declared.instructions.Instr.{Instr}
-use Rattle.rv_machine.specs.Leakage.{Leads}
 use Rattle.rv_machine.specs.Machine.{State, Code}
 use Rattle.rv_machine.specs.declared.observation.Event.{Event}
 use Rattle.rv_machine.specs.declared.observation.Observation.{Observation}
@@ -70,7 +70,7 @@ pub record Ends (z : Setting) (cost q : ℕ) (leak : Leak z) (path rest : List z
   pub turns : ℕ
   pub end : State
   pub seen : List Observation
-  pub leads : Leads z.code turns s seen end
+  pub leads : LeadsKeeping z.code z.Keeps turns s seen end
   pub within : turns ≤ cost
   pub shown : leak path ≡ (seen, rest)
   pub inside : All (λ (o : Observation). z.Allows o.event) seen
