@@ -5,6 +5,8 @@ pub use Rattle.codegen.proofs.expression_code_lemmas.Moves.{register-at, unwritt
 pub use Rattle.codegen.proofs.program_logic_lemmas.Face.{
   AreFit,
   AreMet,
+  LeadsWithin-append,
+  LeadsWithin-weaken,
   Placed,
   Placed-left,
   Placed-right,
@@ -13,9 +15,15 @@ pub use Rattle.codegen.proofs.program_logic_lemmas.Face.{
   are_straight,
   both_left,
   both_right,
+  both_within,
+  first_fit,
+  first_met,
   found,
   number_or_zero,
+  one_within,
   register_kept,
+  rest_fit,
+  rest_met,
   shown_allowed,
   shown_by,
   stands,
@@ -24,7 +32,6 @@ pub use Rattle.codegen.proofs.program_logic_lemmas.Face.{
 pub use Rattle.hepurita.proofs.DataLemmas.{bytes_within}
 pub use Rattle.hepurita.proofs.ElementLemmas.{is_some-with_numbers, number_there, numbers_at-more}
 pub use Rattle.rv_machine.proofs.Face.{
-  Leads-append,
   branch_leads,
   branch_passes,
   is_some-with_number,

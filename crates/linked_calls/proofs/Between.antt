@@ -9,10 +9,10 @@ use Rattle.codegen.specs.image_fields.Fields.{Fields, IsImage}
 use Rattle.codegen.specs.declared.image_fields.slot.Slot.{Slot}
 use Rattle.language.specs.declared.signature.Form.{Form}
 use Rattle.language.specs.declared.signature.Form.TheVariants.{SingleWord, FixedArray, MutableArray}
+use Rattle.codegen.specs.program_logic.Turns.{LeadsWithin}
 use Rattle.linked_calls.specs.Called.{IsOfCall, IsLeft}
 use Rattle.linked_calls.specs.Calls.{Site, IsSite, IsCalled, room_base, arguments_end, arguments_of}
 use Rattle.linked_calls.specs.Convention.{saved_registers}
-use Rattle.linked_calls.specs.Does.{LeadsWithin}
 use Rattle.linked_calls.specs.FunctionCode.{enter_code, function_words, frame_room, argument_offset, array_bytes}
 use Rattle.linked_calls.specs.Sections.{enter_sections, leave_sections, section_turns}
 use Rattle.linked_calls.specs.Stretches.{AreData}

@@ -4,7 +4,6 @@ use Rattle.std.proofs.Common.{◌≡◌, ℕ, suc, ◌+◌, ◌-◌, ◌<◌, �
 use Rattle.std.proofs.Common.{inr, ⊎_elim, refl, sym, ap, ◌∙◌, subst, arith}
 use Rattle.std.proofs.lemmas.Bool.{cases_lt}
 use Rattle.std.proofs.lemmas.List.{map-append}
-use Rattle.std.proofs.lemmas.List.Elements.{All-append}
 use Rattle.std.proofs.lemmas.List.Sums.{sum_by-append}
 use Rattle.codegen.specs.Anywhere.{IsPlaced, IsBeside, BodyRun}
 use Rattle.codegen.specs.Bases.{IsInside}
@@ -30,8 +29,7 @@ use Rattle.linked_calls.proofs.SavedRegisters.{saved_same}
 use Rattle.linked_calls.proofs.Standing.{body_stands}
 use Rattle.linked_calls.proofs.Staying.{arrays_agree, stay_ready}
 use Rattle.linked_calls.proofs.WithinParameters.{arguments_within}
-use Rattle.linked_calls.proofs.Below.{Leads-append}
-use Rattle.linked_calls.proofs.Within.{all_within, leads_of}
+use Rattle.linked_calls.proofs.Below.{LeadsWithin-append, both_within}
 use Rattle.rv_machine.specs.Machine.{State, Code}
 use Rattle.rv_machine.specs.declared.observation.Event.{Event}
 use Rattle.rv_machine.specs.declared.observation.Event.TheVariants.{Load, Store}
@@ -50,23 +48,16 @@ is_placed image code site is = record {
 
 -- Accesses.
 
+-- the body's, with x2 at the frame's base
 inside_is_of_call : (image : Fields) (code : Code) (site : Site) → IsSite image code site
-    → (event : Option Event) → IsInside (room_base image site) image.frame_bytes event
-    → IsOfCall image site (room_base image site) event
-inside_is_of_call image code site is None inside = tt
-inside_is_of_call image code site is (Some (Load a size)) inside = inl ((inside.0, omega arith), inside.0)
-inside_is_of_call image code site is (Some (Store a size)) inside = inl ((inside.0, omega arith), inside.0)
-inside_is_of_call image code site is (Some event) inside = tt
-
--- the stack pointer is not below the room's base
-above_base : (image : Fields) (site : Site) (sp : ℕ) (event : Option Event) → IsOfCall image site sp event
-    → IsOfCall image site (room_base image site) event
-above_base image site sp None of = tt
-above_base image site sp (Some (Load a size)) (inl on) = inl (on.0, on.0.0)
-above_base image site sp (Some (Load a size)) (inr reads) = inr reads
-above_base image site sp (Some (Store a size)) (inl on) = inl (on.0, on.0.0)
-above_base image site sp (Some (Store a size)) (inr writes) = inr writes
-above_base image site sp (Some event) of = tt
+    → (sp : ℕ) (event : Option Event) → sp ≡ room_base image site
+    → IsInside (room_base image site) image.frame_bytes event → IsOfCall image site sp event
+inside_is_of_call image code site is sp None at inside = tt
+inside_is_of_call image code site is sp (Some (Load a size)) at inside =
+    inl ((inside.0, omega arith), omega (arith, at, inside.0))
+inside_is_of_call image code site is sp (Some (Store a size)) at inside =
+    inl ((inside.0, omega arith), omega (arith, at, inside.0))
+inside_is_of_call image code site is sp (Some event) at inside = tt
 
 -- Turns.
 
@@ -172,39 +163,17 @@ module _ (program : ProgramTree) (p : ProcedureTree) (image : Fields) (code : Co
   returns_by s called entered body left =
       let args = arguments_of image site s in
       let run = body.run in
-      let allowed = λ (o : Observation). IsOfCall image site (room_base image site) o.event in
-      let behind = linked.shown args ++ leaves.shown in
+      let body_within = both_within (inside_is_of_call image code site is) run.at_base run.within_frame in
       record {
         results = results_in (room_base image site) image run.end.bytes;
         means = body.outcome;
         turns = enter_turns image + (run.turns + left.turns);
         end = left.end;
-        leads = Leads-append (leads_of entered.leads) (Leads-append run.leads (leads_of left.leads));
+        leads = LeadsWithin-append entered.leads (LeadsWithin-append body_within left.leads);
         body_turns = run.turns;
         within_steps = run.within_steps;
         counted = turns_counted (enter_turns image) run.turns (leave_turns image) (around_turns image) left.turns
             (turns_around image) left.counted;
-        within = All-append allowed enters.shown behind (all_within (above_base image site) entered.leads)
-            (All-append allowed (linked.shown args) leaves.shown
-            (λ k o below. inside_is_of_call image code site is _ (run.within_frame k o below))
-            (all_within (above_base image site) left.leads));
-        above = record {
-          first = enter_turns image;
-          before = enters.shown;
-          entered = entered.end;
-          enters = entered.leads;
-          entered_at = entered.entered.loaded.base;
-          body = linked.shown args;
-          left = run.end;
-          runs = run.leads;
-          inside = run.within_frame;
-          left_at = run.base;
-          last = left.turns;
-          behind = leaves.shown;
-          leaves = left.leads;
-          all_turns = refl;
-          shown = refl;
-        };
         at_last = left.at_last;
         left = is_left image code site is s called enters.shown entered (linked.shown args) run _ left.end left.left;
         goes_back = left.goes_back;

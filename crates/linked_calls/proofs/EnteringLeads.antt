@@ -6,10 +6,11 @@ use Rattle.std.proofs.lemmas.Bool.{cases_lt, ltb-false, ltb-true}
 use Rattle.codegen.specs.Anywhere.{IsLoaded}
 use Rattle.codegen.specs.Loaded.{word_in}
 use Rattle.codegen.specs.image_fields.Fields.{Fields, IsImage}
+use Rattle.codegen.specs.program_logic.Turns.{LeadsWithin}
 use Rattle.linked_calls.specs.Calls.{Site, IsSite, IsCalled, room_base, arguments_end, arguments_of}
 use Rattle.linked_calls.specs.Convention.{saved_registers, argument_registers}
 use Rattle.linked_calls.specs.Called.{IsOfCall}
-use Rattle.linked_calls.specs.Does.{Data, LeadsWithin, at}
+use Rattle.linked_calls.specs.Does.{Data, at}
 use Rattle.linked_calls.specs.FunctionCode.{frame_room, entry_code, frame_code, arguments_code, enter_code}
 use Rattle.linked_calls.specs.FunctionCode.{argument_offset}
 use Rattle.linked_calls.specs.Stretches.{AreData}

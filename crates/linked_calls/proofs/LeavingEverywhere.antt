@@ -15,8 +15,9 @@ use Rattle.rv_machine.specs.Bytes.{ByteMap}
 use Rattle.rv_machine.specs.Machine.{State, Code, IsAt}
 use Rattle.rv_machine.specs.declared.observation.Event.{Event}
 use Rattle.rv_machine.specs.declared.observation.Event.TheVariants as event
+use Rattle.codegen.specs.program_logic.Turns.{LeadsWithin}
 use Rattle.linked_calls.specs.Called.{IsOfCall, IsLeft, with_arrays, kept_registers}
-use Rattle.linked_calls.specs.Does.{Data, LeadsWithin, at}
+use Rattle.linked_calls.specs.Does.{Data, at}
 use Rattle.linked_calls.specs.Calls.{Site, IsSite, room_base, arguments_end}
 use Rattle.linked_calls.specs.Convention.{saved_registers, scratch_registers}
 use Rattle.linked_calls.specs.FunctionCode.{function_words, frame_room, result_code}

@@ -10,11 +10,12 @@ use Rattle.rv_machine.specs.declared.observation.Observation.{Observation}
 use Rattle.rv_machine.specs.Effects.{holds, branch_target, sign_extended}
 use Rattle.rv_machine.specs.Machine.{moved_to}
 use Rattle.rv_machine.specs.Registers.{register}
-use Rattle.linked_calls.specs.Does.{Data, LeadsWithin, at}
+use Rattle.codegen.specs.program_logic.Turns.{LeadsWithin}
+use Rattle.linked_calls.specs.Does.{Data, at}
 use Rattle.linked_calls.specs.FunctionCode.{until_equal}
 use Rattle.linked_calls.proofs.Below.{Placed, Placed-left, Placed-right, branch_leads, branch_passes, stands}
 use Rattle.linked_calls.proofs.Pieces.{Setting, Runs, in_turns, leads_as, weaken_runs}
-use Rattle.linked_calls.proofs.Within.{LeadsWithin-append, one_within}
+use Rattle.linked_calls.proofs.Below.{LeadsWithin-append, one_within}
 
 -- a branch back over so many instructions
 back : (p count : ℕ) → 0 < count → count < 1024 → p + 4 * count < 2 ^ 32

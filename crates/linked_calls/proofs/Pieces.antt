@@ -7,10 +7,12 @@ use Rattle.rv_machine.specs.Machine.{Code}
 use Rattle.rv_machine.specs.declared.observation.Event.{Event}
 use Rattle.rv_machine.specs.declared.observation.Observation.{Observation}
 use Rattle.rv_machine.specs.Machine.{State}
-use Rattle.linked_calls.specs.Does.{AreThere, Data, Does, LeadsWithin, at}
+use Rattle.codegen.specs.program_logic.Turns.{LeadsWithin}
+use Rattle.linked_calls.specs.Does.{AreThere, Data, Does, at}
 use Rattle.linked_calls.proofs.Below.{AreFit, AreMet, Placed, Placed-left, Placed-right, after_all, are_straight}
 use Rattle.linked_calls.proofs.Below.{shown_by}
-use Rattle.linked_calls.proofs.Within.{IsNone, LeadsWithin-append, LeadsWithin-weaken, silent_within, still_within}
+use Rattle.linked_calls.proofs.Below.{LeadsWithin-append, LeadsWithin-weaken}
+use Rattle.linked_calls.proofs.Within.{IsNone, silent_within, still_within}
 
 -- the code, and the accesses that are allowed
 pub record Setting : Type 1 where

@@ -1,80 +1,22 @@
--- Turns whose accesses are allowed where the stack pointer is then: one after another, and of straight-line code.
-use Rattle.std.proofs.Common.{◌≡◌, ℕ, suc, ◌+◌, ◌*◌, Bool, true, false, List, [], ◌∷◌, ◌++◌, length, All, Option}
-use Rattle.std.proofs.Common.{None, refl, sym, ◌∙◌, subst, arith, suc-add, zero-add}
-use Rattle.std.proofs.lemmas.List.Elements.{All-cons, All-head, All-nil}
+-- Straight-line code whose accesses are allowed where the stack pointer is then.
+use Rattle.std.proofs.Common.{◌≡◌, ℕ, suc, ◌+◌, ◌*◌, Bool, true, false, List, [], ◌∷◌, length, Option}
+use Rattle.std.proofs.Common.{None, refl, sym, ◌∙◌, subst, arith}
+use Rattle.std.proofs.lemmas.List.Elements.{All-head}
 use Rattle.codegen.specs.program_logic.StraightCode.{fit_and, met_and, is_straight, next_of, left_by, event_of}
 use Rattle.rv_code.specs.declared.instructions.Instr.{Instr}
-use Rattle.rv_code.specs.declared.instructions.Instr.TheVariants.{Load, Store}
-use Rattle.rv_machine.specs.Leakage.{Leads, stays, turns}
-use Rattle.rv_machine.specs.Machine.{State, Code}
+use Rattle.rv_machine.specs.Leakage.{Leads}
+use Rattle.rv_machine.specs.Machine.{Code}
 use Rattle.rv_machine.specs.declared.observation.Event.{Event}
 use Rattle.rv_machine.specs.declared.observation.Observation.{Observation}
-use Rattle.linked_calls.specs.Does.{Data, LeadsWithin, stays_within, turns_within, at}
+use Rattle.codegen.specs.program_logic.Turns.{LeadsWithin, stays_within}
+use Rattle.linked_calls.specs.Does.{Data, at}
 use Rattle.linked_calls.proofs.Below.{AreFit, AreMet, Placed, after, after_all, are_straight, both_left, both_right}
+use Rattle.linked_calls.proofs.Below.{LeadsWithin-append, first_fit, first_met, one_within, rest_fit, rest_met}
 use Rattle.linked_calls.proofs.Below.{register_kept, shown_allowed, shown_by, straight_code_leads}
-
--- One after another.
-
-pub LeadsWithin-append : {code : Code} {Allowed : ℕ → Option Event → Type 0} {m n : ℕ} {s t u : State}
-    {seen more : List Observation} → LeadsWithin code Allowed m s seen t → LeadsWithin code Allowed n t more u
-    → LeadsWithin code Allowed (m + n) s (seen ++ more) u
-LeadsWithin-append stays_within then = rw zero-add then
-LeadsWithin-append (turns_within first may rest) then =
-    rw suc-add (turns_within first may (LeadsWithin-append rest then))
-
-pub LeadsWithin-weaken : {code : Code} {Allowed May : ℕ → Option Event → Type 0} {n : ℕ} {s t : State}
-    {seen : List Observation} → ((sp : ℕ) (event : Option Event) → Allowed sp event → May sp event)
-    → LeadsWithin code Allowed n s seen t → LeadsWithin code May n s seen t
-LeadsWithin-weaken may stays_within = stays_within
-LeadsWithin-weaken may (turns_within first one rest) =
-    turns_within first (may _ _ one) (LeadsWithin-weaken may rest)
-
--- the turns alone
-pub leads_of : {code : Code} {Allowed : ℕ → Option Event → Type 0} {n : ℕ} {s t : State} {seen : List Observation}
-    → LeadsWithin code Allowed n s seen t → Leads code n s seen t
-leads_of stays_within = stays
-leads_of (turns_within first one rest) = turns first (leads_of rest)
-
--- what is allowed wherever the stack pointer is
-pub all_within : {code : Code} {Allowed : ℕ → Option Event → Type 0} {May : Option Event → Type 0} {n : ℕ}
-    {s t : State} {seen : List Observation} → ((sp : ℕ) (event : Option Event) → Allowed sp event → May event)
-    → LeadsWithin code Allowed n s seen t → All (λ (o : Observation). May o.event) seen
-all_within {May = May} may stays_within = All-nil (λ (o : Observation). May o.event)
-all_within {May = May} may (turns_within first one rest) =
-    All-cons (λ (o : Observation). May o.event) _ _ (may _ _ one) (all_within may rest)
-
--- one turn
-pub one_within : {code : Code} {Allowed : ℕ → Option Event → Type 0} {s t : State} {o : Observation}
-    → Leads code 1 s (o ∷ []) t → Allowed (s.regs 2) o.event → LeadsWithin code Allowed 1 s (o ∷ []) t
-one_within (turns first stays) may = turns_within first may stays_within
-
--- Straight-line code.
 
 -- no access
 abbrev pub IsNone : Option Event → Type 0
 IsNone event = event ≡ None
-
--- of the first instruction alone
-first_fit : (Allows : Option Event → Type 0) (i : Instr) (a : ℕ) (F : Type 0) → fit_and Allows i a F
-    → fit_and Allows i a (Unit {0})
-first_fit Allows (Load operation rd rs1 offset) a F fit = (fit.0, tt)
-first_fit Allows (Store operation rs2 rs1 offset) a F fit = (fit.0, tt)
-first_fit Allows i a F fit = tt
-
-first_met : (i : Instr) (a : ℕ) (c : Data) (M : Type 0) → met_and i a c M → met_and i a c (Unit {0})
-first_met (Load operation rd rs1 offset) a c M met = (met.0, tt)
-first_met (Store operation rs2 rs1 offset) a c M met = (met.0, tt)
-first_met i a c M met = tt
-
-rest_fit : (Allows : Option Event → Type 0) (i : Instr) (a : ℕ) (F : Type 0) → fit_and Allows i a F → F
-rest_fit Allows (Load operation rd rs1 offset) a F fit = fit.1
-rest_fit Allows (Store operation rs2 rs1 offset) a F fit = fit.1
-rest_fit Allows i a F fit = fit
-
-rest_met : (i : Instr) (a : ℕ) (c : Data) (M : Type 0) → met_and i a c M → M
-rest_met (Load operation rd rs1 offset) a c M met = met.1
-rest_met (Store operation rs2 rs1 offset) a c M met = met.1
-rest_met i a c M met = met
 
 module _ (code : Code) (Allowed : ℕ → Option Event → Type 0) (silent : (sp : ℕ) → Allowed sp None)
     (works : ℕ → Bool) where

@@ -1,45 +1,22 @@
 -- The linked call: a caller that keeps the calling convention gets what the source means, in an exact number of turns
 -- around those of the body, and its secrets make no difference to what an observer sees.
-use Rattle.std.specs.Prelude.{◌≡◌, ℕ, suc, ◌+◌, ◌-◌, ◌*◌, ◌%◌, ◌<◌, List, ◌++◌, length, All, None}
+use Rattle.std.specs.Prelude.{◌≡◌, ℕ, suc, ◌+◌, ◌-◌, ◌*◌, ◌%◌, ◌<◌, List, length, None}
 use Rattle.language.specs.arguments.Agreement.{Agree}
 use Rattle.language.specs.arguments.PublicResults.{AgreeInPublic}
-use Rattle.codegen.specs.Bases.{IsInside}
 use Rattle.codegen.specs.Loaded.{params_of}
 use Rattle.hepurita.specs.Compiled.{IsCompiled}
 use Rattle.hepurita.specs.Meant.{Means}
 use Rattle.codegen.specs.image_fields.Fields.{Fields, IsImage}
+use Rattle.codegen.specs.program_logic.Turns.{LeadsWithin}
 use Rattle.language.specs.Results.{Results}
 use Rattle.language.specs.Tree.{ProcedureTree, ProgramTree}
 use Rattle.language.specs.declared.values.Arg.{Arg}
 use Rattle.linked_calls.specs.Called.{IsOfCall, IsLeft}
-use Rattle.linked_calls.specs.Calls.{Site, IsSite, IsCalled, room_base, arguments_of}
-use Rattle.linked_calls.specs.Convention.{stack_register}
-use Rattle.linked_calls.specs.Does.{LeadsWithin}
+use Rattle.linked_calls.specs.Calls.{Site, IsSite, IsCalled, arguments_of}
 use Rattle.linked_calls.specs.FunctionCode.{function_words}
 use Rattle.linked_calls.specs.Sections.{around_turns}
-use Rattle.rv_machine.specs.Leakage.{Leads}
 use Rattle.rv_machine.specs.Machine.{State, Code, Turn, goes_on, observed, moved_to}
 use Rattle.rv_machine.specs.declared.observation.Observation.{Observation}
-
--- a run of a call in three parts: before the body and behind it no turn accesses the stack below the stack pointer,
--- wherever that is then; where the body begins and ends it is the frame's base, and the body accesses its frame alone
-pub record StaysAbove (image : Fields) (code : Code) (site : Site) (turns body_turns : ℕ) (s : State)
-    (list : List Observation) (end : State) : Type 0 where
-  pub first : ℕ
-  pub before : List Observation
-  pub entered : State
-  pub enters : LeadsWithin code (IsOfCall image site) first s before entered
-  pub entered_at : entered.regs stack_register ≡ room_base image site
-  pub body : List Observation
-  pub left : State
-  pub runs : Leads code body_turns entered body left
-  pub inside : All (λ (o : Observation). IsInside (room_base image site) image.frame_bytes o.event) body
-  pub left_at : left.regs stack_register ≡ room_base image site
-  pub last : ℕ
-  pub behind : List Observation
-  pub leaves : LeadsWithin code (IsOfCall image site) last left behind end
-  pub all_turns : turns ≡ first + (body_turns + last)
-  pub shown : list ≡ before ++ (body ++ behind)
 
 -- a call from this state: all its turns but the last, which jumps back, and that one. What it shows is this list
 pub record Returns (program : ProgramTree) (image : Fields) (code : Code) (site : Site) (s : State)
@@ -48,13 +25,12 @@ pub record Returns (program : ProgramTree) (image : Fields) (code : Code) (site 
   pub means : Means program (arguments_of image site s) results
   pub turns : ℕ
   pub end : State
-  pub leads : Leads code turns s list end
+  -- each turn makes an access of the call, by the stack pointer as it is then, or none
+  pub leads : LeadsWithin code (IsOfCall image site) turns s list end
   -- those of the body: ECALL would be one turn more
   pub body_turns : ℕ
   pub within_steps : body_turns < image.max_steps
   pub counted : suc turns ≡ around_turns image + body_turns
-  pub within : All (λ (o : Observation). IsOfCall image site (room_base image site) o.event) list
-  pub above : StaysAbove image code site turns body_turns s list end
   pub at_last : end.pc ≡ site.entry + 4 * (length (function_words image) - 1)
   pub left : IsLeft image site s.regs s.bytes results end
   -- a caller of code without compressed instructions stands at a multiple of 4

@@ -1,15 +1,14 @@
 -- What a piece of code does wherever it stands: from every state of some kind it leads to behind its instructions in
 -- an exact number of turns. What it shows is one list, given before the state, so all such states show the same.
-use Rattle.std.specs.Prelude.{ℕ, ◌+◌, ◌*◌, List, [], ◌∷◌, length, map, Option}
-use Rattle.std.proofs.Common.{zero, suc}
+use Rattle.std.specs.Prelude.{ℕ, ◌+◌, ◌*◌, List, length, map, Option}
 use Rattle.codegen.specs.Anywhere.{Stand}
 use Rattle.codegen.specs.program_logic.StraightCode.{Contents, state_at}
+use Rattle.codegen.specs.program_logic.Turns.{LeadsWithin}
 use Rattle.rv_code.specs.declared.instructions.Instr.{Instr}
 use Rattle.rv_code.specs.Words.{word_of}
-use Rattle.linked_calls.specs.Convention.{stack_register}
 use Rattle.rv_machine.specs.declared.observation.Event.{Event}
 use Rattle.rv_machine.specs.declared.observation.Observation.{Observation}
-use Rattle.rv_machine.specs.Machine.{State, Code, Turn, goes_on}
+use Rattle.rv_machine.specs.Machine.{State, Code}
 
 -- what a state holds beside its program counter: registers and bytes
 abbrev pub Data : Type 0
@@ -18,15 +17,6 @@ Data = Contents
 -- with a program counter
 abbrev pub at : ℕ → Data → State
 at p d = state_at p d
-
--- so many turns, none of which stops, lead from one state to another and show this list; each shows what is allowed
--- where the stack pointer is then
-pub data LeadsWithin (code : Code) (Allowed : ℕ → Option Event → Type 0) : ℕ → State → List Observation → State
-    → Type 0 where
-  stays_within : {s : State} → LeadsWithin code Allowed zero s [] s
-  turns_within : {n : ℕ} {o : Observation} {seen : List Observation} {s t u : State} → Turn code s (goes_on o t)
-      → Allowed (s.regs stack_register) o.event → LeadsWithin code Allowed n t seen u
-      → LeadsWithin code Allowed (suc n) s (o ∷ seen) u
 
 -- a run that shows this list, from the first of the instructions to behind the last
 pub record RunOf (code : Code) (start : ℕ) (is : List Instr) (turns : ℕ) (Allowed : ℕ → Option Event

@@ -16,9 +16,9 @@ ghost use Rattle.rv_code.specs.Words.{word_of};
 /// it is called by the standard calling convention it goes back to its caller, in an exact number of turns around those of
 /// its body. It leaves what the source means on the arguments: the result in a0 and the elements of each `mut` array where
 /// its argument points. The registers that a caller may rely on are as they were, the others and the room of the call are 0,
-/// and nothing else has changed. Its accesses stay in the room, the arguments and the arrays; of those around the body none
-/// of the stack lies below the stack pointer. What the call shows is one list for arguments that agree where they are
-/// public, whatever the secret ones are.
+/// and nothing else has changed. Its accesses stay in the room, the arguments and the arrays, and none of the stack lies
+/// below the stack pointer as it is then. What the call shows is one list for arguments that agree where they are public,
+/// whatever the secret ones are.
 pub fn calls_are_linked()
     ensures { CallsAreLinked }
 {}
