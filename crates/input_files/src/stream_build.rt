@@ -8,8 +8,8 @@ mod reading;
 
 pub use building::{
     build_source, build_source_as, build_source_with, build_stream, build_stream_as,
-    build_stream_with,
+    build_stream_keeping, build_stream_with,
 };
-pub use fault::BuildFault;
+pub use fault::{BuildFault, Unbuilt};
 pub use laws::streams_agree;
 pub use reading::{read_text, text_of};

@@ -2,7 +2,6 @@ ghost use Rattle.std.specs.Prelude.{◌≤◌};
 
 use hepurita::build;
 use input_files::stream_build::{BuildFault, build_stream};
-use language::Refusal;
 use std::alloc::{AllocError, Global};
 use std::process::Abort;
 use std::test::Fail;
@@ -54,7 +53,7 @@ fn failing(good_calls: usize) -> Motion {
 }
 
 /// What was answered, in a word.
-fn named(built: Result<(), BuildFault<Refusal>>) -> &'static str {
+fn named(built: Result<(), BuildFault>) -> &'static str {
     match built {
         Ok(()) => "built",
         Err(BuildFault::Read) => "read",

@@ -1,5 +1,5 @@
 -- Harts of a plan as values.
-use Rattle.std.specs.Prelude.{List, map}
+use Rattle.std.specs.Prelude.{map}
 use Rattle.input_files.specs.harts_file.Lines.{PlannedHart}
 use Rattle.input_files.specs.declared.harts_file.jobs.Job.{Job}
 

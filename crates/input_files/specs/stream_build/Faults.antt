@@ -2,6 +2,7 @@
 -- then the text.
 use Rattle.std.specs.Prelude.{◌≡◌, ◌⊎◌, ℕ, ◌<◌, ◌≤◌, List, length, Some, ⊤}
 use Rattle.std.specs.Str.{IsUtf8}
+use Rattle.std.specs.String.{string_bytes}
 use Rattle.hepurita.specs.Built.{Judges, IsRefusal}
 use Rattle.language.specs.declared.refusal.Refusal.{Refusal}
 use Rattle.language.specs.declared.rule.Rule.TheVariants.{TextTooLong}
@@ -11,6 +12,8 @@ use Rattle.word.specs.Places.{origin}
 use Rattle.word.specs.declared.profile.Profile.{Profile}
 use Rattle.input_files.specs.declared.stream_build.fault.BuildFault.{BuildFault}
 use Rattle.input_files.specs.declared.stream_build.fault.BuildFault.TheVariants.{Read, NotUtf8, Refused, Write}
+use Rattle.input_files.specs.declared.stream_build.fault.Unbuilt.{Unbuilt}
+use Rattle.input_files.specs.declared.stream_build.fault.Unbuilt.TheVariants.{Unread, NotAccepted, Unwritten}
 
 -- the bytes are a text that is not too long
 abbrev pub IsText : List ℕ → Type 0
@@ -35,3 +38,10 @@ IsFaultOf profile bytes NotUtf8 = NoText bytes NotUtf8
 IsFaultOf profile bytes (Refused refusal) = NoText bytes (Refused refusal)
     ⊎ (IsText bytes × IsRefusal (Judges profile bytes) refusal)
 IsFaultOf profile bytes Write = IsText bytes
+
+-- the same, where a refused text is handed out with its refusal
+abbrev pub IsUnbuilt : Profile → List ℕ → Unbuilt Refusal → Type 0
+IsUnbuilt profile bytes (Unread fault) = NoText bytes fault
+IsUnbuilt profile bytes (NotAccepted refusal text) = (string_bytes text ≡ bytes) × IsText bytes
+    × IsRefusal (Judges profile bytes) refusal
+IsUnbuilt profile bytes Unwritten = IsText bytes

@@ -5,12 +5,12 @@ ghost use Rattle.streams.specs.Streams.{LosesPart, Writes, WritesPart};
 ghost use Rattle.syntax.specs.Limits.{text_limit};
 ghost use Rattle.word.specs.Counts.{one_more};
 ghost use Rattle.hepurita.specs.Built.{IsBuilt};
-ghost use Rattle.input_files.specs.stream_build.Faults.{IsText, IsFaultOf};
+ghost use Rattle.input_files.specs.stream_build.Faults.{IsText, IsFaultOf, IsUnbuilt};
 
-use crate::stream_build::fault::BuildFault;
+use crate::stream_build::fault::{BuildFault, Unbuilt};
 use crate::stream_build::reading::read_text;
 use hepurita::{Optimisation, build_with};
-use language::{Profile, Refusal};
+use language::Profile;
 use std::alloc::Global;
 use streams::{Sink, Source, put_all};
 
@@ -22,7 +22,7 @@ pub fn build_source_with<R: Source>(
     source: &mut R,
     profile: Profile,
     optimisation: Optimisation,
-) -> Result<Vec<u8>, BuildFault<Refusal>>
+) -> Result<Vec<u8>, BuildFault>
     ensures built { IsTrue R.TELLS → IfOk result (λ bytes. IsBuilt optimisation profile (R.coming source.old) bytes.items) }
     ensures text { IsTrue R.TELLS → OnOk result (IsText (R.coming source.old)) }
     ensures fault { IsTrue R.TELLS → IfErr result (IsFaultOf profile (R.coming source.old)) }
@@ -40,7 +40,7 @@ pub fn build_source_as<R: Source>(
     alloc: Global,
     source: &mut R,
     profile: Profile,
-) -> Result<Vec<u8>, BuildFault<Refusal>>
+) -> Result<Vec<u8>, BuildFault>
     ensures built { IsTrue R.TELLS → IfOk result (λ bytes. IsBuilt Optimisation.Off profile (R.coming source.old) bytes.items) }
     ensures text { IsTrue R.TELLS → OnOk result (IsText (R.coming source.old)) }
     ensures fault { IsTrue R.TELLS → IfErr result (IsFaultOf profile (R.coming source.old)) }
@@ -53,10 +53,7 @@ pub fn build_source_as<R: Source>(
 }
 
 /// The same of the plain image, for an observer of profile 1.
-pub fn build_source<R: Source>(
-    alloc: Global,
-    source: &mut R,
-) -> Result<Vec<u8>, BuildFault<Refusal>>
+pub fn build_source<R: Source>(alloc: Global, source: &mut R) -> Result<Vec<u8>, BuildFault>
     ensures built { IsTrue R.TELLS → IfOk result (λ bytes. IsBuilt Optimisation.Off Profile.P1 (R.coming source.old) bytes.items) }
     ensures text { IsTrue R.TELLS → OnOk result (IsText (R.coming source.old)) }
     ensures fault { IsTrue R.TELLS → IfErr result (IsFaultOf Profile.P1 (R.coming source.old)) }
@@ -69,14 +66,52 @@ pub fn build_source<R: Source>(
 }
 
 /// Compiles the text that a source hands out, for an observer of this profile, and hands its plain or its optimised image to
-/// a sink once that is whole. The text is read to its end, or until it is too long. No failed call is tried again.
+/// a sink once that is whole. The text is read to its end, or until it is too long; one that is refused is handed out with its
+/// refusal. No failed call is tried again.
+pub fn build_stream_keeping<R: Source, W: Sink>(
+    alloc: Global,
+    source: &mut R,
+    sink: &mut W,
+    profile: Profile,
+    optimisation: Optimisation,
+) -> Result<(), Unbuilt>
+    ensures written { IsTrue R.TELLS → IsTrue W.TELLS
+        → OnOk result (Writes (IsBuilt optimisation profile (R.coming source.old)) (W.taken sink.old) (W.taken sink.new)) }
+    ensures beginning { IsTrue R.TELLS → IsTrue W.TELLS → IsErrOf result Unbuilt.Unwritten
+        → WritesPart (IsBuilt optimisation profile (R.coming source.old)) (W.taken sink.old) (W.taken sink.new) }
+    ensures untouched { IfErr result (λ fault. fault ≢ Unbuilt.Unwritten → sink.new ≡ sink.old) }
+    ensures text { IsTrue R.TELLS → OnOk result (IsText (R.coming source.old)) }
+    ensures fault { IsTrue R.TELLS → IfErr result (IsUnbuilt profile (R.coming source.old)) }
+    ensures unread { result ≢ Err (Unbuilt.Unread BuildFault.Write) }
+    ensures part { IsTrue R.TELLS → LosesPart (R.coming source.old) (R.coming source.new) (text_limit + 1) }
+    ensures read_calm { result ≢ Err (Unbuilt.Unread BuildFault.Read) → R.failures source.new ≡ R.failures source.old }
+    ensures read_counts { IsErrOf result (Unbuilt.Unread BuildFault.Read)
+        → R.failures source.new ≡ one_more (R.failures source.old) }
+    ensures write_calm { result ≢ Err Unbuilt.Unwritten → W.failures sink.new ≡ W.failures sink.old }
+    ensures write_counts { IsErrOf result Unbuilt.Unwritten → W.failures sink.new ≡ one_more (W.failures sink.old) }
+{
+    let text = match read_text(alloc, source) {
+        Ok(text) => text,
+        Err(fault) => return Err(Unbuilt::Unread(fault)),
+    };
+    let image = match build_with(alloc, text.as_str(), profile, optimisation) {
+        Ok(image) => image,
+        Err(refusal) => return Err(Unbuilt::NotAccepted(refusal, text)),
+    };
+    match put_all(sink, image.as_slice()) {
+        Ok(()) => Ok(()),
+        Err(_) => Err(Unbuilt::Unwritten),
+    }
+}
+
+/// The same, where a refusal is answered without its text.
 pub fn build_stream_with<R: Source, W: Sink>(
     alloc: Global,
     source: &mut R,
     sink: &mut W,
     profile: Profile,
     optimisation: Optimisation,
-) -> Result<(), BuildFault<Refusal>>
+) -> Result<(), BuildFault>
     ensures written { IsTrue R.TELLS → IsTrue W.TELLS
         → OnOk result (Writes (IsBuilt optimisation profile (R.coming source.old)) (W.taken sink.old) (W.taken sink.new)) }
     ensures beginning { IsTrue R.TELLS → IsTrue W.TELLS → IsErrOf result BuildFault.Write
@@ -90,10 +125,11 @@ pub fn build_stream_with<R: Source, W: Sink>(
     ensures write_calm { result ≢ Err BuildFault.Write → W.failures sink.new ≡ W.failures sink.old }
     ensures write_counts { IsErrOf result BuildFault.Write → W.failures sink.new ≡ one_more (W.failures sink.old) }
 {
-    let image = build_source_with(alloc, source, profile, optimisation)?;
-    match put_all(sink, image.as_slice()) {
+    match build_stream_keeping(alloc, source, sink, profile, optimisation) {
         Ok(()) => Ok(()),
-        Err(_) => Err(BuildFault::Write),
+        Err(Unbuilt::Unread(fault)) => Err(fault),
+        Err(Unbuilt::NotAccepted(refusal, _)) => Err(BuildFault::Refused(refusal)),
+        Err(Unbuilt::Unwritten) => Err(BuildFault::Write),
     }
 }
 
@@ -103,7 +139,7 @@ pub fn build_stream_as<R: Source, W: Sink>(
     source: &mut R,
     sink: &mut W,
     profile: Profile,
-) -> Result<(), BuildFault<Refusal>>
+) -> Result<(), BuildFault>
     ensures written { IsTrue R.TELLS → IsTrue W.TELLS
         → OnOk result (Writes (IsBuilt Optimisation.Off profile (R.coming source.old)) (W.taken sink.old) (W.taken sink.new)) }
     ensures beginning { IsTrue R.TELLS → IsTrue W.TELLS → IsErrOf result BuildFault.Write
@@ -125,7 +161,7 @@ pub fn build_stream<R: Source, W: Sink>(
     alloc: Global,
     source: &mut R,
     sink: &mut W,
-) -> Result<(), BuildFault<Refusal>>
+) -> Result<(), BuildFault>
     ensures written { IsTrue R.TELLS → IsTrue W.TELLS
         → OnOk result (Writes (IsBuilt Optimisation.Off Profile.P1 (R.coming source.old)) (W.taken sink.old) (W.taken sink.new)) }
     ensures beginning { IsTrue R.TELLS → IsTrue W.TELLS → IsErrOf result BuildFault.Write

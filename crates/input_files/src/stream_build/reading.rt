@@ -15,7 +15,7 @@ use syntax::TEXT_LIMIT;
 
 /// The text that a source's bytes are, to its end. One that is too long is not read to its end, and
 /// not asked whether it is UTF-8. No failed call is tried again.
-pub fn read_text<R: Source>(alloc: Global, source: &mut R) -> Result<String, BuildFault<Refusal>>
+pub fn read_text<R: Source>(alloc: Global, source: &mut R) -> Result<String, BuildFault>
     ensures whole { IsTrue R.TELLS → IfOk result (λ text. string_bytes text ≡ R.coming source.old) }
     ensures within { IfOk result (λ text. length (string_bytes text) ≤ text_limit) }
     ensures fault { IsTrue R.TELLS → IfErr result (NoText (R.coming source.old)) }
@@ -34,7 +34,7 @@ pub fn read_text<R: Source>(alloc: Global, source: &mut R) -> Result<String, Bui
 
 /// The text of which these are the first bytes, as many as one that is too long has, or all that there are. Too many of
 /// them are not asked whether they are UTF-8.
-pub fn text_of(bytes: Vec<u8>) -> Result<String, BuildFault<Refusal>>
+pub fn text_of(bytes: Vec<u8>) -> Result<String, BuildFault>
     ensures whole { (all : List ℕ) → bytes.items ≡ take (text_limit + 1) all → IfOk result (λ text. string_bytes text ≡ all) }
     ensures within { IfOk result (λ text. length (string_bytes text) ≤ text_limit) }
     ensures fault { (all : List ℕ) → bytes.items ≡ take (text_limit + 1) all → IfErr result (NoText all) }

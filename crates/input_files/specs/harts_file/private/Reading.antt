@@ -1,7 +1,7 @@
 -- What a reader has, as the definitions on lines see it.
-use Rattle.std.specs.Prelude.{ℕ, ◌-◌, ◌^◌, min, true, List, [], ◌∷◌, ◌++◌, length, map, Option, Some, None}
+use Rattle.std.specs.Prelude.{ℕ, ◌-◌, ◌^◌, min, true, [], ◌∷◌, ◌++◌, length, map, Option, Some, None}
 use Rattle.input_files.specs.harts_file.Faults.{Given}
-use Rattle.input_files.specs.harts_file.Lines.{PlannedHart, PlannedTurns, turns_of, rounds, Said, a_hart, some_turns}
+use Rattle.input_files.specs.harts_file.Lines.{PlannedTurns, turns_of, rounds, Said, a_hart, some_turns}
 use Rattle.input_files.specs.harts_file.Plans.{turns_listed}
 use Rattle.input_files.specs.harts_file.Jobs.{hart_of}
 use Rattle.input_files.specs.declared.harts_file.lines.Line.{Line}
