@@ -14,14 +14,14 @@ use crate::command_line::CompileOptions;
 use crate::fault::{Fault, FileFault};
 use crate::files::Files;
 use explanations::explained_refusals::explain_refusal;
-use hepurita::{build_with, judge_as};
-use input_files::stream_build::{BuildFault, read_text};
+use hepurita::judge_as;
+use input_files::stream_build::{BuildFault, Unbuilt, build_stream_keeping, read_text};
 use language::{Profile, Refusal};
 use std::alloc::Global;
-use streams::put_all;
+use streams::{ByteSink, put_all};
 
 /// Why the bytes of a file are no text.
-pub fn text_fault(file: &str, fault: BuildFault<Refusal>) -> Fault<'_>
+pub fn text_fault(file: &str, fault: BuildFault) -> Fault<'_>
     ensures fault { (files : Contents) (bytes : List ℕ) → files file.now ≡ Some bytes → texts.NoText bytes fault
         → NoText files file.now result }
     ensures counts { (before : Store) → fault ≡ BuildFault.Read → IsReadBy result before (failed before) }
@@ -114,9 +114,40 @@ pub fn check_text<'a, F: Files>(
     }
 }
 
-/// Compiles the source of one file, for an observer, to the plain or the optimised image of another. This is the engine
-/// `build_stream_with` in two calls: the text is read as it reads one, and stays at hand for who explains a refusal; and the
-/// image is created, and its bytes are put, only once the text was accepted. A refusal does not depend on the optimisation.
+/// The plain or the optimised image of the source of a file, for an observer. It is put into memory: where it goes to is
+/// opened only once the text was accepted. A refusal of the source is explained where that is asked for.
+fn image_of_text<'a, F: Files>(
+    alloc: Global,
+    file: &'a str,
+    options: CompileOptions,
+    files: &mut F,
+) -> Result<ByteSink, Fault<'a>>
+    ensures said { IsTrue F.TELLS → IfOk result
+        (λ image. IsImageOf options.optimisation options.profile (F.store files.old).contents file.now image.bytes) }
+    ensures refused { IsTrue F.TELLS
+        → IfErr result (IsRefusedSo options.explain options.profile (F.store files.old).contents file.now) }
+    ensures calm { OnOk result (F.store files.new ≡ F.store files.old) }
+    ensures counted { IfErr result (λ fault. IsReadBy fault (F.store files.old) (F.store files.new)) }
+{
+    let Ok(mut source) = files.open(file) else {
+        return Err(Fault::File(FileFault::CannotRead(file)));
+    };
+    let mut image = ByteSink::new(alloc);
+    let (profile, optimisation) = (options.profile, options.optimisation);
+    let built = build_stream_keeping(alloc, &mut source, &mut image, profile, optimisation);
+    files.close(source);
+    match built {
+        Ok(()) => Ok(image),
+        Err(Unbuilt::Unread(fault)) => Err(text_fault(file, fault)),
+        Err(Unbuilt::NotAccepted(refusal, text)) => {
+            Err(refused(alloc, text.as_str(), refusal, options.explain))
+        }
+        Err(Unbuilt::Unwritten) => Err(Fault::Text(Refusal::memory())),
+    }
+}
+
+/// Compiles the source of one file, for an observer, to the plain or the optimised image of another, which is created only
+/// once the text was accepted. A refusal does not depend on the optimisation.
 pub fn build_image<'a, F: Files>(
     alloc: Global,
     file: &'a str,
@@ -139,9 +170,6 @@ pub fn build_image<'a, F: Files>(
     ensures counted { IfErr result (λ fault. (F.store files.new).failures
         ≡ failures_by fault (F.store files.old).failures) }
 {
-    let text = text_of_file(alloc, file, files)?;
-    match build_with(alloc, text.as_str(), options.profile, options.optimisation) {
-        Ok(built) => write_file(image, built.as_slice(), files),
-        Err(refusal) => Err(refused(alloc, text.as_str(), refusal, options.explain)),
-    }
+    let built = image_of_text(alloc, file, options, files)?;
+    write_file(image, built.as_slice(), files)
 }
