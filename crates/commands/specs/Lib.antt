@@ -26,3 +26,4 @@ pub mod Failures
 pub mod Vectors
 pub mod Progress
 pub mod Requests
+pub mod Commanded

@@ -1,6 +1,7 @@
 // A request, done.
 
-ghost use Rattle.std.specs.Prelude.{◌≡◌, ◌≤◌, ◌++◌, ◌⊎◌, IsTrue, IfOk, IfErr, OnOk, OnErr};
+ghost use Rattle.std.specs.Prelude.{◌≡◌, ◌≤◌, ◌++◌, ◌⊎◌, ℕ, map, IsTrue, IfOk, IfErr, OnOk, OnErr};
+ghost use Rattle.commands.specs.Commanded.{Commands, Says};
 ghost use Rattle.commands.specs.Failures.{Counts};
 ghost use Rattle.commands.specs.FaultText.{fault_status};
 ghost use Rattle.commands.specs.Leaks.{IsOutputFault};
@@ -41,8 +42,8 @@ pub const STOPPED: u8 = 5;
 
 const OUT_OF_MEMORY: &str = "refused: M1: memory\n";
 
-/// Does what the words ask for, of which the first is the program's own name, and answers the exit
-/// status: 0 done, 1 refused by a rule or not certified, 2 the command line is wrong, 3 a file failed, 4 memory, 5
+/// Does what the words ask for, of which the first is the program's own name, or says why they ask for nothing, and answers
+/// the exit status: 0 done, 1 refused by a rule or not certified, 2 the command line is wrong, 3 a file failed, 4 memory, 5
 /// stopped otherwise than by ECALL.
 pub fn command<'a, F: Files, O: Sink, E: Sink>(
     alloc: Global,
@@ -51,8 +52,13 @@ pub fn command<'a, F: Files, O: Sink, E: Sink>(
     out: &mut O,
     err: &mut E,
 ) -> u8
+    ensures commanded { IsTrue F.TELLS → IsTrue O.TELLS → IsTrue E.TELLS
+        → Commands (map (λ word. word.now) words.now) (F.store files.old) (F.store files.new)
+        (collected (O.taken out.old) (O.failures out.old)) (collected (O.taken out.new) (O.failures out.new))
+        (collected (E.taken err.old) (E.failures err.old)) (collected (E.taken err.new) (E.failures err.new)) result }
     ensures known { result ≤ 5 }
     ensures calm { result ≡ 0 → O.failures out.new ≡ O.failures out.old }
+    ensures counted { Ends (F.store files.old).failures (F.store files.new).failures (O.failures out.old) (O.failures out.new) result }
 {
     match parse(alloc, words) {
         Ok(request) => perform(alloc, request, files, out, err),
@@ -109,8 +115,12 @@ fn report<E: Sink>(alloc: Global, fault: &Fault<'_>, err: &mut E) -> u8
 
 /// Prints what is wrong with the command line, or the help or the version that was asked for.
 fn explain<O: Sink, E: Sink>(alloc: Global, said: NoRequest, out: &mut O, err: &mut E) -> u8
+    ensures told { IsTrue O.TELLS → IsTrue E.TELLS
+        → Says (collected (O.taken out.old) (O.failures out.old)) (collected (O.taken out.new) (O.failures out.new))
+        (collected (E.taken err.old) (E.failures err.old)) (collected (E.taken err.new) (E.failures err.new)) result }
     ensures known { result ≤ 5 }
     ensures calm { result ≡ 0 → O.failures out.new ≡ O.failures out.old }
+    ensures counted { (files : ℕ) → Ends files files (O.failures out.old) (O.failures out.new) result }
 {
     match said {
         NoRequest::Memory => report(alloc, &Fault::Text(Refusal::memory()), err),

@@ -1,6 +1,6 @@
 -- Which words of a command line are arguments, and which profile is named.
-use Rattle.std.specs.Prelude.{ℕ, Bool, ◌||◌, if◌then◌else◌, List, [], ◌∷◌, drop, codes, Option, Some, None}
-use Rattle.std.specs.Prelude.{slice_index_or, map}
+use Rattle.std.specs.Prelude.{◌≡◌, ℕ, Bool, ◌||◌, if◌then◌else◌, List, [], ◌∷◌, drop, codes, Option, Some, None}
+use Rattle.std.specs.Prelude.{slice_index_or, map, IfSome}
 use Rattle.std.specs.Str.{bytes_eq}
 use Rattle.word.specs.declared.profile.Profile.{Profile}
 use Rattle.word.specs.declared.profile.Profile.TheVariants.{P1, P2}
@@ -39,3 +39,7 @@ arguments_of (Pair image arguments options) = Some (map (λ word. word.now) argu
 arguments_of (Certify image arguments shifts progress) = Some (map (λ word. word.now) arguments.now)
 arguments_of (Picture image arguments) = Some (map (λ word. word.now) arguments.now)
 arguments_of request = None
+
+-- a request may be what words ask for: its arguments, if it takes any, are the words behind a path
+abbrev pub IsAskedBy : List (List ℕ) → Request → Type 0
+IsAskedBy words request = IfSome (arguments_of request) (λ arguments. arguments ≡ after_path words)

@@ -1,5 +1,5 @@
-ghost use Rattle.std.specs.Prelude.{◌≡◌, map, IfOk, IfSome};
-ghost use Rattle.commands.specs.command_line.Words.{is_flag, behind_flags, after_path, arguments_of};
+ghost use Rattle.std.specs.Prelude.{◌≡◌, map, IfOk};
+ghost use Rattle.commands.specs.command_line.Words.{is_flag, behind_flags, after_path, IsAskedBy};
 
 use crate::command_line::asked::request_of;
 use crate::command_line::grammar::factc;
@@ -98,7 +98,7 @@ pub enum NoRequest {
 
 /// Reads the words, of which the first is the program's own name. The arguments of a request are the words behind its path.
 pub fn parse<'a>(alloc: Global, words: &'a [&'a str]) -> Result<Request<'a>, NoRequest>
-    ensures { IfOk result (λ request. IfSome (arguments_of request) (λ arguments. arguments ≡ after_path (map (λ word. word.now) words.now))) }
+    ensures { IfOk result (IsAskedBy (map (λ word. word.now) words.now)) }
 {
     match asked(alloc, words) {
         Ok(request) => Ok(request),
@@ -120,7 +120,7 @@ fn said(alloc: Global, error: &Error) -> NoRequest {
 
 /// What the words ask for, as `clap` reads them.
 fn asked<'a>(alloc: Global, words: &'a [&'a str]) -> Result<Request<'a>, Error>
-    ensures { IfOk result (λ request. IfSome (arguments_of request) (λ arguments. arguments ≡ after_path (map (λ word. word.now) words.now))) }
+    ensures { IfOk result (IsAskedBy (map (λ word. word.now) words.now)) }
 {
     let mut command = factc(alloc)?;
     let matches = command.try_get_matches_from_mut(words)?;
