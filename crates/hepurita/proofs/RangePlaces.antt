@@ -18,7 +18,7 @@ use Rattle.inline.specs.Numbering.{call_value, call_names, call_start, call_vari
 use Rattle.inline.specs.Numbering.{right_block, right, element_block, dropped_block, value_of, parameter_names}
 use Rattle.inline.specs.Numbering.{return_names}
 use Rattle.inline.specs.Numbering as numbering
-use Rattle.intervals.specs.declared.interval.Interval.{Interval}
+use Rattle.language.specs.declared.interval.Interval.{Interval}
 use Rattle.intervals.specs.Intervals.{Bounds, interval}
 use Rattle.intervals.specs.Limits.{most_work}
 use Rattle.intervals.specs.Ranges.{index_violations, term_violations, terms_violations, violations_all}

@@ -3,7 +3,7 @@ use Rattle.std.proofs.Common.{◌≡◌, ℕ, List, [], ◌∷◌, length, false
 use Rattle.inline.specs.declared.flat.FlatVariable.{FlatVariable}
 use Rattle.inline.specs.Flat.{TermTree, number, truth, variable, binary, rotate, convert, select, element, nothing}
 use Rattle.inline.specs.Flat.{first, declare, put, hold, skip, loop, FlatBlock, FlatProgram, word_as, array_as}
-use Rattle.intervals.specs.declared.interval.Interval.{Interval}
+use Rattle.language.specs.declared.interval.Interval.{Interval}
 use Rattle.intervals.specs.Intervals.{Bounds, between, interval, operated_interval, prefix_interval, converted_interval}
 use Rattle.intervals.specs.Narrowing.{where_false, where_true}
 use Rattle.intervals.specs.Ranges.{counter_interval, most_turns, range_violations, turns_of}

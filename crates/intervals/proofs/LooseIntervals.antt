@@ -6,7 +6,7 @@ use Rattle.std.proofs.Math.Nat.{le-max_left, le-max_right, le-min, min-le_left, 
 use Rattle.std.proofs.lemmas.Bool.{and_parts, cond_both}
 use Rattle.std.proofs.lemmas.Bool.Decides.{nat_tests}
 use Rattle.std.proofs.lemmas.Nat.{and_le_l, and_le_r, le-div, mul-le, pow_pos}
-use Rattle.intervals.specs.declared.interval.Interval.{Interval}
+use Rattle.language.specs.declared.interval.Interval.{Interval}
 use Rattle.intervals.specs.Intervals.{between, either_truth, greatest, full, full_of, fitting, shifted_interval}
 use Rattle.intervals.specs.Intervals.{operated_interval, prefix_interval, converted_interval, hull}
 use Rattle.language.specs.Operators.{operated, prefix_value, truth_of, width_of}

@@ -12,7 +12,7 @@ use Rattle.inline.specs.Flat.{word_as, TermTree, variable}
 use Rattle.inline.specs.FlatMeaning.{Values}
 use Rattle.inline.specs.FlatTyping.{Types, types_of, HasType, of_variable, of_binary}
 use Rattle.inline.specs.Path.{Path}
-use Rattle.intervals.specs.declared.interval.Interval.{Interval}
+use Rattle.language.specs.declared.interval.Interval.{Interval}
 use Rattle.intervals.specs.declared.said.Said.{Said}
 use Rattle.intervals.specs.Intervals.{Bounds, known, with_bound, between, full_at, interval}
 use Rattle.intervals.specs.Loose.{Comes, to_variable, to_binary, to_anything}

@@ -18,7 +18,7 @@ use Rattle.inline.specs.Path.{Path, AreFine, bounded, indexed}
 use Rattle.intervals.proofs.Below.{some_bit, fine_both, fits_assigned, fits_declared, one_held, with_type-same}
 use Rattle.intervals.proofs.Below.{with_type-other, with_value-same, with_value-other}
 use Rattle.intervals.proofs.Below.{new_number, type_kept, types_kept}
-use Rattle.intervals.specs.declared.interval.Interval.{Interval}
+use Rattle.language.specs.declared.interval.Interval.{Interval}
 use Rattle.intervals.specs.Intervals.{Bounds, known, with_bound, between, interval}
 use Rattle.intervals.specs.Loose.{Comes, ComeAll, none_left, one_more, made, Leads, declares, declares_array, assigns}
 use Rattle.intervals.specs.Loose.{puts, holds as holding, skips, chooses, repeats, Turns, no_turn, a_turn, LeadAll}

@@ -12,7 +12,7 @@ use Rattle.inline.specs.FlatTyping.{of_rotation, of_conversion, of_selection, of
 use Rattle.inline.specs.Path.{Path, AreFine, divided, indexed, multiplied}
 use Rattle.intervals.proofs.Below.{bit_fits, fine_both, element_fits, either_fits, number_fits, operated_fits, prefix_fits}
 use Rattle.intervals.proofs.Below.{wrapped_fits}
-use Rattle.intervals.specs.declared.interval.Interval.{Interval}
+use Rattle.language.specs.declared.interval.Interval.{Interval}
 use Rattle.intervals.specs.Intervals.{Bounds, known, full_at, full_of, interval}
 use Rattle.intervals.specs.Loose.{Comes, to_number, to_truth, to_variable, to_prefix, to_binary, to_rotation}
 use Rattle.intervals.specs.Loose.{to_conversion, to_selection, to_element, to_anything}

@@ -14,7 +14,7 @@ use Rattle.inline.specs.FlatTyping.{Types, types_of, IsResult, IsTypedProgram, e
 use Rattle.inline.specs.Path.{Mark, decided, bounded, indexed, divided, multiplied, Path, fault_at, either}
 use Rattle.inline.specs.Path.{first_fault, IsFine, AreFine}
 use Rattle.intervals.proofs.Below.{element_fits, fine_both, parameters_fit}
-use Rattle.intervals.specs.declared.interval.Interval.{Interval}
+use Rattle.language.specs.declared.interval.Interval.{Interval}
 use Rattle.intervals.specs.Intervals.{Bounds, full_of, known}
 use Rattle.intervals.specs.Loose.{IsSafe, Returns, nothing_returned, returned}
 use Rattle.intervals.specs.Ranges.{bound_by, bound_of, bounds_after_all, first_bounds, range_violations}

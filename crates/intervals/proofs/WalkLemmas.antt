@@ -6,7 +6,7 @@ use Rattle.inline.specs.declared.flat.FlatStatement.{FlatStatement, Branch, Loop
 use Rattle.inline.specs.declared.flat.FlatVariable.{FlatVariable}
 use Rattle.inline.specs.declared.flat.Term.{Term}
 use Rattle.inline.specs.Flat.{term_tree, flat_tree, flat_block, branch, loop, first}
-use Rattle.intervals.specs.declared.interval.Interval.{Interval}
+use Rattle.language.specs.declared.interval.Interval.{Interval}
 use Rattle.intervals.specs.Intervals.{Bounds, interval, with_bound}
 use Rattle.intervals.specs.Narrowing.{met, met_all, where_true, where_false}
 use Rattle.intervals.specs.declared.said.Said.{Said}

@@ -4,7 +4,7 @@ use Rattle.std.specs.Prelude.{None, Some, if◌then◌else◌}
 use Rattle.std.specs.Option.{option_to_list}
 use Rattle.inline.specs.declared.flat.FlatVariable.{FlatVariable}
 use Rattle.inline.specs.Flat.{TermTree, variable, binary, number, truth, prefix, rotate, convert, select, element}
-use Rattle.intervals.specs.declared.interval.Interval.{Interval}
+use Rattle.language.specs.declared.interval.Interval.{Interval}
 use Rattle.intervals.specs.declared.said.Said.{Said}
 use Rattle.intervals.specs.Intervals.{Bounds, known, with_bound, between, interval, full_at}
 use Rattle.language.specs.declared.signature.Label.{Label}

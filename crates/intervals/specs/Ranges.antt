@@ -6,7 +6,7 @@ use Rattle.inline.specs.declared.flat.FlatVariable.{FlatVariable}
 use Rattle.inline.specs.Flat.{TermTree, number, truth, variable, prefix, binary, rotate, convert, select, element}
 use Rattle.inline.specs.Flat.{FlatTree, declare, array, assign, put, hold, skip, branch, loop, FlatBlock, nothing}
 use Rattle.inline.specs.Flat.{first, FlatProgram}
-use Rattle.intervals.specs.declared.interval.Interval.{Interval}
+use Rattle.language.specs.declared.interval.Interval.{Interval}
 use Rattle.intervals.specs.Intervals.{Bounds, with_bound, between, interval, full_of}
 use Rattle.intervals.specs.Narrowing.{where_true, where_false}
 use Rattle.language.specs.Operators.{divides}

@@ -17,7 +17,7 @@ pub enum Cause {
 }
 
 /// A violation of ranges, and why it is one.
-#[derive(Clone, Copy, Debug, PartialEq, Eq)]
+#[derive(Clone, Copy, Debug)]
 pub struct Finding {
     pub violation: Violation,
     pub cause: Cause,

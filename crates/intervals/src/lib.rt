@@ -3,7 +3,6 @@
 #![tactic(auto)]
 
 mod found;
-mod interval;
 mod known;
 mod laws;
 mod limits;
@@ -17,7 +16,7 @@ mod walk;
 mod work;
 
 pub use found::{Cause, Finding};
-pub use interval::Interval;
+pub use language::Interval;
 pub use laws::{
     accepted_is_safe, findings_are_violations, safe_runs_are_within_work, safe_runs_meet_no_fault,
     strict_runs_are_loose,

@@ -3,7 +3,7 @@ ghost use Rattle.std.specs.List.{AllByRecursion};
 ghost use Rattle.word.specs.Places.{origin};
 ghost use Rattle.word.specs.declared.profile.Profile.TheVariants.{P1};
 ghost use Rattle.language.specs.declared.rule.Rule.TheVariants.{NotExactlyOneExport};
-ghost use Rattle.language.specs.FirstViolation.{IsRefusedFor};
+ghost use Rattle.language.specs.FirstViolation.{IsRefusedFor, IsToldOf};
 ghost use Rattle.language.specs.Grammatical.{IsGrammatical};
 ghost use Rattle.language.specs.Signature.{exported};
 ghost use Rattle.language.specs.Tree.{procedure_tree, program_tree};
@@ -144,10 +144,11 @@ pub fn check_as<'p, 'a>(
     ensures well_typed { IfOk result (λ _. length (violations profile (program_tree program.now)) ≡ 0) }
     ensures empty { program.now ≡ [] → IfErr result (λ refusal. (refusal.rule ≡ NotExactlyOneExport) × (refusal.place ≡ Some origin)) }
     ensures refused { IfErr result (λ refusal. IsRefusedFor (violations profile (program_tree program.now)) refusal.rule refusal.place) }
+    ensures told { IfErr result (IsToldOf (violations profile (program_tree program.now))) }
 {
     let found = judged(alloc, program.procedures(), profile)?;
     if let Some(violation) = found.violation {
-        return Err(Refusal::at(violation.rule, violation.place));
+        return Err(Refusal::of(violation));
     }
     match found.export {
         Some(export) => Ok(Checked {
@@ -166,6 +167,7 @@ pub fn check<'p, 'a>(alloc: Global, program: &'p Program<'a>) -> Result<Checked<
     ensures well_typed { IfOk result (λ _. length (violations P1 (program_tree program.now)) ≡ 0) }
     ensures empty { program.now ≡ [] → IfErr result (λ refusal. (refusal.rule ≡ NotExactlyOneExport) × (refusal.place ≡ Some origin)) }
     ensures refused { IfErr result (λ refusal. IsRefusedFor (violations P1 (program_tree program.now)) refusal.rule refusal.place) }
+    ensures told { IfErr result (IsToldOf (violations P1 (program_tree program.now))) }
 {
     check_as(alloc, program, Profile::P1)
 }

@@ -1,9 +1,11 @@
 -- Which of several violations is named: that of least place, and of those at one place the rule that comes first.
-use Rattle.std.specs.Prelude.{◌≡◌, ◌<◌, ◌≤◌, ◌⊎◌, List, Option, Some, Contains, All}
+use Rattle.std.specs.Prelude.{◌≡◌, ◌<◌, ◌≤◌, ◌⊎◌, List, Option, None, Some, Contains, All, fold}
 use Rattle.word.specs.declared.place.Place.{Place}
+use Rattle.language.specs.declared.refusal.Refusal.{Refusal}
 use Rattle.language.specs.declared.rule.Rule.{Rule}
 use Rattle.language.specs.declared.typing.Violation.{Violation}
 use Rattle.language.specs.Rules.{rank_of}
+use Rattle.language.specs.Sooner.{sooner}
 use Rattle.language.specs.WantOfMemory.{IsWantOfMemory}
 
 -- u is named rather than v
@@ -21,3 +23,18 @@ abbrev pub IsRefusedFor : List Violation → Rule → Option Place → Type 0
 IsRefusedFor all rule place =
     IsWantOfMemory rule place ⊎ ((first : Violation) × IsFirst all first × (rule ≡ first.rule)
     × (place ≡ Some first.place))
+
+-- of these, as they come, it is the first that is named
+abbrev pub IsNamed : List Violation → Violation → Type 0
+IsNamed all first = fold sooner None all ≡ Some first
+
+-- the refusal tells of the violation: its rule, its place, and why
+pub record TellsOf (refusal : Refusal) (violation : Violation) : Type 0 where
+  pub rule : refusal.rule ≡ violation.rule
+  pub place : refusal.place ≡ Some violation.place
+  pub why : refusal.why ≡ violation.why
+
+-- the refusal says out of memory, or it tells of the first of these
+abbrev pub IsToldOf : List Violation → Refusal → Type 0
+IsToldOf all refusal = IsWantOfMemory refusal.rule refusal.place
+    ⊎ ((first : Violation) × IsNamed all first × TellsOf refusal first)

@@ -17,6 +17,8 @@ use Rattle.language.specs.declared.typing.ValueType.{ValueType}
 use Rattle.language.specs.declared.typing.ValueType.TheVariants.{Word, Array, Nothing}
 use Rattle.language.specs.declared.typing.VariableType.{VariableType}
 use Rattle.language.specs.declared.typing.Violation.{Violation}
+use Rattle.language.specs.declared.why.Why.{Why}
+use Rattle.language.specs.declared.why.Why.TheVariants.{Plain}
 
 -- Scopes.
 
@@ -143,9 +145,13 @@ are_alike a b = (is_numeric a && is_numeric b) || (is_bool a && is_bool b)
 abbrev pub when : Bool → Rule → List Rule
 when holds rule = if holds then rule ∷ [] else []
 
--- rules violated at a place
+-- rules violated at a place for this reason
+abbrev pub because : Why → Place → List Rule → List Violation
+because why place rules = map (λ rule. record { place = place; rule = rule; why = why }) rules
+
+-- rules violated at a place, where rule and place say it all
 abbrev pub at : Place → List Rule → List Violation
-at place rules = map (λ rule. record { place = place; rule = rule }) rules
+at place rules = because Plain place rules
 
 -- no rule is violated
 abbrev pub are_met : List Rule → Bool

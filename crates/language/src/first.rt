@@ -1,8 +1,8 @@
 ghost use Rattle.std.specs.Prelude.{◌≡◌, fold};
-ghost use Rattle.language.specs.Types.{at, when};
+ghost use Rattle.language.specs.Types.{at, because, when};
 ghost use Rattle.language.specs.Sooner.{sooner};
 
-use crate::{Place, Rule, Violation};
+use crate::{Place, Rule, Violation, Why};
 
 /// The first of the violations seen so far.
 #[derive(Drop)]
@@ -11,17 +11,24 @@ pub struct First {
 }
 
 impl First {
-    /// Notes a rule that is violated at a place, where it is.
-    pub fn note_if(&mut self, violated: bool, place: Place, rule: Rule)
-        ensures { self.new.seen ≡ fold sooner self.old.seen (at place (when violated rule)) }
+    /// Notes a rule that is violated at a place for this reason, where it is.
+    pub fn note(&mut self, violated: bool, place: Place, rule: Rule, why: Why)
+        ensures { self.new.seen ≡ fold sooner self.old.seen (because why place (when violated rule)) }
     {
         if !violated {
             return;
         }
-        let one = Violation { place, rule };
+        let one = Violation { place, rule, why };
         match self.seen {
             Some(other) if !one.precedes(other) => {}
             _ => self.seen = Some(one),
         }
+    }
+
+    /// The same, where rule and place say it all.
+    pub fn note_if(&mut self, violated: bool, place: Place, rule: Rule)
+        ensures { self.new.seen ≡ fold sooner self.old.seen (at place (when violated rule)) }
+    {
+        self.note(violated, place, rule, Why::Plain);
     }
 }

@@ -6,6 +6,7 @@
 
 pub mod arguments;
 mod first;
+mod interval;
 mod laws;
 mod limits;
 pub mod names;
@@ -19,8 +20,10 @@ mod tree;
 mod typing;
 pub mod typing_laws;
 mod values;
+mod why;
 
 pub use first::First;
+pub use interval::Interval;
 pub use laws::rows_are_blocks;
 pub use limits::{
     MOST_BODIES, MOST_DECLARED_BYTES, MOST_ELEMENTS, MOST_NODES, limits_are_as_stated,
@@ -36,4 +39,8 @@ pub use tree::{
 };
 pub use typing::{ArrayType, Callee, Declared, ValueType, VariableType, Violation, WordType};
 pub use values::{Arg, Args, Numbers, Outcome};
+pub use why::{
+    ArgumentCounts, ComparedTypes, Counted, Excess, IndexRange, Literal, Part, SecretControl,
+    Share, SharedArray, TypedPart, ValueCounts, Why,
+};
 pub use word::{Place, Profile};

@@ -1,6 +1,6 @@
 ghost use Rattle.std.specs.Prelude.{◌≡◌};
 
-use crate::{Kind, Label, Place, Rule};
+use crate::{Kind, Label, Place, Rule, Why};
 
 /// The type of a word.
 #[derive(Clone, Copy, Debug, PartialEq, Eq)]
@@ -138,11 +138,12 @@ pub enum Declared {
     Variable(VariableType),
 }
 
-/// A rule that is violated at a place.
-#[derive(Clone, Copy, Debug, PartialEq, Eq)]
+/// A rule that is violated at a place, and why.
+#[derive(Clone, Copy, Debug)]
 pub struct Violation {
     pub place: Place,
     pub rule: Rule,
+    pub why: Why,
 }
 
 impl Violation {

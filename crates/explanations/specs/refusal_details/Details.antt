@@ -7,7 +7,7 @@ use Rattle.std.specs.Option.{option_map}
 use Rattle.intervals.specs.declared.found.Cause.{Cause}
 use Rattle.intervals.specs.declared.found.Cause.TheVariants.{Index, Divisor}
 use Rattle.intervals.specs.declared.found.Finding.{Finding}
-use Rattle.intervals.specs.declared.interval.Interval.{Interval}
+use Rattle.language.specs.declared.interval.Interval.{Interval}
 use Rattle.explanations.specs.refusal_details.ExpectedLines.{SaysExpected}
 use Rattle.explanations.specs.refusal_details.Found.{IsExportOf, first_in, flat_of}
 use Rattle.explanations.specs.refusal_details.SizeLines.{declared_bytes_lines, inlined_size_lines, work_line}

@@ -41,6 +41,18 @@ returns-in-Some-clause-refused c =
       c.in-Some.violation,
       found_first (violations c.args.profile (program_tree c.args.program.now))
           c.in-Some.violation (sym seen ∙ c.in-Some.is),
-      c.at.ensures.rule,
-      c.at.ensures.place,
+      c.of.ensures.rule,
+      c.of.ensures.place,
+    )
+
+pub returns-in-Some-clause-told : goal.returns-in-Some-clause-told
+returns-in-Some-clause-told c =
+    let items = c.args.program.now in
+    let slice = c.procedures.result.now in
+    let seen = seen_same c.args.profile items slice c.procedures.ensures.procedures c.in_ok-found.found.violation
+    c.in_ok-found.ensures.violation in
+    inr (
+      c.in-Some.violation,
+      sym seen ∙ c.in-Some.is,
+      record { rule = c.of.ensures.rule; place = c.of.ensures.place; why = c.of.ensures.why },
     )
