@@ -3,3 +3,4 @@ mod RuleLemmas
 mod ClashLemmas
 mod TreeLemmas
 pub mod ExportLemmas
+pub mod TypedLemmas

@@ -1,14 +1,15 @@
-ghost use Rattle.std.specs.Prelude.{◌≡◌, ◌++◌, ◌&&◌, [], fold, length, map};
+ghost use Rattle.std.specs.Prelude.{◌≡◌, ◌&&◌, fold, length, map};
 ghost use Rattle.language.specs.Tree.{expr_tree, parameter_tree};
-ghost use Rattle.language.specs.Types.{are_met, at};
-ghost use Rattle.language.specs.Typing.{all_passed_rules, argument_variable, is_immutable, is_mutable};
-ghost use Rattle.language.specs.Typing.{parameter_value, passed, passed_rules};
+ghost use Rattle.language.specs.Types.{are_met};
+ghost use Rattle.language.specs.Typing.{argument_declared, argument_variable, argument_violations, is_immutable, is_mutable};
+ghost use Rattle.language.specs.Typing.{parameter_value, passed, passed_violations};
 ghost use Rattle.language.specs.Sooner.{sooner};
 
 use crate::values::note_argument;
 use language::scopes::Scope;
 use language::{
-    ArrayType, Expr, First, Form, Parameter, Place, Rule, ValueType, VariableType, WordType,
+    ArrayType, Expr, First, Form, Parameter, Part, Place, Rule, Typed, ValueType, VariableType,
+    Why, WordType,
 };
 
 /// What a parameter is.
@@ -54,38 +55,49 @@ fn is_fixed<'a>(names: &Scope<'a>, parameter: &Parameter<'a>, argument: &Expr<'a
     parameter.form.is_mutable() && is_immutable(argument_variable(names, argument))
 }
 
+/// Where the variable is declared that an argument is the bare name of.
+fn argument_declared<'a>(names: &Scope<'a>, argument: &Expr<'a>) -> Place
+    ensures { result ≡ argument_declared names.now (expr_tree argument.now) }
+{
+    match argument {
+        Expr::Name(_, text) => names.place(text),
+        _ => Place::ORIGIN,
+    }
+}
+
 /// Notes what an argument violates beside its parameter, and says whether it violates nothing.
 fn note_passed<'a>(
     names: &Scope<'a>,
     first: &mut First,
     place: Place,
     parameter: &Parameter<'a>,
-    given: ValueType,
+    given: Typed,
     argument: &Expr<'a>,
 ) -> bool
-    ensures met { result ≡ are_met (passed_rules names.now (record { parameter = parameter_tree parameter.now; given = given; argument = expr_tree argument.now })) }
-    ensures first { first.new.seen ≡ fold sooner first.old.seen (at place (passed_rules names.now (record { parameter = parameter_tree parameter.now; given = given; argument = expr_tree argument.now }))) }
+    ensures met { result ≡ are_met (argument_violations names.now place (record { parameter = parameter_tree parameter.now; given = given; argument = expr_tree argument.now })) }
+    ensures first { first.new.seen ≡ fold sooner first.old.seen (argument_violations names.now place (record { parameter = parameter_tree parameter.now; given = given; argument = expr_tree argument.now })) }
 {
-    let fits = note_argument(first, place, parameter_value(parameter), given);
+    let part = Part::Parameter(parameter.place);
+    let fits = note_argument(first, place, part, parameter_value(parameter), given);
     let fixed = is_fixed(names, parameter, argument);
-    first.note_if(fixed, place, Rule::NotMutable);
+    let why = Why::Fixed(argument_declared(names, argument));
+    first.note(fixed, place, Rule::NotMutable, why);
     fits && !fixed
 }
 
-/// Notes what arguments of these types violate beside the parameters, and says whether they violate
-/// nothing.
+/// Notes what well-typed arguments violate beside the parameters, and says whether they violate nothing.
 pub fn note_all_passed<'a>(
     names: &Scope<'a>,
     first: &mut First,
     place: Place,
     parameters: &[Parameter<'a>],
-    types: &[ValueType],
+    types: &[Typed],
     arguments: &[Expr<'a>],
 ) -> bool
     requires types { length types.now ≡ length parameters.now }
     requires arguments { length arguments.now ≡ length parameters.now }
-    ensures met { result ≡ are_met (all_passed_rules names.now (passed (map parameter_tree parameters.now) types.now (map expr_tree arguments.now))) }
-    ensures first { first.new.seen ≡ fold sooner first.old.seen (at place (all_passed_rules names.now (passed (map parameter_tree parameters.now) types.now (map expr_tree arguments.now)))) }
+    ensures met { result ≡ are_met (passed_violations names.now place (passed (map parameter_tree parameters.now) types.now (map expr_tree arguments.now))) }
+    ensures first { first.new.seen ≡ fold sooner first.old.seen (passed_violations names.now place (passed (map parameter_tree parameters.now) types.now (map expr_tree arguments.now))) }
 {
     let mut met = true;
     for (index, parameter) in parameters.iter().enumerate() {

@@ -1,63 +1,75 @@
 ghost use Rattle.std.specs.Prelude.{◌≡◌, ◌++◌, fold, map, OnOk};
+ghost use Rattle.std.specs.Option.{option_map};
+ghost use Rattle.language.specs.Reasons.{put_why, typed_part};
 ghost use Rattle.language.specs.Tree.{procedure_tree, statement_tree};
-ghost use Rattle.language.specs.Types.{at};
+ghost use Rattle.language.specs.Types.{because_of};
 ghost use Rattle.language.specs.declared.tree.Statement.{Assign, AssignElement};
-ghost use Rattle.language.specs.Typing.{assignment_rules, change_rules, element_assignment_rules, statement_violations, target_rules};
+ghost use Rattle.language.specs.declared.why.Part.TheVariants.{Value, Variable};
+ghost use Rattle.language.specs.declared.why.Typed.{Typed};
+ghost use Rattle.language.specs.Typing.{assignment_violations, change_violations, element_assignment_violations, statement_violations, target_rules};
 ghost use Rattle.language.specs.Sooner.{sooner};
 
 use crate::declarations::right_side;
 use crate::expressions::{expression, name};
 use crate::nodes::element;
+use crate::reasons::typed_part;
 use crate::values::{note_control, note_value};
 use language::scopes::Scope;
 use language::{
-    Assignment, ElementAssignment, First, Label, Place, Procedure, Rule, ValueType, VariableType,
-    WordType,
+    Assignment, ComparedTypes, ElementAssignment, First, Label, Part, Place, Procedure, Rule,
+    SecretControl, Typed, ValueType, VariableType, Why, WordType,
 };
 use std::alloc::{AllocError, Global};
 
+/// An assignment at a place, under control, to a name that is declared at another.
+#[derive(Clone, Copy)]
+struct Change {
+    place: Place,
+    control: Option<SecretControl>,
+    declared_at: Place,
+}
+
 /// Notes what a value violates that is put into a target. An array as a whole is none.
-fn note_target(first: &mut First, place: Place, target: ValueType, given: ValueType)
-    ensures { first.new.seen ≡ fold sooner first.old.seen (at place (target_rules target given)) }
+fn note_target(first: &mut First, place: Place, target: ValueType, given: Typed)
+    ensures { first.new.seen ≡ fold sooner first.old.seen
+        (because_of (put_why (typed_part Variable target) Value given) place (target_rules target given.value)) }
 {
+    let types = ComparedTypes::Two(
+        typed_part(Part::Variable, target),
+        typed_part(Part::Value, given.value),
+    );
+    let why = Why::Types(types, None);
     match target {
-        ValueType::Word(wanted) => {
-            note_value(first, place, wanted, given);
-        }
-        ValueType::Array(_) => first.note_if(true, place, Rule::WrongKind),
-        ValueType::Nothing => first.note_if(true, place, Rule::WrongKind),
+        ValueType::Word(wanted) => note_value(first, place, Part::Variable, wanted, given),
+        ValueType::Array(_) => first.note(true, place, Rule::WrongKind, why),
+        ValueType::Nothing => first.note(true, place, Rule::WrongKind, why),
     }
 }
 
 /// Notes what may not be changed: what is immutable, and what is public under secret control.
-fn note_change(first: &mut First, place: Place, control: Label, mutable: bool, label: Label)
-    ensures { first.new.seen ≡ fold sooner first.old.seen (at place (change_rules control mutable label)) }
+fn note_change(first: &mut First, change: Change, mutable: bool, label: Label)
+    ensures { first.new.seen ≡ fold sooner first.old.seen (change_violations change.control change.place change.declared_at mutable label) }
 {
-    first.note_if(!mutable, place, Rule::NotMutable);
-    note_control(first, place, control, label);
+    let why = Why::Fixed(change.declared_at);
+    first.note(!mutable, change.place, Rule::NotMutable, why);
+    note_control(first, change.place, change.control, label);
 }
 
-/// Notes what an assignment to a name violates, whose value has this type.
+/// Notes what an assignment to a name violates, by its value.
 fn note_assignment(
     first: &mut First,
-    place: Place,
-    control: Label,
+    change: Change,
     variable: Option<VariableType>,
-    given: Option<ValueType>,
+    given: Option<Typed>,
 )
-    ensures { first.new.seen ≡ fold sooner first.old.seen (at place (assignment_rules control variable given)) }
+    ensures { first.new.seen ≡ fold sooner first.old.seen (assignment_violations change.control change.place change.declared_at variable given) }
 {
     let (Some(variable), Some(given)) = (variable, given) else {
         return;
     };
-    note_target(first, place, variable.value, given);
-    note_change(
-        first,
-        place,
-        control,
-        variable.mutable,
-        variable.value.label(),
-    );
+    let label = variable.value.label();
+    note_target(first, change.place, variable.value, given);
+    note_change(first, change, variable.mutable, label);
 }
 
 /// An assignment to a name.
@@ -66,28 +78,33 @@ pub fn assignment<'a>(
     names: &Scope<'a>,
     first: &mut First,
     earlier: &[Procedure<'a>],
-    control: Label,
+    control: Option<SecretControl>,
     assignment: &Assignment<'a>,
 ) -> Result<(), AllocError>
     ensures { OnOk result (first.new.seen ≡ fold sooner first.old.seen (statement_violations (map procedure_tree earlier.now) names.now control (statement_tree (Assign assignment.now)))) }
 {
     let variable = names.variable(assignment.name);
+    let change = Change {
+        place: assignment.place,
+        control,
+        declared_at: names.place(assignment.name),
+    };
     first.note_if(variable.is_none(), assignment.target, Rule::UndeclaredName);
     let given = right_side(alloc, names, first, earlier, control, &assignment.value)?;
-    note_assignment(first, assignment.place, control, variable, given);
+    note_assignment(first, change, variable, given);
     Ok(())
 }
 
-/// Notes what an assignment to an element of this type violates, whose value has that one.
+/// Notes what an assignment to an element violates, by its value.
 fn note_element_assignment(
     first: &mut First,
-    place: Place,
-    control: Label,
+    change: Change,
     variable: Option<VariableType>,
     element: Option<ValueType>,
-    given: Option<ValueType>,
+    given: Option<Typed>,
 )
-    ensures { first.new.seen ≡ fold sooner first.old.seen (at place (element_assignment_rules control variable element given)) }
+    ensures { first.new.seen ≡ fold sooner first.old.seen
+        (element_assignment_violations change.control change.place change.declared_at variable element given) }
 {
     let (Some(variable), Some(element), Some(given)) = (variable, element, given) else {
         return;
@@ -96,8 +113,18 @@ fn note_element_assignment(
         kind: element.kind(),
         label: element.label(),
     };
-    note_value(first, place, wanted, given);
-    note_change(first, place, control, variable.mutable, element.label());
+    note_value(first, change.place, Part::Element, wanted, given);
+    note_change(first, change, variable.mutable, element.label());
+}
+
+/// The type of what is well typed.
+fn value_of(typed: Option<Typed>) -> Option<ValueType>
+    ensures { result ≡ option_map (λ (known : Typed). known.value) typed }
+{
+    match typed {
+        Some(known) => Some(known.value),
+        None => None,
+    }
 }
 
 /// An assignment to an element.
@@ -106,16 +133,21 @@ pub fn element_assignment<'a>(
     names: &Scope<'a>,
     first: &mut First,
     earlier: &[Procedure<'a>],
-    control: Label,
+    control: Option<SecretControl>,
     assignment: &ElementAssignment<'a>,
 ) -> Result<(), AllocError>
     ensures { OnOk result (first.new.seen ≡ fold sooner first.old.seen (statement_violations (map procedure_tree earlier.now) names.now control (statement_tree (AssignElement assignment.now)))) }
 {
     let variable = names.variable(assignment.name);
+    let change = Change {
+        place: assignment.place,
+        control,
+        declared_at: names.place(assignment.name),
+    };
     let array = name(names, first, assignment.target, assignment.name);
     let index = expression(names, first, &assignment.index);
-    let element = element(first, assignment.bracket, array, index);
+    let element = value_of(element(first, assignment.bracket, array, index));
     let given = right_side(alloc, names, first, earlier, control, &assignment.value)?;
-    note_element_assignment(first, assignment.place, control, variable, element, given);
+    note_element_assignment(first, change, variable, element, given);
     Ok(())
 }

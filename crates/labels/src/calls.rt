@@ -1,18 +1,22 @@
-ghost use Rattle.std.specs.Prelude.{◌≡◌, ◌&&◌, None, Some, fold, length, map, IfOk, OnOk, if◌then◌else◌};
+ghost use Rattle.std.specs.Prelude.{◌≡◌, ◌&&◌, ◌∷◌, [], None, Some, fold, is_some, length, map, IfOk, OnOk, if◌then◌else◌};
 ghost use Rattle.std.specs.Option.{option_map};
-ghost use Rattle.language.specs.Tree.{call_tree, expr_tree, parameter_tree, procedure_tree};
-ghost use Rattle.language.specs.Types.{are_met, at, callee, found, is_secret, when};
-ghost use Rattle.language.specs.Typing.{arguments_rules, call_type, call_violations, called_one, known_call_rules};
-ghost use Rattle.language.specs.Typing.{known_call_type, result_value};
-ghost use Rattle.language.specs.declared.rule.Rule.TheVariants.{CallAssignsPublicUnderSecretControl};
+ghost use Rattle.language.specs.Reasons.{control_why};
+ghost use Rattle.language.specs.Tree.{call_tree, expr_tree, procedure_tree};
+ghost use Rattle.language.specs.Types.{are_met, because, callee, found, when};
+ghost use Rattle.language.specs.Typing.{arguments_violations, call_type, call_violations, called_one, clash_violations};
+ghost use Rattle.language.specs.Typing.{known_call_type, known_call_violations, result_value};
+ghost use Rattle.language.specs.declared.rule.Rule.TheVariants.{ArgumentCount, CallAssignsPublicUnderSecretControl};
+ghost use Rattle.language.specs.declared.why.Why.TheVariants.{ArgumentCounts as Counts};
 ghost use Rattle.language.specs.Sooner.{sooner};
 
 use crate::arguments::note_all_passed;
-use crate::clashes::arrays_clash;
+use crate::clashes::array_clash;
 use crate::expressions::expressions;
+use crate::reasons::control_why;
 use language::scopes::Scope;
 use language::{
-    Call, Callee, First, Label, Parameter, Place, Procedure, Rule, ValueType, WordType,
+    ArgumentCounts, Call, Callee, First, Place, Procedure, Rule, SecretControl, SharedArray, Typed,
+    ValueType, Why, WordType,
 };
 use std::alloc::{AllocError, Global};
 
@@ -26,28 +30,53 @@ fn result_value(of: Option<WordType>) -> ValueType
     }
 }
 
+/// Notes the array that is given twice, where there is one.
+fn note_clash(first: &mut First, place: Place, clash: Option<SharedArray>)
+    ensures { first.new.seen ≡ fold sooner first.old.seen (clash_violations place clash) }
+{
+    if let Some(twice) = clash {
+        first.note(true, place, Rule::ArrayPassedTwice, Why::Shared(twice));
+    }
+}
+
+/// Notes that a call has too few arguments, or too many.
+fn note_count(first: &mut First, call: &Call<'_>, procedure: &Procedure<'_>)
+    ensures { first.new.seen ≡ fold sooner first.old.seen (because
+        (Counts (record { given = length call.now.arguments.items; taken = length procedure.now.parameters.items; procedure = procedure.now.place }))
+        call.now.place (ArgumentCount ∷ [])) }
+{
+    let counts = ArgumentCounts {
+        given: call.arguments.len(),
+        taken: procedure.parameters.len(),
+        procedure: procedure.place,
+    };
+    let why = Why::ArgumentCounts(counts);
+    first.note(true, call.place, Rule::ArgumentCount, why);
+}
+
 /// Notes what well-typed arguments violate, and says whether they violate nothing.
 fn note_arguments<'a>(
     alloc: Global,
     names: &Scope<'a>,
     first: &mut First,
-    parameters: &[Parameter<'a>],
-    types: &[ValueType],
+    procedure: &Procedure<'a>,
+    types: &[Typed],
     call: &Call<'a>,
 ) -> Result<bool, AllocError>
     requires { length types.now ≡ length call.now.arguments.items }
-    ensures met { IfOk result (λ met. met ≡ are_met (arguments_rules names.now (map parameter_tree parameters.now) types.now (map expr_tree call.now.arguments.items))) }
-    ensures first { OnOk result (first.new.seen ≡ fold sooner first.old.seen (at call.now.place (arguments_rules names.now (map parameter_tree parameters.now) types.now (map expr_tree call.now.arguments.items)))) }
+    ensures met { IfOk result (λ met. met ≡ are_met (arguments_violations names.now call.now.place (procedure_tree procedure.now) types.now (map expr_tree call.now.arguments.items))) }
+    ensures first { OnOk result (first.new.seen ≡ fold sooner first.old.seen (arguments_violations names.now call.now.place (procedure_tree procedure.now) types.now (map expr_tree call.now.arguments.items))) }
 {
     let arguments = call.arguments.as_slice();
+    let parameters = procedure.parameters.as_slice();
     if arguments.len() != parameters.len() {
-        first.note_if(true, call.place, Rule::ArgumentCount);
+        note_count(first, call, procedure);
         return Ok(false);
     }
     let met = note_all_passed(names, first, call.place, parameters, types, arguments);
-    let clash = arrays_clash(alloc, parameters, types, arguments)?;
-    first.note_if(clash, call.place, Rule::ArrayPassedTwice);
-    Ok(met && !clash)
+    let clash = array_clash(alloc, parameters, types, arguments)?;
+    note_clash(first, call.place, clash);
+    Ok(met && clash.is_none())
 }
 
 /// The earlier procedure that is called, with what is known of it.
@@ -67,12 +96,18 @@ fn called<'p, 'a>(
 }
 
 /// Notes a call under secret control that may assign to something public, and says whether it is none.
-fn note_call_control(first: &mut First, place: Place, control: Label, callee: Callee) -> bool
-    ensures met { result ≡ are_met (when (is_secret control && callee.assigns_public) CallAssignsPublicUnderSecretControl) }
-    ensures first { first.new.seen ≡ fold sooner first.old.seen (at place (when (is_secret control && callee.assigns_public) CallAssignsPublicUnderSecretControl)) }
+fn note_call_control(
+    first: &mut First,
+    place: Place,
+    control: Option<SecretControl>,
+    callee: Callee,
+) -> bool
+    ensures met { result ≡ are_met (when (is_some control && callee.assigns_public) CallAssignsPublicUnderSecretControl) }
+    ensures first { first.new.seen ≡ fold sooner first.old.seen (because (control_why control) place (when (is_some control && callee.assigns_public) CallAssignsPublicUnderSecretControl)) }
 {
-    let told = control.is_secret() && callee.assigns_public;
-    first.note_if(told, place, Rule::CallAssignsPublicUnderSecretControl);
+    let told = control.is_some() && callee.assigns_public;
+    let rule = Rule::CallAssignsPublicUnderSecretControl;
+    first.note(told, place, rule, control_why(control));
     !told
 }
 
@@ -93,23 +128,22 @@ fn known_call<'a>(
     names: &Scope<'a>,
     first: &mut First,
     earlier: &[Procedure<'a>],
-    control: Label,
+    control: Option<SecretControl>,
     call: &Call<'a>,
-    types: &[ValueType],
+    types: &[Typed],
 ) -> Result<Option<ValueType>, AllocError>
     requires { length types.now ≡ length call.now.arguments.items }
-    ensures typed { IfOk result (λ type. type ≡ known_call_type names.now control (map expr_tree call.now.arguments.items)
+    ensures typed { IfOk result (λ type. type ≡ known_call_type names.now control (call_tree call.now)
         (called_one (map procedure_tree earlier.now) (callee (found names.now call.now.name.now))) types.now) }
     ensures first { OnOk result (first.new.seen ≡ fold sooner first.old.seen
-        (at call.now.place (known_call_rules names.now control (map expr_tree call.now.arguments.items)
-        (called_one (map procedure_tree earlier.now) (callee (found names.now call.now.name.now))) types.now))) }
+        (known_call_violations names.now control (call_tree call.now)
+        (called_one (map procedure_tree earlier.now) (callee (found names.now call.now.name.now))) types.now)) }
 {
     let Some((callee, procedure)) = called(earlier, names.callee(call.name)) else {
         first.note_if(true, call.place, Rule::ProcedureNotDeclaredEarlier);
         return Ok(None);
     };
-    let parameters = procedure.parameters.as_slice();
-    let met = note_arguments(alloc, names, first, parameters, types, call)?;
+    let met = note_arguments(alloc, names, first, procedure, types, call)?;
     let allowed = note_call_control(first, call.place, control, callee);
     Ok(given(met && allowed, procedure.result))
 }
@@ -120,7 +154,7 @@ pub fn call<'a>(
     names: &Scope<'a>,
     first: &mut First,
     earlier: &[Procedure<'a>],
-    control: Label,
+    control: Option<SecretControl>,
     call: &Call<'a>,
 ) -> Result<Option<ValueType>, AllocError>
     ensures typed { IfOk result (λ type. type ≡ call_type (map procedure_tree earlier.now) names.now control (call_tree call.now)) }

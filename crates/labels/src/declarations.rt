@@ -1,10 +1,11 @@
-ghost use Rattle.std.specs.Prelude.{◌≡◌, ◌++◌, [], fold, is_some, map, OnOk, IfOk};
+ghost use Rattle.std.specs.Prelude.{◌≡◌, ◌++◌, [], None, fold, is_some, map, OnOk, IfOk};
 ghost use Rattle.std.specs.Option.{option_map};
-ghost use Rattle.language.specs.ExprTyping.{exprs_violations, type_of, types_of};
+ghost use Rattle.language.specs.ExprTyping.{exprs_violations, typed_of_all};
 ghost use Rattle.language.specs.Tree.{procedure_tree, right_tree, statement_tree, written};
 ghost use Rattle.language.specs.declared.tree.Statement.{Declare, DeclareArray};
-ghost use Rattle.language.specs.Types.{at, found, of_all, of_one};
-ghost use Rattle.language.specs.Typing.{array_rules, count_rules, declaration_control_rules, declaration_rules, right_type, right_violations, scope_after, statement_violations, values_rules};
+ghost use Rattle.language.specs.Types.{found, of_one, typed_as};
+ghost use Rattle.language.specs.Typing.{array_violations, count_violations, declaration_control_violations, declaration_violations};
+ghost use Rattle.language.specs.Typing.{right_typed, right_violations, scope_after, statement_violations, values_violations};
 ghost use Rattle.language.specs.Sooner.{sooner};
 ghost use Rattle.labels.specs.private.Written.{values_tree};
 
@@ -13,48 +14,71 @@ use crate::expressions::{expression, expressions};
 use crate::values::{note_control, note_value};
 use language::scopes::Scope;
 use language::{
-    ArrayDeclaration, ArrayType, Declaration, Declared, Expr, First, Label, Place, Procedure,
-    RightSide, Rule, ValueType, VariableType, WordType,
+    ArrayDeclaration, ArrayType, Declaration, Declared, Expr, First, Label, Part, Place, Procedure,
+    RightSide, Rule, SecretControl, Typed, ValueCounts, ValueType, VariableType, Why, WordType,
 };
 use std::alloc::{AllocError, Global};
 
-/// Notes what a right side violates, and gives its type where it is well typed.
+/// What is known of what a call gives, where it is well typed.
+fn given(value: Option<ValueType>) -> Option<Typed>
+    ensures { result ≡ option_map (typed_as None None) value }
+{
+    match value {
+        Some(value) => Some(Typed {
+            value,
+            secret: None,
+            literal: None,
+        }),
+        None => None,
+    }
+}
+
+/// Notes what a right side violates, and gives what is known of it where it is well typed.
 pub fn right_side<'a>(
     alloc: Global,
     names: &Scope<'a>,
     first: &mut First,
     earlier: &[Procedure<'a>],
-    control: Label,
+    control: Option<SecretControl>,
     right: &RightSide<'a>,
-) -> Result<Option<ValueType>, AllocError>
-    ensures typed { IfOk result (λ type. type ≡ right_type (map procedure_tree earlier.now) names.now control (right_tree right.now)) }
+) -> Result<Option<Typed>, AllocError>
+    ensures typed { IfOk result (λ typed. typed ≡ right_typed (map procedure_tree earlier.now) names.now control (right_tree right.now)) }
     ensures first { OnOk result (first.new.seen ≡ fold sooner first.old.seen (right_violations (map procedure_tree earlier.now) names.now control (right_tree right.now))) }
 {
     match right {
-        RightSide::Call(it) => call(alloc, names, first, earlier, control, it),
+        RightSide::Call(it) => {
+            let value = call(alloc, names, first, earlier, control, it)?;
+            Ok(given(value))
+        }
         RightSide::Value(expr) => Ok(expression(names, first, expr)),
     }
 }
 
 /// Notes something public that is declared with `mut` under secret control.
-fn note_declared(first: &mut First, place: Place, control: Label, label: Label, mutable: bool)
-    ensures { first.new.seen ≡ fold sooner first.old.seen (at place (declaration_control_rules control label mutable)) }
+fn note_declared(
+    first: &mut First,
+    place: Place,
+    control: Option<SecretControl>,
+    label: Label,
+    mutable: bool,
+)
+    ensures { first.new.seen ≡ fold sooner first.old.seen (declaration_control_violations control place label mutable) }
 {
     if mutable {
         note_control(first, place, control, label);
     }
 }
 
-/// Notes what a declaration violates, whose first value has this type.
+/// Notes what a declaration violates, by its first value.
 fn note_declaration(
     first: &mut First,
-    control: Label,
+    control: Option<SecretControl>,
     taken: bool,
     declaration: &Declaration<'_>,
-    given: Option<ValueType>,
+    given: Option<Typed>,
 )
-    ensures { first.new.seen ≡ fold sooner first.old.seen (at declaration.now.place
-        (of_one [] (declaration_rules control taken declaration.now.label declaration.now.mutable declaration.now.kind) given)) }
+    ensures { first.new.seen ≡ fold sooner first.old.seen
+        (of_one [] (declaration_violations control declaration.now.place taken declaration.now.label declaration.now.mutable declaration.now.kind) given) }
 {
     let Some(given) = given else {
         return;
@@ -65,7 +89,7 @@ fn note_declaration(
         label,
     };
     first.note_if(taken, place, Rule::NameDeclaredTwice);
-    note_value(first, place, wanted, given);
+    note_value(first, place, Part::Variable, wanted, given);
     note_declared(first, place, control, label, declaration.mutable);
 }
 
@@ -75,7 +99,7 @@ pub fn declaration<'a>(
     names: &mut Scope<'a>,
     first: &mut First,
     earlier: &[Procedure<'a>],
-    control: Label,
+    control: Option<SecretControl>,
     declaration: &Declaration<'a>,
 ) -> Result<(), AllocError>
     ensures names { OnOk result (names.new ≡ scope_after names.old (statement_tree (Declare declaration.now))) }
@@ -86,40 +110,49 @@ pub fn declaration<'a>(
         value: ValueType::word(declaration.kind, declaration.label),
         mutable: declaration.mutable,
     };
-    let taken = names.declare(declaration.name, Declared::Variable(variable))?;
+    let taken = names.declare(
+        declaration.place,
+        declaration.name,
+        Declared::Variable(variable),
+    )?;
     note_declaration(first, control, taken, declaration, given);
     Ok(())
 }
 
-/// Notes what an array's first values of these types violate.
-fn note_values(first: &mut First, place: Place, wanted: WordType, types: &[ValueType])
-    ensures { first.new.seen ≡ fold sooner first.old.seen (at place (values_rules wanted types.now)) }
+/// Notes what an array's first values violate.
+fn note_values(first: &mut First, place: Place, wanted: WordType, types: &[Typed])
+    ensures { first.new.seen ≡ fold sooner first.old.seen (values_violations place wanted types.now) }
 {
     for given in types {
-        note_value(first, place, wanted, *given);
+        note_value(first, place, Part::Element, wanted, *given);
     }
 }
 
 /// Notes first values that are not as many as the elements.
 fn note_count(first: &mut First, place: Place, length: u16, values: &Option<Vec<Expr<'_>>>)
-    ensures { first.new.seen ≡ fold sooner first.old.seen (at place (count_rules length (values_tree values.now))) }
+    ensures { first.new.seen ≡ fold sooner first.old.seen (count_violations place length (values_tree values.now)) }
 {
     if let Some(values) = values {
-        let uneven = values.len() != usize::from(length);
-        first.note_if(uneven, place, Rule::InitialiserCount);
+        let count = values.len();
+        let uneven = count != usize::from(length);
+        let why = Why::ValueCounts(ValueCounts {
+            length,
+            values: count,
+        });
+        first.note(uneven, place, Rule::InitialiserCount, why);
     }
 }
 
-/// Notes what a declaration of an array violates, whose first values have these types.
+/// Notes what a declaration of an array violates, by its first values.
 fn note_array(
     first: &mut First,
-    control: Label,
+    control: Option<SecretControl>,
     taken: bool,
     array: &ArrayDeclaration<'_>,
-    types: &[ValueType],
+    types: &[Typed],
 )
-    ensures { first.new.seen ≡ fold sooner first.old.seen (at array.now.place (array_rules control taken array.now.label array.now.mutable array.now.kind array.now.length
-        (values_tree array.now.values) types.now)) }
+    ensures { first.new.seen ≡ fold sooner first.old.seen (array_violations control array.now.place taken array.now.label array.now.mutable array.now.kind array.now.length
+        (values_tree array.now.values) types.now) }
 {
     let (place, label) = (array.place, array.label);
     let wanted = WordType {
@@ -132,14 +165,14 @@ fn note_array(
     note_declared(first, place, control, label, array.mutable);
 }
 
-/// Notes what an array's written values violate, and gives their types where all are well typed.
+/// Notes what an array's written values violate, and gives what is known of them where all are well typed.
 fn written<'a>(
     alloc: Global,
     names: &Scope<'a>,
     first: &mut First,
     values: &Option<Vec<Expr<'a>>>,
-) -> Result<Option<Vec<ValueType>>, AllocError>
-    ensures typed { IfOk result (λ types. option_map (λ given. given.items) types ≡ types_of names.now (written (values_tree values.now))) }
+) -> Result<Option<Vec<Typed>>, AllocError>
+    ensures typed { IfOk result (λ types. option_map (λ given. given.items) types ≡ typed_of_all names.now (written (values_tree values.now))) }
     ensures first { OnOk result (first.new.seen ≡ fold sooner first.old.seen (exprs_violations names.now (written (values_tree values.now)))) }
 {
     match values {
@@ -153,14 +186,14 @@ pub fn array<'a>(
     alloc: Global,
     names: &mut Scope<'a>,
     first: &mut First,
-    control: Label,
+    control: Option<SecretControl>,
     array: &ArrayDeclaration<'a>,
 ) -> Result<(), AllocError>
     ensures names { OnOk result (names.new ≡ scope_after names.old (statement_tree (DeclareArray array.now))) }
     ensures first { OnOk result (first.new.seen ≡ fold sooner first.old.seen
         (exprs_violations names.old (written (values_tree array.now.values))
-        ++ at array.now.place (of_all [] (array_rules control (is_some (found names.old array.now.name.now)) array.now.label array.now.mutable array.now.kind array.now.length (values_tree array.now.values))
-        (types_of names.old (written (values_tree array.now.values)))))) }
+        ++ of_one [] (array_violations control array.now.place (is_some (found names.old array.now.name.now)) array.now.label array.now.mutable array.now.kind array.now.length (values_tree array.now.values))
+        (typed_of_all names.old (written (values_tree array.now.values))))) }
 {
     let types = written(alloc, names, first, &array.values)?;
     let element = WordType {
@@ -174,7 +207,7 @@ pub fn array<'a>(
         }),
         mutable: array.mutable,
     };
-    let taken = names.declare(array.name, Declared::Variable(variable))?;
+    let taken = names.declare(array.place, array.name, Declared::Variable(variable))?;
     if let Some(types) = types {
         note_array(first, control, taken, array, types.as_slice());
     }

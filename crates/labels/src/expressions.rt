@@ -1,44 +1,62 @@
-ghost use Rattle.std.specs.Prelude.{◌≡◌, ◌++◌, ◌∷◌, [], is_some, fold, length, map, IfOk, IfSome, OnOk};
+ghost use Rattle.std.specs.Prelude.{◌≡◌, ◌++◌, ◌∷◌, [], None, is_some, fold, length, map, IfOk, IfSome, OnOk};
 ghost use Rattle.std.specs.Option.{option_map};
-ghost use Rattle.language.specs.ExprTyping.{expr_violations, exprs_violations, name_rules, name_type, type_of, types_of};
+ghost use Rattle.language.specs.ExprTyping.{expr_violations, exprs_violations, name_rules, name_type, typed_of, typed_of_all};
+ghost use Rattle.language.specs.Reasons.{secret_name};
 ghost use Rattle.language.specs.Tree.{expr_tree};
-ghost use Rattle.language.specs.Types.{at};
-ghost use Rattle.language.specs.declared.typing.VariableType.{VariableType};
+ghost use Rattle.language.specs.Types.{at, found as found_in, typed_as, variable, word};
+ghost use Rattle.language.specs.declared.signature.Kind.TheVariants.{Boolean};
+ghost use Rattle.language.specs.declared.signature.Label.TheVariants.{Public};
 ghost use Rattle.language.specs.Sooner.{sooner};
 
 use crate::nodes::{binary, choice, convert, element, number, prefix, rotate};
 use language::scopes::Scope;
-use language::{Expr, First, Kind, Label, Place, Rule, ValueType, VariableType};
+use language::{Expr, First, Kind, Label, Place, Rule, Typed, ValueType, VariableType};
 use std::alloc::{AllocError, Global};
 
-/// The type of a variable, where there is one.
-fn value_of(variable: Option<VariableType>) -> Option<ValueType>
-    ensures { result ≡ option_map (λ (known : VariableType). known.value) variable }
+/// What is known of a name, by its variable where there is one.
+fn known<'a>(names: &Scope<'a>, text: &str, found: Option<VariableType>) -> Option<Typed>
+    requires { found ≡ variable (found_in names.now text.now) }
+    ensures { result ≡ option_map (typed_as (secret_name names.now text.now) None) (name_type names.now text.now) }
 {
-    match variable {
-        Some(known) => Some(known.value),
+    match found {
+        Some(known) => Some(Typed {
+            value: known.value,
+            secret: known.value.is_hidden().then_some(names.place(text)),
+            literal: None,
+        }),
         None => None,
     }
 }
 
-/// Notes a name that is no variable's, and gives the type of the variable.
-pub fn name<'a>(names: &Scope<'a>, first: &mut First, place: Place, text: &str) -> Option<ValueType>
-    ensures typed { result ≡ name_type names.now text.now }
+/// Notes a name that is no variable's, and gives what is known of the variable.
+pub fn name<'a>(names: &Scope<'a>, first: &mut First, place: Place, text: &str) -> Option<Typed>
+    ensures typed { result ≡ option_map (typed_as (secret_name names.now text.now) None) (name_type names.now text.now) }
     ensures first { first.new.seen ≡ fold sooner first.old.seen (at place (name_rules names.now text.now)) }
 {
     let variable = names.variable(text);
     first.note_if(variable.is_none(), place, Rule::UndeclaredName);
-    value_of(variable)
+    known(names, text, variable)
 }
 
-/// Notes what an expression's nodes violate, and gives its type where it is well typed.
-pub fn expression<'a>(names: &Scope<'a>, first: &mut First, expr: &Expr<'a>) -> Option<ValueType>
-    ensures typed { result ≡ type_of names.now (expr_tree expr.now) }
+/// What is known of `true` and of `false`.
+fn truth() -> Typed
+    ensures { result ≡ typed_as None None (word Boolean Public) }
+{
+    Typed {
+        value: ValueType::word(Kind::Boolean, Label::Public),
+        secret: None,
+        literal: None,
+    }
+}
+
+/// Notes what an expression's nodes violate, and gives what is known of it where it is well typed.
+pub fn expression<'a>(names: &Scope<'a>, first: &mut First, expr: &Expr<'a>) -> Option<Typed>
+    ensures typed { result ≡ typed_of names.now (expr_tree expr.now) }
     ensures first { first.new.seen ≡ fold sooner first.old.seen (expr_violations names.now (expr_tree expr.now)) }
 {
     match expr {
         Expr::Number(place, value, kind) => number(first, *place, *value, *kind),
-        Expr::Truth(_, _) => Some(ValueType::word(Kind::Boolean, Label::Public)),
+        Expr::Truth(_, _) => Some(truth()),
         Expr::Name(place, text) => name(names, first, *place, text),
         Expr::Prefix(place, operator, operand) => {
             let operand = expression(names, first, operand);
@@ -71,10 +89,10 @@ pub fn expression<'a>(names: &Scope<'a>, first: &mut First, expr: &Expr<'a>) -> 
     }
 }
 
-/// Adds one more type to those found, and says whether there is one.
-fn keep(types: &mut Vec<ValueType>, one: Option<ValueType>) -> Result<bool, AllocError>
+/// Adds what is known of one more expression, and says whether it is well typed.
+fn keep(types: &mut Vec<Typed>, one: Option<Typed>) -> Result<bool, AllocError>
     ensures kept { IfOk result (λ kept. kept ≡ is_some one) }
-    ensures types { OnOk result (IfSome one (λ type. types.new.items ≡ types.old.items ++ type ∷ [])) }
+    ensures types { OnOk result (IfSome one (λ typed. types.new.items ≡ types.old.items ++ typed ∷ [])) }
 {
     match one {
         Some(one) => {
@@ -85,15 +103,15 @@ fn keep(types: &mut Vec<ValueType>, one: Option<ValueType>) -> Result<bool, Allo
     }
 }
 
-/// Notes what expressions violate, and gives their types where all are well typed.
+/// Notes what expressions violate, and gives what is known of them where all are well typed.
 pub fn expressions<'a>(
     alloc: Global,
     names: &Scope<'a>,
     first: &mut First,
     exprs: &[Expr<'a>],
-) -> Result<Option<Vec<ValueType>>, AllocError>
+) -> Result<Option<Vec<Typed>>, AllocError>
     ensures count { IfOk result (λ types. IfSome types (λ given. length given.items ≡ length exprs.now)) }
-    ensures typed { IfOk result (λ types. option_map (λ given. given.items) types ≡ types_of names.now (map expr_tree exprs.now)) }
+    ensures typed { IfOk result (λ types. option_map (λ given. given.items) types ≡ typed_of_all names.now (map expr_tree exprs.now)) }
     ensures first { OnOk result (first.new.seen ≡ fold sooner first.old.seen (exprs_violations names.now (map expr_tree exprs.now))) }
 {
     let mut types = Vec::new(alloc);

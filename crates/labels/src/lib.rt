@@ -11,6 +11,7 @@ mod declarations;
 mod expressions;
 mod nodes;
 mod procedures;
+mod reasons;
 mod statements;
 mod values;
 

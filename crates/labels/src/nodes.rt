@@ -1,21 +1,53 @@
-ghost use Rattle.std.specs.Prelude.{◌≡◌, fold, None, []};
+ghost use Rattle.std.specs.Prelude.{◌≡◌, Some, None, fold};
+ghost use Rattle.std.specs.Option.{option_map};
 ghost use Rattle.language.specs.ExprTyping.{binary_rules, binary_type, convert_rules, convert_type, element_rules, element_type, number_rules, prefix_rules, prefix_type, rotate_rules, rotate_type, select_rules, select_type};
-ghost use Rattle.language.specs.Types.{at, of_one, of_two, of_three, unless, word};
+ghost use Rattle.language.specs.Operators.{operation_of};
+ghost use Rattle.language.specs.Reasons.{choice_why, element_why, operand_why, operands_why, rotate_why};
+ghost use Rattle.language.specs.Types.{asked_of_one, asked_of_three, asked_of_two, because, of_one, of_three, of_two, typed_as, unless, word};
 ghost use Rattle.language.specs.declared.signature.Label.TheVariants.{Public};
+ghost use Rattle.language.specs.declared.why.Why.TheVariants.{Number};
+ghost use Rattle.language.specs.declared.rule.Rule.TheVariants.{WrongKind};
 ghost use Rattle.language.specs.Sooner.{sooner};
+ghost use Rattle.labels.specs.private.Made.{of_choice, of_operand, of_operands};
 
+use crate::reasons::{either_literal, operand_literal, typed_part, whole_literal};
 use language::{
-    BinaryOperator, First, Kind, Label, Place, PrefixOperator, Profile, Rule, ValueType,
+    BinaryOperator, ComparedTypes, First, Kind, Label, Literal, Part, Place, PrefixOperator,
+    Profile, Rule, Typed, ValueType, Why,
 };
 
-/// Notes what a number violates, and gives its type where it is well typed, as each function below.
-pub fn number(first: &mut First, place: Place, value: u32, kind: Kind) -> Option<ValueType>
-    ensures typed { result ≡ unless (number_rules value kind) (word kind Public) }
-    ensures first { first.new.seen ≡ fold sooner first.old.seen (at place (number_rules value kind)) }
+/// Notes what a number violates, and gives what is known of it where it is well typed, as each function below.
+pub fn number(first: &mut First, place: Place, value: u32, kind: Kind) -> Option<Typed>
+    ensures typed { result ≡ option_map (typed_as None (Some value)) (unless (number_rules value kind) (word kind Public)) }
+    ensures first { first.new.seen ≡ fold sooner first.old.seen (because (Number (record { value = value; kind = kind })) place (number_rules value kind)) }
 {
     let within = kind.includes(value);
-    first.note_if(!within, place, Rule::LiteralOutOfRange);
-    within.then_some(ValueType::word(kind, Label::Public))
+    let why = Why::Number(Literal { value, kind });
+    first.note(!within, place, Rule::LiteralOutOfRange, why);
+    within.then_some(Typed {
+        value: ValueType::word(kind, Label::Public),
+        secret: None,
+        literal: Some(value),
+    })
+}
+
+/// What is made of operands: a value with the first secret name in them, and no number.
+fn made(value: ValueType, secret: Option<Place>) -> Typed
+    ensures { result ≡ typed_as secret None value }
+{
+    Typed {
+        value,
+        secret,
+        literal: None,
+    }
+}
+
+/// Why an operand is of the wrong kind.
+fn operand_why(operand: Typed) -> Why
+    ensures { result ≡ operand_why operand WrongKind }
+{
+    let operand = typed_part(Part::Operand, operand.value);
+    Why::Types(ComparedTypes::One(operand), None)
 }
 
 /// A sign before an operand.
@@ -23,19 +55,19 @@ pub fn prefix(
     first: &mut First,
     place: Place,
     operator: PrefixOperator,
-    operand: Option<ValueType>,
-) -> Option<ValueType>
-    ensures typed { result ≡ of_one None (prefix_type operator) operand }
-    ensures first { first.new.seen ≡ fold sooner first.old.seen (at place (of_one [] (prefix_rules operator) operand)) }
+    operand: Option<Typed>,
+) -> Option<Typed>
+    ensures typed { result ≡ of_one None (of_operand (prefix_type operator)) operand }
+    ensures first { first.new.seen ≡ fold sooner first.old.seen (asked_of_one operand_why place (prefix_rules operator) operand) }
 {
     let operand = operand?;
     let fits = match operator {
-        PrefixOperator::Not => operand.is_bool(),
-        PrefixOperator::Complement => operand.is_numeric(),
-        PrefixOperator::Negate => operand.is_numeric(),
+        PrefixOperator::Not => operand.value.is_bool(),
+        PrefixOperator::Complement => operand.value.is_numeric(),
+        PrefixOperator::Negate => operand.value.is_numeric(),
     };
-    first.note_if(!fits, place, Rule::WrongKind);
-    fits.then_some(operand)
+    first.note(!fits, place, Rule::WrongKind, operand_why(operand));
+    fits.then_some(made(operand.value, operand.secret))
 }
 
 /// An operator between two operands, for an observer.
@@ -44,115 +76,154 @@ pub fn binary(
     profile: Profile,
     place: Place,
     operator: BinaryOperator,
-    left: Option<ValueType>,
-    right: Option<ValueType>,
-) -> Option<ValueType>
-    ensures typed { result ≡ of_two None (binary_type profile operator) left right }
-    ensures first { first.new.seen ≡ fold sooner first.old.seen (at place (of_two [] (binary_rules profile operator) left right)) }
+    left: Option<Typed>,
+    right: Option<Typed>,
+) -> Option<Typed>
+    ensures typed { result ≡ of_two None (of_operands (binary_type profile operator)) left right }
+    ensures first { first.new.seen ≡ fold sooner first.old.seen
+        (asked_of_two (operands_why (operation_of operator)) place (binary_rules profile operator) left right) }
 {
     let (Some(left), Some(right)) = (left, right) else {
         return None;
     };
     let operation = operator.operation();
-    let uneven = operation.is_uneven(left, right);
-    let wrong = !operation.takes(left, right);
-    let told = operation.divides_secret(left, right);
-    let shown = operation.multiplies_secret(profile, left, right);
-    first.note_if(uneven, place, Rule::WidthsDiffer);
-    first.note_if(wrong, place, Rule::WrongKind);
-    first.note_if(told, place, Rule::SecretDivisionOperand);
-    first.note_if(shown, place, Rule::SecretMultiplicationOperand);
+    let (one, other) = (left.value, right.value);
+    let types = ComparedTypes::Two(
+        typed_part(Part::LeftOperand, one),
+        typed_part(Part::RightOperand, other),
+    );
+    let literal = operand_literal(operation, left, right);
+    let secret = left.secret.or(right.secret);
+    let uneven = operation.is_uneven(one, other);
+    let wrong = !operation.takes(one, other);
+    let told = operation.divides_secret(one, other);
+    let shown = operation.multiplies_secret(profile, one, other);
+    first.note(
+        uneven,
+        place,
+        Rule::WidthsDiffer,
+        Why::Types(types, literal),
+    );
+    first.note(wrong, place, Rule::WrongKind, Why::Types(types, None));
+    first.note(
+        told,
+        place,
+        Rule::SecretDivisionOperand,
+        Why::Secret(secret),
+    );
+    first.note(
+        shown,
+        place,
+        Rule::SecretMultiplicationOperand,
+        Why::Secret(secret),
+    );
     if uneven || wrong || told || shown {
         return None;
     }
-    let kind = operation.result_kind(left.kind());
-    Some(ValueType::word(kind, left.label().join(right.label())))
+    let kind = operation.result_kind(one.kind());
+    let label = one.label().join(other.label());
+    Some(made(ValueType::word(kind, label), secret))
 }
 
 /// A rotation by so many bits.
-pub fn rotate(
-    first: &mut First,
-    place: Place,
-    amount: u32,
-    operand: Option<ValueType>,
-) -> Option<ValueType>
-    ensures typed { result ≡ of_one None (rotate_type amount) operand }
-    ensures first { first.new.seen ≡ fold sooner first.old.seen (at place (of_one [] (rotate_rules amount) operand)) }
+pub fn rotate(first: &mut First, place: Place, amount: u32, operand: Option<Typed>) -> Option<Typed>
+    ensures typed { result ≡ of_one None (of_operand (rotate_type amount)) operand }
+    ensures first { first.new.seen ≡ fold sooner first.old.seen (asked_of_one (rotate_why amount) place (rotate_rules amount) operand) }
 {
     let operand = operand?;
-    let wrong = !operand.is_numeric();
-    let within = 0 < amount && amount < operand.kind().bits();
-    let outside = operand.is_numeric() && !within;
-    first.note_if(wrong, place, Rule::WrongKind);
-    first.note_if(outside, place, Rule::LiteralOutOfRange);
+    let kind = operand.value.kind();
+    let wrong = !operand.value.is_numeric();
+    let within = 0 < amount && amount < kind.bits();
+    let outside = operand.value.is_numeric() && !within;
+    let why = Why::Amount(Literal {
+        value: amount,
+        kind,
+    });
+    first.note(wrong, place, Rule::WrongKind, operand_why(operand));
+    first.note(outside, place, Rule::LiteralOutOfRange, why);
     if wrong || outside {
         return None;
     }
-    Some(operand)
+    Some(made(operand.value, operand.secret))
 }
 
 /// A conversion.
-pub fn convert(
-    first: &mut First,
-    place: Place,
-    kind: Kind,
-    operand: Option<ValueType>,
-) -> Option<ValueType>
-    ensures typed { result ≡ of_one None (convert_type kind) operand }
-    ensures first { first.new.seen ≡ fold sooner first.old.seen (at place (of_one [] convert_rules operand)) }
+pub fn convert(first: &mut First, place: Place, kind: Kind, operand: Option<Typed>) -> Option<Typed>
+    ensures typed { result ≡ of_one None (of_operand (convert_type kind)) operand }
+    ensures first { first.new.seen ≡ fold sooner first.old.seen (asked_of_one operand_why place convert_rules operand) }
 {
     let operand = operand?;
-    let fits = operand.is_numeric() || operand.is_bool();
-    first.note_if(!fits, place, Rule::WrongKind);
-    fits.then_some(ValueType::word(kind, operand.label()))
+    let fits = operand.value.is_numeric() || operand.value.is_bool();
+    first.note(!fits, place, Rule::WrongKind, operand_why(operand));
+    let value = ValueType::word(kind, operand.value.label());
+    fits.then_some(made(value, operand.secret))
 }
 
 /// A choice between two operands.
 pub fn choice(
     first: &mut First,
     place: Place,
-    condition: Option<ValueType>,
-    accepted: Option<ValueType>,
-    otherwise: Option<ValueType>,
-) -> Option<ValueType>
-    ensures typed { result ≡ of_three None select_type condition accepted otherwise }
-    ensures first { first.new.seen ≡ fold sooner first.old.seen (at place (of_three [] select_rules condition accepted otherwise)) }
+    condition: Option<Typed>,
+    accepted: Option<Typed>,
+    otherwise: Option<Typed>,
+) -> Option<Typed>
+    ensures typed { result ≡ of_three None (of_choice select_type) condition accepted otherwise }
+    ensures first { first.new.seen ≡ fold sooner first.old.seen (asked_of_three choice_why place select_rules condition accepted otherwise) }
 {
     let (Some(condition), Some(accepted), Some(otherwise)) = (condition, accepted, otherwise) else {
         return None;
     };
-    let uneven = accepted.differs_in_width(otherwise);
-    let wrong = !(condition.is_bool() && accepted.is_alike(otherwise));
-    first.note_if(uneven, place, Rule::WidthsDiffer);
-    first.note_if(wrong, place, Rule::WrongKind);
+    let (chooser, one, other) = (condition.value, accepted.value, otherwise.value);
+    let types = ComparedTypes::Choice(chooser, one, other);
+    let literal = either_literal(accepted, otherwise);
+    let uneven = one.differs_in_width(other);
+    let wrong = !(chooser.is_bool() && one.is_alike(other));
+    first.note(
+        uneven,
+        place,
+        Rule::WidthsDiffer,
+        Why::Types(types, literal),
+    );
+    first.note(wrong, place, Rule::WrongKind, Why::Types(types, None));
     if uneven || wrong {
         return None;
     }
-    let label = accepted.label().join(otherwise.label());
-    Some(ValueType::word(accepted.kind(), condition.label().join(label)))
+    let label = chooser.label().join(one.label().join(other.label()));
+    let secret = condition.secret.or(accepted.secret.or(otherwise.secret));
+    Some(made(ValueType::word(one.kind(), label), secret))
 }
 
 /// An element of an array.
 pub fn element(
     first: &mut First,
     place: Place,
-    array: Option<ValueType>,
-    index: Option<ValueType>,
-) -> Option<ValueType>
-    ensures typed { result ≡ of_two None element_type array index }
-    ensures first { first.new.seen ≡ fold sooner first.old.seen (at place (of_two [] element_rules array index)) }
+    array: Option<Typed>,
+    index: Option<Typed>,
+) -> Option<Typed>
+    ensures typed { result ≡ of_two None (of_operands element_type) array index }
+    ensures first { first.new.seen ≡ fold sooner first.old.seen (asked_of_two element_why place element_rules array index) }
 {
     let (Some(array), Some(index)) = (array, index) else {
         return None;
     };
-    let uneven = index.is_narrow();
-    let wrong = !(array.is_array() && index.is_numeric());
-    let told = index.is_hidden();
-    first.note_if(uneven, place, Rule::WidthsDiffer);
-    first.note_if(wrong, place, Rule::WrongKind);
-    first.note_if(told, place, Rule::SecretIndex);
+    let types = ComparedTypes::Two(
+        typed_part(Part::Variable, array.value),
+        typed_part(Part::Index, index.value),
+    );
+    let uneven = index.value.is_narrow();
+    let wrong = !(array.value.is_array() && index.value.is_numeric());
+    let told = index.value.is_hidden();
+    first.note(
+        uneven,
+        place,
+        Rule::WidthsDiffer,
+        Why::Types(types, whole_literal(index)),
+    );
+    first.note(wrong, place, Rule::WrongKind, Why::Types(types, None));
+    first.note(told, place, Rule::SecretIndex, Why::Secret(index.secret));
     if uneven || wrong || told {
         return None;
     }
-    Some(ValueType::word(array.kind(), array.label()))
+    let value = ValueType::word(array.value.kind(), array.value.label());
+    Some(made(value, array.secret.or(index.secret)))
 }

@@ -1,9 +1,9 @@
 ghost use Rattle.std.specs.Prelude.{◌≡◌, [], fold, length, map, OnOk};
 ghost use Rattle.std.specs.Option.{option_map};
 ghost use Rattle.language.specs.Tree.{parameter_tree, procedure_tree, return_tree};
-ghost use Rattle.language.specs.Types.{at, of_one};
-ghost use Rattle.language.specs.Typing.{parameter_violations, procedure_rules, procedure_violations, return_rules};
-ghost use Rattle.language.specs.Typing.{return_violations, scope_after_all, with_parameters, with_procedure};
+ghost use Rattle.language.specs.Types.{of_one};
+ghost use Rattle.language.specs.Typing.{missing_violations, parameter_violations, procedure_violations, return_violations};
+ghost use Rattle.language.specs.Typing.{returned_violations, scope_after_all, with_parameters, with_procedure};
 ghost use Rattle.language.specs.Sooner.{sooner};
 ghost use Rattle.labels.specs.private.Inside.{inside_violations};
 
@@ -13,8 +13,8 @@ use crate::statements::statements;
 use crate::values::note_value;
 use language::scopes::{Scope, assigns_public};
 use language::{
-    Callee, Declared, First, Label, Parameter, Place, Procedure, Return, Rule, ValueType,
-    VariableType, WordType,
+    Callee, Declared, First, Parameter, Part, Place, Procedure, Return, Rule, Typed, VariableType,
+    Why, WordType,
 };
 use std::alloc::{AllocError, Global};
 
@@ -32,24 +32,27 @@ fn parameters<'a>(
             value: parameter_value(parameter),
             mutable: parameter.form.is_mutable(),
         };
-        let taken = names.declare(parameter.name, Declared::Variable(variable))?;
+        let taken = names.declare(
+            parameter.place,
+            parameter.name,
+            Declared::Variable(variable),
+        )?;
         first.note_if(taken, parameter.place, Rule::NameDeclaredTwice);
     }
     Ok(())
 }
 
-/// Notes what a `return` violates whose value has this type.
-fn note_return(first: &mut First, place: Place, wanted: Option<WordType>, given: Option<ValueType>)
-    ensures { first.new.seen ≡ fold sooner first.old.seen (at place (of_one [] (return_rules wanted) given)) }
+/// Notes what a `return` violates, by its value.
+fn note_return(first: &mut First, place: Place, wanted: Option<WordType>, given: Option<Typed>)
+    ensures { first.new.seen ≡ fold sooner first.old.seen (of_one [] (returned_violations place wanted) given) }
 {
     let Some(given) = given else {
         return;
     };
+    let why = Why::Returned(given.value);
     match wanted {
-        Some(wanted) => {
-            note_value(first, place, wanted, given);
-        }
-        None => first.note_if(true, place, Rule::ReturnMismatch),
+        Some(wanted) => note_value(first, place, Part::Result, wanted, given),
+        None => first.note(true, place, Rule::ReturnMismatch, why),
     }
 }
 
@@ -68,13 +71,16 @@ fn returned<'a>(
     }
 }
 
-/// Notes what a procedure violates at its name.
-fn note_procedure(first: &mut First, taken: bool, procedure: &Procedure<'_>)
-    ensures { first.new.seen ≡ fold sooner first.old.seen (at procedure.now.place (procedure_rules taken procedure.now.result (option_map return_tree procedure.now.returned))) }
+/// Notes that a procedure with a result has no `return`.
+fn note_missing(first: &mut First, procedure: &Procedure<'_>)
+    ensures { first.new.seen ≡ fold sooner first.old.seen
+        (missing_violations procedure.now.place procedure.now.result (option_map return_tree procedure.now.returned)) }
 {
-    let lacking = procedure.result.is_some() && procedure.returned.is_none();
-    first.note_if(taken, procedure.place, Rule::NameDeclaredTwice);
-    first.note_if(lacking, procedure.place, Rule::ReturnMismatch);
+    if let Some(result) = procedure.result {
+        let missing = procedure.returned.is_none();
+        let why = Why::Missing(result);
+        first.note(missing, procedure.place, Rule::ReturnMismatch, why);
+    }
 }
 
 /// What a procedure declares after its name, and what it violates there.
@@ -92,7 +98,7 @@ fn inside<'a>(
 {
     parameters(names, first, procedure.parameters.as_slice())?;
     let body = procedure.body.as_slice();
-    statements(alloc, names, first, earlier, Label::Public, body)?;
+    statements(alloc, names, first, earlier, None, body)?;
     returned(names, first, procedure.result, &procedure.returned);
     Ok(())
 }
@@ -113,9 +119,10 @@ pub fn procedure<'a>(
         number: earlier.len(),
         assigns_public: assigns_public(names, procedure),
     };
-    let taken = names.declare(procedure.name, Declared::Procedure(callee))?;
+    let taken = names.declare(procedure.place, procedure.name, Declared::Procedure(callee))?;
     let outside = names.len();
-    note_procedure(first, taken, procedure);
+    first.note_if(taken, procedure.place, Rule::NameDeclaredTwice);
+    note_missing(first, procedure);
     inside(alloc, names, first, earlier, procedure)?;
     names.truncate(outside);
     Ok(())

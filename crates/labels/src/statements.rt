@@ -1,7 +1,8 @@
-ghost use Rattle.std.specs.Prelude.{◌≡◌, ◌++◌, [], fold, is_some, map, OnOk};
+ghost use Rattle.std.specs.Prelude.{◌≡◌, ◌++◌, fold, is_some, map, OnOk};
 ghost use Rattle.language.specs.Tree.{block_tree, procedure_tree, statement_tree};
-ghost use Rattle.language.specs.Types.{at, declared, found, of_one, of_two, when};
-ghost use Rattle.language.specs.Typing.{block_violations, bounds_rules, condition_rules, control_under, counter_as, scope_after, scope_after_all, statement_violations};
+ghost use Rattle.language.specs.Reasons.{bounds_why, condition_why, control_under};
+ghost use Rattle.language.specs.Types.{asked_of_one, asked_of_two, at, declared, found, when};
+ghost use Rattle.language.specs.Typing.{block_violations, bounds_rules, condition_rules, counter_as, scope_after, scope_after_all, statement_violations};
 ghost use Rattle.language.specs.declared.rule.Rule.TheVariants.{NameDeclaredTwice};
 ghost use Rattle.language.specs.Sooner.{sooner};
 
@@ -9,55 +10,72 @@ use crate::assignments::{assignment, element_assignment};
 use crate::calls::call;
 use crate::declarations::{array, declaration};
 use crate::expressions::expression;
+use crate::reasons::typed_part;
 use language::scopes::Scope;
 use language::{
-    Counter, Declared, First, Kind, Label, Place, Procedure, Rule, Statement, ValueType,
-    VariableType,
+    ComparedTypes, Counter, Declared, First, Kind, Label, Part, Place, Procedure, Rule,
+    SecretControl, Statement, Typed, ValueType, VariableType, Why,
 };
 use std::alloc::{AllocError, Global};
 
-/// Notes what a condition of this type violates.
-fn note_condition(first: &mut First, place: Place, condition: Option<ValueType>)
-    ensures { first.new.seen ≡ fold sooner first.old.seen (at place (of_one [] condition_rules condition)) }
+/// Notes what a condition violates.
+fn note_condition(first: &mut First, place: Place, condition: Option<Typed>)
+    ensures { first.new.seen ≡ fold sooner first.old.seen (asked_of_one condition_why place condition_rules condition) }
 {
     if let Some(condition) = condition {
-        first.note_if(!condition.is_bool(), place, Rule::WrongKind);
+        let part = typed_part(Part::Condition, condition.value);
+        let why = Why::Types(ComparedTypes::One(part), None);
+        first.note(!condition.value.is_bool(), place, Rule::WrongKind, why);
     }
 }
 
-/// The control label in the arms of a conditional, whose condition has this type.
-fn control_under(control: Label, condition: Option<ValueType>) -> Label
-    ensures { result ≡ control_under control condition }
+/// Control in the arms of a conditional at a place, by its condition.
+fn control_under(
+    place: Place,
+    control: Option<SecretControl>,
+    condition: Option<Typed>,
+) -> Option<SecretControl>
+    ensures { result ≡ control_under place control condition }
 {
     match condition {
-        Some(condition) => condition.label().join(control),
-        None => control,
+        Some(condition) if condition.value.is_hidden() => Some(SecretControl {
+            place,
+            name: condition.secret,
+        }),
+        Some(_) | None => control,
     }
 }
 
-/// Notes what a loop's bounds of these types violate.
-fn note_bounds(first: &mut First, place: Place, low: Option<ValueType>, high: Option<ValueType>)
-    ensures { first.new.seen ≡ fold sooner first.old.seen (at place (of_two [] bounds_rules low high)) }
+/// Notes what a loop's bounds violate.
+fn note_bounds(first: &mut First, place: Place, low: Option<Typed>, high: Option<Typed>)
+    ensures { first.new.seen ≡ fold sooner first.old.seen (asked_of_two bounds_why place bounds_rules low high) }
 {
     let (Some(low), Some(high)) = (low, high) else {
         return;
     };
-    let uneven = low.is_narrow() || high.is_narrow();
-    let wrong = !(low.is_numeric() && high.is_numeric());
-    let told = low.is_hidden() || high.is_hidden();
-    first.note_if(uneven, place, Rule::WidthsDiffer);
-    first.note_if(wrong, place, Rule::WrongKind);
-    first.note_if(told, place, Rule::SecretBound);
+    let (one, other) = (low.value, high.value);
+    let types = ComparedTypes::Two(
+        typed_part(Part::FirstBound, one),
+        typed_part(Part::SecondBound, other),
+    );
+    let why = Why::Types(types, None);
+    let secret = Why::Secret(low.secret.or(high.secret));
+    let uneven = one.is_narrow() || other.is_narrow();
+    let wrong = !(one.is_numeric() && other.is_numeric());
+    let told = one.is_hidden() || other.is_hidden();
+    first.note(uneven, place, Rule::WidthsDiffer, why);
+    first.note(wrong, place, Rule::WrongKind, why);
+    first.note(told, place, Rule::SecretBound, secret);
 }
 
-/// A statement under a control label. What it declares is in scope from here on.
+/// A statement under control. What it declares is in scope from here on.
 #[cycle(statement)]
 fn statement<'a>(
     alloc: Global,
     names: &mut Scope<'a>,
     first: &mut First,
     earlier: &[Procedure<'a>],
-    control: Label,
+    control: Option<SecretControl>,
     statement: &Statement<'a>,
 ) -> Result<(), AllocError>
     ensures names { OnOk result (names.new ≡ scope_after names.old (statement_tree statement.now)) }
@@ -77,7 +95,7 @@ fn statement<'a>(
         Statement::If(place, condition, accepted, otherwise) => {
             let condition = expression(names, first, condition);
             note_condition(first, *place, condition);
-            let control = control_under(control, condition);
+            let control = control_under(*place, control, condition);
             arm(alloc, names, first, earlier, control, accepted.as_slice())?;
             arm(alloc, names, first, earlier, control, otherwise.as_slice())
         }
@@ -105,7 +123,7 @@ fn arm<'a>(
     names: &mut Scope<'a>,
     first: &mut First,
     earlier: &[Procedure<'a>],
-    control: Label,
+    control: Option<SecretControl>,
     arm: &[Statement<'a>],
 ) -> Result<(), AllocError>
     ensures names { OnOk result (names.new ≡ names.old) }
@@ -124,21 +142,21 @@ fn turns<'a>(
     names: &mut Scope<'a>,
     first: &mut First,
     earlier: &[Procedure<'a>],
-    control: Label,
+    control: Option<SecretControl>,
     counter: &Counter<'a>,
     body: &[Statement<'a>],
 ) -> Result<(), AllocError>
     ensures names { OnOk result (names.new ≡ names.old) }
     ensures first { OnOk result (first.new.seen ≡ fold sooner first.old.seen
         (at counter.now.place (when (is_some (found names.old counter.now.name.now)) NameDeclaredTwice)
-        ++ block_violations (map procedure_tree earlier.now) (declared names.old counter.now.name.now counter_as) control (block_tree body.now))) }
+        ++ block_violations (map procedure_tree earlier.now) (declared names.old counter.now.place counter.now.name.now counter_as) control (block_tree body.now))) }
 {
     let before = names.len();
     let variable = VariableType {
         value: ValueType::word(Kind::Uint32, Label::Public),
         mutable: false,
     };
-    let taken = names.declare(counter.name, Declared::Variable(variable))?;
+    let taken = names.declare(counter.place, counter.name, Declared::Variable(variable))?;
     first.note_if(taken, counter.place, Rule::NameDeclaredTwice);
     statements(alloc, names, first, earlier, control, body)?;
     names.truncate(before);
@@ -152,7 +170,7 @@ pub fn statements<'a>(
     names: &mut Scope<'a>,
     first: &mut First,
     earlier: &[Procedure<'a>],
-    control: Label,
+    control: Option<SecretControl>,
     statements: &[Statement<'a>],
 ) -> Result<(), AllocError>
     ensures names { OnOk result (names.new ≡ scope_after_all names.old (block_tree statements.now)) }

@@ -1,31 +1,66 @@
 ghost use Rattle.std.specs.Prelude.{◌≡◌, fold};
-ghost use Rattle.language.specs.Types.{are_met, at};
-ghost use Rattle.language.specs.Typing.{argument_rules, control_rules, same_array, shape_rules, value_rules};
+ghost use Rattle.language.specs.Reasons.{put_why, typed_part};
+ghost use Rattle.language.specs.Types.{are_met, because_of};
+ghost use Rattle.language.specs.Typing.{argument_rules, argument_why, control_violations, same_array, shape_rules, value_rules, value_violations};
+ghost use Rattle.language.specs.declared.typing.ValueType.TheVariants.{Array, Word};
 ghost use Rattle.language.specs.Sooner.{sooner};
 
-use language::{ArrayType, First, Label, Place, Rule, ValueType, WordType};
+use crate::reasons::{control_why, literal_as, typed_part};
+use language::{
+    ArrayType, ComparedTypes, First, Label, Part, Place, Rule, SecretControl, Typed, ValueType,
+    Why, WordType,
+};
 
-/// Notes what a value of one type violates where a word of another is wanted, and says whether it
+/// Notes what a value violates, by what it is, where this word is wanted for a part, and says whether it
 /// violates nothing.
-pub fn note_value(first: &mut First, place: Place, wanted: WordType, given: ValueType) -> bool
-    ensures met { result ≡ are_met (value_rules wanted given) }
-    ensures first { first.new.seen ≡ fold sooner first.old.seen (at place (value_rules wanted given)) }
+fn note_put(
+    first: &mut First,
+    place: Place,
+    wanted: WordType,
+    part: Part,
+    given_as: Part,
+    given: Typed,
+) -> bool
+    ensures met { result ≡ are_met (value_rules wanted given.value) }
+    ensures first { first.new.seen ≡ fold sooner first.old.seen
+        (because_of (put_why (typed_part part (Word wanted)) given_as given) place (value_rules wanted given.value)) }
 {
-    let uneven = ValueType::Word(wanted).differs_in_width(given);
-    let wrong = !ValueType::Word(wanted).is_alike(given);
-    let leaks = !wanted.label.is_secret() && given.is_hidden();
-    first.note_if(uneven, place, Rule::WidthsDiffer);
-    first.note_if(wrong, place, Rule::WrongKind);
-    first.note_if(leaks, place, Rule::SecretToPublic);
+    let word = ValueType::Word(wanted);
+    let types = ComparedTypes::Two(typed_part(part, word), typed_part(given_as, given.value));
+    let literal = literal_as(word, given.literal);
+    let uneven = word.differs_in_width(given.value);
+    let wrong = !word.is_alike(given.value);
+    let leaks = !wanted.label.is_secret() && given.value.is_hidden();
+    first.note(
+        uneven,
+        place,
+        Rule::WidthsDiffer,
+        Why::Types(types, literal),
+    );
+    first.note(wrong, place, Rule::WrongKind, Why::Types(types, None));
+    first.note(
+        leaks,
+        place,
+        Rule::SecretToPublic,
+        Why::Leak(types, given.secret),
+    );
     !(uneven || wrong || leaks)
 }
 
-/// Notes something public that is assigned to under secret control.
-pub fn note_control(first: &mut First, place: Place, control: Label, label: Label)
-    ensures { first.new.seen ≡ fold sooner first.old.seen (at place (control_rules control label)) }
+/// Notes what a value violates where this word is wanted for a part.
+pub fn note_value(first: &mut First, place: Place, part: Part, wanted: WordType, given: Typed)
+    ensures { first.new.seen ≡ fold sooner first.old.seen (value_violations place part wanted given) }
 {
-    let told = !label.is_secret() && control.is_secret();
-    first.note_if(told, place, Rule::PublicAssignedUnderSecretControl);
+    note_put(first, place, wanted, part, Part::Value, given);
+}
+
+/// Notes something public that is assigned to under secret control.
+pub fn note_control(first: &mut First, place: Place, control: Option<SecretControl>, label: Label)
+    ensures { first.new.seen ≡ fold sooner first.old.seen (control_violations control place label) }
+{
+    let told = !label.is_secret() && control.is_some();
+    let rule = Rule::PublicAssignedUnderSecretControl;
+    first.note(told, place, rule, control_why(control));
 }
 
 /// Whether two arrays are of one shape and label.
@@ -37,32 +72,48 @@ fn is_same_array(one: ArrayType, other: ArrayType) -> bool
         && one.element.label.is_same(other.element.label)
 }
 
-/// Notes what a value violates where an array is wanted, and says whether it violates nothing.
-fn note_shape(first: &mut First, place: Place, wanted: ArrayType, given: ValueType) -> bool
-    ensures met { result ≡ are_met (shape_rules wanted given) }
-    ensures first { first.new.seen ≡ fold sooner first.old.seen (at place (shape_rules wanted given)) }
+/// Notes what an argument violates where this array is wanted for a part, and says whether it violates nothing.
+fn note_shape(first: &mut First, place: Place, wanted: ArrayType, part: Part, given: Typed) -> bool
+    ensures met { result ≡ are_met (shape_rules wanted given.value) }
+    ensures first { first.new.seen ≡ fold sooner first.old.seen
+        (because_of (argument_why (typed_part part (Array wanted)) given) place (shape_rules wanted given.value)) }
 {
-    match given {
-        ValueType::Array(given) => {
-            let same = is_same_array(wanted, given);
-            first.note_if(!same, place, Rule::ArrayShapeOrLabel);
+    let one = typed_part(part, ValueType::Array(wanted));
+    let other = typed_part(Part::Argument, given.value);
+    match given.value {
+        ValueType::Array(array) => {
+            let same = is_same_array(wanted, array);
+            first.note(
+                !same,
+                place,
+                Rule::ArrayShapeOrLabel,
+                Why::Shapes(one, other),
+            );
             same
         }
         ValueType::Word(_) | ValueType::Nothing => {
-            first.note_if(true, place, Rule::WrongKind);
+            let why = Why::Types(ComparedTypes::Two(one, other), None);
+            first.note(true, place, Rule::WrongKind, why);
             false
         }
     }
 }
 
-/// Notes what an argument violates by its parameter's type, and says whether it violates nothing.
-pub fn note_argument(first: &mut First, place: Place, wanted: ValueType, given: ValueType) -> bool
-    ensures met { result ≡ are_met (argument_rules wanted given) }
-    ensures first { first.new.seen ≡ fold sooner first.old.seen (at place (argument_rules wanted given)) }
+/// Notes what an argument violates where this is wanted for a part, and says whether it violates nothing.
+pub fn note_argument(
+    first: &mut First,
+    place: Place,
+    part: Part,
+    wanted: ValueType,
+    given: Typed,
+) -> bool
+    ensures met { result ≡ are_met (argument_rules wanted given.value) }
+    ensures first { first.new.seen ≡ fold sooner first.old.seen
+        (because_of (argument_why (typed_part part wanted) given) place (argument_rules wanted given.value)) }
 {
     match wanted {
-        ValueType::Word(wanted) => note_value(first, place, wanted, given),
-        ValueType::Array(wanted) => note_shape(first, place, wanted, given),
+        ValueType::Word(word) => note_put(first, place, word, part, Part::Argument, given),
+        ValueType::Array(array) => note_shape(first, place, array, part, given),
         ValueType::Nothing => true,
     }
 }

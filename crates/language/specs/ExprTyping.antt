@@ -21,11 +21,15 @@ use Rattle.language.specs.declared.typing.VariableType.{VariableType}
 use Rattle.language.specs.declared.typing.Violation.{Violation}
 use Rattle.word.specs.declared.profile.Profile.{Profile}
 use Rattle.word.specs.declared.profile.Profile.TheVariants.{P1, P2}
+use Rattle.language.specs.declared.why.Typed.{Typed}
+use Rattle.language.specs.declared.why.Why.TheVariants.{Number}
 use Rattle.language.specs.Operators.{operation_of}
+use Rattle.language.specs.Reasons.{secret_in, literal_in, operand_why, rotate_why, operands_why, choice_why, element_why}
 use Rattle.language.specs.Tree.{ExprTree, number, truth, name, prefix, binary, rotate, convert, select, element}
 use Rattle.language.specs.Types.{Scope, found, variable, bits_of, word, joined, is_numeric, is_bool, is_array}
 use Rattle.language.specs.Types.{is_narrow, is_hidden, kind_of, label_of, widths_differ, are_alike, when, at, unless}
-use Rattle.language.specs.Types.{of_one, of_two, of_three, with_type}
+use Rattle.language.specs.Types.{of_one, of_two, of_three, because, typed_as, with_typed, asked_of_one, asked_of_two}
+use Rattle.language.specs.Types.{asked_of_three}
 
 -- operands whose widths do not go together: a shift wants a `uint32` by which to shift
 abbrev pub is_uneven : Operation → ValueType → ValueType → Bool
@@ -173,32 +177,40 @@ type_of scope (select place condition accepted otherwise) =
 type_of scope (element place array text index) =
     of_two None element_type (name_type scope text) (type_of scope index)
 
--- the types of expressions, where all are well typed
-abbrev pub types_of : Scope → List ExprTree → Option (List ValueType)
-types_of scope [] = Some []
-types_of scope (e ∷ es) = with_type (type_of scope e) (types_of scope es)
+-- what is known of an expression, where it is well typed
+abbrev pub typed_of : Scope → ExprTree → Option Typed
+typed_of scope e = option_map (typed_as (secret_in scope e) (literal_in e)) (type_of scope e)
+
+-- and of several, where all are
+abbrev pub typed_of_all : Scope → List ExprTree → Option (List Typed)
+typed_of_all scope [] = Some []
+typed_of_all scope (e ∷ es) = with_typed (typed_of scope e) (typed_of_all scope es)
 
 -- the rules that an expression's nodes violate
 abbrev pub expr_violations : Scope → ExprTree → List Violation
-expr_violations scope (number place value kind) = at place (number_rules value kind)
+expr_violations scope (number place value kind) =
+    because (Number (record { value = value; kind = kind })) place (number_rules value kind)
 expr_violations scope (truth place value) = []
 expr_violations scope (name place text) = at place (name_rules scope text)
 expr_violations scope (prefix place operator operand) =
-    expr_violations scope operand ++ at place (of_one [] (prefix_rules operator) (type_of scope operand))
+    expr_violations scope operand
+    ++ asked_of_one operand_why place (prefix_rules operator) (typed_of scope operand)
 expr_violations scope (binary place operator left right) =
     expr_violations scope left ++ expr_violations scope right
-    ++ at place (of_two [] (binary_rules scope.profile operator) (type_of scope left) (type_of scope right))
+    ++ asked_of_two (operands_why (operation_of operator)) place (binary_rules scope.profile operator)
+    (typed_of scope left) (typed_of scope right)
 expr_violations scope (rotate place operand amount) =
-    expr_violations scope operand ++ at place (of_one [] (rotate_rules amount) (type_of scope operand))
+    expr_violations scope operand
+    ++ asked_of_one (rotate_why amount) place (rotate_rules amount) (typed_of scope operand)
 expr_violations scope (convert place kind operand) =
-    expr_violations scope operand ++ at place (of_one [] convert_rules (type_of scope operand))
+    expr_violations scope operand ++ asked_of_one operand_why place convert_rules (typed_of scope operand)
 expr_violations scope (select place condition accepted otherwise) =
     expr_violations scope condition ++ expr_violations scope accepted ++ expr_violations scope otherwise
-    ++ at place (of_three [] select_rules (type_of scope condition) (type_of scope accepted)
-    (type_of scope otherwise))
+    ++ asked_of_three choice_why place select_rules (typed_of scope condition) (typed_of scope accepted)
+    (typed_of scope otherwise)
 expr_violations scope (element place array text index) =
     at array (name_rules scope text) ++ expr_violations scope index
-    ++ at place (of_two [] element_rules (name_type scope text) (type_of scope index))
+    ++ asked_of_two element_why place element_rules (typed_of scope (name array text)) (typed_of scope index)
 
 abbrev pub exprs_violations : Scope → List ExprTree → List Violation
 exprs_violations scope [] = []

@@ -10,6 +10,7 @@ pub mod Known
 pub mod Signature
 pub mod Blocks
 pub mod Types
+pub mod Reasons
 pub mod ExprTyping
 pub mod Typing
 pub mod WellTyped

@@ -1,10 +1,12 @@
 -- Types, labels and scopes: what the rules of the language speak of.
 use Rattle.std.specs.Prelude.{ℕ, Bool, true, false, not, ◌&&◌, ◌||◌, ◌==◌, List, [], ◌∷◌, ◌++◌, Option, None, Some}
 use Rattle.std.specs.Prelude.{is_some, map, if◌then◌else◌}
+use Rattle.std.specs.Option.{unwrap_or}
 use Rattle.std.specs.Str.{bytes_eq}
 use Rattle.std.specs.Map.{lookup}
 use Rattle.word.specs.declared.place.Place.{Place}
 use Rattle.word.specs.declared.profile.Profile.{Profile}
+use Rattle.word.specs.Places.{origin}
 use Rattle.language.specs.declared.rule.Rule.{Rule}
 use Rattle.language.specs.declared.signature.Kind.{Kind}
 use Rattle.language.specs.declared.signature.Kind.TheVariants.{Boolean, Uint8, Uint16, Uint32}
@@ -17,31 +19,43 @@ use Rattle.language.specs.declared.typing.ValueType.{ValueType}
 use Rattle.language.specs.declared.typing.ValueType.TheVariants.{Word, Array, Nothing}
 use Rattle.language.specs.declared.typing.VariableType.{VariableType}
 use Rattle.language.specs.declared.typing.Violation.{Violation}
+use Rattle.language.specs.declared.why.SecretControl.{SecretControl}
+use Rattle.language.specs.declared.why.Typed.{Typed}
 use Rattle.language.specs.declared.why.Why.{Why}
 use Rattle.language.specs.declared.why.Why.TheVariants.{Plain}
 
 -- Scopes.
 
--- the observer from whom secrets are kept, and the names that may be used at a point, the earliest first
+-- the observer from whom secrets are kept, the names that may be used at a point, the earliest first, and where each of
+-- them is declared
 pub record Scope : Type 0 where
   pub profile : Profile
   pub names : List (List ℕ × Declared)
+  pub places : List (List ℕ × Place)
 
 -- where nothing is declared
 abbrev pub empty : Profile → Scope
-empty profile = record { profile = profile; names = [] }
+empty profile = record { profile = profile; names = []; places = [] }
 
 -- what a name stands for
 abbrev pub found : Scope → List ℕ → Option Declared
 found scope text = lookup (bytes_eq text) scope.names
 
+-- where a name is declared; one that is not is said to be where a source begins
+abbrev pub declared_at : Scope → List ℕ → Place
+declared_at scope text = unwrap_or (lookup (bytes_eq text) scope.places) origin
+
 -- the names after a declaration: of two declarations of a name the first keeps it
-abbrev pub with_name : List (List ℕ × Declared) → List ℕ → Declared → List (List ℕ × Declared)
+abbrev pub with_name : {V : Type 0} → List (List ℕ × V) → List ℕ → V → List (List ℕ × V)
 with_name names text what = if is_some (lookup (bytes_eq text) names) then names else names ++ (text, what) ∷ []
 
--- the scope after a declaration
-abbrev pub declared : Scope → List ℕ → Declared → Scope
-declared scope text what = record { profile = scope.profile; names = with_name scope.names text what }
+-- the scope after a declaration at a place
+abbrev pub declared : Scope → Place → List ℕ → Declared → Scope
+declared scope place text what = record {
+  profile = scope.profile;
+  names = with_name scope.names text what;
+  places = with_name scope.places text place;
+}
 
 -- the variable that a name stands for
 abbrev pub variable : Option Declared → Option VariableType
@@ -85,6 +99,11 @@ same_label Secret label = is_secret label
 abbrev pub joined : Label → Label → Label
 joined Public label = label
 joined Secret label = Secret
+
+-- of control: secret under an `if` with a secret condition
+abbrev pub label_under : Option SecretControl → Label
+label_under None = Public
+label_under (Some control) = Secret
 
 -- Types.
 
@@ -145,46 +164,68 @@ are_alike a b = (is_numeric a && is_numeric b) || (is_bool a && is_bool b)
 abbrev pub when : Bool → Rule → List Rule
 when holds rule = if holds then rule ∷ [] else []
 
--- rules violated at a place for this reason
-abbrev pub because : Why → Place → List Rule → List Violation
-because why place rules = map (λ rule. record { place = place; rule = rule; why = why }) rules
+-- rules violated at a place, each for its reason
+abbrev pub because_of : (Rule → Why) → Place → List Rule → List Violation
+because_of why place rules = map (λ rule. record { place = place; rule = rule; why = why rule }) rules
 
--- rules violated at a place, where rule and place say it all
+-- for this reason
+abbrev pub because : Why → Place → List Rule → List Violation
+because why place rules = because_of (λ rule. why) place rules
+
+-- where rule and place say it all
 abbrev pub at : Place → List Rule → List Violation
 at place rules = because Plain place rules
 
--- no rule is violated
-abbrev pub are_met : List Rule → Bool
+-- none is violated
+abbrev pub are_met : {A : Type 0} → List A → Bool
 are_met [] = true
-are_met (rule ∷ rules) = false
+are_met (one ∷ more) = false
 
--- the type, where no rule is violated
-abbrev pub unless : List Rule → ValueType → Option ValueType
-unless rules type = if are_met rules then Some type else None
+-- the type, where none is violated
+abbrev pub unless : {A : Type 0} → List A → ValueType → Option ValueType
+unless violated type = if are_met violated then Some type else None
 
--- what a node gives by the types of its parts, where all parts are well typed
-abbrev pub of_one : {B : Type 0} → B → (ValueType → B) → Option ValueType → B
+-- what a node gives by what is known of its parts, where all parts are well typed
+abbrev pub of_one : {A B : Type 0} → B → (A → B) → Option A → B
 of_one none f (Some a) = f a
 of_one none f None = none
 
-abbrev pub of_two : {B : Type 0} → B → (ValueType → ValueType → B) → Option ValueType → Option ValueType → B
+abbrev pub of_two : {A B : Type 0} → B → (A → A → B) → Option A → Option A → B
 of_two none f (Some a) (Some b) = f a b
 of_two none f (Some a) None = none
 of_two none f None b = none
 
-abbrev pub of_three : {B : Type 0} → B → (ValueType → ValueType → ValueType → B) → Option ValueType → Option ValueType
-    → Option ValueType → B
+abbrev pub of_three : {A B : Type 0} → B → (A → A → A → B) → Option A → Option A → Option A → B
 of_three none f (Some a) (Some b) (Some c) = f a b c
 of_three none f (Some a) (Some b) None = none
 of_three none f (Some a) None c = none
 of_three none f None b c = none
 
--- the types of all parts, where each is well typed
-abbrev pub with_type : Option ValueType → Option (List ValueType) → Option (List ValueType)
-with_type (Some t) (Some ts) = Some (t ∷ ts)
-with_type (Some t) None = None
-with_type None ts = None
+-- a value of this type, with the first secret name in it and the number that it is
+abbrev pub typed_as : Option Place → Option ℕ → ValueType → Typed
+typed_as secret literal type = record { value = type; secret = secret; literal = literal }
 
-abbrev pub of_all : {B : Type 0} → B → (List ValueType → B) → Option (List ValueType) → B
-of_all none f (Some types) = f types
-of_all none f None = none
+-- what is known of all parts, where each is well typed
+abbrev pub with_typed : Option Typed → Option (List Typed) → Option (List Typed)
+with_typed (Some t) (Some ts) = Some (t ∷ ts)
+with_typed (Some t) None = None
+with_typed None ts = None
+
+-- the rules that are asked of a node where its parts are well typed
+abbrev pub asked_of_one : (Typed → Rule → Why) → Place → (ValueType → List Rule) → Option Typed → List Violation
+asked_of_one why place rules (Some a) = because_of (why a) place (rules a.value)
+asked_of_one why place rules None = []
+
+abbrev pub asked_of_two : (Typed → Typed → Rule → Why) → Place → (ValueType → ValueType → List Rule) → Option Typed
+    → Option Typed → List Violation
+asked_of_two why place rules (Some a) (Some b) = because_of (why a b) place (rules a.value b.value)
+asked_of_two why place rules (Some a) None = []
+asked_of_two why place rules None b = []
+
+abbrev pub asked_of_three : (Typed → Typed → Typed → Rule → Why) → Place
+    → (ValueType → ValueType → ValueType → List Rule) → Option Typed → Option Typed → Option Typed → List Violation
+asked_of_three why place rules (Some a) (Some b) (Some c) =
+    because_of (why a b c) place (rules a.value b.value c.value)
+asked_of_three why place rules (Some a) (Some b) None = []
+asked_of_three why place rules (Some a) None c = []
+asked_of_three why place rules None b c = []

@@ -261,7 +261,7 @@ mutual
         → HasType scope low (word Uint32 Public)
         → HasType scope high (word Uint32 Public)
         → found scope text ≡ None
-        → AreWellTyped earlier (declared scope text counter_as) control body
+        → AreWellTyped earlier (declared scope counter text counter_as) control body
         → IsWellTyped earlier scope control (loop place counter text low high body)
 
   -- statements in their order
@@ -281,7 +281,7 @@ pub data AreNew : Scope → List ParameterTree → Type 0 where
       → AreNew scope []
   one_is_new : {scope : Scope} {p : ParameterTree} {ps : List ParameterTree}
       → found scope p.name ≡ None
-      → AreNew (declared scope p.name (parameter_as p)) ps
+      → AreNew (declared scope p.place p.name (parameter_as p)) ps
       → AreNew scope (p ∷ ps)
 
 -- a `return` stands exactly where there is a result, and its value suits it

@@ -41,6 +41,6 @@ pub use typing::{ArrayType, Callee, Declared, ValueType, VariableType, Violation
 pub use values::{Arg, Args, Numbers, Outcome};
 pub use why::{
     ArgumentCounts, ComparedTypes, Counted, Excess, IndexRange, Literal, Part, SecretControl,
-    Share, SharedArray, TypedPart, ValueCounts, Why,
+    Share, SharedArray, Typed, TypedPart, ValueCounts, Why,
 };
 pub use word::{Place, Profile};

@@ -1,5 +1,15 @@
 use crate::{Interval, Kind, Place, ValueType, WordType};
 
+/// What is known of a value that is well typed.
+#[derive(Clone, Copy, Debug)]
+pub struct Typed {
+    pub value: ValueType,
+    /// Where the first secret name in it is declared.
+    pub secret: Option<Place>,
+    /// The number that it is, where it is one.
+    pub literal: Option<u32>,
+}
+
 /// A part of what a rule compares.
 #[derive(Clone, Copy, Debug)]
 pub enum Part {

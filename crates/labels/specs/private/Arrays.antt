@@ -1,18 +1,20 @@
--- What is kept of the arrays that the arguments of a call are.
-use Rattle.std.specs.Prelude.{ℕ, Bool, true, false, ◌&&◌, ◌||◌, List, Option, Some, None, is_some, if◌then◌else◌}
+-- What is kept of the arrays that the arguments of a call are, each with the place of the first parameter for which it is
+-- given.
+use Rattle.std.specs.Prelude.{ℕ, Bool, List, Option, Some, None, if◌then◌else◌}
+use Rattle.word.specs.declared.place.Place.{Place}
 use Rattle.language.specs.names.Scope.{declared, found}
 
 -- arrays with one more argument's, where it is one
-abbrev pub with_array : List (List ℕ × Bool) → Option (List ℕ) → List (List ℕ × Bool)
-with_array names (Some name) = declared names name true
-with_array names None = names
+abbrev pub with_array : List (List ℕ × Place) → Option (List ℕ) → Place → List (List ℕ × Place)
+with_array names (Some name) place = declared names name place
+with_array names None place = names
 
 -- the same of those that may be changed
-abbrev pub with_changed : List (List ℕ × Bool) → Bool → Option (List ℕ) → List (List ℕ × Bool)
-with_changed names mutable (Some name) = if mutable then declared names name true else names
-with_changed names mutable None = names
+abbrev pub with_changed : List (List ℕ × Place) → Bool → Option (List ℕ) → Place → List (List ℕ × Place)
+with_changed names mutable (Some name) place = if mutable then declared names name place else names
+with_changed names mutable None place = names
 
--- an argument was given before, and one of the two parameters may change it
-abbrev pub was_given : List (List ℕ × Bool) → List (List ℕ × Bool) → Bool → Option (List ℕ) → Bool
-was_given given changed mutable (Some name) = is_some (found changed name) || (mutable && is_some (found given name))
-was_given given changed mutable None = false
+-- the first parameter for which an argument was given before, where that or this one may change it
+abbrev pub given_before : List (List ℕ × Place) → List (List ℕ × Place) → Bool → Option (List ℕ) → Option Place
+given_before given changed mutable (Some name) = if mutable then found given name else found changed name
+given_before given changed mutable None = None

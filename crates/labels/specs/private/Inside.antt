@@ -1,6 +1,5 @@
 -- What a procedure violates after its name.
-use Rattle.std.specs.Prelude.{List, ◌++◌}
-use Rattle.language.specs.declared.signature.Label.TheVariants.{Public}
+use Rattle.std.specs.Prelude.{List, ◌++◌, None}
 use Rattle.language.specs.declared.typing.Violation.{Violation}
 use Rattle.language.specs.Tree.{ProcedureTree}
 use Rattle.language.specs.Types.{Scope}
@@ -11,5 +10,5 @@ use Rattle.language.specs.Typing.{with_parameters}
 abbrev pub inside_violations : List ProcedureTree → Scope → ProcedureTree → List Violation
 inside_violations earlier scope p =
     parameter_violations scope p.parameters
-    ++ block_violations earlier (with_parameters scope p.parameters) Public p.body
+    ++ block_violations earlier (with_parameters scope p.parameters) None p.body
     ++ return_violations (scope_after_all (with_parameters scope p.parameters) p.body) p.result p.returned

@@ -1,10 +1,11 @@
 -- A map's entries, looked up and extended, are a scope, looked up and extended.
-use Rattle.std.proofs.Common.{◌≡◌, ℕ, false, List, [], ◌∷◌, ◌++◌, Option, None, Some, cond, is_some, take, refl, sym}
+use Rattle.std.proofs.Common.{◌≡◌, ℕ, Bool, true, false, List, [], ◌∷◌, ◌++◌, Option, None, Some, cond, is_some, take, refl, sym}
 use Rattle.std.proofs.Common.{ap, ◌∙◌}
 use Rattle.std.proofs.lemmas.List.{map-append, take-map}
 use Rattle.std.specs.Map.{lookup}
 use Rattle.std.specs.Str.{bytes_eq}
-use Rattle.language.specs.names.Scope.{found, declared, scope_of}
+use Rattle.std.specs.Option.{option_map}
+use Rattle.language.specs.names.Scope.{found, declared, parts, scope_of}
 
 -- a key's value is what its text stands for
 pub lookup-scope_of : {K V : Type 0} (text : K → List ℕ) (name : List ℕ) (es : List (K × V))
@@ -36,3 +37,27 @@ pub scope_of-take : {K V : Type 0} (text : K → List ℕ) (n : ℕ) (es fs : Li
     → fs ≡ take n es → scope_of text es ≡ scope → scope_of text fs ≡ take n scope
 scope_of-take text n es fs scope fewer is =
     ap (scope_of text) fewer ∙ sym (take-map (λ entry. (text entry.0, entry.1)) n es) ∙ ap (take n) is
+
+-- a part of what a name stands for
+pub found_part : {V W : Type 0} (part : V → W) (scope : List (List ℕ × V)) (name : List ℕ)
+    → found (parts part scope) name ≡ option_map part (found scope name)
+found_part part [] name = refl
+found_part part (e ∷ scope) name = by (bytes_eq name e.0) (found_part part scope name)
+  where
+    by : (b : Bool) → found (parts part scope) name ≡ option_map part (found scope name)
+        → cond b (Some (part e.1)) (found (parts part scope) name)
+        ≡ option_map part (cond b (Some e.1) (found scope name))
+    by true rest = refl
+    by false rest = rest
+
+-- after a declaration
+pub declared_part : {V W : Type 0} (part : V → W) (scope : List (List ℕ × V)) (name : List ℕ) (what : V)
+    → parts part (declared scope name what) ≡ declared (parts part scope) name (part what)
+declared_part {V = V} part scope name what =
+    by (found scope name) ∙ ap (λ o. cond (is_some o) (parts part scope) (parts part scope ++ (name, part what) ∷ []))
+    (sym (found_part part scope name))
+  where
+    by : (o : Option V) → parts part (cond (is_some o) scope (scope ++ (name, what) ∷ []))
+        ≡ cond (is_some (option_map part o)) (parts part scope) (parts part scope ++ (name, part what) ∷ [])
+    by (Some v) = refl
+    by None = map-append (λ entry. (entry.0, part entry.1)) scope ((name, what) ∷ [])

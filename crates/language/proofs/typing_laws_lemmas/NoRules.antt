@@ -3,7 +3,9 @@ use Rattle.std.proofs.Common.{◌≡◌, Bool, true, false, not, List, [], ◌�
 use Rattle.word.specs.declared.place.Place.{Place}
 use Rattle.language.specs.declared.rule.Rule.{Rule}
 use Rattle.language.specs.declared.typing.ValueType.{ValueType}
-use Rattle.language.specs.Types.{at, when, of_two, of_three}
+use Rattle.language.specs.declared.why.Typed.{Typed}
+use Rattle.language.specs.declared.why.Why.{Why}
+use Rattle.language.specs.Types.{because_of, when, asked_of_one, asked_of_two, asked_of_three}
 
 -- each of several lists
 
@@ -22,19 +24,24 @@ pub none_of_five : {A : Type 0} {us vs ws xs ys : List A} → us ++ vs ++ ws ++ 
     → (us ≡ []) × (vs ≡ []) × (ws ≡ []) × (xs ≡ []) × (ys ≡ [])
 none_of_five h = let x = none_of_two h in let y = none_of_four x.0 in (y.0, y.1, y.2, y.3, x.1)
 
-pub no_rules : (place : Place) {rules : List Rule} → at place rules ≡ [] → rules ≡ []
-no_rules place {rules = []} h = refl
-no_rules place {rules = rule ∷ rules} h = cc
+pub no_rules : (why : Rule → Why) (place : Place) {rules : List Rule} → because_of why place rules ≡ [] → rules ≡ []
+no_rules why place {rules = []} h = refl
+no_rules why place {rules = rule ∷ rules} h = cc
 
--- of a node whose parts have types
-pub no_rules_of_two : (place : Place) (rules : ValueType → ValueType → List Rule) {o p : Option ValueType}
-    {s t : ValueType} → o ≡ Some s → p ≡ Some t → at place (of_two [] rules o p) ≡ [] → rules s t ≡ []
-no_rules_of_two place rules one other h = no_rules place (rw (one, other) at h)
+-- of a node whose parts are well typed
+pub no_rules_of_one : (why : Typed → Rule → Why) (place : Place) (rules : ValueType → List Rule) {o : Option Typed}
+    {s : Typed} → o ≡ Some s → asked_of_one why place rules o ≡ [] → rules s.value ≡ []
+no_rules_of_one why place rules one h = no_rules _ place (rw one at h)
 
-pub no_rules_of_three : (place : Place) (rules : ValueType → ValueType → ValueType → List Rule)
-    {o p q : Option ValueType} {s t u : ValueType} → o ≡ Some s → p ≡ Some t → q ≡ Some u
-    → at place (of_three [] rules o p q) ≡ [] → rules s t u ≡ []
-no_rules_of_three place rules one other third h = no_rules place (rw (one, other, third) at h)
+pub no_rules_of_two : (why : Typed → Typed → Rule → Why) (place : Place) (rules : ValueType → ValueType → List Rule)
+    {o p : Option Typed} {s t : Typed} → o ≡ Some s → p ≡ Some t → asked_of_two why place rules o p ≡ []
+    → rules s.value t.value ≡ []
+no_rules_of_two why place rules one other h = no_rules _ place (rw (one, other) at h)
+
+pub no_rules_of_three : (why : Typed → Typed → Typed → Rule → Why) (place : Place)
+    (rules : ValueType → ValueType → ValueType → List Rule) {o p q : Option Typed} {s t u : Typed} → o ≡ Some s
+    → p ≡ Some t → q ≡ Some u → asked_of_three why place rules o p q ≡ [] → rules s.value t.value u.value ≡ []
+no_rules_of_three why place rules one other third h = no_rules _ place (rw (one, other, third) at h)
 
 -- a rule that holds where this does
 pub not_when : {holds : Bool} (rule : Rule) → when holds rule ≡ [] → holds ≡ false

@@ -1,19 +1,19 @@
 -- Procedures and programs.
-use Rattle.std.proofs.Common.{◌≡◌, not, ◌&&◌, List, [], ◌∷◌, ◌++◌, length, Option, Some, None, is_some, refl}
+use Rattle.std.proofs.Common.{◌≡◌, List, [], ◌∷◌, ◌++◌, length, Option, Some, None, refl}
 use Rattle.word.specs.declared.place.Place.{Place}
 use Rattle.language.specs.declared.rule.Rule.TheVariants.{ReturnMismatch}
-use Rattle.language.specs.declared.signature.Label.TheVariants.{Public}
 use Rattle.language.specs.declared.typing.WordType.{WordType}
+use Rattle.language.specs.declared.why.Why.TheVariants.{Returned}
 use Rattle.language.specs.Tree.{ParameterTree, ReturnTree, ProcedureTree}
-use Rattle.language.specs.Types.{Scope, empty, found, declared, when}
-use Rattle.language.specs.Typing.{parameter_as, parameter_violations, return_violations}
+use Rattle.language.specs.Types.{Scope, empty, found, declared}
+use Rattle.language.specs.Typing.{parameter_as, parameter_violations, missing_violations, return_violations}
 use Rattle.language.specs.Typing.{with_procedure, body_scope, scope_after_all, procedure_violations}
 use Rattle.language.specs.Typing.{procedures_violations, exports, export_violations}
 use Rattle.language.specs.WellTyped.{AreNew, no_parameter, one_is_new, Returns, nothing_returned}
 use Rattle.language.specs.WellTyped.{value_returned, IsProcedure, AreProcedures, no_procedure, one_procedure}
 use Rattle.language.specs.typing_laws.ByRules.{BlocksByRules, ProgramsByRules}
 use Rattle.language.proofs.typing_laws_lemmas.Expressions.{known, is_typed}
-use Rattle.language.proofs.typing_laws_lemmas.NoRules.{none_of_two, none_of_four, no_rules}
+use Rattle.language.proofs.typing_laws_lemmas.NoRules.{none_of_two, none_of_five, no_rules}
 use Rattle.language.proofs.typing_laws_lemmas.Statements.{is_new, block_typed, block_none}
 use Rattle.language.proofs.typing_laws_lemmas.Values.{is_suited, suited}
 
@@ -23,8 +23,8 @@ are_new : (scope : Scope) (ps : List ParameterTree) → parameter_violations sco
 are_new scope [] h = no_parameter
 are_new scope (p ∷ ps) h =
     let none = none_of_two h in
-    one_is_new (is_new (found scope p.name) (no_rules p.place none.0))
-    (are_new (declared scope p.name (parameter_as p)) ps none.1)
+    one_is_new (is_new (found scope p.name) (no_rules _ p.place none.0))
+    (are_new (declared scope p.place p.name (parameter_as p)) ps none.1)
 
 new_parameters : {scope : Scope} {ps : List ParameterTree} → AreNew scope ps → parameter_violations scope ps ≡ []
 new_parameters no_parameter = refl
@@ -33,26 +33,27 @@ new_parameters (one_is_new new more) = rw (new_parameters more, new)
 -- Returns.
 
 module _ (scope : Scope) where
-  returns : (result : Option WordType) (returned : Option ReturnTree)
-      → when (is_some result && not (is_some returned)) ReturnMismatch ≡ []
-      → return_violations scope result returned ≡ [] → Returns scope result returned
-  returns None None missing h = nothing_returned
-  returns (Some wanted) None missing h = cc
-  returns None (Some r) missing h =
+  returns : (place : Place) (result : Option WordType) (returned : Option ReturnTree)
+      → missing_violations place result returned ≡ [] → return_violations scope result returned ≡ []
+      → Returns scope result returned
+  returns place None None missing h = nothing_returned
+  returns place (Some wanted) None missing h = cc
+  returns place None (Some r) missing h =
       let none = none_of_two h in
       let x = known scope r.value none.0 in
-      let wrong : ReturnMismatch ∷ [] ≡ [] = no_rules r.place (rw x.is at none.1) in cc
-  returns (Some wanted) (Some r) missing h =
+      let wrong : ReturnMismatch ∷ [] ≡ [] = no_rules (λ rule. Returned x.type) r.place
+      (rw x.is at none.1) in cc
+  returns place (Some wanted) (Some r) missing h =
       let none = none_of_two h in
       let x = known scope r.value none.0 in
-      let w = is_suited wanted x.type (no_rules r.place (rw x.is at none.1)) in
+      let w = is_suited wanted x.type (no_rules _ r.place (rw x.is at none.1)) in
       value_returned (rw w.1 at x.has) w.2
 
-  returned_well : {result : Option WordType} {returned : Option ReturnTree} → Returns scope result returned
-      → (when (is_some result && not (is_some returned)) ReturnMismatch ≡ [])
-      × (return_violations scope result returned ≡ [])
-  returned_well nothing_returned = (refl, refl)
-  returned_well (value_returned has suit) =
+  returned_well : (place : Place) {result : Option WordType} {returned : Option ReturnTree}
+      → Returns scope result returned
+      → (missing_violations place result returned ≡ []) × (return_violations scope result returned ≡ [])
+  returned_well place nothing_returned = (refl, refl)
+  returned_well place (value_returned has suit) =
       let x = is_typed scope has in (refl, rw (x.none, x.is, suited suit))
 
 -- Procedures.
@@ -61,19 +62,18 @@ module _ (earlier : List ProcedureTree) (scope : Scope) (p : ProcedureTree) wher
   is_procedure : procedure_violations earlier scope p ≡ [] → IsProcedure earlier scope p
   is_procedure h =
       let inner = body_scope scope (length earlier) p in
-      let none = none_of_four h in
-      let at_name = none_of_two (no_rules p.place none.0) in
+      let none = none_of_five h in
       record {
-        is_new = is_new (found scope p.name) at_name.0;
-        parameters = are_new (with_procedure scope (length earlier) p) p.parameters none.1;
-        body = block_typed p.body earlier inner Public none.2;
-        returns = returns (scope_after_all inner p.body) p.result p.returned at_name.1 none.3;
+        is_new = is_new (found scope p.name) (no_rules _ p.place none.0);
+        parameters = are_new (with_procedure scope (length earlier) p) p.parameters none.2;
+        body = block_typed p.body earlier inner None none.3;
+        returns = returns (scope_after_all inner p.body) p.place p.result p.returned none.1 none.4;
       }
 
   procedure_none : IsProcedure earlier scope p → procedure_violations earlier scope p ≡ []
   procedure_none is =
-      let back = returned_well (scope_after_all (body_scope scope (length earlier) p) p.body) is.returns in
-      rw (new_parameters is.parameters, block_none is.body, back.1, back.0, is.is_new)
+      let back = returned_well (scope_after_all (body_scope scope (length earlier) p) p.body) p.place is.returns in
+      rw (new_parameters is.parameters, block_none p.body None is.body, back.1, back.0, is.is_new)
 
 are_procedures : (earlier : List ProcedureTree) (scope : Scope) (ps : List ProcedureTree)
     → procedures_violations earlier scope ps ≡ [] → AreProcedures earlier scope ps
@@ -97,7 +97,7 @@ one_export (place ∷ []) h = (place, refl)
 one_export (place ∷ further ∷ places) h = cc
 
 pub blocks : BlocksByRules
-blocks earlier scope control block = (block_typed block earlier scope control, block_none)
+blocks earlier scope control block = (block_typed block earlier scope control, block_none block control)
 
 pub programs : ProgramsByRules
 programs profile program = (

@@ -1,14 +1,21 @@
 -- Values put where a type is wanted.
-use Rattle.std.proofs.Common.{◌≡◌, Bool, true, false, not, ◌&&◌, [], refl, sym, subst}
+use Rattle.std.proofs.Common.{◌≡◌, ℕ, Bool, true, false, not, ◌&&◌, [], Option, Some, refl, ap, sym, ◌∙◌, subst}
+use Rattle.word.specs.declared.place.Place.{Place}
+use Rattle.language.specs.declared.signature.Kind.{Kind}
 use Rattle.language.specs.declared.signature.Label.{Label}
+use Rattle.language.specs.declared.signature.Label.TheVariants.{Public, Secret}
 use Rattle.language.specs.declared.typing.ValueType.{ValueType}
 use Rattle.language.specs.declared.typing.ValueType.TheVariants.{Word}
 use Rattle.language.specs.declared.typing.WordType.{WordType}
-use Rattle.language.specs.Types.{is_secret, is_hidden, widths_differ, are_alike}
-use Rattle.language.specs.Typing.{value_rules, control_rules, change_rules, declaration_control_rules}
+use Rattle.language.specs.declared.why.SecretControl.{SecretControl}
+use Rattle.language.specs.declared.why.Typed.{Typed}
+use Rattle.language.specs.Reasons.{control_under}
+use Rattle.language.specs.Types.{is_secret, is_hidden, label_under, joined, word, widths_differ, are_alike, typed_as}
+use Rattle.language.specs.Typing.{value_rules, control_rules, control_violations, change_violations}
+use Rattle.language.specs.Typing.{declaration_control_violations}
 use Rattle.language.specs.WellTyped.{FlowsTo, Suits, suits}
 use Rattle.language.proofs.typing_laws_lemmas.TypeTests.{alike_kinds, even_alike, alike_words, flows, flowing}
-use Rattle.language.proofs.typing_laws_lemmas.NoRules.{none_of_two, none_of_three, not_when, is_met}
+use Rattle.language.proofs.typing_laws_lemmas.NoRules.{none_of_two, none_of_three, no_rules, not_when, is_met}
 
 -- a value that violates no rule is a word that suits
 pub is_suited : (wanted : WordType) (given : ValueType) → value_rules wanted given ≡ []
@@ -39,17 +46,36 @@ is_kept control label h = flows control label (not_when _ h)
 pub kept : {control label : Label} → FlowsTo control label → control_rules control label ≡ []
 kept flow = rw (flowing flow)
 
-pub is_changed : (control : Label) (mutable : Bool) (label : Label) → change_rules control mutable label ≡ []
-    → (mutable ≡ true) × FlowsTo control label
-is_changed control mutable label h =
-    let none = none_of_two h in (is_met _ none.0, is_kept control label none.1)
+pub control_kept : (control : Option SecretControl) (place : Place) (label : Label)
+    → control_violations control place label ≡ [] → FlowsTo (label_under control) label
+control_kept control place label h = is_kept (label_under control) label (no_rules _ place h)
 
-pub is_declared : (control label : Label) (mutable : Bool) → declaration_control_rules control label mutable ≡ []
-    → mutable ≡ true → FlowsTo control label
-is_declared control label true h e = is_kept control label h
-is_declared control label false h e = cc
+pub is_changed : (control : Option SecretControl) (place known_at : Place) (mutable : Bool) (label : Label)
+    → change_violations control place known_at mutable label ≡ []
+    → (mutable ≡ true) × FlowsTo (label_under control) label
+is_changed control place known_at mutable label h =
+    let none = none_of_two h in (is_met _ (no_rules _ place none.0), control_kept control place label none.1)
 
-pub declared_under : (control label : Label) (mutable : Bool) → (mutable ≡ true → FlowsTo control label)
-    → declaration_control_rules control label mutable ≡ []
-declared_under control label true flow = kept (flow refl)
-declared_under control label false flow = refl
+pub is_declared : (control : Option SecretControl) (place : Place) (label : Label) (mutable : Bool)
+    → declaration_control_violations control place label mutable ≡ []
+    → mutable ≡ true → FlowsTo (label_under control) label
+is_declared control place label true h e = control_kept control place label h
+is_declared control place label false h e = cc
+
+pub declared_under : (control : Option SecretControl) (place : Place) (label : Label) (mutable : Bool)
+    → (mutable ≡ true → FlowsTo (label_under control) label)
+    → declaration_control_violations control place label mutable ≡ []
+declared_under control place label true flow = rw (kept (flow refl))
+declared_under control place label false flow = refl
+
+-- in the arms of a conditional the control label is that of the condition, joined with the one around them
+pub under_joined : (place : Place) (control : Option SecretControl) {given : Option Typed} {secret : Option Place}
+    {literal : Option ℕ} {kind : Kind} {label : Label} → given ≡ Some (typed_as secret literal (word kind label))
+    → label_under (control_under place control given) ≡ joined label (label_under control)
+under_joined place control {secret = secret} {literal = literal} {kind = kind} {label = label} is =
+    ap (λ o. label_under (control_under place control o)) is ∙ by label
+  where
+    by : (l : Label) → label_under (control_under place control (Some (typed_as secret literal (word kind l))))
+        ≡ joined l (label_under control)
+    by Public = refl
+    by Secret = refl

@@ -11,6 +11,10 @@ found scope name = lookup (bytes_eq name) scope
 abbrev pub declared : {V : Type 0} → List (List ℕ × V) → List ℕ → V → List (List ℕ × V)
 declared scope name what = if is_some (found scope name) then scope else scope ++ (name, what) ∷ []
 
+-- a part of what each name stands for
+abbrev pub parts : {V W : Type 0} → (V → W) → List (List ℕ × V) → List (List ℕ × W)
+parts part scope = map (λ entry. (entry.0, part entry.1)) scope
+
 -- a map's entries as such a list, each key seen as its text
 abbrev pub scope_of : {K V : Type 0} → (K → List ℕ) → List (K × V) → List (List ℕ × V)
 scope_of text entries = map (λ entry. (text entry.0, entry.1)) entries

@@ -1,25 +1,38 @@
 ghost use Rattle.std.specs.Prelude.{◌≡◌, is_some, length, IfOk, OnOk};
-ghost use Rattle.language.specs.Types.{callee, declared, empty, found, variable};
+ghost use Rattle.language.specs.Types.{callee, declared, declared_at, empty, found, variable};
 ghost use Rattle.language.specs.scopes.Shortened.{shortened};
 
 use crate::names::Names;
-use crate::{Callee, Declared, Profile, VariableType};
+use crate::{Callee, Declared, Place, Profile, VariableType};
 use std::alloc::{AllocError, Global};
 use std::marker::Model;
+
+/// What a name stands for, and where it is declared.
+#[derive(Clone, Copy)]
+struct Entry {
+    what: Declared,
+    place: Place,
+}
 
 /// The observer from whom secrets are kept, and the names that may be used at a point.
 #[derive(Drop)]
 pub struct Scope<'a> {
     profile: Profile,
-    names: Names<'a, Declared>,
+    names: Names<'a, Entry>,
 }
 
 impl<'a> Model for Scope<'a> {
     ghost use Rattle.language.specs.Types.{Scope as ScopeOfNames};
+    ghost use Rattle.language.specs.declared.scopes.scope.Entry.{Entry};
+    ghost use Rattle.language.specs.names.Scope.{parts};
 
     ghost Value = { ScopeOfNames };
 
-    ghost view = { λ scope. record { profile = scope.profile; names = scope.names } };
+    ghost view = { λ scope. record {
+      profile = scope.profile;
+      names = parts (λ (entry : Entry). entry.what) scope.names;
+      places = parts (λ (entry : Entry). entry.place) scope.names;
+    } };
 }
 
 impl<'a> Scope<'a> {
@@ -42,7 +55,8 @@ impl<'a> Scope<'a> {
 
     /// How many names there are.
     pub fn len(&self) -> usize
-        ensures { result ≡ length self.now.names }
+        ensures names { result ≡ length self.now.names }
+        ensures places { result ≡ length self.now.places }
     {
         self.names.len()
     }
@@ -58,7 +72,20 @@ impl<'a> Scope<'a> {
     pub fn find(&self, name: &str) -> Option<Declared>
         ensures { result ≡ found self.now name.now }
     {
-        self.names.find(name)
+        match self.names.find(name) {
+            Some(entry) => Some(entry.what),
+            None => None,
+        }
+    }
+
+    /// Where a name is declared; one that is not is said to be where a source begins.
+    pub fn place(&self, name: &str) -> Place
+        ensures { result ≡ declared_at self.now name.now }
+    {
+        match self.names.find(name) {
+            Some(entry) => entry.place,
+            None => Place::ORIGIN,
+        }
     }
 
     /// The variable that a name stands for, where it is one.
@@ -81,11 +108,16 @@ impl<'a> Scope<'a> {
         }
     }
 
-    /// Declares a name, and answers whether it was taken: the first declaration of a name keeps it.
-    pub fn declare(&mut self, name: &'a str, what: Declared) -> Result<bool, AllocError>
+    /// Declares a name at a place, and answers whether it was taken: the first declaration of a name keeps it.
+    pub fn declare(
+        &mut self,
+        place: Place,
+        name: &'a str,
+        what: Declared,
+    ) -> Result<bool, AllocError>
         ensures taken { IfOk result (λ taken. taken ≡ is_some (found self.old name.now)) }
-        ensures ok { OnOk result (self.new ≡ declared self.old name.now what) }
+        ensures ok { OnOk result (self.new ≡ declared self.old place name.now what) }
     {
-        self.names.declare(name, what)
+        self.names.declare(name, Entry { what, place })
     }
 }

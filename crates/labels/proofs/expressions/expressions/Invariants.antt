@@ -1,5 +1,5 @@
 use Rattle.std.proofs.Common.{◌≡◌, true, length, map, drop, fold}
-use Rattle.language.specs.ExprTyping.{exprs_violations, types_of}
+use Rattle.language.specs.ExprTyping.{exprs_violations, typed_of_all}
 use Rattle.language.specs.Tree.{expr_tree}
 use Rattle.language.specs.Sooner.{sooner}
 use Rattle.labels.proofs.TypeLemmas.{found_before}
@@ -12,7 +12,7 @@ invariant-loop-expr l =
     let all = map expr_tree l.exprs in
     record {
       count : l.typed ≡ true → length l.types.items ≡ l.expr-index;
-      typed : found_before l.typed l.types.items (types_of l.names rest) ≡ types_of l.names all;
+      typed : found_before l.typed l.types.items (typed_of_all l.names rest) ≡ typed_of_all l.names all;
       first : fold sooner l.first.seen (exprs_violations l.names rest)
           ≡ fold sooner l.fn.first.seen (exprs_violations l.names all);
     }

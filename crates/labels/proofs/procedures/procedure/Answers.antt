@@ -1,4 +1,4 @@
-use Rattle.std.proofs.Common.{length, ap, ap₂, ◌∙◌}
+use Rattle.std.proofs.Common.{length, ap, ◌∙◌}
 use Rattle.language.specs.declared.typing.Declared.TheVariants.{Procedure}
 use Rattle.language.specs.Tree.{procedure_tree}
 use Rattle.language.specs.Types.{declared}
@@ -9,10 +9,10 @@ use Rattle.labels.proofs.procedures.procedure.Goals as goal
 pub returns-clause-names : goal.returns-clause-names
 returns-clause-names c =
     c.truncate.ensures
-    ∙ ap₂ shortened c.len-outside.ensures c.in_ok-inside.ensures.names
-    ∙ scope_before_body c.declare.new.self (procedure_tree c.args.procedure.now).parameters
-    (procedure_tree c.args.procedure.now).body
+    ∙ ap (shortened c.len-outside.result) c.in_ok-inside.ensures.names
+    ∙ scope_before_body c.len-outside.result c.declare.new.self (procedure_tree c.args.procedure.now).parameters
+    (procedure_tree c.args.procedure.now).body c.len-outside.ensures.names c.len-outside.ensures.places
     ∙ c.in_ok-taken.ensures.ok
-    ∙ ap (λ assigns. declared c.args.names.now c.args.procedure.now.name.now
+    ∙ ap (λ assigns. declared c.args.names.now c.args.procedure.now.place c.args.procedure.now.name.now
     (Procedure (record { number = length c.args.earlier.now; assigns_public = assigns })))
     c.assigns_public.ensures

@@ -1,4 +1,4 @@
-use Rattle.std.proofs.Common.{map, false, ◌∙◌, ap, ap₂}
+use Rattle.std.proofs.Common.{map, false, ◌∙◌, ap}
 use Rattle.language.specs.scopes.Shortened.{shortened}
 use Rattle.std.proofs.lemmas.Result.{on_ok_weaker}
 use Rattle.labels.proofs.TreeLemmas.{conditional_seen, loop_seen, scope_before, scope_before_turns}
@@ -10,17 +10,19 @@ use Rattle.labels.proofs.statements.+statement.Goals as goal
 
 pub arm-returns-clause-names : goal.arm-returns-clause-names
 arm-returns-clause-names t c =
-    c.truncate.ensures ∙ ap₂ shortened c.len-outside.ensures c.in_ok-statements.ensures.names
-    ∙ scope_before c.args.names.now (block_tree c.args.arm.now)
+    c.truncate.ensures ∙ ap (shortened c.len-outside.result) c.in_ok-statements.ensures.names
+    ∙ scope_before c.len-outside.result c.args.names.now (block_tree c.args.arm.now) c.len-outside.ensures.names
+    c.len-outside.ensures.places
 
 pub turns-returns-clause-names : goal.turns-returns-clause-names
 turns-returns-clause-names t c =
     c.truncate.ensures
-    ∙ ap₂ shortened c.len-before.ensures (c.in_ok-statements.ensures.names
+    ∙ ap (shortened c.len-before.result) (c.in_ok-statements.ensures.names
     ∙ ap (λ scope. scope_after_all scope (block_tree c.args.body.now)) (c.in_ok-taken.ensures.ok
-    ∙ ap (λ value. declared c.args.names.now c.args.counter.now.name.now
+    ∙ ap (λ value. declared c.args.names.now c.args.counter.now.place c.args.counter.now.name.now
     (Variable (record { value = value; mutable = false }))) c.word.ensures))
-    ∙ scope_before_turns c.args.names.now c.args.counter.now.name.now counter_as (block_tree c.args.body.now)
+    ∙ scope_before_turns c.len-before.result c.args.names.now c.args.counter.now.place c.args.counter.now.name.now
+    counter_as (block_tree c.args.body.now) c.len-before.ensures.names c.len-before.ensures.places
 
 pub statement-returns-in_ok-arm-in-If-clause-first :
     goal.statement-returns-in_ok-arm-in-If-clause-first

@@ -1,0 +1,29 @@
+use Rattle.std.proofs.Common.{◌∙◌, None, ap, ap₂, map}
+use Rattle.std.specs.Option.{option_map}
+use Rattle.language.specs.declared.why.Typed.{Typed}
+use Rattle.language.specs.ExprTyping.{element_type, name_type, type_of}
+use Rattle.language.specs.Reasons.{literal_in, secret_in, secret_name}
+use Rattle.language.specs.Tree.{expr_tree, procedure_tree, right_tree}
+use Rattle.language.specs.Types.{of_two}
+use Rattle.labels.specs.private.Made.{of_operands}
+use Rattle.labels.proofs.TypedLemmas.{element_assignment_seen, value_of-element}
+use Rattle.labels.proofs.assignments.element_assignment.Goals as goal
+
+pub returns : goal.returns
+returns c =
+    let n = c.args.names.now in
+    let it = c.args.assignment.now in
+    let text = it.name.now in
+    let index = expr_tree it.index in
+    element_assignment_seen c.args.first.now.seen c.name-array.new.first.seen c.expression-index.new.first.seen
+    c.element.new.first.seen c.right_side.new.first.seen c.note_element_assignment.new.first.seen
+    (map procedure_tree c.args.earlier.now) n c.args.control it.place it.bracket it.target text index
+    (right_tree it.value) c.name-array.result c.expression-index.result c.in_ok-given.given c.value_of-element.result
+    c.place.result c.variable-variable.result
+    c.variable-variable.ensures c.place.ensures c.name-array.ensures.typed c.expression-index.ensures.typed
+    (c.value_of-element.ensures ∙ ap (option_map (λ (known : Typed). known.value)) (c.element.ensures.typed
+    ∙ ap₂ (of_two None (of_operands element_type)) c.name-array.ensures.typed c.expression-index.ensures.typed)
+    ∙ value_of-element (secret_name n text) (secret_in n index) None (literal_in index) (name_type n text)
+    (type_of n index))
+    c.in_ok-given.ensures.typed c.name-array.ensures.first c.expression-index.ensures.first c.element.ensures.first
+    c.in_ok-given.ensures.first c.note_element_assignment.ensures

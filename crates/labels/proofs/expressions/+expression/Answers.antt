@@ -1,0 +1,105 @@
+use Rattle.std.proofs.Common.{◌∙◌, None, ap, ap₂, fold, sym}
+use Rattle.language.specs.ExprTyping.{binary_type, convert_type, element_type, name_type, prefix_type, rotate_type}
+use Rattle.language.specs.ExprTyping.{expr_violations, select_type, type_of, typed_of}
+use Rattle.language.specs.Sooner.{sooner}
+use Rattle.language.specs.Reasons.{literal_in, secret_in, secret_name}
+use Rattle.language.specs.Tree.{expr_tree}
+use Rattle.language.specs.Types.{of_one, of_two, of_three}
+use Rattle.labels.specs.private.Made.{of_operand, of_operands, of_choice}
+use Rattle.labels.proofs.TypedLemmas.{element_seen, of_one-typed, of_two-typed, of_three-typed}
+use Rattle.labels.proofs.expressions.+expression.Goals as goal
+
+pub returns-in-Name-clause-typed : goal.returns-in-Name-clause-typed
+returns-in-Name-clause-typed t c =
+    c.name.ensures.typed ∙ ap (λ e. typed_of c.args.names.now (expr_tree e)) (sym c.in-Name.is)
+
+pub returns-in-Prefix-clause-typed : goal.returns-in-Prefix-clause-typed
+returns-in-Prefix-clause-typed t c =
+    let n = c.args.names.now in
+    let a = expr_tree c.in-Prefix.operand.value in
+    let type = prefix_type c.in-Prefix.operator in
+    c.prefix.ensures.typed
+    ∙ ap (of_one None (of_operand type)) (c.expression-operand.ensures.typed
+    ∙ ap (λ e. typed_of n (expr_tree e)) c.deref.ensures)
+    ∙ of_one-typed (secret_in n a) (literal_in a) type (type_of n a)
+    ∙ ap (λ e. typed_of n (expr_tree e)) (sym c.in-Prefix.is)
+
+pub returns-in-Binary-clause-typed : goal.returns-in-Binary-clause-typed
+returns-in-Binary-clause-typed t c =
+    let n = c.args.names.now in
+    let a = expr_tree c.in-Binary.left.value in
+    let b = expr_tree c.in-Binary.right.value in
+    let type = binary_type n.profile c.in-Binary.operator in
+    c.binary.ensures.typed
+    ∙ ap (λ p. of_two None (of_operands (binary_type p c.in-Binary.operator)) c.expression-left.result
+    c.expression-right.result) c.profile.ensures
+    ∙ ap₂ (of_two None (of_operands type))
+    (c.expression-left.ensures.typed ∙ ap (λ e. typed_of n (expr_tree e)) c.deref-in-Binary.ensures)
+    (c.expression-right.ensures.typed ∙ ap (λ e. typed_of n (expr_tree e)) c.deref-in-Binary-2.ensures)
+    ∙ of_two-typed (secret_in n a) (secret_in n b) (literal_in a) (literal_in b) type (type_of n a) (type_of n b)
+    ∙ ap (λ e. typed_of n (expr_tree e)) (sym c.in-Binary.is)
+
+pub returns-in-Rotate-clause-typed : goal.returns-in-Rotate-clause-typed
+returns-in-Rotate-clause-typed t c =
+    let n = c.args.names.now in
+    let a = expr_tree c.in-Rotate.operand.value in
+    let type = rotate_type c.in-Rotate.amount in
+    c.rotate.ensures.typed
+    ∙ ap (of_one None (of_operand type)) (c.expression-operand-in-Rotate.ensures.typed
+    ∙ ap (λ e. typed_of n (expr_tree e)) c.deref-in-Rotate.ensures)
+    ∙ of_one-typed (secret_in n a) (literal_in a) type (type_of n a)
+    ∙ ap (λ e. typed_of n (expr_tree e)) (sym c.in-Rotate.is)
+
+pub returns-in-Convert-clause-typed : goal.returns-in-Convert-clause-typed
+returns-in-Convert-clause-typed t c =
+    let n = c.args.names.now in
+    let a = expr_tree c.in-Convert.operand.value in
+    let type = convert_type c.in-Convert.kind in
+    c.convert.ensures.typed
+    ∙ ap (of_one None (of_operand type)) (c.expression-operand-in-Convert.ensures.typed
+    ∙ ap (λ e. typed_of n (expr_tree e)) c.deref-in-Convert.ensures)
+    ∙ of_one-typed (secret_in n a) (literal_in a) type (type_of n a)
+    ∙ ap (λ e. typed_of n (expr_tree e)) (sym c.in-Convert.is)
+
+pub returns-in-Select-clause-typed : goal.returns-in-Select-clause-typed
+returns-in-Select-clause-typed t c =
+    let n = c.args.names.now in
+    let a = expr_tree c.in-Select.condition.value in
+    let b = expr_tree c.in-Select.accepted.value in
+    let d = expr_tree c.in-Select.otherwise.value in
+    let one = c.expression-condition.ensures.typed ∙ ap (λ e. typed_of n (expr_tree e)) c.deref-in-Select.ensures in
+    let two = c.expression-accepted.ensures.typed ∙ ap (λ e. typed_of n (expr_tree e)) c.deref-in-Select-2.ensures in
+    let three = c.expression-otherwise.ensures.typed
+    ∙ ap (λ e. typed_of n (expr_tree e)) c.deref-in-Select-3.ensures in
+    c.choice.ensures.typed
+    ∙ ap₂ (λ o p. of_three None (of_choice select_type) o p c.expression-otherwise.result) one two
+    ∙ ap (of_three None (of_choice select_type) (typed_of n a) (typed_of n b)) three
+    ∙ of_three-typed (secret_in n a) (secret_in n b) (secret_in n d) (literal_in a) (literal_in b) (literal_in d)
+    select_type (type_of n a) (type_of n b) (type_of n d)
+    ∙ ap (λ e. typed_of n (expr_tree e)) (sym c.in-Select.is)
+
+pub returns-in-Element-clause-typed : goal.returns-in-Element-clause-typed
+returns-in-Element-clause-typed t c =
+    let n = c.args.names.now in
+    let text = c.in-Element.text.now in
+    let b = expr_tree c.in-Element.index.value in
+    c.element.ensures.typed
+    ∙ ap₂ (of_two None (of_operands element_type)) c.name-array.ensures.typed
+    (c.expression-index.ensures.typed ∙ ap (λ e. typed_of n (expr_tree e)) c.deref-in-Element.ensures)
+    ∙ of_two-typed (secret_name n text) (secret_in n b) None (literal_in b) element_type (name_type n text)
+    (type_of n b)
+    ∙ ap (λ e. typed_of n (expr_tree e)) (sym c.in-Element.is)
+
+pub returns-in-Element-clause-first : goal.returns-in-Element-clause-first
+returns-in-Element-clause-first t c =
+    let n = c.args.names.now in
+    let b = expr_tree c.in-Element.index.value in
+    element_seen c.args.first.now.seen c.name-array.new.first.seen c.expression-index.new.first.seen
+    c.element.new.first.seen n c.in-Element.place c.in-Element.target c.in-Element.text.now b c.name-array.result
+    c.expression-index.result c.name-array.ensures.typed
+    (c.expression-index.ensures.typed ∙ ap (λ e. typed_of n (expr_tree e)) c.deref-in-Element.ensures)
+    c.name-array.ensures.first
+    (c.expression-index.ensures.first
+    ∙ ap (λ e. fold sooner c.name-array.new.first.seen (expr_violations n (expr_tree e))) c.deref-in-Element.ensures)
+    c.element.ensures.first
+    ∙ ap (λ e. fold sooner c.args.first.now.seen (expr_violations n (expr_tree e))) (sym c.in-Element.is)
