@@ -15,6 +15,7 @@ use Rattle.language.specs.declared.typing.WordType.{WordType}
 use Rattle.language.specs.Meaning.{Bodies, Returned}
 use Rattle.language.specs.State.{State, Word}
 use Rattle.language.specs.Tree.{StatementTree, BlockTree, ProcedureTree}
+use Rattle.word.specs.declared.place.Place.{Place}
 use Rattle.language.specs.Types.{Scope, declared}
 use Rattle.language.specs.Typing.{with_parameters, scope_after, scope_after_all}
 use Rattle.language.specs.WellTyped.{AreNew, IsWellTyped, AreWellTyped, no_statement, one_more}
@@ -85,12 +86,12 @@ module _ {earlier : List ProcedureTree} where
 
   -- after a declaration
   pub ready_declared : {scope : Scope} {names : Numbers} {n : ℕ} → Ready earlier scope names n
-      → (text : List ℕ) (own : FlatVariable) → found scope.names text ≡ None
-      → Ready earlier (declared scope text (Variable (variable_as own))) (naming names text n own) (n + 1)
-  ready_declared {scope = scope} {n = n} ready text own new = record {
+      → (place : Place) (text : List ℕ) (own : FlatVariable) → found scope.names text ≡ None
+      → Ready earlier (declared scope place text (Variable (variable_as own))) (naming names text n own) (n + 1)
+  ready_declared {scope = scope} {n = n} ready place text own new = record {
     types = with_type ready.types n own;
-    linked = linked_declared ready.linked text own new;
-    calls = callable_declared earlier (IsCallable IsKept earlier) scope text (variable_as own) ready.calls;
+    linked = linked_declared ready.linked place text own new;
+    calls = callable_declared earlier (IsCallable IsKept earlier) scope place text (variable_as own) ready.calls;
   }
 
   pub ready_after : {scope : Scope} {control : Label} {s : StatementTree} → IsWellTyped earlier scope control s

@@ -294,8 +294,8 @@ module _ {ps : List ProcedureTree} where
               (λ at are. accepts is (truth ∙ ap not on) are))
         ])
         (λ at is. condition_faults is))
-    same_end (rules.repeats {text = text} {low = low} {high = high} {body = body} one other new inner) {names = names}
-        {n = n} ready plain s m shows =
+    same_end (rules.repeats {counter = counter} {text = text} {low = low} {high = high} {body = body} one other new
+        inner) {names = names} {n = n} ready plain s m shows =
         let a = value_in m (term names low) in
         let b = value_in m (term names high) in
         let own = word_as counter_type false in
@@ -304,7 +304,7 @@ module _ {ps : List ProcedureTree} where
         let turn = λ (i : ℕ) (t : Values). after_all (flat.with_value t n (i ∷ [])) flat_body in
         let path = λ (i : ℕ) (t : Values). path_along (flat.with_value t n (i ∷ [])) flat_body in
         let step = λ (i : ℕ) (s : State) (m : Values) (shows : Shows names s m).
-        also (same_ends inner (ready_declared ready text own new) plain.2 (counting s text i)
+        also (same_ends inner (ready_declared ready counter text own new) plain.2 (counting s text i)
         (flat.with_value m n (i ∷ []))
         (shows_declared ready.linked s m shows text (holds_word counter_type false (word_at Uint32 i) i refl) new))
         (λ t is good. (

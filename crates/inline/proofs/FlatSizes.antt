@@ -140,9 +140,9 @@ module _ (earlier : List ProcedureTree) (at : Scope) (stand : Stand SizedBody ea
         let a = block_sized one inside names n in
         let b = block_sized other inside names (n + numbers_taken_all known accepted) in
         record { nodes = omega (arith, same_nodes names condition); words = rw words-append (omega arith) }
-    statement_sized (repeats {scope = scope} {text = text} {low = low} {high = high} {body = body} has is new all)
-        inside names n =
-        let b = block_sized all (callable_declared earlier (IsAt at) scope text _ inside)
+    statement_sized (repeats {scope = scope} {counter = counter} {text = text} {low = low} {high = high} {body = body}
+        has is new all) inside names n =
+        let b = block_sized all (callable_declared earlier (IsAt at) scope counter text _ inside)
         (naming names text n (word_as counter_type false)) (n + 1) in
         record { nodes = omega (arith, same_nodes names low, same_nodes names high); words = omega arith }
 

@@ -245,14 +245,15 @@ module _ (earlier : List ProcedureTree) where
                 (subst (both label) (joined-swap outer label control) (c.typed, a, b)),
             tt,
           )
-      typed_statement (repeats {scope = scope} {text = text} low high new inner) within hush linked plain lists =
+      typed_statement (repeats {scope = scope} {counter = counter} {text = text} low high new inner) within hush linked plain lists =
           let own = word_as counter_type false in (
             (
               (means linked low plain.0).typed,
               (means linked high plain.1).typed,
               first_new linked lists,
-              typed_block inner (callable_declared earlier (IsAt at) scope text _ within)
-                  (λ e. (hides_counter scope text (hush e).0, (hush e).1)) (linked_declared linked text own new) plain.2
+              typed_block inner (callable_declared earlier (IsAt at) scope counter text _ within)
+                  (λ e. (hides_counter scope counter text (hush e).0, (hush e).1))
+                  (linked_declared linked counter text own new) plain.2
                   (lists_rest lists),
             ),
             tt,

@@ -8,6 +8,7 @@ use Rattle.language.specs.declared.signature.Label.TheVariants.{Public, Secret}
 use Rattle.language.specs.declared.typing.Declared.TheVariants.{Variable}
 use Rattle.language.specs.declared.typing.VariableType.{VariableType}
 use Rattle.language.specs.Tree.{ParameterTree, ProcedureTree, StatementTree}
+use Rattle.word.specs.declared.place.Place.{Place}
 use Rattle.language.specs.Types.{Scope, found, declared, label_of}
 use Rattle.language.specs.Typing.{is_mutable, is_public_mutable, counter_as, parameter_value, parameters_assign}
 use Rattle.language.specs.Typing.{right_assigns, scope_after, statement_assigns, with_parameters}
@@ -22,9 +23,9 @@ abbrev pub Hides : Scope → Type 0
 Hides scope = (text : List ℕ) (v : VariableType) → found scope text ≡ Some (Variable v) → v.mutable ≡ true
     → label_of v.value ≡ Secret
 
-pub hides_declared : (scope : Scope) (name : List ℕ) (v : VariableType)
-    → (v.mutable ≡ true → label_of v.value ≡ Secret) → Hides scope → Hides (declared scope name (Variable v))
-hides_declared scope name v own hides text w is =
+pub hides_declared : (scope : Scope) (place : Place) (name : List ℕ) (v : VariableType)
+    → (v.mutable ≡ true → label_of v.value ≡ Secret) → Hides scope → Hides (declared scope place name (Variable v))
+hides_declared scope place name v own hides text w is =
     elim (found-split scope.names name (Variable v) text (Variable w) is) [
       | inl old ↦ hides text w old
       | inr new ↦ rw (← same_variable v w (ap Some new.1)) own
@@ -41,17 +42,17 @@ module _ (at : Scope) where
   pub hides_after : {earlier : List ProcedureTree} {scope : Scope} {control : Label} {s : StatementTree}
       → IsWellTyped earlier scope control s → Hides scope → statement_assigns at s ≡ false
       → Hides (scope_after scope s)
-  hides_after (declares {scope = scope} {label = label} {mutable = mutable} {text = text} {right = r} new has suit
+  hides_after (declares {scope = scope} {place = place} {label = label} {mutable = mutable} {text = text} {right = r} new has suit
       flow) hides none =
-      hides_declared scope text _
+      hides_declared scope place text _
       (secret_one label mutable (or_parts (is_public_mutable label mutable) (right_assigns at r) none).0) hides
-  hides_after (declares_array {scope = scope} {label = label} {mutable = mutable} {text = text} new suit count flow)
-      hides none = hides_declared scope text _ (secret_one label mutable none) hides
+  hides_after (declares_array {scope = scope} {place = place} {label = label} {mutable = mutable} {text = text} new suit
+      count flow) hides none = hides_declared scope place text _ (secret_one label mutable none) hides
   hides_after other hides none = hides
 
-pub hides_counter : (scope : Scope) (text : List ℕ) → Hides scope
-    → Hides (declared scope text counter_as)
-hides_counter scope text hides = hides_declared scope text _ (λ e. absurd (true≢false (sym e))) hides
+pub hides_counter : (scope : Scope) (place : Place) (text : List ℕ) → Hides scope
+    → Hides (declared scope place text counter_as)
+hides_counter scope place text hides = hides_declared scope place text _ (λ e. absurd (true≢false (sym e))) hides
 
 -- a scope of procedures
 pub hides_none : (scope : Scope) → NoVariables scope → Hides scope
@@ -66,5 +67,5 @@ pub hides_parameters : {scope : Scope} {ps : List ParameterTree} → AreNew scop
 hides_parameters no_parameter hides none = hides
 hides_parameters (one_is_new {scope = scope} {p = p} {ps = ps} here there) hides none =
     let split = or_parts (is_public_mutable p.label (is_mutable p.form)) (parameters_assign ps) none in
-    hides_parameters there (hides_declared scope p.name _
+    hides_parameters there (hides_declared scope p.place p.name _
     (λ e. parameter_label p p.form ∙ secret_one p.label (is_mutable p.form) split.0 e) hides) split.1

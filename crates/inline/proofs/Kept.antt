@@ -106,14 +106,15 @@ module _ {earlier : List ProcedureTree} where
               (block_keeps other (ready_later (omega arith) ready) (spares_later (omega arith) spares) m)
           | inr on ↦ rw on (block_keeps one ready spares m)
         ]
-    statement_keeps (repeats {text = text} {low = low} {high = high} {body = body} one other new inner)
+    statement_keeps (repeats {counter = counter} {text = text} {low = low} {high = high} {body = body} one other new
+        inner)
         {names = names} {n = n} ready {x = x} spares m =
         let own = word_as counter_type false in
         turns_keep (λ (t : Values). t x ≡ m x)
         (λ i t. after_all (flat_meaning.with_value t n (i ∷ []))
         (block (callables earlier) (naming names text n own) (n + 1) body)) (value_in m (term names high))
         (λ i t below same.
-        block_keeps inner (ready_declared ready text own new)
+        block_keeps inner (ready_declared ready counter text own new)
         (spares_named spares text n own (omega arith) (omega arith)) (flat_meaning.with_value t n (i ∷ []))
         ∙ (with_value-other t n x (i ∷ []) (λ q. omega (arith, spares.below)) ∙ same))
         _ (value_in m (term names low)) m refl refl

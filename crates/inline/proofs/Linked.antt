@@ -17,6 +17,7 @@ use Rattle.language.specs.declared.typing.VariableType.{VariableType}
 use Rattle.language.specs.declared.typing.WordType.{WordType}
 use Rattle.language.specs.declared.typing.Declared.TheVariants.{Variable}
 use Rattle.language.specs.Types.{Scope, declared}
+use Rattle.word.specs.declared.place.Place.{Place}
 use Rattle.inline.proofs.Below.{found-kept, found-new, found-other, found-split}
 
 -- what a name stands for in the scope, where it is a variable that is declared so
@@ -123,7 +124,7 @@ same_variable v w e = cc
 -- A name for a number that is declared: for a new one, or for a caller's array.
 
 module _ {scope : Scope} {names : Numbers} {types : Types} {n : ℕ} (linked : Linked scope names types n)
-    (text : List ℕ) (new : found scope.names text ≡ None) (number : ℕ) (own : FlatVariable)
+    (place : Place) (text : List ℕ) (new : found scope.names text ≡ None) (number : ℕ) (own : FlatVariable)
     (low : number < n) (typed : Serves (types.at number) own)
     (clear : (other : List ℕ) (x : Numbered) → found names other ≡ Some x → x.number ≡ number
     → (x.declaration.mutable ≡ true → ⊥) × (own.mutable ≡ true → ⊥)) where
@@ -138,7 +139,7 @@ module _ {scope : Scope} {names : Numbers} {types : Types} {n : ℕ} (linked : L
   split other x is = found-split names text (entry number own) other x is
 
   known_by : (other : List ℕ) (d : FlatVariable)
-      → found (declared scope text (Variable (variable_as own))).names other ≡ Some (Variable (variable_as d))
+      → found (declared scope place text (Variable (variable_as own))).names other ≡ Some (Variable (variable_as d))
       → Known after types other d
   known_by other d is = elim (found-split scope.names text _ other (Variable (variable_as d)) is) [
     | inl old ↦ (
@@ -149,7 +150,7 @@ module _ {scope : Scope} {names : Numbers} {types : Types} {n : ℕ} (linked : L
         (known_at other (found-new names text (entry number own) other same.0 (linked.none text new)) typed)
   ]
 
-  none_by : (other : List ℕ) → found (declared scope text (Variable (variable_as own))).names other ≡ None
+  none_by : (other : List ℕ) → found (declared scope place text (Variable (variable_as own))).names other ≡ None
       → found after other ≡ None
   none_by other is = elim (cases_Bool (bytes_eq other text)) [
     | inl same ↦ absurd (none-some (Variable (variable_as own))
@@ -173,7 +174,7 @@ module _ {scope : Scope} {names : Numbers} {types : Types} {n : ℕ} (linked : L
   apart_by a b x y (inr one) (inr other) equal free =
       (bytes_decides a text).0 one.0 ∙ sym ((bytes_decides b text).0 other.0)
 
-  pub linked_named : Linked (declared scope text (Variable (variable_as own))) after types n
+  pub linked_named : Linked (declared scope place text (Variable (variable_as own))) after types n
   linked_named = record {
     observed = linked.observed;
     known = known_by;
@@ -194,8 +195,8 @@ module _ {scope : Scope} {names : Numbers} {types : Types} {n : ℕ} (linked : L
       (λ x high. with_type-other types n x own (λ q. omega arith) ∙ linked.fresh x (omega arith)) linked
 
   -- a declaration
-  pub linked_declared : (text : List ℕ) (own : FlatVariable) → found scope.names text ≡ None
-      → Linked (declared scope text (Variable (variable_as own))) (naming names text n own)
+  pub linked_declared : (place : Place) (text : List ℕ) (own : FlatVariable) → found scope.names text ≡ None
+      → Linked (declared scope place text (Variable (variable_as own))) (naming names text n own)
       (with_type types n own) (n + 1)
-  linked_declared text own new = linked_named (linked_beside own) text new n own (omega arith)
+  linked_declared place text own new = linked_named (linked_beside own) place text new n own (omega arith)
       (serves_itself (with_type-same types n own)) (λ other x is same. absurd (not_named other x is same))

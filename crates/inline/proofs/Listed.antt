@@ -239,13 +239,14 @@ module _ (earlier : List ProcedureTree) where
       → {names : Numbers} {types : Types} {n : ℕ} → Linked scope names types n
       → Linked (scope_after scope s) (names_after known names n s) (types_after_all types (statement known names n s))
       (n + numbers_taken known s)
-  linked_after (declares {label = label} {mutable = mutable} {kind = kind} {text = text} {right = r} new has suit flow)
-      linked =
+  linked_after (declares {place = place} {label = label} {mutable = mutable} {kind = kind} {text = text} {right = r} new
+      has suit flow) linked =
       let own = word_as (labelled kind label) mutable in
       rw chain-types (later (omega (arith, length-append (right_variables known r) (own ∷ [])))
-      (linked_declared (linked_right linked r) text own new))
-  linked_after (declares_array {label = label} {mutable = mutable} {kind = kind} {size = size} {text = text} new all
-      count flow) linked = linked_declared linked text (array_as (labelled kind label) mutable size) new
+      (linked_declared (linked_right linked r) place text own new))
+  linked_after (declares_array {place = place} {label = label} {mutable = mutable} {kind = kind} {size = size}
+      {text = text} new all count flow) linked =
+      linked_declared linked place text (array_as (labelled kind label) mutable size) new
   linked_after {s = s} other {names = names} {n = n} linked =
       passed_over (statement_takes known (all_counted earlier) names n s) linked
 

@@ -56,14 +56,14 @@ pub linked_parameter : {scope : Scope} {names : Numbers} {types : Types} {n : �
     → Serves (types.at number) (own p)
     → ((other : List ℕ) (x : Numbered) → found names other ≡ Some x → x.number ≡ number
     → (x.declaration.mutable ≡ true → ⊥) × ((own p).mutable ≡ true → ⊥))
-    → Linked (declared scope p.name (parameter_as p)) (naming names p.name number (own p)) types n
+    → Linked (declared scope p.place p.name (parameter_as p)) (naming names p.name number (own p)) types n
 linked_parameter linked p new number low serves clear =
-    rw (← parameter_same p) (linked_named linked p.name new number (own p) low serves clear)
+    rw (← parameter_same p) (linked_named linked p.place p.name new number (own p) low serves clear)
 
 -- the next number, where the parameter is declared so
 pub linked_own : {scope : Scope} {names : Numbers} {types : Types} {n : ℕ} → Linked scope names types n
     → (p : ParameterTree) → found scope.names p.name ≡ None → (d : FlatVariable) → d ≡ own p
-    → Linked (declared scope p.name (parameter_as p)) (naming names p.name n (own p)) (with_type types n d) (n + 1)
+    → Linked (declared scope p.place p.name (parameter_as p)) (naming names p.name n (own p)) (with_type types n d) (n + 1)
 linked_own {types = types} {n = n} linked p new d same =
     linked_parameter (linked_beside linked d) p new n (omega arith)
     (serves_itself (with_type-same types n d ∙ ap Some same))

@@ -14,6 +14,7 @@ use Rattle.language.specs.declared.typing.Declared.TheVariants.{Procedure, Varia
 use Rattle.language.specs.declared.typing.VariableType.{VariableType}
 use Rattle.language.specs.Meaning.{exported, named}
 use Rattle.language.specs.Tree.{ParameterTree, ProcedureTree, ProgramTree, StatementTree}
+use Rattle.word.specs.declared.place.Place.{Place}
 use Rattle.language.specs.Types.{Scope, empty, found, declared}
 use Rattle.language.specs.Typing.{assigns_public, parameter_as, scope_after, violations, with_parameters}
 use Rattle.language.specs.Typing.{with_procedure}
@@ -58,9 +59,9 @@ EachCallable earlier Is scope = (text : List ℕ) (c : Callee) (p : ProcedureTre
 
 -- In a body it stays true: no declaration adds one.
 module _ (earlier : List ProcedureTree) (Is : Profile → List ℕ → Callee → ProcedureTree → Type 0) where
-  pub callable_declared : (scope : Scope) (name : List ℕ) (v : VariableType) → EachCallable earlier Is scope
-      → EachCallable earlier Is (declared scope name (Variable v))
-  callable_declared scope name v each text c p is there =
+  pub callable_declared : (scope : Scope) (place : Place) (name : List ℕ) (v : VariableType)
+      → EachCallable earlier Is scope → EachCallable earlier Is (declared scope place name (Variable v))
+  callable_declared scope place name v each text c p is there =
       elim (found-split scope.names name (Variable v) text (Procedure c) is) [
         | inl old ↦ each text c p old there
         | inr new ↦ absurd (no_callee c v (ap (λ d. Some d) (sym new.1)))
@@ -68,16 +69,17 @@ module _ (earlier : List ProcedureTree) (Is : Profile → List ℕ → Callee �
 
   pub callable_after : {scope : Scope} {control : Label} {s : StatementTree} → IsWellTyped earlier scope control s
       → EachCallable earlier Is scope → EachCallable earlier Is (scope_after scope s)
-  callable_after (declares {scope = scope} {text = text} new has suit flow) each = callable_declared scope text _ each
-  callable_after (declares_array {scope = scope} {text = text} new suit count flow) each =
-      callable_declared scope text _ each
+  callable_after (declares {scope = scope} {place = place} {text = text} new has suit flow) each =
+      callable_declared scope place text _ each
+  callable_after (declares_array {scope = scope} {place = place} {text = text} new suit count flow) each =
+      callable_declared scope place text _ each
   callable_after other each = each
 
   pub callable_parameters : (ps : List ParameterTree) (scope : Scope) → EachCallable earlier Is scope
       → EachCallable earlier Is (with_parameters scope ps)
   callable_parameters [] scope each = each
-  callable_parameters (p ∷ ps) scope each = callable_parameters ps (declared scope p.name (parameter_as p))
-      (callable_declared scope p.name _ each)
+  callable_parameters (p ∷ ps) scope each = callable_parameters ps (declared scope p.place p.name (parameter_as p))
+      (callable_declared scope p.place p.name _ each)
 
 -- it stands in the scope where the body's procedure begins, for the same observer
 abbrev pub IsAt : Scope → Profile → List ℕ → Callee → ProcedureTree → Type 0

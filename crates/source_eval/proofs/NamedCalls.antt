@@ -40,9 +40,9 @@ abbrev AreCallable : List ProcedureTree → Scope → Type 0
 AreCallable earlier scope = (text : List ℕ) (c : Callee) (p : ProcedureTree) → found scope text ≡ Some (Procedure c)
     → slice_get earlier c.number ≡ Some p → IsNamed earlier text
 
-callable-after : (earlier : List ProcedureTree) (scope : Scope) (name : List ℕ) (v : VariableType)
-    → AreCallable earlier scope → AreCallable earlier (declared scope name (Variable v))
-callable-after earlier scope name v are text c p is there =
+callable-after : (earlier : List ProcedureTree) (scope : Scope) (place : Place) (name : List ℕ) (v : VariableType)
+    → AreCallable earlier scope → AreCallable earlier (declared scope place name (Variable v))
+callable-after earlier scope place name v are text c p is there =
     elim (found-split scope.names name (Variable v) text (Procedure c) is) [
       | inl old ↦ are text c p old there
       | inr new ↦ (let wrong : Variable v ≡ Procedure c = new.1 in cc)
@@ -104,8 +104,10 @@ module _ (earlier : List ProcedureTree) where
 
   scope-callable : (scope : Scope) (statement : StatementTree) → AreCallable earlier scope
       → AreCallable earlier (scope_after scope statement)
-  scope-callable scope (declaration place label mutable kind text right) are = callable-after earlier scope text _ are
-  scope-callable scope (array place label mutable kind size text values) are = callable-after earlier scope text _ are
+  scope-callable scope (declaration place label mutable kind text right) are =
+      callable-after earlier scope place text _ are
+  scope-callable scope (array place label mutable kind size text values) are =
+      callable-after earlier scope place text _ are
   scope-callable scope _ are = are
 
 mutual
@@ -117,8 +119,8 @@ mutual
   statement-named {earlier = earlier} are (assigns_element is has value suit flow) = right-named earlier are value
   statement-named {earlier = earlier} are (calls is) = call-named earlier are is
   statement-named are (chooses has one other) = (block-named are one, block-named are other)
-  statement-named {earlier = earlier} are (repeats {scope = scope} {text = text} low high new inner) =
-      block-named (callable-after earlier scope text _ are) inner
+  statement-named {earlier = earlier} are (repeats {scope = scope} {counter = counter} {text = text} low high new inner) =
+      block-named (callable-after earlier scope counter text _ are) inner
 
   block-named : {earlier : List ProcedureTree} {scope : Scope} {control : Label} {block : BlockTree}
       → AreCallable earlier scope → AreWellTyped earlier scope control block → BlockKnown earlier block
@@ -130,8 +132,8 @@ parameters-callable : (earlier : List ProcedureTree) (scope : Scope) (ps : List 
     → AreCallable earlier scope → AreCallable earlier (with_parameters scope ps)
 parameters-callable earlier scope [] are = are
 parameters-callable earlier scope (p ∷ ps) are =
-    parameters-callable earlier (declared scope p.name (parameter_as p)) ps
-    (callable-after earlier scope p.name _ are)
+    parameters-callable earlier (declared scope p.place p.name (parameter_as p)) ps
+    (callable-after earlier scope p.place p.name _ are)
 
 calls-earlier : {earlier : List ProcedureTree} {scope : Scope} {ps : List ProcedureTree} → AreNamed earlier scope
     → AreProcedures earlier scope ps → CallEarlier earlier ps

@@ -1,23 +1,44 @@
 -- A rule is violated at a head of the tree, or at the place where a text begins.
-use Rattle.std.proofs.Common.{◌≡◌, ℕ, ◌+◌, List, [], ◌∷◌, ◌++◌, length, Option, None, Some, refl, arith}
+use Rattle.std.proofs.Common.{◌≡◌, ℕ, Bool, true, false, not, ◌&&◌, ◌+◌, ◌==◌, if◌then◌else◌, List, [], ◌∷◌, ◌++◌, length}
+use Rattle.std.proofs.Common.{Option, None, Some, is_some, refl, arith}
 use Rattle.word.specs.Places.{origin}
 use Rattle.word.specs.declared.place.Place.{Place}
 use Rattle.word.specs.declared.profile.Profile.{Profile}
 use Rattle.language.specs.declared.rule.Rule.{Rule}
+use Rattle.language.specs.declared.rule.Rule.TheVariants.{ArgumentCount, NameDeclaredTwice, NotMutable}
+use Rattle.language.specs.declared.signature.Kind.{Kind}
 use Rattle.language.specs.declared.signature.Label.{Label}
+use Rattle.language.specs.declared.typing.Callee.{Callee}
+use Rattle.language.specs.declared.typing.ValueType.{ValueType}
+use Rattle.language.specs.declared.typing.VariableType.{VariableType}
 use Rattle.language.specs.declared.typing.Violation.{Violation}
 use Rattle.language.specs.declared.typing.WordType.{WordType}
-use Rattle.language.specs.ExprTyping.{expr_violations, exprs_violations, type_of}
+use Rattle.language.specs.declared.why.Part.{Part}
+use Rattle.language.specs.declared.why.SecretControl.{SecretControl}
+use Rattle.language.specs.declared.why.SharedArray.{SharedArray}
+use Rattle.language.specs.declared.why.Typed.{Typed}
+use Rattle.language.specs.declared.why.Why.{Why}
+use Rattle.language.specs.declared.why.Why.TheVariants.{ArgumentCounts}
+use Rattle.language.specs.ExprTyping.{expr_violations, exprs_violations, name_rules, number_rules, typed_of, typed_of_all}
+use Rattle.language.specs.Operators.{operation_of}
+use Rattle.language.specs.Reasons.{operand_why, operands_why, rotate_why, choice_why, element_why, condition_why}
+use Rattle.language.specs.Reasons.{bounds_why, control_under}
 use Rattle.language.specs.Size.{size_violations}
 use Rattle.language.specs.Tree.{ExprTree, number, truth, name, prefix, binary, rotate, convert, select, element}
 use Rattle.language.specs.Tree.{CallTree, RightTree, called, computed, StatementTree, declaration, array, assignment}
 use Rattle.language.specs.Tree.{element_assignment, call, conditional, loop, BlockTree, nothing, first, ParameterTree}
 use Rattle.language.specs.Tree.{ReturnTree, ProcedureTree, ProgramTree, written}
-use Rattle.language.specs.Types.{Scope, at, declared, empty}
-use Rattle.language.specs.Typing.{block_violations, call_violations, control_under, counter_as, export_place}
-use Rattle.language.specs.Typing.{export_violations, exports, parameter_as, parameter_violations, procedure_violations}
-use Rattle.language.specs.Typing.{procedures_violations, return_violations, right_violations, scope_after}
-use Rattle.language.specs.Typing.{statement_violations, too_many, violations, with_procedure}
+use Rattle.language.specs.Types.{Scope, asked_of_one, asked_of_two, asked_of_three, because, because_of, declared, empty}
+use Rattle.language.specs.Types.{found, label_of, label_under, of_one, when}
+use Rattle.language.specs.Typing.{Passed, arguments_violations, array_violations, assignment_violations}
+use Rattle.language.specs.Typing.{block_violations, bounds_rules, call_violations, change_violations, clash_violations}
+use Rattle.language.specs.Typing.{condition_rules, control_rules, control_violations, count_violations, counter_as}
+use Rattle.language.specs.Typing.{declaration_control_violations, declaration_violations}
+use Rattle.language.specs.Typing.{element_assignment_violations, export_place, export_violations, exports, first_clash}
+use Rattle.language.specs.Typing.{known_call_violations, missing_violations, parameter_as, parameter_violations, passed}
+use Rattle.language.specs.Typing.{passed_violations, procedure_violations, procedures_violations, return_violations}
+use Rattle.language.specs.Typing.{returned_violations, right_violations, scope_after, statement_violations, too_many}
+use Rattle.language.specs.Typing.{value_rules, value_violations, values_violations, violations, with_procedure}
 use Rattle.source_laws.proofs.grammar_laws_lemmas.Light.{AreLight, none, more, both}
 use Rattle.source_laws.specs.grammar_laws.Heads.{in_block, in_call, in_expr, in_exprs, in_export, in_parameters}
 use Rattle.source_laws.specs.grammar_laws.Heads.{in_procedure, in_procedures, in_program, in_return, in_right}
@@ -28,22 +49,58 @@ module _ (w : Place → ℕ) where
   abbrev pub AreAtLight : List Violation → Type 0
   AreAtLight vs = AreLight (λ (v : Violation). w v.place) vs
 
-  at_place : (place : Place) → w place ≡ 0 → (rules : List Rule) → AreAtLight (at place rules)
-  at_place place is [] = none
-  at_place place is (r ∷ rules) = more is (at_place place is rules)
+  at_place : (why : Rule → Why) (place : Place) → w place ≡ 0 → (rules : List Rule)
+      → AreAtLight (because_of why place rules)
+  at_place why place is [] = none
+  at_place why place is (r ∷ rules) = more is (at_place why place is rules)
+
+  -- of a node, by its parts
+  of_one_part : (why : Typed → Rule → Why) (place : Place) → w place ≡ 0 → (rules : ValueType → List Rule)
+      (o : Option Typed) → AreAtLight (asked_of_one why place rules o)
+  of_one_part why place is rules (Some a) = at_place (why a) place is (rules a.value)
+  of_one_part why place is rules None = none
+
+  of_two_parts : (why : Typed → Typed → Rule → Why) (place : Place) → w place ≡ 0
+      → (rules : ValueType → ValueType → List Rule) (o p : Option Typed)
+      → AreAtLight (asked_of_two why place rules o p)
+  of_two_parts why place is rules (Some a) (Some b) = at_place (why a b) place is (rules a.value b.value)
+  of_two_parts why place is rules (Some a) None = none
+  of_two_parts why place is rules None p = none
+
+  of_three_parts : (why : Typed → Typed → Typed → Rule → Why) (place : Place) → w place ≡ 0
+      → (rules : ValueType → ValueType → ValueType → List Rule) (o p q : Option Typed)
+      → AreAtLight (asked_of_three why place rules o p q)
+  of_three_parts why place is rules (Some a) (Some b) (Some c) =
+      at_place (why a b c) place is (rules a.value b.value c.value)
+  of_three_parts why place is rules (Some a) (Some b) None = none
+  of_three_parts why place is rules (Some a) None q = none
+  of_three_parts why place is rules None p q = none
+
+  -- of what is known, where it is
+  where_known : {A : Type 0} (f : A → List Violation) → ((a : A) → AreAtLight (f a)) → (o : Option A)
+      → AreAtLight (of_one [] f o)
+  where_known f h (Some a) = h a
+  where_known f h None = none
 
   expr : (scope : Scope) (e : ExprTree) → in_expr w e ≡ 0 → AreAtLight (expr_violations scope e)
-  expr scope (number place value kind) h = search (arith, at_place)
+  expr scope (number place value kind) h = at_place _ place h (number_rules value kind)
   expr scope (truth place value) h = none
-  expr scope (name place text) h = search (arith, at_place)
-  expr scope (prefix place operator operand) h = search (arith, both, at_place, expr scope operand)
+  expr scope (name place text) h = at_place _ place h (name_rules scope text)
+  expr scope (prefix place operator operand) h =
+      both (expr scope operand (omega arith)) (of_one_part operand_why place (omega arith) _ _)
   expr scope (binary place operator left right) h =
-      search (arith, both, at_place, expr scope left, expr scope right)
-  expr scope (rotate place operand amount) h = search (arith, both, at_place, expr scope operand)
-  expr scope (convert place kind operand) h = search (arith, both, at_place, expr scope operand)
+      both (both (expr scope left (omega arith)) (expr scope right (omega arith)))
+      (of_two_parts (operands_why (operation_of operator)) place (omega arith) _ _ _)
+  expr scope (rotate place operand amount) h =
+      both (expr scope operand (omega arith)) (of_one_part (rotate_why amount) place (omega arith) _ _)
+  expr scope (convert place kind operand) h =
+      both (expr scope operand (omega arith)) (of_one_part operand_why place (omega arith) _ _)
   expr scope (select place condition accepted otherwise) h =
-      search (arith, both, at_place, expr scope condition, expr scope accepted, expr scope otherwise)
-  expr scope (element place target text index) h = search (arith, both, at_place, expr scope index)
+      both (both (both (expr scope condition (omega arith)) (expr scope accepted (omega arith)))
+      (expr scope otherwise (omega arith))) (of_three_parts choice_why place (omega arith) _ _ _ _)
+  expr scope (element place target text index) h =
+      both (both (at_place _ target (omega arith) (name_rules scope text)) (expr scope index (omega arith)))
+      (of_two_parts element_why place (omega arith) _ _ _)
 
   exprs : (scope : Scope) (es : List ExprTree) → in_exprs w es ≡ 0 → AreAtLight (exprs_violations scope es)
   exprs scope [] h = none
@@ -54,53 +111,170 @@ module _ (w : Place → ℕ) where
   values scope None h = none
   values scope (Some es) h = exprs scope es h
 
-  module _ (earlier : List ProcedureTree) where
-    calls : (scope : Scope) (control : Label) (c : CallTree) → in_call w c ≡ 0
-        → AreAtLight (call_violations earlier scope control c)
-    calls scope control c h = search (arith, both, at_place, exprs)
+  -- Values, arguments and control.
 
-    right_side : (scope : Scope) (control : Label) (r : RightTree) → in_right w r ≡ 0
+  value : (place : Place) → w place ≡ 0 → (part : Part) (wanted : WordType) (given : Typed)
+      → AreAtLight (value_violations place part wanted given)
+  value place is part wanted given = at_place _ place is (value_rules wanted given.value)
+
+  under_control : (control : Option SecretControl) (place : Place) → w place ≡ 0 → (label : Label)
+      → AreAtLight (control_violations control place label)
+  under_control control place is label = at_place _ place is (control_rules (label_under control) label)
+
+  change : (control : Option SecretControl) (place known_at : Place) → w place ≡ 0 → (mutable : Bool) (label : Label)
+      → AreAtLight (change_violations control place known_at mutable label)
+  change control place known_at is mutable label =
+      both (at_place _ place is (when (not mutable) NotMutable)) (under_control control place is label)
+
+  declared_under_control : (control : Option SecretControl) (place : Place) → w place ≡ 0 → (label : Label)
+      (mutable : Bool) → AreAtLight (declaration_control_violations control place label mutable)
+  declared_under_control control place is label true = under_control control place is label
+  declared_under_control control place is label false = none
+
+  arguments : (scope : Scope) (place : Place) → w place ≡ 0 → (ps : List Passed)
+      → AreAtLight (passed_violations scope place ps)
+  arguments scope place is [] = none
+  arguments scope place is (p ∷ ps) =
+      both (both (at_place _ place is _) (at_place _ place is _)) (arguments scope place is ps)
+
+  shared_array : (place : Place) → w place ≡ 0 → (twice : Option SharedArray) → AreAtLight (clash_violations place twice)
+  shared_array place is (Some twice) = more is none
+  shared_array place is None = none
+
+  all_arguments : (scope : Scope) (place : Place) → w place ≡ 0 → (p : ProcedureTree) (ts : List Typed)
+      (es : List ExprTree) → AreAtLight (arguments_violations scope place p ts es)
+  all_arguments scope place is p ts es = by (length es == length p.parameters)
+    where
+      by : (even : Bool)
+          → AreAtLight (if even then passed_violations scope place (passed p.parameters ts es)
+          ++ clash_violations place (first_clash [] (passed p.parameters ts es))
+          else because (ArgumentCounts (record {
+            given = length es;
+            taken = length p.parameters;
+            procedure = p.place;
+          })) place (ArgumentCount ∷ []))
+      by true = both (arguments scope place is _) (shared_array place is _)
+      by false = more is none
+
+  known_call : (scope : Scope) (control : Option SecretControl) (c : CallTree) → w c.place ≡ 0
+      → (o : Option (Callee × ProcedureTree)) (ts : List Typed)
+      → AreAtLight (known_call_violations scope control c o ts)
+  known_call scope control c is (Some (known, p)) ts =
+      both (all_arguments scope c.place is p ts c.arguments) (at_place _ c.place is _)
+  known_call scope control c is None ts = more is none
+
+  module _ (control : Option SecretControl) (place : Place) (is : w place ≡ 0) where
+    declares : (taken : Bool) (label : Label) (mutable : Bool) (kind : Kind) (given : Typed)
+        → AreAtLight (declaration_violations control place taken label mutable kind given)
+    declares taken label mutable kind given =
+        both (both (at_place _ place is (when taken NameDeclaredTwice)) (value place is _ _ given))
+        (declared_under_control control place is label mutable)
+
+    first_values : (wanted : WordType) (ts : List Typed) → AreAtLight (values_violations place wanted ts)
+    first_values wanted [] = none
+    first_values wanted (t ∷ ts) = both (value place is _ wanted t) (first_values wanted ts)
+
+    counts : (size : ℕ) (given : Option (List ExprTree)) → AreAtLight (count_violations place size given)
+    counts size None = none
+    counts size (Some es) = at_place _ place is _
+
+    declares_array : (taken : Bool) (label : Label) (mutable : Bool) (kind : Kind) (size : ℕ)
+        (given : Option (List ExprTree)) (ts : List Typed)
+        → AreAtLight (array_violations control place taken label mutable kind size given ts)
+    declares_array taken label mutable kind size given ts =
+        both (both (both (at_place _ place is (when taken NameDeclaredTwice)) (first_values _ ts)) (counts size given))
+        (declared_under_control control place is label mutable)
+
+    assigns : (known_at : Place) (v : Option VariableType) (given : Option Typed)
+        → AreAtLight (assignment_violations control place known_at v given)
+    assigns known_at (Some v) (Some given) =
+        both (at_place _ place is _) (change control place known_at is v.mutable (label_of v.value))
+    assigns known_at (Some v) None = none
+    assigns known_at None given = none
+
+    assigns_element : (known_at : Place) (v : Option VariableType) (type : Option ValueType) (given : Option Typed)
+        → AreAtLight (element_assignment_violations control place known_at v type given)
+    assigns_element known_at (Some v) (Some type) (Some given) =
+        both (value place is _ _ given) (change control place known_at is v.mutable (label_of type))
+    assigns_element known_at (Some v) (Some type) None = none
+    assigns_element known_at (Some v) None given = none
+    assigns_element known_at None type given = none
+
+  module _ (earlier : List ProcedureTree) where
+    calls : (scope : Scope) (control : Option SecretControl) (c : CallTree) → in_call w c ≡ 0
+        → AreAtLight (call_violations earlier scope control c)
+    calls scope control c h =
+        both (exprs scope c.arguments (omega arith))
+        (where_known _ (known_call scope control c (omega arith) _) (typed_of_all scope c.arguments))
+
+    right_side : (scope : Scope) (control : Option SecretControl) (r : RightTree) → in_right w r ≡ 0
         → AreAtLight (right_violations earlier scope control r)
     right_side scope control (called c) h = calls scope control c h
     right_side scope control (computed e) h = expr scope e h
 
     mutual
-      statement : (scope : Scope) (control : Label) (s : StatementTree) → in_statement w s ≡ 0
+      statement : (scope : Scope) (control : Option SecretControl) (s : StatementTree) → in_statement w s ≡ 0
           → AreAtLight (statement_violations earlier scope control s)
       statement scope control (declaration place label mutable kind text right) h =
-          search (arith, both, at_place, right_side)
+          both (right_side scope control right (omega arith))
+          (where_known _ (declares control place (omega arith) _ label mutable kind) _)
       statement scope control (array place label mutable kind size text given) h =
-          search (arith, both, at_place, values)
-      statement scope control (assignment place target text right) h = search (arith, both, at_place, right_side)
+          both (values scope given (omega arith))
+          (where_known _ (declares_array control place (omega arith) _ label mutable kind size given) _)
+      statement scope control (assignment place target text right) h =
+          both (both (at_place _ target (omega arith) (name_rules scope text))
+          (right_side scope control right (omega arith))) (assigns control place (omega arith) _ _ _)
       statement scope control (element_assignment place bracket target text index right) h =
-          search (arith, both, at_place, expr, right_side)
+          both (both (both (both (at_place _ target (omega arith) (name_rules scope text))
+          (expr scope index (omega arith))) (of_two_parts element_why bracket (omega arith) _ _ _))
+          (right_side scope control right (omega arith))) (assigns_element control place (omega arith) _ _ _ _)
       statement scope control (call c) h = calls scope control c h
       statement scope control (conditional place condition accepted otherwise) h =
-          let within = control_under control (type_of scope condition) in
-          search (arith, both, at_place, expr, block scope within accepted, block scope within otherwise)
+          let within = control_under place control (typed_of scope condition) in
+          both (both (both (expr scope condition (omega arith))
+          (of_one_part condition_why place (omega arith) condition_rules _))
+          (block scope within accepted (omega arith))) (block scope within otherwise (omega arith))
       statement scope control (loop place counter text low high body) h =
-          search (arith, both, at_place, expr, block (declared scope text counter_as) control body)
+          both (both (both (both (expr scope low (omega arith)) (expr scope high (omega arith)))
+          (of_two_parts bounds_why place (omega arith) bounds_rules _ _))
+          (at_place _ counter (omega arith) (when (is_some (found scope text)) NameDeclaredTwice)))
+          (block (declared scope counter text counter_as) control body (omega arith))
 
-      block : (scope : Scope) (control : Label) (b : BlockTree) → in_block w b ≡ 0
+      block : (scope : Scope) (control : Option SecretControl) (b : BlockTree) → in_block w b ≡ 0
           → AreAtLight (block_violations earlier scope control b)
       block scope control nothing h = none
       block scope control (first one rest) h =
-          search (arith, both, statement scope control one, block (scope_after scope one) control rest)
+          both (statement scope control one (omega arith)) (block (scope_after scope one) control rest (omega arith))
 
   parameters : (scope : Scope) (ps : List ParameterTree) → in_parameters w ps ≡ 0
       → AreAtLight (parameter_violations scope ps)
   parameters scope [] h = none
   parameters scope (p ∷ ps) h =
-      search (arith, both, at_place, parameters (declared scope p.name (parameter_as p)) ps)
+      both (at_place _ p.place (omega arith) (when (is_some (found scope p.name)) NameDeclaredTwice))
+      (parameters (declared scope p.place p.name (parameter_as p)) ps (omega arith))
+
+  returned_value : (place : Place) → w place ≡ 0 → (result : Option WordType) (given : Typed)
+      → AreAtLight (returned_violations place result given)
+  returned_value place is None given = more is none
+  returned_value place is (Some wanted) given = value place is _ wanted given
 
   returned : (scope : Scope) (result : Option WordType) (r : Option ReturnTree) → in_return w r ≡ 0
       → AreAtLight (return_violations scope result r)
   returned scope result None h = none
-  returned scope result (Some r) h = search (arith, both, at_place, expr)
+  returned scope result (Some r) h =
+      both (expr scope r.value (omega arith)) (where_known _ (returned_value r.place (omega arith) result) _)
+
+  missing : (place : Place) → w place ≡ 0 → (result : Option WordType) (r : Option ReturnTree)
+      → AreAtLight (missing_violations place result r)
+  missing place is (Some result) r = at_place _ place is _
+  missing place is None r = none
 
   procedure : (earlier : List ProcedureTree) (scope : Scope) (p : ProcedureTree) → in_procedure w p ≡ 0
       → AreAtLight (procedure_violations earlier scope p)
-  procedure earlier scope p h = search (arith, both, at_place, parameters, block, returned)
+  procedure earlier scope p h =
+      both (both (both (both (at_place _ p.place (omega arith) (when (is_some (found scope p.name)) NameDeclaredTwice))
+      (missing p.place (omega arith) p.result p.returned)) (parameters _ p.parameters (omega arith)))
+      (block earlier _ None p.body (omega arith))) (returned _ p.result p.returned (omega arith))
 
   procedures : (earlier : List ProcedureTree) (scope : Scope) (ps : List ProcedureTree) → in_procedures w ps ≡ 0
       → AreAtLight (procedures_violations earlier scope ps)
