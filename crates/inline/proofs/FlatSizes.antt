@@ -21,6 +21,7 @@ use Rattle.language.specs.declared.signature.Label.{Label}
 use Rattle.language.specs.declared.signature.Param.{Param}
 use Rattle.language.specs.declared.typing.ValueType.TheVariants.{Word}
 use Rattle.language.specs.declared.typing.Violation.{Violation}
+use Rattle.language.specs.declared.why.Why.TheVariants.{Plain}
 use Rattle.language.specs.declared.typing.WordType.{WordType}
 use Rattle.language.specs.Grammatical.{HasLength, HasForm, IsGrammatical}
 use Rattle.language.specs.Meaning.{exported}
@@ -59,7 +60,7 @@ limits before p h =
     let deep = nat_lt most_bodies (bodies_of (extents_of before) p) in
     let a = when (many || deep) InlinedSize in
     let b = when (nat_lt most_declared_bytes (declared_bytes (extents_of before) p)) DeclaredBytes in
-    let m = length-map {B = Violation} (a ++ b) (λ rule. record { place = p.place; rule = rule }) in
+    let m = length-map {B = Violation} (a ++ b) (λ rule. record { place = p.place; rule = rule; why = Plain }) in
     let n = length-append a b in
     let one : length a ≡ 0 = omega (arith, h, m, n) in
     let other : length b ≡ 0 = omega (arith, h, m, n) in (

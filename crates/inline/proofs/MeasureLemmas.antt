@@ -14,6 +14,7 @@ use Rattle.language.specs.declared.refusal.Refusal.{Refusal}
 use Rattle.language.specs.declared.rule.Rule.TheVariants.{InlinedSize, DeclaredBytes}
 use Rattle.language.specs.declared.tree.Procedure.{Procedure}
 use Rattle.language.specs.declared.typing.Violation.{Violation}
+use Rattle.language.specs.declared.why.Why.TheVariants.{Plain}
 use Rattle.language.specs.Size.{Extents, block_words, bodies_of, extent_of, nodes_of, parameter_words, passed_words}
 use Rattle.language.specs.Tree.{ProcedureTree, procedure_tree}
 use Rattle.language.specs.Types.{at, when}
@@ -82,8 +83,8 @@ module _ (extents : Extents) (p : ProcedureTree) (size : Size)
 
   pub refused_told : (r : Result ℕ Refusal) → IfErr r (λ refusal. refusal.place ≡ Some p.place) →
       IfErr r (λ refusal. IsFirst (passed_limits p.place size.nodes size.words size.bodies)
-      (record { place = p.place; rule = refusal.rule })) →
+      (record { place = p.place; rule = refusal.rule; why = Plain })) →
       IfErr r (λ refusal. IsRefusedFor own refusal.rule refusal.place)
   refused_told (Ok n) here first = tt
   refused_told (Err e) here first =
-      inr (record { place = p.place; rule = e.rule }, rw limits at first, refl, here)
+      inr (record { place = p.place; rule = e.rule; why = Plain }, rw limits at first, refl, here)

@@ -13,6 +13,7 @@ ghost use Rattle.language.specs.Size.{size_violations};
 ghost use Rattle.language.specs.Tree.{block_tree, call_tree, expr_tree, parameter_tree, procedure_tree};
 ghost use Rattle.language.specs.Tree.{return_tree, right_tree, statement_tree, written};
 ghost use Rattle.language.specs.WantOfMemory.{IsWantOfMemory};
+ghost use Rattle.language.specs.declared.why.Why.TheVariants.{Plain};
 
 use crate::measured::{Measured, Size};
 use crate::nodes::{nodes_in, nodes_in_all, nodes_passed};
@@ -234,7 +235,7 @@ fn limited(size: Size, place: Place) -> Result<u32, Refusal>
     ensures most_nodes { IfOk result (λ nodes. nodes ≤ most_nodes) }
     ensures within { IfOk result (λ _. passed_limits place size.nodes size.words size.bodies ≡ []) }
     ensures place { IfErr result (λ refusal. refusal.place ≡ Some place) }
-    ensures first { IfErr result (λ refusal. IsFirst (passed_limits place size.nodes size.words size.bodies) (record { place = place; rule = refusal.rule })) }
+    ensures first { IfErr result (λ refusal. IsFirst (passed_limits place size.nodes size.words size.bodies) (record { place = place; rule = refusal.rule; why = Plain })) }
 {
     if size.nodes > MOST_NODES || size.bodies > MOST_BODIES {
         return Err(Refusal::at(Rule::InlinedSize, place));
