@@ -4,7 +4,6 @@ pub mod WalkLemmas
 pub mod WorkLemmas
 pub mod BoundLemmas
 pub mod RefusalLemmas
-pub mod FindingLemmas
 pub mod StrictRuns
 pub mod Safe
 pub mod LooseTypes

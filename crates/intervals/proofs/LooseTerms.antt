@@ -1,6 +1,6 @@
 -- What an expression comes to in a loose run: a value of its kind, within its interval where it is public, on a path
 -- with no fault where it has no violation.
-use Rattle.std.proofs.Common.{◌≡◌, ℕ, ◌<◌, ◌==◌, ◌&&◌, nat_le, Bool, true, false, if◌then◌else◌, List, [], ◌∷◌, ◌++◌}
+use Rattle.std.proofs.Common.{◌≡◌, ℕ, ◌<◌, ◌==◌, nat_le, Bool, true, false, if◌then◌else◌, List, [], ◌∷◌, ◌++◌}
 use Rattle.std.proofs.Common.{Option, Some, None, unwrap_or, option_map, slice_index, refl, sym, ap, subst, arith}
 use Rattle.std.proofs.lemmas.Bool.Decides.{nat_tests}
 use Rattle.inline.specs.declared.flat.FlatVariable.{FlatVariable}
@@ -16,12 +16,14 @@ use Rattle.language.specs.declared.interval.Interval.{Interval}
 use Rattle.intervals.specs.Intervals.{Bounds, known, full_at, full_of, interval}
 use Rattle.intervals.specs.Loose.{Comes, to_number, to_truth, to_variable, to_prefix, to_binary, to_rotation}
 use Rattle.intervals.specs.Loose.{to_conversion, to_selection, to_element, to_anything}
-use Rattle.intervals.specs.Ranges.{index_violations, term_violations}
+use Rattle.intervals.specs.Ranges.{divisor_violations, index_violations, term_violations}
 use Rattle.intervals.proofs.LooseIntervals.{IsIn, truth_in, word_in, kind_in, prefix_in, operated_in, converted_in}
 use Rattle.intervals.proofs.LooseIntervals.{hull_in, word_of_kind}
 use Rattle.intervals.proofs.LooseTypes.{IsListed, one_type, joined_public}
 use Rattle.language.specs.Operators.{operation_of, divides, multiplies, operated, prefix_value, width_of}
-use Rattle.language.specs.Types.{at, joined, when}
+use Rattle.language.specs.Types.{because, joined, when}
+use Rattle.language.specs.declared.why.Why.{Why}
+use Rattle.language.specs.declared.why.Why.TheVariants.{Index, Divisor}
 use Rattle.language.specs.declared.rule.Rule.TheVariants.{DivisorMayBeZero, IndexOutOfRange}
 use Rattle.language.specs.declared.signature.Kind.{Kind}
 use Rattle.language.specs.declared.signature.Kind.TheVariants.{Boolean, Uint32}
@@ -155,20 +157,23 @@ module _ (declared : List FlatVariable) (types : Types) (bounds : Bounds) (m : V
       absurd (secret_is_not w word (one_type declared types holds.listed u t) public secret)
 
   module _ (turns : List ℕ) where
-    index_below : (size high : ℕ) (place : Place) → at place (when (nat_le size high) IndexOutOfRange) ≡ []
-        → high < size
-    index_below size high place none = by (nat_le size high) refl none
+    index_below : (size : ℕ) (index : Interval) (place : Place) → index_violations place size index ≡ []
+        → index.high < size
+    index_below size index place none = by (nat_le size index.high) refl none
       where
-        by : (b : Bool) → nat_le size high ≡ b → at place (when b IndexOutOfRange) ≡ [] → high < size
+        why : Why
+        why = Index (record { index = index; length = size })
+
+        by : (b : Bool) → nat_le size index.high ≡ b → because why place (when b IndexOutOfRange) ≡ [] → index.high < size
         by true e n = absurd cc
         by false e n = grind (arith, nat_tests, e)
 
-    divisor_some : (operator : BinaryOperator) (low : ℕ) (place : Place) → divides operator ≡ true
-        → at place (when (divides operator && low == 0) DivisorMayBeZero) ≡ [] → 0 < low
-    divisor_some operator low place is none =
-        by (low == 0) refl (rw is at none)
+    divisor_some : (operator : BinaryOperator) (divisor : Interval) (place : Place) → divides operator ≡ true
+        → divisor_violations place operator divisor ≡ [] → 0 < divisor.low
+    divisor_some operator divisor place is none = by (divisor.low == 0) refl (rw is at none)
       where
-        by : (b : Bool) → (low == 0) ≡ b → at place (when b DivisorMayBeZero) ≡ [] → 0 < low
+        by : (b : Bool) → (divisor.low == 0) ≡ b → because (Divisor divisor) place (when b DivisorMayBeZero) ≡ []
+            → 0 < divisor.low
         by true e n = absurd cc
         by false e n = grind (arith, nat_tests, e)
 
@@ -187,7 +192,7 @@ module _ (declared : List FlatVariable) (types : Types) (bounds : Bounds) (m : V
         → index_violations place size (interval declared bounds e) ≡ [] → i < size
     loose_below place size {e = e} c t none =
         let inside = loose_in c t refl in
-        let high = index_below size (interval declared bounds e).high place none in omega (arith, inside, high)
+        let high = index_below size (interval declared bounds e) place none in omega (arith, inside, high)
 
     pub loose_fine : {profile : Profile} {e : TermTree} {v : ℕ} {p : Path} {w : WordType}
         → Comes (types_of profile declared) m e v p → HasType types e w → term_violations declared bounds e ≡ []
@@ -201,7 +206,7 @@ module _ (declared : List FlatVariable) (types : Types) (bounds : Bounds) (m : V
         fine_both turns (p ++ q) (marks_of place operator a b)
         (fine_both turns p q (loose_fine c t operands.0) (loose_fine d u operands.1))
         (marks_fine place operator a b (λ divide.
-        let some = divisor_some operator (interval declared bounds right).low place divide parts.1 in
+        let some = divisor_some operator (interval declared bounds right) place divide parts.1 in
         let inside = loose_in d u (divisor_public operator divide makes) in
         omega (arith, some, inside)))
     loose_fine (to_rotation c) (of_rotation t numeric low high width) none = loose_fine c t none

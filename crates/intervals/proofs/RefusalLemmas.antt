@@ -6,15 +6,19 @@ use Rattle.std.proofs.lemmas.List.Elements.{All-cons, All-nil}
 use Rattle.inline.specs.Flat.{FlatProgram}
 use Rattle.intervals.specs.Limits.{most_work}
 use Rattle.intervals.specs.Work.{work_of, work_violations}
-use Rattle.language.specs.FirstViolation.{IsFirst, IsNoLaterThan}
+use Rattle.language.specs.FirstViolation.{IsFirst, IsNamed, IsNoLaterThan}
 use Rattle.language.specs.Types.{at, when}
 use Rattle.language.specs.declared.rule.Rule.TheVariants.{TooMuchWork}
 use Rattle.language.specs.declared.typing.Violation.{Violation}
+use Rattle.language.specs.declared.why.Why.TheVariants.{Plain}
 use Rattle.word.specs.declared.place.Place.{Place}
 
-alone : (place : Place) → IsFirst (at place (when true TooMuchWork)) (record { place = place; rule = TooMuchWork })
+abbrev pub too_much : Place → Violation
+too_much place = record { place = place; rule = TooMuchWork; why = Plain }
+
+alone : (place : Place) → IsFirst (at place (when true TooMuchWork)) (too_much place)
 alone place =
-    let named : Violation = record { place = place; rule = TooMuchWork } in
+    let named : Violation = too_much place in
     record {
       there = (0, omega arith, refl);
       least =
@@ -25,10 +29,15 @@ above : (a b : ℕ) → a < b → nat_lt a b ≡ true
 above a b h = grind (arith, nat_tests)
 
 pub above_limit : (p : FlatProgram) → (work_of p ≤ most_work → ⊥)
-    → IsFirst (work_violations p) (record { place = p.place; rule = TooMuchWork })
+    → IsFirst (work_violations p) (too_much p.place)
 above_limit p many =
-    subst (λ (b : Bool). IsFirst (at p.place (when b TooMuchWork)) (record { place = p.place; rule = TooMuchWork }))
+    subst (λ (b : Bool). IsFirst (at p.place (when b TooMuchWork)) (too_much p.place))
     (sym (above most_work (work_of p) (grind (arith, many)))) (alone p.place)
+
+pub named_above_limit : (p : FlatProgram) → (work_of p ≤ most_work → ⊥) → IsNamed (work_violations p) (too_much p.place)
+named_above_limit p many =
+    subst (λ (b : Bool). IsNamed (at p.place (when b TooMuchWork)) (too_much p.place))
+    (sym (above most_work (work_of p) (grind (arith, many)))) refl
 
 -- what holds anyway holds on success
 pub on_any : {T E P : Type 0} (result : Result T E) → P → OnOk result P

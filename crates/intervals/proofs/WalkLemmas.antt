@@ -12,8 +12,9 @@ use Rattle.intervals.specs.Narrowing.{met, met_all, where_true, where_false}
 use Rattle.intervals.specs.declared.said.Said.{Said}
 use Rattle.intervals.specs.Ranges.{counted, counted_all, counter_interval, in_loop, most_turns}
 use Rattle.intervals.proofs.Below.{branch_tree, loop_tree}
-use Rattle.intervals.specs.Findings.{findings, findings_all, sooner_finding, term_findings}
-use Rattle.intervals.specs.declared.found.Finding.{Finding}
+use Rattle.intervals.specs.Ranges.{violations, violations_all, term_violations}
+use Rattle.language.specs.Sooner.{sooner}
+use Rattle.language.specs.declared.typing.Violation.{Violation}
 use Rattle.language.specs.declared.signature.Label.{Label}
 
 -- what holds on success follows from what does
@@ -21,14 +22,14 @@ pub on_ok : {T E P Q : Type 0} (result : Result T E) → (P → Q) → OnOk resu
 on_ok (Ok value) f p = f p
 on_ok (Err e) f p = tt
 
--- three lists of findings, one after another
-three_parts : (seen one two last : Option Finding) (e f g : List Finding)
-    → one ≡ fold sooner_finding seen e → two ≡ fold sooner_finding one f → last ≡ fold sooner_finding two g
-    → last ≡ fold sooner_finding seen (e ++ f ++ g)
+-- three lists of violations, one after another
+three_parts : (seen one two last : Option Violation) (e f g : List Violation)
+    → one ≡ fold sooner seen e → two ≡ fold sooner one f → last ≡ fold sooner two g
+    → last ≡ fold sooner seen (e ++ f ++ g)
 three_parts seen one two last e f g a b c =
-    c ∙ (ap (λ s. fold sooner_finding s g) (b
-    ∙ (ap (λ s. fold sooner_finding s f) a ∙ sym (fold-append sooner_finding seen e f)))
-    ∙ sym (fold-append sooner_finding seen (e ++ f) g))
+    c ∙ (ap (λ s. fold sooner s g) (b
+    ∙ (ap (λ s. fold sooner s f) a ∙ sym (fold-append sooner seen e f)))
+    ∙ sym (fold-append sooner seen (e ++ f) g))
 
 module _ (declared : List FlatVariable) (bounds : Bounds) (statement : FlatStatement) where
   module _ (label : Label) (condition : Term) (accepted otherwise : Vec FlatStatement Global)
@@ -49,19 +50,19 @@ module _ (declared : List FlatVariable) (bounds : Bounds) (statement : FlatState
         (o ∙ ap₂ (λ b ts. counted_all declared (where_false declared b label (term_tree condition)) ts
         (flat_block others)) same a)
 
-    pub branch_seen : (seen of_condition of_accepted last : Option Finding)
-        → of_condition ≡ fold sooner_finding seen (term_findings declared bounds (term_tree condition))
-        → of_accepted ≡ fold sooner_finding of_condition
-        (findings_all declared (where_true declared bounds label (term_tree condition)) (flat_block ones))
-        → last ≡ fold sooner_finding of_accepted
-        (findings_all declared (where_false declared between label (term_tree condition)) (flat_block others))
-        → last ≡ fold sooner_finding seen (findings declared bounds (flat_tree statement))
+    pub branch_seen : (seen of_condition of_accepted last : Option Violation)
+        → of_condition ≡ fold sooner seen (term_violations declared bounds (term_tree condition))
+        → of_accepted ≡ fold sooner of_condition
+        (violations_all declared (where_true declared bounds label (term_tree condition)) (flat_block ones))
+        → last ≡ fold sooner of_accepted
+        (violations_all declared (where_false declared between label (term_tree condition)) (flat_block others))
+        → last ≡ fold sooner seen (violations declared bounds (flat_tree statement))
     branch_seen seen of_condition of_accepted last c a o = rw tree
-        (three_parts seen of_condition of_accepted last (term_findings declared bounds (term_tree condition))
-        (findings_all declared (where_true declared bounds label (term_tree condition)) (flat_block ones))
-        (findings_all declared (where_false declared bounds label (term_tree condition)) (flat_block others)) c a
-        (o ∙ ap (λ b. fold sooner_finding of_accepted
-        (findings_all declared (where_false declared b label (term_tree condition)) (flat_block others))) same))
+        (three_parts seen of_condition of_accepted last (term_violations declared bounds (term_tree condition))
+        (violations_all declared (where_true declared bounds label (term_tree condition)) (flat_block ones))
+        (violations_all declared (where_false declared bounds label (term_tree condition)) (flat_block others)) c a
+        (o ∙ ap (λ b. fold sooner of_accepted
+        (violations_all declared (where_false declared b label (term_tree condition)) (flat_block others))) same))
 
   module _ (counter : ℕ) (low high : Term) (body : Vec FlatStatement Global)
       (is : statement ≡ Loop counter low high body)
@@ -84,17 +85,17 @@ module _ (declared : List FlatVariable) (bounds : Bounds) (statement : FlatState
         let counted_here = c ∙ ap (slice_set turns counter) (m ∙ ap₂ most_turns at_low at_high) in
         rw whole (l ∙ ap₂ (λ bs ts. counted_all declared bs ts (flat_block ones)) inside counted_here)
 
-    pub loop_seen : (seen of_low of_high last : Option Finding)
-        → of_low ≡ fold sooner_finding seen (term_findings declared bounds (term_tree low))
-        → of_high ≡ fold sooner_finding of_low (term_findings declared bounds (term_tree high))
-        → last ≡ fold sooner_finding of_high
-        (findings_all declared (with_bound bounds counter numbers) (flat_block ones))
-        → last ≡ fold sooner_finding seen (findings declared bounds (flat_tree statement))
+    pub loop_seen : (seen of_low of_high last : Option Violation)
+        → of_low ≡ fold sooner seen (term_violations declared bounds (term_tree low))
+        → of_high ≡ fold sooner of_low (term_violations declared bounds (term_tree high))
+        → last ≡ fold sooner of_high
+        (violations_all declared (with_bound bounds counter numbers) (flat_block ones))
+        → last ≡ fold sooner seen (violations declared bounds (flat_tree statement))
     loop_seen seen of_low of_high last l h t = rw whole
-        (three_parts seen of_low of_high last (term_findings declared bounds (term_tree low))
-        (term_findings declared bounds (term_tree high))
-        (findings_all declared (in_loop declared bounds counter (term_tree low) (term_tree high)) (flat_block ones)) l h
-        (t ∙ ap (λ bs. fold sooner_finding of_high (findings_all declared bs (flat_block ones))) inside))
+        (three_parts seen of_low of_high last (term_violations declared bounds (term_tree low))
+        (term_violations declared bounds (term_tree high))
+        (violations_all declared (in_loop declared bounds counter (term_tree low) (term_tree high)) (flat_block ones)) l h
+        (t ∙ ap (λ bs. fold sooner of_high (violations_all declared bs (flat_block ones))) inside))
 
 -- what is left of the statements, the next one apart
 pub next_statement : (body : List FlatStatement) (i : ℕ) (d : FlatStatement) → i < length body

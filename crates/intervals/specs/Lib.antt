@@ -6,7 +6,6 @@ pub mod Intervals
 pub mod Narrowing
 pub mod Undoing
 pub mod Ranges
-pub mod Findings
 pub mod Work
 pub mod Evaluated
 pub mod Kept

@@ -10,7 +10,8 @@ use Rattle.language.specs.declared.interval.Interval.{Interval}
 use Rattle.intervals.specs.Intervals.{Bounds, with_bound, between, interval, full_of}
 use Rattle.intervals.specs.Narrowing.{where_true, where_false}
 use Rattle.language.specs.Operators.{divides}
-use Rattle.language.specs.Types.{at, is_secret, when}
+use Rattle.language.specs.declared.operators.BinaryOperator.{BinaryOperator}
+use Rattle.language.specs.Types.{because, is_secret, when}
 use Rattle.language.specs.declared.rule.Rule.TheVariants.{IndexOutOfRange, DivisorMayBeZero}
 use Rattle.language.specs.declared.signature.Form.{Form}
 use Rattle.language.specs.declared.signature.Form.TheVariants.{SingleWord, FixedArray, MutableArray}
@@ -19,12 +20,19 @@ use Rattle.language.specs.declared.signature.Label.{Label}
 use Rattle.language.specs.declared.signature.Label.TheVariants.{Public, Secret}
 use Rattle.language.specs.declared.signature.Param.{Param}
 use Rattle.language.specs.declared.typing.Violation.{Violation}
+use Rattle.language.specs.declared.why.Why.TheVariants.{Index, Divisor}
 use Rattle.language.specs.declared.typing.WordType.{WordType}
 use Rattle.word.specs.declared.place.Place.{Place}
 
 -- an index of this interval, where an array has so many elements
 abbrev pub index_violations : Place → ℕ → Interval → List Violation
-index_violations place size index = at place (when (nat_le size index.high) IndexOutOfRange)
+index_violations place size index =
+    because (Index (record { index = index; length = size })) place (when (nat_le size index.high) IndexOutOfRange)
+
+-- a divisor of this interval, where the operator divides
+abbrev pub divisor_violations : Place → BinaryOperator → Interval → List Violation
+divisor_violations place operator divisor =
+    because (Divisor divisor) place (when (divides operator && divisor.low == 0) DivisorMayBeZero)
 
 -- the violations in an expression, where this is known of the variables
 abbrev pub term_violations : List FlatVariable → Bounds → TermTree → List Violation
@@ -34,7 +42,7 @@ term_violations declared bounds (variable x) = []
 term_violations declared bounds (prefix operator width operand) = term_violations declared bounds operand
 term_violations declared bounds (binary place operator width left right) =
     term_violations declared bounds left ++ term_violations declared bounds right
-    ++ at place (when (divides operator && (interval declared bounds right).low == 0) DivisorMayBeZero)
+    ++ divisor_violations place operator (interval declared bounds right)
 term_violations declared bounds (rotate width operand amount) = term_violations declared bounds operand
 term_violations declared bounds (convert kind operand) = term_violations declared bounds operand
 term_violations declared bounds (select condition accepted otherwise) =

@@ -5,7 +5,8 @@ use Rattle.inline.specs.Flat.{first, FlatProgram}
 use Rattle.inline.specs.FlatSize.{term_nodes, terms_nodes, value_nodes}
 use Rattle.intervals.specs.Ranged.{RangedProgram}
 use Rattle.intervals.specs.Ranges.{range_violations, turns_of}
-use Rattle.language.specs.FirstViolation.{IsRefusedFor}
+use Rattle.language.specs.FirstViolation.{IsRefusedFor, IsToldOf}
+use Rattle.language.specs.declared.refusal.Refusal.{Refusal}
 use Rattle.word.specs.declared.place.Place.{Place}
 use Rattle.intervals.specs.Limits.{most_work}
 use Rattle.language.specs.declared.rule.Rule.{Rule}
@@ -44,6 +45,12 @@ abbrev pub IsRefusedByRanges : FlatProgram → Rule → Option Place → Type 0
 IsRefusedByRanges p rule place =
     IsRefusedFor (range_violations p) rule place
     ⊎ ((length (range_violations p) ≡ 0) × IsRefusedFor (work_violations p) rule place)
+
+-- it tells of the range, or else of the work
+abbrev pub IsToldByRanges : FlatProgram → Refusal → Type 0
+IsToldByRanges p refusal =
+    IsToldOf (range_violations p) refusal
+    ⊎ ((length (range_violations p) ≡ 0) × IsToldOf (work_violations p) refusal)
 
 -- a body with what is counted for it
 abbrev pub ranged : FlatProgram → RangedProgram

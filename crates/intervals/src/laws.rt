@@ -1,14 +1,12 @@
 // The laws, which hold of the definitions alone.
 
-ghost use Rattle.std.specs.Prelude.{◌≡◌, ℕ, ◌+◌, ◌≤◌, List, length, map};
+ghost use Rattle.std.specs.Prelude.{◌≡◌, ℕ, ◌+◌, ◌≤◌, List, length};
 ghost use Rattle.language.specs.arguments.Within.{AreWithin};
 ghost use Rattle.inline.specs.Flat.{FlatProgram};
 ghost use Rattle.inline.specs.FlatMeaning.{ending_of, outcome_of, path_of};
 ghost use Rattle.inline.specs.FlatSize.{value_nodes};
 ghost use Rattle.inline.specs.FlatTyping.{IsTypedProgram};
 ghost use Rattle.intervals.specs.Evaluated.{evaluated_by};
-ghost use Rattle.intervals.specs.Findings.{range_findings};
-ghost use Rattle.intervals.specs.declared.found.Finding.{Finding};
 ghost use Rattle.intervals.specs.Loose.{IsLooseRun, IsSafe};
 ghost use Rattle.intervals.specs.Ranges.{range_violations, turns_of};
 ghost use Rattle.intervals.specs.Work.{body_work};
@@ -36,9 +34,4 @@ pub fn accepted_is_safe()
 pub fn safe_runs_are_within_work()
     ensures { (p : FlatProgram) (turns : List ℕ) (args : List Arg) → IsSafe p turns → AreWithin p.parameters args
         → evaluated_by p args ≤ body_work turns p.body + value_nodes p.value }
-{}
-
-/// What is found is what is violated, with why.
-pub fn findings_are_violations()
-    ensures { (p : FlatProgram) → map (λ (found : Finding). found.violation) (range_findings p) ≡ range_violations p }
 {}

@@ -2,7 +2,6 @@
 // the body with numbered variables.
 #![tactic(auto)]
 
-mod found;
 mod known;
 mod laws;
 mod limits;
@@ -15,12 +14,10 @@ mod terms;
 mod walk;
 mod work;
 
-pub use found::{Cause, Finding};
 pub use language::Interval;
 pub use laws::{
-    accepted_is_safe, findings_are_violations, safe_runs_are_within_work, safe_runs_meet_no_fault,
-    strict_runs_are_loose,
+    accepted_is_safe, safe_runs_are_within_work, safe_runs_meet_no_fault, strict_runs_are_loose,
 };
 pub use limits::{MOST_WORK, limits_are_as_stated};
 pub use ranged::Ranged;
-pub use ranges::{check_ranges, first_finding, turns};
+pub use ranges::{check_ranges, turns};

@@ -1,12 +1,11 @@
 ghost use Rattle.std.specs.Prelude.{◌≡◌, None, Some, fold, length, map, replicate, IfErr, IfOk, OnOk};
-ghost use Rattle.intervals.specs.Findings.{range_findings, sooner_finding};
 ghost use Rattle.intervals.specs.Loose.{IsSafe};
 ghost use Rattle.intervals.specs.Ranges.{bound_by, bound_of, first_bounds, range_violations, result_violations, turns_of};
-ghost use Rattle.intervals.specs.Work.{IsRefusedByRanges, ranged, work_violations};
-ghost use Rattle.language.specs.FirstViolation.{IsFirst};
+ghost use Rattle.intervals.specs.Work.{IsRefusedByRanges, IsToldByRanges, ranged, work_violations};
+ghost use Rattle.language.specs.FirstViolation.{IsFirst, IsNamed, TellsOf};
+ghost use Rattle.language.specs.Sooner.{sooner};
 ghost use Rattle.language.specs.declared.typing.Violation.{Violation};
 
-use crate::found::{Finding, FirstFinding};
 use crate::known::Known;
 use crate::operators::full_of;
 use crate::terms::note_term;
@@ -14,7 +13,7 @@ use crate::walk::{Walk, statements};
 use crate::work::work;
 use crate::{Interval, Ranged};
 use inline::Flat;
-use language::{Form, Label, Param, Refusal, Rule};
+use language::{First, Form, Label, Param, Refusal, Rule};
 use std::alloc::{AllocError, Global};
 
 /// What is known of a parameter: a public word is something of its kind.
@@ -57,7 +56,7 @@ fn first_bounds(alloc: Global, flat: &Flat) -> Result<Vec<Option<Interval>>, All
 /// A walk over a whole program, which is safe where no range is passed.
 fn walked(alloc: Global, flat: &Flat) -> Result<Walk, AllocError>
     ensures turns { IfOk result (λ walk. walk.turns.items ≡ turns_of flat.now) }
-    ensures found { IfOk result (λ walk. walk.first.seen ≡ fold sooner_finding None (range_findings flat.now)) }
+    ensures found { IfOk result (λ walk. walk.first.seen ≡ fold sooner None (range_violations flat.now)) }
     ensures safe { OnOk result (length (range_violations flat.now) ≡ 0 → IsSafe flat.now (turns_of flat.now)) }
 {
     let declared = flat.declared();
@@ -68,7 +67,7 @@ fn walked(alloc: Global, flat: &Flat) -> Result<Walk, AllocError>
             changes: Vec::new(alloc),
         },
         turns: vec![in alloc; 0; declared.len()]?,
-        first: FirstFinding { seen: None },
+        first: First { seen: None },
     };
     statements(declared, &mut walk, flat.body())?;
     if let Some(value) = flat.value() {
@@ -88,7 +87,7 @@ fn with_work<'f>(flat: &'f Flat, turns: Vec<u32>) -> Result<Ranged<'f>, Refusal>
     requires safe { IsSafe flat.now turns.items }
     ensures accepted { IfOk result (λ result. result ≡ ranged flat.now) }
     ensures worked { OnOk result (length (work_violations flat.now) ≡ 0) }
-    ensures refused { IfErr result (λ refusal. (first : Violation) × IsFirst (work_violations flat.now) first × (refusal.rule ≡ first.rule) × (refusal.place ≡ Some first.place)) }
+    ensures refused { IfErr result (λ refusal. (first : Violation) × IsFirst (work_violations flat.now) first × IsNamed (work_violations flat.now) first × TellsOf refusal first) }
 {
     match work(turns.as_slice(), flat) {
         Some(work) => Ok(Ranged::new(flat, turns, work)),
@@ -103,21 +102,13 @@ pub fn check_ranges<'f>(alloc: Global, flat: &'f Flat) -> Result<Ranged<'f>, Ref
     ensures in_range { OnOk result (length (range_violations flat.now) ≡ 0) }
     ensures worked { OnOk result (length (work_violations flat.now) ≡ 0) }
     ensures refused { IfErr result (λ refusal. IsRefusedByRanges flat.now refusal.rule refusal.place) }
+    ensures told { IfErr result (IsToldByRanges flat.now) }
 {
     let walk = walked(alloc, flat)?;
     match walk.first.seen {
-        Some(first) => Err(Refusal::at(first.violation.rule, first.violation.place)),
+        Some(first) => Err(Refusal::of(first)),
         None => with_work(flat, walk.turns),
     }
-}
-
-/// The first of the violations of ranges in a body, with why it is one; `None` where there is none. It is found as
-/// `check_ranges` finds it.
-pub fn first_finding(alloc: Global, flat: &Flat) -> Result<Option<Finding>, AllocError>
-    ensures { IfOk result (λ found. found ≡ fold sooner_finding None (range_findings flat.now)) }
-{
-    let walk = walked(alloc, flat)?;
-    Ok(walk.first.seen)
 }
 
 /// How many turns the loop of each counter of a body makes at most, at the counter's number; 0 at all other numbers. They

@@ -1,16 +1,16 @@
 ghost use Rattle.std.specs.Prelude.{◌≡◌, fold, map};
 ghost use Rattle.inline.specs.Flat.{term_tree, variable};
 ghost use Rattle.intervals.specs.Intervals.{full_at, interval};
-ghost use Rattle.intervals.specs.Findings.{index_findings, sooner_finding, term_findings, terms_findings};
+ghost use Rattle.intervals.specs.Ranges.{index_violations, term_violations, terms_violations};
+ghost use Rattle.language.specs.Sooner.{sooner};
 
 use crate::Interval;
-use crate::found::{Cause, FirstFinding};
 use crate::known::bound_of;
 use crate::operators::{
     EITHER_TRUTH, converted_interval, full, full_of, hull, operated_interval, prefix_interval,
 };
 use inline::{FlatVariable, Term};
-use language::{Kind, Place, Rule};
+use language::{First, IndexRange, Kind, Place, Rule, Why};
 
 /// All that a variable, or an element of an array, may be.
 pub fn full_at(declared: &[FlatVariable], variable: u32) -> Interval
@@ -62,26 +62,27 @@ pub fn interval(declared: &[FlatVariable], bounds: &[Option<Interval>], term: &T
 }
 
 /// Notes an index of this interval that may not be below the size of its array.
-pub fn note_index(first: &mut FirstFinding, place: Place, size: u32, index: Interval)
-    ensures { first.new.seen ≡ fold sooner_finding first.old.seen (index_findings place size index) }
+pub fn note_index(first: &mut First, place: Place, size: u32, index: Interval)
+    ensures { first.new.seen ≡ fold sooner first.old.seen (index_violations place size index) }
 {
-    first.note_if(
-        size <= index.high,
+    let length = size;
+    first.note(
+        length <= index.high,
         place,
         Rule::IndexOutOfRange,
-        Cause::Index(index, size),
+        Why::Index(IndexRange { index, length }),
     );
 }
 
 /// Notes the indices and divisors of an expression that are out of range, and gives its interval.
 pub fn note_term(
-    first: &mut FirstFinding,
+    first: &mut First,
     declared: &[FlatVariable],
     bounds: &[Option<Interval>],
     term: &Term,
 ) -> Interval
     ensures interval { result ≡ interval declared.now bounds.now (term_tree term.now) }
-    ensures first { first.new.seen ≡ fold sooner_finding first.old.seen (term_findings declared.now bounds.now (term_tree term.now)) }
+    ensures first { first.new.seen ≡ fold sooner first.old.seen (term_violations declared.now bounds.now (term_tree term.now)) }
 {
     match term {
         Term::Number(value, _) => Interval {
@@ -98,11 +99,11 @@ pub fn note_term(
             let left = note_term(first, declared, bounds, left);
             let right = note_term(first, declared, bounds, right);
             let may_be_zero = operator.divides() && right.low == 0;
-            first.note_if(
+            first.note(
                 may_be_zero,
                 *place,
                 Rule::DivisorMayBeZero,
-                Cause::Divisor(right),
+                Why::Divisor(right),
             );
             operated_interval(*operator, *width, left, right)
         }
@@ -128,12 +129,12 @@ pub fn note_term(
 
 /// Notes what is out of range in expressions.
 pub fn note_terms(
-    first: &mut FirstFinding,
+    first: &mut First,
     declared: &[FlatVariable],
     bounds: &[Option<Interval>],
     terms: &[Term],
 )
-    ensures { first.new.seen ≡ fold sooner_finding first.old.seen (terms_findings declared.now bounds.now (map term_tree terms.now)) }
+    ensures { first.new.seen ≡ fold sooner first.old.seen (terms_violations declared.now bounds.now (map term_tree terms.now)) }
 {
     for term in terms {
         note_term(first, declared, bounds, term);

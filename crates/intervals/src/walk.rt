@@ -4,17 +4,16 @@ ghost use Rattle.std.specs.Prelude.{◌≡◌, fold, map, slice_set, OnOk};
 ghost use Rattle.inline.specs.Flat.{flat_block, flat_tree, term_tree};
 ghost use Rattle.intervals.specs.Intervals.{with_bound};
 ghost use Rattle.intervals.specs.Narrowing.{where_false, where_true};
-ghost use Rattle.intervals.specs.Ranges.{bounds_after, bounds_after_all, counted, counted_all, counter_interval, is_steady, most_turns};
-ghost use Rattle.intervals.specs.Findings.{findings, findings_all, sooner_finding};
+ghost use Rattle.intervals.specs.Ranges.{bounds_after, bounds_after_all, counted, counted_all, counter_interval, is_steady, most_turns, violations, violations_all};
 ghost use Rattle.intervals.specs.Undoing.{CameFrom};
+ghost use Rattle.language.specs.Sooner.{sooner};
 
 use crate::Interval;
-use crate::found::FirstFinding;
 use crate::known::Known;
 use crate::narrowing::{learn_false, learn_true};
 use crate::terms::{note_index, note_term, note_terms};
 use inline::{FlatStatement, FlatVariable, Term};
-use language::{Label, WordType};
+use language::{First, Label, WordType};
 use std::alloc::AllocError;
 
 /// What a walk gathers.
@@ -23,7 +22,7 @@ pub struct Walk {
     pub known: Known,
     /// The turns of each loop, at its counter's number.
     pub turns: Vec<u32>,
-    pub first: FirstFinding,
+    pub first: First,
 }
 
 /// Whether a variable keeps its value, and is public.
@@ -76,7 +75,7 @@ fn statement(
     ensures bounds { OnOk result (walk.new.known.bounds.items ≡ bounds_after declared.now walk.old.known.bounds.items (flat_tree statement.now)) }
     ensures from { OnOk result (CameFrom walk.old.known walk.new.known) }
     ensures turns { OnOk result (walk.new.turns.items ≡ counted declared.now walk.old.known.bounds.items walk.old.turns.items (flat_tree statement.now)) }
-    ensures first { OnOk result (walk.new.first.seen ≡ fold sooner_finding walk.old.first.seen (findings declared.now walk.old.known.bounds.items (flat_tree statement.now))) }
+    ensures first { OnOk result (walk.new.first.seen ≡ fold sooner walk.old.first.seen (violations declared.now walk.old.known.bounds.items (flat_tree statement.now))) }
 {
     let bounds = walk.known.bounds.as_slice();
     match statement {
@@ -134,7 +133,7 @@ fn accepted_arm(
     ensures bounds { OnOk result (walk.new.known.bounds.items ≡ walk.old.known.bounds.items) }
     ensures changes { OnOk result (walk.new.known.changes.items ≡ walk.old.known.changes.items) }
     ensures turns { OnOk result (walk.new.turns.items ≡ counted_all declared.now (where_true declared.now walk.old.known.bounds.items label (term_tree condition.now)) walk.old.turns.items (flat_block arm.now)) }
-    ensures first { OnOk result (walk.new.first.seen ≡ fold sooner_finding walk.old.first.seen (findings_all declared.now (where_true declared.now walk.old.known.bounds.items label (term_tree condition.now)) (flat_block arm.now))) }
+    ensures first { OnOk result (walk.new.first.seen ≡ fold sooner walk.old.first.seen (violations_all declared.now (where_true declared.now walk.old.known.bounds.items label (term_tree condition.now)) (flat_block arm.now))) }
 {
     let outside = walk.known.mark();
     learn_true(declared, &mut walk.known, label, condition)?;
@@ -155,7 +154,7 @@ fn otherwise_arm(
     ensures bounds { OnOk result (walk.new.known.bounds.items ≡ walk.old.known.bounds.items) }
     ensures changes { OnOk result (walk.new.known.changes.items ≡ walk.old.known.changes.items) }
     ensures turns { OnOk result (walk.new.turns.items ≡ counted_all declared.now (where_false declared.now walk.old.known.bounds.items label (term_tree condition.now)) walk.old.turns.items (flat_block arm.now)) }
-    ensures first { OnOk result (walk.new.first.seen ≡ fold sooner_finding walk.old.first.seen (findings_all declared.now (where_false declared.now walk.old.known.bounds.items label (term_tree condition.now)) (flat_block arm.now))) }
+    ensures first { OnOk result (walk.new.first.seen ≡ fold sooner walk.old.first.seen (violations_all declared.now (where_false declared.now walk.old.known.bounds.items label (term_tree condition.now)) (flat_block arm.now))) }
 {
     let outside = walk.known.mark();
     learn_false(declared, &mut walk.known, label, condition)?;
@@ -176,7 +175,7 @@ fn turns(
     ensures bounds { OnOk result (walk.new.known.bounds.items ≡ walk.old.known.bounds.items) }
     ensures changes { OnOk result (walk.new.known.changes.items ≡ walk.old.known.changes.items) }
     ensures turns { OnOk result (walk.new.turns.items ≡ counted_all declared.now (with_bound walk.old.known.bounds.items counter numbers) walk.old.turns.items (flat_block body.now)) }
-    ensures first { OnOk result (walk.new.first.seen ≡ fold sooner_finding walk.old.first.seen (findings_all declared.now (with_bound walk.old.known.bounds.items counter numbers) (flat_block body.now))) }
+    ensures first { OnOk result (walk.new.first.seen ≡ fold sooner walk.old.first.seen (violations_all declared.now (with_bound walk.old.known.bounds.items counter numbers) (flat_block body.now))) }
 {
     let outside = walk.known.mark();
     walk.known.set(counter, numbers)?;
@@ -195,7 +194,7 @@ pub fn statements(
     ensures bounds { OnOk result (walk.new.known.bounds.items ≡ bounds_after_all declared.now walk.old.known.bounds.items (flat_block body.now)) }
     ensures from { OnOk result (CameFrom walk.old.known walk.new.known) }
     ensures turns { OnOk result (walk.new.turns.items ≡ counted_all declared.now walk.old.known.bounds.items walk.old.turns.items (flat_block body.now)) }
-    ensures first { OnOk result (walk.new.first.seen ≡ fold sooner_finding walk.old.first.seen (findings_all declared.now walk.old.known.bounds.items (flat_block body.now))) }
+    ensures first { OnOk result (walk.new.first.seen ≡ fold sooner walk.old.first.seen (violations_all declared.now walk.old.known.bounds.items (flat_block body.now))) }
 {
     for one in body {
         statement(declared, walk, one)?;

@@ -1,9 +1,9 @@
-use Rattle.std.proofs.Common.{◌≡◌, ℕ, ◌+◌, List, Some, ap, ap₂, ◌∙◌, arith}
+use Rattle.std.proofs.Common.{◌≡◌, ℕ, ◌+◌, ◌≤◌, List, Some, ap, ap₂, ◌∙◌, arith}
 use Rattle.inline.specs.FlatSize.{value_nodes}
 use Rattle.intervals.specs.Ranged.{RangedProgram}
 use Rattle.intervals.specs.Work.{body_work, work_of}
-use Rattle.language.specs.declared.rule.Rule.TheVariants.{TooMuchWork}
-use Rattle.intervals.proofs.RefusalLemmas.{above_limit}
+use Rattle.intervals.specs.Limits.{most_work}
+use Rattle.intervals.proofs.RefusalLemmas.{above_limit, named_above_limit, too_much}
 use Rattle.intervals.proofs.ranges.with_work.Goals as goal
 
 pub new-requires : goal.new-requires
@@ -23,10 +23,14 @@ new-requires c =
 pub returns-clause-refused : goal.returns-clause-refused
 returns-clause-refused c =
     let p = c.args.flat.now in
-    let same = ap (λ ts. body_work ts p.body + value_nodes p.value) (c.as_slice.ensures.value ∙ c.requires.turns) in (
-      record { place = p.place; rule = TooMuchWork },
-      above_limit p (λ few. c.in-None.ensures (omega (arith, same, few))),
-      c.at.ensures.rule,
-      c.at.ensures.place
-          ∙ ap Some c.place.ensures,
+    let same = ap (λ ts. body_work ts p.body + value_nodes p.value) (c.as_slice.ensures.value ∙ c.requires.turns) in
+    let many : work_of p ≤ most_work → ⊥ = λ few. c.in-None.ensures (omega (arith, same, few)) in (
+      too_much p.place,
+      above_limit p many,
+      named_above_limit p many,
+      record {
+        rule = c.at.ensures.rule;
+        place = c.at.ensures.place ∙ ap Some c.place.ensures;
+        why = c.at.ensures.why;
+      },
     )

@@ -1,10 +1,11 @@
 use Rattle.std.proofs.Common.{◌≡◌, drop, fold, map}
 use Rattle.inline.specs.Flat.{term_tree}
-use Rattle.intervals.specs.Findings.{sooner_finding, terms_findings}
+use Rattle.intervals.specs.Ranges.{terms_violations}
+use Rattle.language.specs.Sooner.{sooner}
 use Rattle.intervals.proofs.terms.note_terms.Given as goal
 
 -- what is left of the expressions leads to the same first violation as all of them
 abbrev pub invariant-loop-term : goal.invariant-loop-term
 invariant-loop-term l =
-    fold sooner_finding l.first.seen (terms_findings l.declared l.bounds (map term_tree (drop l.term-index l.terms)))
-    ≡ fold sooner_finding l.fn.first.seen (terms_findings l.declared l.bounds (map term_tree l.terms))
+    fold sooner l.first.seen (terms_violations l.declared l.bounds (map term_tree (drop l.term-index l.terms)))
+    ≡ fold sooner l.fn.first.seen (terms_violations l.declared l.bounds (map term_tree l.terms))

@@ -3,7 +3,8 @@ use Rattle.std.proofs.Common.{◌+◌, rules, drop, fold, ap₂, refl, ◌∙◌
 use Rattle.inline.specs.Flat.{first, flat_block, flat_tree, term_tree}
 use Rattle.intervals.specs.Intervals.{interval}
 use Rattle.intervals.specs.Ranges.{bounds_after, bounds_after_all, counted_all}
-use Rattle.intervals.specs.Findings.{findings, findings_all, sooner_finding, term_findings}
+use Rattle.intervals.specs.Ranges.{violations, violations_all, term_violations}
+use Rattle.language.specs.Sooner.{sooner}
 use Rattle.intervals.proofs.UndoingLemmas.{bounds_back, from_before}
 use Rattle.intervals.proofs.WalkLemmas.{on_ok, branch_turns, branch_seen, loop_turns, loop_seen, next_statement}
 use Rattle.intervals.proofs.walk.+walk.Goals as goal
@@ -48,8 +49,8 @@ statement-returns-in_ok-accepted_arm-in-Branch-clause-first t c =
     c.args.walk.now.first.seen c.note_term-in-Branch.new.first.seen c.accepted_arm.new.walk.first.seen
     c.otherwise_arm.new.walk.first.seen
     (c.note_term-in-Branch.ensures.first
-    ∙ ap (λ bounds. fold sooner_finding c.args.walk.now.first.seen
-    (term_findings c.args.declared.now bounds (term_tree c.in-Branch.condition)))
+    ∙ ap (λ bounds. fold sooner c.args.walk.now.first.seen
+    (term_violations c.args.declared.now bounds (term_tree c.in-Branch.condition)))
     c.as_slice-bounds.ensures.value) c.in_ok-accepted_arm-in-Branch.ensures.first last)
     c.otherwise_arm.ensures.first
 
@@ -85,11 +86,11 @@ statement-returns-in-Loop-clause-first t c =
     c.args.walk.now.first.seen c.note_term-low.new.first.seen c.note_term-high.new.first.seen
     c.turns.new.walk.first.seen
     (c.note_term-low.ensures.first
-    ∙ ap (λ bounds. fold sooner_finding c.args.walk.now.first.seen
-    (term_findings c.args.declared.now bounds (term_tree c.in-Loop.low))) c.as_slice-bounds.ensures.value)
+    ∙ ap (λ bounds. fold sooner c.args.walk.now.first.seen
+    (term_violations c.args.declared.now bounds (term_tree c.in-Loop.low))) c.as_slice-bounds.ensures.value)
     (c.note_term-high.ensures.first
-    ∙ ap (λ bounds. fold sooner_finding c.note_term-low.new.first.seen
-    (term_findings c.args.declared.now bounds (term_tree c.in-Loop.high))) c.as_slice-bounds.ensures.value)
+    ∙ ap (λ bounds. fold sooner c.note_term-low.new.first.seen
+    (term_violations c.args.declared.now bounds (term_tree c.in-Loop.high))) c.as_slice-bounds.ensures.value)
     last) c.turns.ensures.first
 
 pub statements-loop-one-preserved : goal.statements-loop-one-preserved
@@ -108,10 +109,10 @@ statements-loop-one-preserved t c =
           c.loop-one.invariant.from done.from;
       turns = ap₂ (λ b t. counted_all declared b t rest) done.bounds done.turns
           ∙ (sym (ap (counted_all declared bounds c.loop-one.walk.turns.items) next) ∙ c.loop-one.invariant.turns);
-      first = ap₂ (λ b f. fold sooner_finding f (findings_all declared b rest)) done.bounds done.first
-          ∙ (sym (fold-append sooner_finding c.loop-one.walk.first.seen (findings declared bounds one)
-          (findings_all declared (bounds_after declared bounds one) rest))
-          ∙ (sym (ap (λ b. fold sooner_finding c.loop-one.walk.first.seen (findings_all declared bounds b)) next)
+      first = ap₂ (λ b f. fold sooner f (violations_all declared b rest)) done.bounds done.first
+          ∙ (sym (fold-append sooner c.loop-one.walk.first.seen (violations declared bounds one)
+          (violations_all declared (bounds_after declared bounds one) rest))
+          ∙ (sym (ap (λ b. fold sooner c.loop-one.walk.first.seen (violations_all declared bounds b)) next)
           ∙ c.loop-one.invariant.first));
       declared = refl;
     }

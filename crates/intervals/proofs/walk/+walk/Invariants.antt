@@ -2,7 +2,8 @@ use Rattle.std.proofs.Common.{◌≡◌, drop, fold}
 use Rattle.inline.specs.Flat.{flat_block}
 use Rattle.intervals.specs.Ranges.{bounds_after_all, counted_all}
 use Rattle.intervals.specs.Undoing.{CameFrom}
-use Rattle.intervals.specs.Findings.{findings_all, sooner_finding}
+use Rattle.intervals.specs.Ranges.{violations_all}
+use Rattle.language.specs.Sooner.{sooner}
 use Rattle.intervals.proofs.walk.+walk.Given as goal
 
 -- what is left of the statements leads to the same as all of them
@@ -16,7 +17,7 @@ invariant-statements-loop-one l =
       from : CameFrom l.fn.walk.known l.walk.known;
       turns : counted_all l.declared l.walk.known.bounds.items l.walk.turns.items rest
           ≡ counted_all l.fn.declared l.fn.walk.known.bounds.items l.fn.walk.turns.items all;
-      first : fold sooner_finding l.walk.first.seen (findings_all l.declared l.walk.known.bounds.items rest)
-          ≡ fold sooner_finding l.fn.walk.first.seen (findings_all l.fn.declared l.fn.walk.known.bounds.items all);
+      first : fold sooner l.walk.first.seen (violations_all l.declared l.walk.known.bounds.items rest)
+          ≡ fold sooner l.fn.walk.first.seen (violations_all l.fn.declared l.fn.walk.known.bounds.items all);
       declared : l.declared ≡ l.fn.declared;
     }
