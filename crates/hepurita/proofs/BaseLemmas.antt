@@ -4,7 +4,8 @@ use Rattle.codegen.specs.Bases.{AreBases}
 use Rattle.hepurita.specs.Bases.{code_base, frame_base, most_images, code_distance, frame_distance}
 use Rattle.hepurita.specs.Compiled.{IsCompiled}
 use Rattle.hepurita.specs.Built.{JudgesProgram, accepts}
-use Rattle.hepurita.proofs.JudgementLemmas.{few_of, of_accepted}
+use Rattle.hepurita.proofs.Below.{few_of}
+use Rattle.hepurita.proofs.JudgementLemmas.{of_accepted}
 use Rattle.codegen.specs.image_fields.Fields.{Fields}
 use Rattle.language.specs.Size.{extents_of, nodes_of}
 use Rattle.language.specs.Tree.{ProcedureTree, ProgramTree}
@@ -28,4 +29,4 @@ pub bases_of : (profile : Profile) (program : ProgramTree) (before : List Proced
     → AreBases image (code_base + code_distance * k) (frame_base + frame_distance * k)
 bases_of profile program before export image judged compiled k below =
     let small = (of_accepted profile program program before export judged).0 in
-    standard_bases program before export image k compiled (few_of before export small.sized).nodes below
+    standard_bases program before export image k compiled (few_of (extents_of before) export small.sized).nodes below

@@ -6,6 +6,7 @@ pub use Rattle.source_laws.proofs.grammar_laws_lemmas.ViolationPlaces.{AreAtLigh
 pub use Rattle.inline.proofs.Face.{flat_is_typed, flat_keeps_meaning}
 pub use Rattle.intervals.proofs.Safe.{accepted_is_safe, safe_runs_meet_no_fault}
 pub use Rattle.labels.proofs.ExportLemmas.{Export, export_at, has_export}
+pub use Rattle.language.proofs.LimitLemmas.{few_of}
 pub use Rattle.language.proofs.SoonerLemmas.{first_of}
 pub use Rattle.rv_machine.proofs.Face.{
   Halts-determined,

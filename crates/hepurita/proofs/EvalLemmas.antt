@@ -4,10 +4,11 @@ use Rattle.language.specs.arguments.Faults.{fault_of}
 use Rattle.language.specs.arguments.Within.{AreWithin}
 use Rattle.inline.specs.FlatMeaning.{outcome_of}
 use Rattle.inline.specs.Numbering.{flattened, param_of}
-use Rattle.hepurita.proofs.Below.{accepted_is_safe}
+use Rattle.hepurita.proofs.Below.{accepted_is_safe, few_of}
 use Rattle.intervals.specs.Limits.{most_work}
 use Rattle.language.specs.Evaluation.{program_run}
 use Rattle.language.specs.Results.{Results}
+use Rattle.language.specs.Size.{extents_of}
 use Rattle.language.specs.Tree.{ProcedureTree, ProgramTree}
 use Rattle.language.specs.declared.signature.Param.{Param}
 use Rattle.language.specs.declared.values.Arg.{Arg}
@@ -17,7 +18,6 @@ use Rattle.source_eval.specs.Answer.{answer, judged_answer, found_params, params
 use Rattle.hepurita.specs.Built.{Judges, accepts, readable, fine}
 use Rattle.hepurita.specs.Compiled.{Means}
 use Rattle.hepurita.proofs.AnswerLemmas.{Faultless}
-use Rattle.hepurita.proofs.JudgementLemmas.{few_of}
 use Rattle.hepurita.proofs.TheoremLemmas.{flat_typed, safe_means, within_work}
 use Rattle.hepurita.proofs.GrammaticalExports.{grammatical_export, same_work}
 use Rattle.word.specs.declared.profile.Profile.{Profile}
@@ -46,7 +46,7 @@ evaluated faultless profile text program before export args budget (readable rea
     (within_work export.place (source_work before export) in_time) in
     let params = map param_of export.parameters in
     let run = answered profile program before export args budget is.typed is.is_export parts.0 parts.1 typed
-    (few_of before export small.sized).bodies in_range work within enough in (
+    (few_of (extents_of before) export small.sized).bodies in_range work within enough in (
       outcome_of flat args,
       safe_means profile program before export plain small safe args within,
       judged program args budget params (ap found_params is.is_export) ((faultless params args).1 within) ∙ run,

@@ -1,22 +1,18 @@
--- A text is not both accepted and refused, nor accepted for two exports; and its export is small.
+-- A text is not both accepted and refused, nor accepted for two exports.
 use Rattle.std.proofs.Common.{◌≡◌, ℕ, ◌≤◌, Bool, true, false, nat_lt, ◌||◌, List, [], ◌∷◌, ◌++◌, None, Some, length}
 use Rattle.std.proofs.Common.{refl, ap, sym, subst, ◌∙◌, arith}
-use Rattle.std.proofs.lemmas.Bool.Decides.{nat_tests}
 use Rattle.std.specs.List.{AllByRecursion}
 use Rattle.word.specs.declared.place.Place.{Place}
 use Rattle.language.specs.FirstViolation.{IsFirst}
 use Rattle.language.specs.declared.rule.Rule.{Rule}
-use Rattle.language.specs.declared.rule.Rule.TheVariants.{InlinedSize, DeclaredBytes}
 use Rattle.language.specs.declared.typing.Violation.{Violation}
 use Rattle.inline.specs.Numbering.{flattened}
 use Rattle.intervals.specs.Ranges.{range_violations}
 use Rattle.source_laws.specs.source_work.SourceWork.{work_violations}
 use Rattle.language.specs.Meaning.{exported}
 use Rattle.syntax.specs.Reading.{accepted, refused, OneAnswer}
-use Rattle.language.specs.Limits.{most_bodies, most_nodes, most_declared_bytes}
-use Rattle.language.specs.Size.{bodies_of, declared_bytes, extents_of, nodes_of, size_violations}
+use Rattle.language.specs.Size.{size_violations}
 use Rattle.language.specs.Tree.{ProcedureTree, ProgramTree}
-use Rattle.language.specs.Types.{at, when}
 use Rattle.language.specs.Typing.{violations}
 use Rattle.hepurita.specs.Built.{IsSmall, Judges, JudgesProgram, accepts, refuses, ill_typed, too_large, out_of_range}
 use Rattle.hepurita.specs.Built.{too_much_work, fine, unreadable, readable}
@@ -103,25 +99,3 @@ module _ (profile : Profile) where
       sym small.well_formed.is_export ∙ ap (λ (p : ProgramTree). exported [] p.procedures) same
       ∙ small'.well_formed.is_export in
       (same, ap (front_or before) exports, ap (export_or export) exports)
-
--- ---- what passes no limit on size
-
--- it has few nodes, and opens few bodies
-pub record IsFew (before : List ProcedureTree) (export : ProcedureTree) : Type 0 where
-  pub nodes : nodes_of (extents_of before) export ≤ most_nodes
-  pub bodies : bodies_of (extents_of before) export ≤ most_bodies
-
-none_passed : (place : Place) (many deep large : Bool)
-    → length (at place (when (many || deep) InlinedSize ++ when large DeclaredBytes)) ≡ 0
-    → (many ≡ false) × (deep ≡ false)
-none_passed place true deep large none = absurd (omega arith)
-none_passed place false true large none = absurd (omega arith)
-none_passed place false false large none = (refl, refl)
-
-pub few_of : (before : List ProcedureTree) (export : ProcedureTree) → length (size_violations before export) ≡ 0
-    → IsFew before export
-few_of before export none =
-    let e = none_passed export.place (nat_lt most_nodes (nodes_of (extents_of before) export))
-    (nat_lt most_bodies (bodies_of (extents_of before) export))
-    (nat_lt most_declared_bytes (declared_bytes (extents_of before) export)) none in
-    record { nodes = grind (arith, nat_tests, e.0); bodies = grind (arith, nat_tests, e.1) }

@@ -5,7 +5,6 @@ pub use Rattle.inline.proofs.CallSizes.{GoTogether, same_all, same_nodes, same_r
 pub use Rattle.inline.proofs.Called.{Behaves, IsKept, Ready, ready_after, ready_declared, ready_later}
 pub use Rattle.inline.proofs.Chains.{turns_keep}
 pub use Rattle.inline.proofs.Comes.{Comes, fails, well}
-pub use Rattle.inline.proofs.CountLemmas.{block_alike, extent_same, statement_alike}
 pub use Rattle.inline.proofs.Fitting.{
   bit_fits,
   complement_fits,

@@ -1,9 +1,6 @@
 -- The body of a procedure within the limits on size is within them too, with the bodies that it calls in it.
-use Rattle.std.proofs.Common.{◌≡◌, ℕ, ◌+◌, ◌*◌, ◌≤◌, ◌||◌, Bool, true, false, nat_lt, List, [], ◌∷◌, ◌++◌, length}
-use Rattle.std.proofs.Common.{map, Option, Some, refl, arith, length-append}
-use Rattle.std.proofs.lemmas.Bool.{or_parts}
-use Rattle.std.proofs.lemmas.Bool.Decides.{nat_tests}
-use Rattle.std.proofs.lemmas.List.{length-map}
+use Rattle.std.proofs.Common.{◌≡◌, ℕ, ◌+◌, ◌*◌, ◌≤◌, false, List, [], ◌∷◌, length}
+use Rattle.std.proofs.Common.{map, Option, Some, refl, arith}
 use Rattle.std.specs.List.{AllByRecursion}
 use Rattle.inline.specs.Flat.{elements_by, word_as, counter_type}
 use Rattle.inline.specs.FlatSize as flat
@@ -12,62 +9,33 @@ use Rattle.inline.specs.Numbering.{Numbers, Callables, callables, call_variables
 use Rattle.inline.specs.Numbering.{right_block, right_variables, right, declared_in, declared_in_all, numbers_taken}
 use Rattle.inline.specs.Numbering.{numbers_taken_all, naming, names_after, statement, block, param_of}
 use Rattle.inline.specs.Numbering.{parameter_names, return_names, flattened}
-use Rattle.language.specs.Limits.{most_nodes, most_bodies, most_declared_bytes}
-use Rattle.language.specs.declared.rule.Rule.{Rule}
-use Rattle.language.specs.declared.rule.Rule.TheVariants.{InlinedSize, DeclaredBytes}
 use Rattle.language.specs.declared.signature.Form.{Form}
 use Rattle.language.specs.declared.signature.Form.TheVariants.{SingleWord}
 use Rattle.language.specs.declared.signature.Label.{Label}
 use Rattle.language.specs.declared.signature.Param.{Param}
 use Rattle.language.specs.declared.typing.ValueType.TheVariants.{Word}
-use Rattle.language.specs.declared.typing.Violation.{Violation}
-use Rattle.language.specs.declared.why.Why.TheVariants.{Plain}
 use Rattle.language.specs.declared.typing.WordType.{WordType}
 use Rattle.language.specs.Grammatical.{HasLength, HasForm, IsGrammatical}
 use Rattle.language.specs.Meaning.{exported}
-use Rattle.language.specs.Size.{Extents, extents_of, right_nodes, right_words, statement_nodes, block_nodes, nodes_of}
-use Rattle.language.specs.Size.{bodies_of, held_words, parameter_words, statement_words, block_words, declared_bytes}
+use Rattle.language.specs.Size.{Extents, extents_of, right_nodes, right_words, statement_nodes, block_nodes}
+use Rattle.language.specs.Size.{held_words, parameter_words, statement_words, block_words}
 use Rattle.language.specs.Size.{size_violations}
 use Rattle.language.specs.Tree.{ExprTree, RightTree, StatementTree, element_assignment, BlockTree, ParameterTree}
 use Rattle.language.specs.Tree.{ProcedureTree, ProgramTree, ReturnTree, written}
-use Rattle.language.specs.Types.{Scope, when}
+use Rattle.language.specs.Types.{Scope}
 use Rattle.language.specs.Typing.{violations, with_procedure}
 use Rattle.language.specs.WellTyped.{Gives, of_call, of_value, IsWellTyped, declares, declares_array, assigns}
 use Rattle.language.specs.WellTyped.{assigns_element, calls, chooses, repeats, AreWellTyped, no_statement, one_more}
 use Rattle.language.specs.WellTyped.{IsProcedure, Returns, nothing_returned, value_returned}
 use Rattle.word.specs.declared.place.Place.{Place}
 use Rattle.word.specs.declared.profile.Profile.{Profile}
+use Rattle.inline.proofs.Below.{few_of}
 use Rattle.inline.proofs.CallSizes.{same_nodes, same_all, same_result, GoTogether, value_there, dropped_nodes}
 use Rattle.inline.proofs.CallSizes.{dropped_words, words-append, SizedBody, call_sized}
 use Rattle.inline.proofs.ChainTypes.{chain-nodes}
 use Rattle.inline.proofs.Parameters.{own, all_own}
 use Rattle.inline.proofs.Procedures.{Stand, IsAt, IsWithin, own_typing, earlier_within, callable_after}
 use Rattle.inline.proofs.Procedures.{callable_declared, callable_parameters}
-
--- Limits.
-
-not_passed : (b : Bool) (rule : Rule) → length (when b rule) ≡ 0 → b ≡ false
-not_passed true rule h = absurd (omega (arith, h))
-not_passed false rule h = refl
-
-within : (most n : ℕ) → nat_lt most n ≡ false → n ≤ most
-within most n h = grind (arith, nat_tests)
-
-limits : (before : List ProcedureTree) (p : ProcedureTree) → length (size_violations before p) ≡ 0
-    → (nodes_of (extents_of before) p ≤ most_nodes) × (declared_bytes (extents_of before) p ≤ most_declared_bytes)
-limits before p h =
-    let many = nat_lt most_nodes (nodes_of (extents_of before) p) in
-    let deep = nat_lt most_bodies (bodies_of (extents_of before) p) in
-    let a = when (many || deep) InlinedSize in
-    let b = when (nat_lt most_declared_bytes (declared_bytes (extents_of before) p)) DeclaredBytes in
-    let m = length-map {B = Violation} (a ++ b) (λ rule. record { place = p.place; rule = rule; why = Plain }) in
-    let n = length-append a b in
-    let one : length a ≡ 0 = omega (arith, h, m, n) in
-    let other : length b ≡ 0 = omega (arith, h, m, n) in (
-      within most_nodes (nodes_of (extents_of before) p) (or_parts many deep (not_passed _ InlinedSize one)).0,
-      within
-          most_declared_bytes (declared_bytes (extents_of before) p) (not_passed _ DeclaredBytes other),
-    )
 
 -- Statements.
 
@@ -204,7 +172,7 @@ flat_is_sized profile program before p h is earlier plain small =
     let e = own_typing SizedBody IsGrammatical (λ before at p stand typed plain. sized_one before at p stand typed)
     profile program before p h is earlier in
     let body = sized_one before e.scope p e.stand e.typed in
-    let few = limits before p small in
+    let few = few_of (extents_of before) p small in
     let nodes = body.nodes (parameter_names p) (length p.parameters) in
     let value = same_result (return_names (callables before) p) p.returned in
     let sum = words-append (all_own p.parameters) (declared_in_all (callables before) p.body) in
@@ -214,5 +182,5 @@ flat_is_sized profile program before p h is earlier plain small =
       parameters = omega (arith, taken);
       declared = omega (arith, sum, taken);
       counted = omega (arith, nodes, value);
-      nodes = few.0;
+      nodes = few.nodes;
     }

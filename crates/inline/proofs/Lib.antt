@@ -34,6 +34,7 @@ pub mod NumberingLemmas
 pub mod Measures
 mod SizeLemmas
 pub mod CountLemmas
+mod CostLemmas
 mod MeasureLemmas
 pub mod TableLemmas
 pub mod Face

@@ -1,20 +1,17 @@
--- Counts of what may be more than a number tells: each stops at a greatest number.
-use Rattle.std.specs.Prelude.{◌≡◌, ℕ, List, min}
+-- What is counted of procedures.
+use Rattle.std.specs.Prelude.{◌≡◌, ℕ, List}
 use Rattle.std.specs.Option.{option_map}
+use Rattle.language.specs.Shares.{counted}
 use Rattle.language.specs.Size.{Extent, Extents}
 
--- what is counted of so many things, where a count is at most this
-abbrev pub counted_to : ℕ → ℕ → ℕ
-counted_to most n = min n most
-
-abbrev pub extent_to : ℕ → Extent → Extent
-extent_to most e = record {
+abbrev pub counted_extent : Extent → Extent
+counted_extent e = record {
   parameters = e.parameters;
-  nodes = counted_to most e.nodes;
-  words = counted_to most e.words;
-  bodies = counted_to most e.bodies;
+  nodes = counted e.nodes;
+  words = counted e.words;
+  bodies = counted e.bodies;
 }
 
 -- the counts of the same procedures
-abbrev pub AreCountsTo : ℕ → Extents → Extents → Type 0
-AreCountsTo most counts extents = (text : List ℕ) → counts text ≡ option_map (extent_to most) (extents text)
+abbrev pub AreCountsOf : Extents → Extents → Type 0
+AreCountsOf counts extents = (text : List ℕ) → counts text ≡ option_map counted_extent (extents text)

@@ -1,26 +1,14 @@
 -- Procedures as they were measured, by their names, and the sizes that are counted by them.
-use Rattle.std.specs.Prelude.{ℕ, ◌+◌, ◌*◌, ◌-◌, ◌^◌, ◌||◌, ◌++◌, List, map, nat_lt}
+use Rattle.std.specs.Prelude.{ℕ, ◌+◌, List, map}
 use Rattle.std.specs.Option.{option_map}
-use Rattle.inline.specs.Counts.{counted_to}
 use Rattle.inline.specs.declared.measured.Measured.{Measured}
 use Rattle.inline.specs.declared.measured.Size.{Size}
-use Rattle.language.specs.Limits.{most_nodes, most_declared_bytes, most_bodies}
-use Rattle.language.specs.declared.rule.Rule.TheVariants.{InlinedSize, DeclaredBytes}
-use Rattle.language.specs.declared.typing.Violation.{Violation}
+use Rattle.language.specs.Shares.{counted}
 use Rattle.language.specs.Size.{Extent, Extents, call_nodes, words_of_called, bodies_of_called, right_nodes}
 use Rattle.language.specs.Size.{right_words, right_bodies, statement_nodes, statement_words, statement_bodies}
-use Rattle.language.specs.Size.{block_nodes, block_words, block_bodies, nodes_of, bodies_of}
+use Rattle.language.specs.Size.{block_nodes, block_words, block_bodies, nodes_of, bodies_of, parameter_words}
 use Rattle.language.specs.Tree.{CallTree, RightTree, StatementTree, BlockTree, ProcedureTree, parameter_tree}
-use Rattle.language.specs.Types.{at, when}
 use Rattle.language.specs.names.Scope.{found}
-use Rattle.word.specs.declared.place.Place.{Place}
-
--- a count is at most the greatest number of 32 bits
-abbrev pub most_counted : ℕ
-most_counted = 2 ^ 32 - 1
-
-abbrev pub counted : ℕ → ℕ
-counted n = counted_to most_counted n
 
 abbrev pub counted_size : ℕ → ℕ → ℕ → Size
 counted_size nodes words bodies = record { nodes = counted nodes; words = counted words; bodies = counted bodies }
@@ -55,8 +43,6 @@ block_size known b = counted_size (block_nodes known b) (block_words known b) (b
 abbrev pub procedure_size : Extents → ℕ → ProcedureTree → Size
 procedure_size known words p = counted_size (nodes_of known p) (words + block_words known p.body) (bodies_of known p)
 
--- the limits that a procedure of so many nodes, words and open bodies passes, whose name stands at this place
-abbrev pub passed_limits : Place → ℕ → ℕ → ℕ → List Violation
-passed_limits place nodes words bodies =
-    at place (when (nat_lt most_nodes nodes || nat_lt most_bodies bodies) InlinedSize
-    ++ when (nat_lt most_declared_bytes (4 * words)) DeclaredBytes)
+-- of the export
+abbrev pub export_size : Extents → ProcedureTree → Size
+export_size known p = procedure_size known (parameter_words p.parameters) p

@@ -3,7 +3,7 @@
 ghost use Rattle.std.specs.Prelude.{◌≡◌, [], List, Some, length, map, IfOk, IfErr};
 ghost use Rattle.inline.specs.Kept.{IsFlat};
 ghost use Rattle.inline.specs.Numbering.{flattened};
-ghost use Rattle.language.specs.FirstViolation.{IsRefusedFor};
+ghost use Rattle.language.specs.FirstViolation.{IsRefusedFor, IsToldOf};
 ghost use Rattle.language.specs.Signature.{exported};
 ghost use Rattle.language.specs.Size.{extents_of, nodes_of, size_violations};
 ghost use Rattle.language.specs.Tree.{ProcedureTree, procedure_tree, program_tree};
@@ -11,7 +11,7 @@ ghost use Rattle.language.specs.WantOfMemory.{IsWantOfMemory};
 
 use crate::Flat;
 use crate::numbering::Numbering;
-use crate::sizes::measure;
+use crate::size_limits::measure;
 use labels::Checked;
 use language::{Procedure, Profile, Refusal};
 use std::alloc::{AllocError, Global};
@@ -58,6 +58,7 @@ fn flat_of<'a>(
     ensures within { IfOk result (λ _. length (size_violations (map procedure_tree earlier.now) (procedure_tree export.now)) ≡ 0) }
     ensures memory { earlier.now ≡ [] → IfErr result (λ refusal. IsWantOfMemory refusal.rule refusal.place → length (size_violations (map procedure_tree earlier.now) (procedure_tree export.now)) ≡ 0) }
     ensures refused { IfErr result (λ refusal. IsRefusedFor (size_violations (map procedure_tree earlier.now) (procedure_tree export.now)) refusal.rule refusal.place) }
+    ensures told { IfErr result (IsToldOf (size_violations (map procedure_tree earlier.now) (procedure_tree export.now))) }
 {
     let nodes = measure(alloc, earlier, export)?;
     Ok(flat_with(alloc, profile, nodes, earlier, export)?)
@@ -70,6 +71,7 @@ pub fn inline(alloc: Global, checked: &Checked<'_, '_>) -> Result<Flat, Refusal>
     ensures accepted { IfOk result (λ flat. (before : List ProcedureTree) × (p : ProcedureTree) × (exported [] (program_tree checked.now.program.now).procedures ≡ Some (before, p)) × (length (size_violations before p) ≡ 0) × (flat ≡ flattened checked.now.profile before p)) }
     ensures memory { (p : ProcedureTree) → exported [] (program_tree checked.now.program.now).procedures ≡ Some ([], p) → IfErr result (λ refusal. IsWantOfMemory refusal.rule refusal.place → length (size_violations [] p) ≡ 0) }
     ensures refused { IfErr result (λ refusal. (before : List ProcedureTree) × (p : ProcedureTree) × (exported [] (program_tree checked.now.program.now).procedures ≡ Some (before, p)) × IsRefusedFor (size_violations before p) refusal.rule refusal.place) }
+    ensures told { IfErr result (λ refusal. (before : List ProcedureTree) × (p : ProcedureTree) × (exported [] (program_tree checked.now.program.now).procedures ≡ Some (before, p)) × IsToldOf (size_violations before p) refusal) }
 {
     let (earlier, export) = checked.export();
     flat_of(alloc, checked.profile(), earlier, export)

@@ -1,10 +1,9 @@
 // The laws, which hold of the definitions alone.
 
 ghost use Rattle.std.specs.List.{AllByRecursion};
-ghost use Rattle.std.specs.Prelude.{◌≡◌, ℕ, [], List, Some, length, map};
+ghost use Rattle.std.specs.Prelude.{◌≡◌, [], List, Some, length, map};
 ghost use Rattle.word.specs.declared.profile.Profile.{Profile};
 ghost use Rattle.language.specs.arguments.Within.{AreWithin};
-ghost use Rattle.inline.specs.Counts.{AreCountsTo, counted_to, extent_to};
 ghost use Rattle.inline.specs.declared.flat.FlatVariable.{FlatVariable};
 ghost use Rattle.inline.specs.Fitting.{Fits, IsWithinKind};
 ghost use Rattle.inline.specs.Flat.{FlatBlock, FlatProgram, FlatTree, TermTree};
@@ -17,8 +16,8 @@ ghost use Rattle.language.specs.declared.typing.WordType.{WordType};
 ghost use Rattle.language.specs.declared.values.Arg.{Arg};
 ghost use Rattle.language.specs.Grammatical.{IsGrammatical};
 ghost use Rattle.language.specs.Meaning.{Gives, exported};
-ghost use Rattle.language.specs.Size.{Extents, block_words, extent_of, size_violations, statement_bodies, statement_nodes, statement_words};
-ghost use Rattle.language.specs.Tree.{BlockTree, ProcedureTree, ProgramTree, StatementTree};
+ghost use Rattle.language.specs.Size.{size_violations};
+ghost use Rattle.language.specs.Tree.{ProcedureTree, ProgramTree};
 ghost use Rattle.language.specs.Typing.{violations};
 
 /// The export of a program that violates no rule is well typed for the same observer once its names are numbers, with the
@@ -64,19 +63,4 @@ pub fn flat_values_fit()
     ensures end { (p : FlatProgram) (args : List Arg) → IsTypedProgram p → AreWithin p.parameters args → Fits (end_types p) (end_of p args) }
     ensures result { (p : FlatProgram) (args : List Arg) (word : WordType) (value : TermTree) → IsTypedProgram p → AreWithin p.parameters args
         → p.returned ≡ Some word → p.value ≡ Some value → IsWithinKind word.kind (value_in (end_of p args) value) }
-{}
-
-/// What is counted of code by counts of the procedures that it calls is what is counted by their sizes, whatever the
-/// greatest count.
-pub fn counts_measure_alike()
-    ensures nodes { (most : ℕ) (counts extents : Extents) → AreCountsTo most counts extents → (s : StatementTree)
-        → counted_to most (statement_nodes counts s) ≡ counted_to most (statement_nodes extents s) }
-    ensures words { (most : ℕ) (counts extents : Extents) → AreCountsTo most counts extents → (s : StatementTree)
-        → counted_to most (statement_words counts s) ≡ counted_to most (statement_words extents s) }
-    ensures bodies { (most : ℕ) (counts extents : Extents) → AreCountsTo most counts extents → (s : StatementTree)
-        → counted_to most (statement_bodies counts s) ≡ counted_to most (statement_bodies extents s) }
-    ensures body_words { (most : ℕ) (counts extents : Extents) → AreCountsTo most counts extents → (b : BlockTree)
-        → counted_to most (block_words counts b) ≡ counted_to most (block_words extents b) }
-    ensures procedure { (most : ℕ) (counts extents : Extents) → AreCountsTo most counts extents → (p : ProcedureTree)
-        → extent_to most (extent_of counts p) ≡ extent_to most (extent_of extents p) }
 {}

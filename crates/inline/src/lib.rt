@@ -3,6 +3,7 @@
 #![tactic(auto)]
 
 mod calls;
+mod costs;
 mod flat;
 mod inlining;
 mod laws;
@@ -11,15 +12,16 @@ mod measured;
 mod nodes;
 mod numbering;
 mod program;
+mod size_limits;
 mod sizes;
 mod statements;
 mod typed;
 
+pub use costs::{SizeCosts, larger_return, size_costs};
 pub use flat::{FlatStatement, FlatVariable, Term};
 pub use inlining::inline;
 pub use laws::{
-    counts_measure_alike, flat_is_sized, flat_is_typed, flat_keeps_meaning, flat_values_fit,
-    typed_values_fit,
+    flat_is_sized, flat_is_typed, flat_keeps_meaning, flat_values_fit, typed_values_fit,
 };
 pub use limits::{MOST_VARIABLE_BYTES, limits_are_as_stated};
 pub use program::Flat;

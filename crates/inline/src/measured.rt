@@ -1,22 +1,23 @@
-ghost use Rattle.std.specs.Prelude.{◌≡◌, ◌+◌, max};
+ghost use Rattle.std.specs.Prelude.{◌≡◌, ◌+◌, ◌*◌, max};
 ghost use Rattle.inline.specs.Measured.{counted_size};
+ghost use Rattle.language.specs.Shares.{counted};
 
 use language::Parameter;
 
-/// How large code is. A count stops at the greatest number, which is far above every limit: what is never reached may be
-/// larger than a number tells.
+/// How large code is. The greatest number stands for those above it too: what is never reached may be larger than a number
+/// tells.
 #[derive(Clone, Copy)]
 pub struct Size {
-    pub nodes: u32,
+    pub nodes: u64,
     /// The words, of 4 bytes each, that it declares.
-    pub words: u32,
+    pub words: u64,
     /// How many bodies are open in it at once.
-    pub bodies: u32,
+    pub bodies: u64,
 }
 
 impl Size {
     /// Of code in which no body is open.
-    pub fn of(nodes: u32, words: u32) -> Size
+    pub fn of(nodes: u64, words: u64) -> Size
         ensures { result ≡ counted_size nodes words 0 }
     {
         Size {
@@ -27,7 +28,7 @@ impl Size {
     }
 
     /// With so many nodes and words more.
-    pub fn with(self, nodes: u32, words: u32) -> Size
+    pub fn with(self, nodes: u64, words: u64) -> Size
         ensures { result ≡ counted_size (self.nodes + nodes) (self.words + words) self.bodies }
     {
         Size {
@@ -35,6 +36,13 @@ impl Size {
             words: self.words.saturating_add(words),
             bodies: self.bodies,
         }
+    }
+
+    /// The bytes that it declares.
+    pub fn declared_bytes(self) -> u64
+        ensures { result ≡ counted (4 * self.words) }
+    {
+        self.words.saturating_mul(4)
     }
 
     /// Of this and of what stands behind it.

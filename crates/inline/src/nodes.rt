@@ -1,15 +1,15 @@
 // How many nodes expressions have. A count stops at the greatest number.
 
 ghost use Rattle.std.specs.Prelude.{◌≡◌, map};
-ghost use Rattle.inline.specs.Measured.{counted};
 ghost use Rattle.language.specs.Meaning.{word_arguments};
+ghost use Rattle.language.specs.Shares.{counted};
 ghost use Rattle.language.specs.Size.{nodes_in, nodes_in_all, nodes_passed};
 ghost use Rattle.language.specs.Tree.{expr_tree, parameter_tree};
 
 use language::{Expr, Form, Parameter};
 
 /// How many nodes an expression has.
-pub fn nodes_in(expr: &Expr<'_>) -> u32
+pub fn nodes_in(expr: &Expr<'_>) -> u64
     ensures { result ≡ counted (nodes_in (expr_tree expr.now)) }
 {
     let below = match expr {
@@ -26,10 +26,10 @@ pub fn nodes_in(expr: &Expr<'_>) -> u32
 }
 
 /// How many nodes the first values of an array have.
-pub fn nodes_in_all(values: &[Expr<'_>]) -> u32
+pub fn nodes_in_all(values: &[Expr<'_>]) -> u64
     ensures { result ≡ counted (nodes_in_all (map expr_tree values.now)) }
 {
-    let mut sum = 0u32;
+    let mut sum = 0u64;
     for value in values {
         sum = sum.saturating_add(nodes_in(value));
     }
@@ -37,10 +37,10 @@ pub fn nodes_in_all(values: &[Expr<'_>]) -> u32
 }
 
 /// How many nodes arguments cost: a word is put into a parameter, an array stays where it is.
-pub fn nodes_passed(parameters: &[Parameter<'_>], arguments: &[Expr<'_>]) -> u32
+pub fn nodes_passed(parameters: &[Parameter<'_>], arguments: &[Expr<'_>]) -> u64
     ensures { result ≡ counted (nodes_passed (word_arguments (map parameter_tree parameters.now) (map expr_tree arguments.now))) }
 {
-    let mut sum = 0u32;
+    let mut sum = 0u64;
     for (index, parameter) in parameters.iter().enumerate() {
         let Some(argument) = arguments.get(index) else {
             return sum;

@@ -1,26 +1,22 @@
-// The limits on a program's size. Each procedure is measured once, by what is known of the earlier ones.
+// How large code is. Each procedure is measured once, by what is known of the earlier ones.
 
-ghost use Rattle.std.specs.Prelude.{◌≡◌, ◌≤◌, ◌+◌, [], length, map, max, IfOk, IfErr, OnOk, Some};
-ghost use Rattle.inline.specs.Counts.{AreCountsTo};
+ghost use Rattle.std.specs.Prelude.{◌≡◌, ◌≤◌, ◌+◌, [], length, map, max, IfOk, IfErr, OnOk};
+ghost use Rattle.inline.specs.Counts.{AreCountsOf};
 ghost use Rattle.std.specs.Option.{option_map};
-ghost use Rattle.inline.specs.Measured.{block_size, call_size, counted, counted_size, extents_in, most_counted};
-ghost use Rattle.inline.specs.Measured.{passed_limits, procedure_size, right_size, statement_size};
-ghost use Rattle.language.specs.FirstViolation.{IsFirst, IsRefusedFor};
-ghost use Rattle.language.specs.Limits.{most_nodes};
-ghost use Rattle.language.specs.Size.{array_words, extents_of, nodes_in, nodes_in_all, nodes_of, parameter_words};
+ghost use Rattle.inline.specs.Measured.{block_size, call_size, counted_size, export_size, extents_in};
+ghost use Rattle.inline.specs.Measured.{procedure_size, right_size, statement_size};
+ghost use Rattle.language.specs.Shares.{counted};
+ghost use Rattle.language.specs.Size.{array_words, extents_of, nodes_in, nodes_in_all, parameter_words};
 ghost use Rattle.language.specs.Size.{passed_words, return_nodes, right_bodies, right_nodes, right_words};
-ghost use Rattle.language.specs.Size.{size_violations};
 ghost use Rattle.language.specs.Tree.{block_tree, call_tree, expr_tree, parameter_tree, procedure_tree};
 ghost use Rattle.language.specs.Tree.{return_tree, right_tree, statement_tree, written};
-ghost use Rattle.language.specs.WantOfMemory.{IsWantOfMemory};
-ghost use Rattle.language.specs.declared.why.Why.TheVariants.{Plain};
 
 use crate::measured::{Measured, Size};
 use crate::nodes::{nodes_in, nodes_in_all, nodes_passed};
 use language::names::Names;
 use language::{
-    ArrayDeclaration, Call, ElementAssignment, Expr, Form, MOST_BODIES, MOST_DECLARED_BYTES,
-    MOST_NODES, Parameter, Place, Procedure, Refusal, Return, RightSide, Rule, Statement,
+    ArrayDeclaration, Call, ElementAssignment, Expr, Form, Parameter, Procedure, Return, RightSide,
+    Statement,
 };
 use std::alloc::{AllocError, Global};
 
@@ -59,7 +55,7 @@ fn size_of_array(array: &ArrayDeclaration<'_>) -> Size
     };
     Size::of(
         values.saturating_add(1),
-        array.kind.array_words(array.length),
+        u64::from(array.kind.array_words(array.length)),
     )
 }
 
@@ -98,7 +94,7 @@ fn size_of_loop(low: &Expr<'_>, high: &Expr<'_>, body: Size) -> Size
 
 /// How large a statement is.
 #[cycle(sizes)]
-fn size_of_statement<'s, 'a>(
+pub fn size_of_statement<'s, 'a>(
     earlier: &Names<'a, Measured<'s, 'a>>,
     statement: &Statement<'a>,
 ) -> Size
@@ -134,7 +130,7 @@ fn size_of_block<'s, 'a>(earlier: &Names<'a, Measured<'s, 'a>>, block: &[Stateme
 }
 
 /// How many nodes a `return` is, where it stands.
-fn nodes_of_return(returned: &Option<Return<'_>>) -> u32
+fn nodes_of_return(returned: &Option<Return<'_>>) -> u64
     ensures { result ≡ counted (return_nodes (option_map return_tree returned.now)) }
 {
     match returned {
@@ -147,7 +143,7 @@ fn nodes_of_return(returned: &Option<Return<'_>>) -> u32
 fn size_of<'s, 'a>(
     earlier: &Names<'a, Measured<'s, 'a>>,
     procedure: &Procedure<'a>,
-    words: u32,
+    words: u64,
 ) -> Size
     ensures { result ≡ procedure_size (extents_in earlier.now) words (procedure_tree procedure.now) }
 {
@@ -159,22 +155,29 @@ fn size_of<'s, 'a>(
     }
 }
 
+/// How large the export is.
+pub fn size_of_export<'s, 'a>(earlier: &Names<'a, Measured<'s, 'a>>, export: &Procedure<'a>) -> Size
+    ensures { result ≡ export_size (extents_in earlier.now) (procedure_tree export.now) }
+{
+    size_of(earlier, export, parameter_words(&export.parameters))
+}
+
 /// How many words the parameters of the export take.
-fn parameter_words(parameters: &[Parameter<'_>]) -> u32
+fn parameter_words(parameters: &[Parameter<'_>]) -> u64
     ensures { result ≡ counted (parameter_words (map parameter_tree parameters.now)) }
 {
-    let mut sum = 0u32;
+    let mut sum = 0u64;
     for parameter in parameters {
-        sum = sum.saturating_add(parameter.param().words());
+        sum = sum.saturating_add(u64::from(parameter.param().words()));
     }
     sum
 }
 
 /// How many words the parameters of a called procedure take: an array is the caller's own.
-fn passed_words(parameters: &[Parameter<'_>]) -> u32
+fn passed_words(parameters: &[Parameter<'_>]) -> u64
     ensures { result ≡ counted (passed_words (map parameter_tree parameters.now)) }
 {
-    let mut sum = 0u32;
+    let mut sum = 0u64;
     for parameter in parameters {
         if matches!(parameter.form, Form::SingleWord) {
             sum = sum.saturating_add(1);
@@ -189,7 +192,7 @@ fn measure_all<'s, 'a>(
     procedures: &'s [Procedure<'a>],
 ) -> Result<(), AllocError>
     requires { table.old ≡ [] }
-    ensures counts { OnOk result (AreCountsTo most_counted (extents_in table.new) (extents_of (map procedure_tree procedures.now))) }
+    ensures counts { OnOk result (AreCountsOf (extents_in table.new) (extents_of (map procedure_tree procedures.now))) }
     ensures memory { IfErr result (λ _. 1 ≤ length procedures.now) }
 {
     for procedure in procedures {
@@ -201,62 +204,14 @@ fn measure_all<'s, 'a>(
 }
 
 /// How large procedures are where they are called, by their names.
-fn measured_all<'s, 'a>(
+pub fn measured_all<'s, 'a>(
     alloc: Global,
     procedures: &'s [Procedure<'a>],
 ) -> Result<Names<'a, Measured<'s, 'a>>, AllocError>
-    ensures counts { IfOk result (λ table. AreCountsTo most_counted (extents_in table) (extents_of (map procedure_tree procedures.now))) }
+    ensures counts { IfOk result (λ table. AreCountsOf (extents_in table) (extents_of (map procedure_tree procedures.now))) }
     ensures memory { IfErr result (λ _. 1 ≤ length procedures.now) }
 {
     let mut table = Names::new(alloc);
     measure_all(&mut table, procedures)?;
     Ok(table)
-}
-
-/// How large the export is behind the procedures that it may call.
-fn size_of_export<'a>(
-    alloc: Global,
-    earlier: &[Procedure<'a>],
-    export: &Procedure<'a>,
-) -> Result<Size, AllocError>
-    ensures size { IfOk result (λ size. size ≡ procedure_size (extents_of (map procedure_tree earlier.now))
-        (parameter_words (procedure_tree export.now).parameters) (procedure_tree export.now)) }
-    ensures memory { IfErr result (λ _. 1 ≤ length earlier.now) }
-{
-    let known = measured_all(alloc, earlier)?;
-    let words = parameter_words(&export.parameters);
-    Ok(size_of(&known, export, words))
-}
-
-/// How many nodes there are, where a procedure of this size, whose name stands at this place, passes no limit; else the
-/// first that it passes.
-fn limited(size: Size, place: Place) -> Result<u32, Refusal>
-    ensures nodes { IfOk result (λ nodes. nodes ≡ size.nodes) }
-    ensures most_nodes { IfOk result (λ nodes. nodes ≤ most_nodes) }
-    ensures within { IfOk result (λ _. passed_limits place size.nodes size.words size.bodies ≡ []) }
-    ensures place { IfErr result (λ refusal. refusal.place ≡ Some place) }
-    ensures first { IfErr result (λ refusal. IsFirst (passed_limits place size.nodes size.words size.bodies) (record { place = place; rule = refusal.rule; why = Plain })) }
-{
-    if size.nodes > MOST_NODES || size.bodies > MOST_BODIES {
-        return Err(Refusal::at(Rule::InlinedSize, place));
-    }
-    if size.words > MOST_DECLARED_BYTES / 4 {
-        return Err(Refusal::at(Rule::DeclaredBytes, place));
-    }
-    Ok(size.nodes)
-}
-
-/// How many nodes the export has with every call replaced by the called body, where it passes no limit; else the
-/// first that it passes. Where no procedure is earlier no memory is asked for.
-pub fn measure<'a>(
-    alloc: Global,
-    earlier: &[Procedure<'a>],
-    export: &Procedure<'a>,
-) -> Result<u32, Refusal>
-    ensures nodes { IfOk result (λ nodes. nodes ≡ nodes_of (extents_of (map procedure_tree earlier.now)) (procedure_tree export.now)) }
-    ensures within { IfOk result (λ _. length (size_violations (map procedure_tree earlier.now) (procedure_tree export.now)) ≡ 0) }
-    ensures refused { IfErr result (λ refusal. IsRefusedFor (size_violations (map procedure_tree earlier.now) (procedure_tree export.now)) refusal.rule refusal.place) }
-    ensures memory { earlier.now ≡ [] → IfErr result (λ refusal. IsWantOfMemory refusal.rule refusal.place → ⊥) }
-{
-    limited(size_of_export(alloc, earlier, export)?, export.place)
 }

@@ -6,3 +6,6 @@ pub mod BlockLemmas
 pub mod KnownLemmas
 pub mod SoonerLemmas
 pub mod Handed
+pub mod ShareLemmas
+pub mod LimitLemmas
+mod GreatestLemmas

@@ -18,6 +18,7 @@ pub mod State
 pub mod Operators
 pub mod OperatorWords
 pub mod Meaning
+pub mod Shares
 pub mod Size
 pub mod Evaluation
 pub mod WantOfMemory

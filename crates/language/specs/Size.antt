@@ -1,21 +1,27 @@
 -- How large a program is, and the limits on it. What is counted is the exported procedure, with every call replaced
 -- by the called body.
-use Rattle.std.specs.Prelude.{ℕ, ◌+◌, ◌*◌, ◌/◌, ◌||◌, max, List, [], ◌∷◌, ◌++◌, Option, None, Some, nat_lt}
+use Rattle.std.specs.Prelude.{ℕ, ◌+◌, ◌*◌, ◌/◌, ◌||◌, max, List, [], ◌∷◌, ◌++◌, map, Option, None, Some, nat_lt}
 use Rattle.std.specs.Prelude.{if◌then◌else◌}
 pub use Rattle.language.specs.Limits.{most_nodes, most_declared_bytes, most_bodies}
+use Rattle.language.specs.declared.cost.Cost.{Cost}
 use Rattle.language.specs.declared.rule.Rule.TheVariants.{InlinedSize, DeclaredBytes}
 use Rattle.language.specs.declared.signature.Form.{Form}
 use Rattle.language.specs.declared.signature.Form.TheVariants.{SingleWord, FixedArray, MutableArray}
 use Rattle.language.specs.declared.signature.Kind.{Kind}
 use Rattle.language.specs.declared.signature.Kind.TheVariants.{Boolean, Uint8, Uint16, Uint32}
 use Rattle.language.specs.declared.typing.Violation.{Violation}
+use Rattle.language.specs.declared.why.Counted.TheVariants as counted
+use Rattle.language.specs.declared.why.Excess.{Excess}
+use Rattle.language.specs.declared.why.Share.{Share}
+use Rattle.language.specs.declared.why.Why.TheVariants.{TooMuch}
 use Rattle.language.specs.Known.{Known, known_of}
 use Rattle.language.specs.Meaning.{is_word, word_arguments}
+use Rattle.language.specs.Shares.{cost_of, excess, statement_shares}
 use Rattle.language.specs.Tree.{ExprTree, number, truth, name, prefix, binary, rotate, convert, select, element}
 use Rattle.language.specs.Tree.{CallTree, RightTree, called, computed, StatementTree, declaration, array, assignment}
 use Rattle.language.specs.Tree.{element_assignment, call, conditional, loop, BlockTree, nothing, first, ParameterTree}
 use Rattle.language.specs.Tree.{ReturnTree, ProcedureTree, written}
-use Rattle.language.specs.Types.{at, when}
+use Rattle.language.specs.Types.{because, when}
 
 -- how large a procedure is where it is called
 pub record Extent : Type 0 where
@@ -188,9 +194,56 @@ extent_of extents p = record {
 abbrev pub extents_of : List ProcedureTree → Extents
 extents_of before = known_of extent_of before
 
--- the limits that a procedure passes behind the earlier ones, at its name
+-- the bytes that a statement declares
+abbrev pub statement_bytes : Extents → StatementTree → ℕ
+statement_bytes extents s = 4 * statement_words extents s
+
+-- The parts of a procedure: its parameters, its statements and its `return`, each with what it has.
+
+abbrev pub return_shares : Option ReturnTree → List Share
+return_shares None = []
+return_shares (Some r) = record { place = r.place; count = 1 + nodes_in r.value } ∷ []
+
+abbrev pub parameter_share : ParameterTree → Share
+parameter_share p = record { place = p.place; count = 4 * held_words p.form p.kind p.length }
+
+abbrev pub node_shares : Extents → ProcedureTree → List Share
+node_shares extents p = statement_shares (statement_nodes extents) p.body ++ return_shares p.returned
+
+abbrev pub body_shares : Extents → ProcedureTree → List Share
+body_shares extents p = statement_shares (statement_bodies extents) p.body
+
+abbrev pub byte_shares : Extents → ProcedureTree → List Share
+byte_shares extents p =
+    map parameter_share p.parameters ++ statement_shares (statement_bytes extents) p.body
+
+-- what is counted of a procedure, and the part that has most of it
+abbrev pub nodes_cost : Extents → ProcedureTree → Cost
+nodes_cost extents p = cost_of (nodes_of extents p) (node_shares extents p)
+
+abbrev pub bodies_cost : Extents → ProcedureTree → Cost
+bodies_cost extents p = cost_of (bodies_of extents p) (body_shares extents p)
+
+abbrev pub bytes_cost : Extents → ProcedureTree → Cost
+bytes_cost extents p = cost_of (declared_bytes extents p) (byte_shares extents p)
+
+-- what there is too much of where the size is too large: the nodes, or where these are within their limit the bodies
+abbrev pub size_excess : Extents → ProcedureTree → Excess
+size_excess extents p =
+    if nat_lt most_nodes (nodes_of extents p) then excess counted.Nodes (nodes_cost extents p)
+    else excess counted.Bodies (bodies_cost extents p)
+
+abbrev pub bytes_excess : Extents → ProcedureTree → Excess
+bytes_excess extents p = excess counted.DeclaredBytes (bytes_cost extents p)
+
+-- the limits that a procedure passes, at its name, with what there is too much of
+abbrev pub limits_passed : Extents → ProcedureTree → List Violation
+limits_passed extents p =
+    because (TooMuch (size_excess extents p)) p.place
+    (when (nat_lt most_nodes (nodes_of extents p) || nat_lt most_bodies (bodies_of extents p)) InlinedSize)
+    ++ because (TooMuch (bytes_excess extents p)) p.place
+    (when (nat_lt most_declared_bytes (declared_bytes extents p)) DeclaredBytes)
+
+-- those that it passes behind the earlier ones
 abbrev pub size_violations : List ProcedureTree → ProcedureTree → List Violation
-size_violations before p =
-    at p.place (when (nat_lt most_nodes (nodes_of (extents_of before) p)
-    || nat_lt most_bodies (bodies_of (extents_of before) p)) InlinedSize
-    ++ when (nat_lt most_declared_bytes (declared_bytes (extents_of before) p)) DeclaredBytes)
+size_violations before p = limits_passed (extents_of before) p

@@ -66,6 +66,16 @@ mutual
     nothing : BlockTree
     first : (statement : StatementTree) (rest : BlockTree) → BlockTree
 
+-- where a statement stands
+abbrev pub place_of : StatementTree → Place
+place_of (declaration place label mutable kind text right) = place
+place_of (array place label mutable kind length text values) = place
+place_of (assignment place target text right) = place
+place_of (element_assignment place bracket target text index right) = place
+place_of (call c) = c.place
+place_of (conditional place condition accepted otherwise) = place
+place_of (loop place counter text low high body) = place
+
 -- the first values of an array, where they are written
 abbrev pub written : Option (List ExprTree) → List ExprTree
 written None = []

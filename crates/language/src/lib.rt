@@ -5,6 +5,7 @@
 #![tactic(auto)]
 
 pub mod arguments;
+mod cost;
 mod first;
 mod interval;
 mod laws;
@@ -22,9 +23,10 @@ pub mod typing_laws;
 mod values;
 mod why;
 
+pub use cost::{Cost, larger};
 pub use first::First;
 pub use interval::Interval;
-pub use laws::rows_are_blocks;
+pub use laws::{largest_is_first_of_greatest, rows_are_blocks, shares_make_the_whole};
 pub use limits::{
     MOST_BODIES, MOST_DECLARED_BYTES, MOST_ELEMENTS, MOST_NODES, limits_are_as_stated,
 };

@@ -119,6 +119,24 @@ pub enum Statement<'a> {
     For(Place, Counter<'a>, Expr<'a>, Expr<'a>, Vec<Statement<'a>>),
 }
 
+impl Statement<'_> {
+    ghost use Rattle.language.specs.Tree.{place_of, statement_tree};
+
+    /// Where it stands.
+    pub fn place(&self) -> Place
+        ensures { result ≡ place_of (statement_tree self.now) }
+    {
+        match self {
+            Statement::Declare(it) => it.place,
+            Statement::DeclareArray(it) => it.place,
+            Statement::Assign(it) => it.place,
+            Statement::AssignElement(it) => it.place,
+            Statement::Call(call) => call.place,
+            Statement::If(place, _, _, _) | Statement::For(place, _, _, _, _) => *place,
+        }
+    }
+}
+
 /// A parameter of a procedure.
 #[derive(Clone, Copy)]
 pub struct Parameter<'a> {

@@ -1,5 +1,5 @@
 use Rattle.std.proofs.Common.{◌≡◌, ◌≤◌, ◌+◌, drop, map}
-use Rattle.inline.specs.Measured.{counted, most_counted}
+use Rattle.language.specs.Shares.{counted, most_counted}
 use Rattle.language.specs.Size.{nodes_in_all}
 use Rattle.language.specs.Tree.{expr_tree}
 use Rattle.inline.proofs.nodes.nodes_in_all.Given as goal

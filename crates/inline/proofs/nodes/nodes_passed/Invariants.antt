@@ -1,6 +1,6 @@
 use Rattle.std.proofs.Common.{◌≡◌, ◌≤◌, ◌+◌, drop, map}
-use Rattle.inline.specs.Measured.{counted, most_counted}
 use Rattle.language.specs.Meaning.{word_arguments}
+use Rattle.language.specs.Shares.{counted, most_counted}
 use Rattle.language.specs.Size.{nodes_passed}
 use Rattle.language.specs.Tree.{expr_tree, parameter_tree}
 use Rattle.inline.proofs.nodes.nodes_passed.Given as goal

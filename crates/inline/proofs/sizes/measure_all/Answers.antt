@@ -2,9 +2,10 @@ use Rattle.std.proofs.Common.{map, refl, ap, ◌∙◌}
 use Rattle.inline.proofs.MeasureLemmas.{measured_alike}
 use Rattle.inline.proofs.TableLemmas.{one_told}
 use Rattle.inline.specs.declared.measured.Measured.{Measured}
-use Rattle.inline.specs.Counts.{extent_to}
-use Rattle.inline.specs.Measured.{counted, extent_of_measured, extents_in, most_counted}
+use Rattle.inline.specs.Counts.{counted_extent}
+use Rattle.inline.specs.Measured.{extent_of_measured, extents_in}
 use Rattle.language.specs.Known.{nothing_known}
+use Rattle.language.specs.Shares.{counted}
 use Rattle.language.specs.Size.{extent_of, extents_of, passed_words}
 use Rattle.language.specs.Tree.{parameter_tree, procedure_tree}
 use Rattle.inline.proofs.sizes.measure_all.Goals as goal
@@ -17,7 +18,7 @@ loop-procedure-preserved c =
     let measured : Measured = record { parameters = c.as_slice-parameters.result; size = c.size_of-size.result } in
     let taken = c.passed_words.ensures ∙ ap (λ ps. counted (passed_words (map parameter_tree ps)))
     c.as_slice-parameters.ensures.value in
-    one_told extent_of_measured (extent_to most_counted) extent_of c.args.procedures.now
+    one_told extent_of_measured counted_extent extent_of c.args.procedures.now
     c.loop-procedure.procedure-index c.procedure-item.result c.loop-procedure.table c.declare.new.self measured
     (extents_of (map procedure_tree c.args.procedures.now)) c.loop-procedure-test.true c.procedure-item.is
     c.loop-procedure.invariant

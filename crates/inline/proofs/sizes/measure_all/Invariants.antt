@@ -1,7 +1,7 @@
 use Rattle.std.proofs.Common.{drop, map}
 use Rattle.inline.proofs.TableLemmas.{Knows}
-use Rattle.inline.specs.Counts.{extent_to}
-use Rattle.inline.specs.Measured.{extent_of_measured, most_counted}
+use Rattle.inline.specs.Counts.{counted_extent}
+use Rattle.inline.specs.Measured.{extent_of_measured}
 use Rattle.language.specs.Size.{extent_of, extents_of}
 use Rattle.language.specs.Tree.{procedure_tree}
 use Rattle.inline.proofs.sizes.measure_all.Given as goal
@@ -9,5 +9,5 @@ use Rattle.inline.proofs.sizes.measure_all.Given as goal
 -- the table counts what is known so far
 abbrev pub invariant-loop-procedure : goal.invariant-loop-procedure
 invariant-loop-procedure l =
-    Knows extent_of_measured (extent_to most_counted) extent_of l.table (drop l.procedure-index l.procedures)
+    Knows extent_of_measured counted_extent extent_of l.table (drop l.procedure-index l.procedures)
     (extents_of (map procedure_tree l.procedures))

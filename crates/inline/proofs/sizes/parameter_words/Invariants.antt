@@ -1,5 +1,5 @@
 use Rattle.std.proofs.Common.{◌≡◌, ◌≤◌, ◌+◌, drop, map}
-use Rattle.inline.specs.Measured.{counted, most_counted}
+use Rattle.language.specs.Shares.{counted, most_counted}
 use Rattle.language.specs.Size.{parameter_words}
 use Rattle.language.specs.Tree.{parameter_tree}
 use Rattle.inline.proofs.sizes.parameter_words.Given as goal

@@ -1,0 +1,100 @@
+// The limits on a program's size.
+
+ghost use Rattle.std.specs.Prelude.{◌≡◌, ◌<◌, ◌≤◌, ◌*◌, ◌||◌, [], is_none, length, map, nat_lt, IfErr, IfOk, IfSome};
+ghost use Rattle.inline.specs.Measured.{extents_in};
+ghost use Rattle.language.specs.FirstViolation.{IsNamed, IsRefusedFor, IsToldOf};
+ghost use Rattle.language.specs.Limits.{most_bodies, most_declared_bytes, most_nodes};
+ghost use Rattle.language.specs.Shares.{excess};
+ghost use Rattle.language.specs.Size.{extents_of, limits_passed, nodes_of, size_violations};
+ghost use Rattle.language.specs.Tree.{procedure_tree};
+ghost use Rattle.language.specs.WantOfMemory.{IsWantOfMemory};
+
+use crate::costs::{SizeCosts, costs_of};
+use crate::measured::{Measured, Size};
+use crate::sizes::{measured_all, size_of_export};
+use language::names::Names;
+use language::{
+    Counted, MOST_BODIES, MOST_DECLARED_BYTES, MOST_NODES, Place, Procedure, Refusal, Rule,
+    Violation, Why,
+};
+use std::alloc::Global;
+
+/// How many nodes there are, where such a size passes no limit.
+fn nodes_within(size: Size) -> Option<u32>
+    ensures nodes { IfSome result (λ nodes. nodes ≡ size.nodes) }
+    ensures limits { is_none result ≡ (nat_lt most_nodes size.nodes || nat_lt most_bodies size.bodies || nat_lt most_declared_bytes (4 * size.words)) }
+{
+    if size.nodes > u64::from(MOST_NODES)
+        || size.bodies > u64::from(MOST_BODIES)
+        || size.declared_bytes() > u64::from(MOST_DECLARED_BYTES)
+    {
+        return None;
+    }
+    Some(size.nodes as u32)
+}
+
+/// The first limit that is passed by such costs, at this place, where one is passed.
+fn first_passed(place: Place, costs: SizeCosts) -> Violation
+    ensures nodes { most_nodes < costs.nodes.whole → result ≡ record { place = place; rule = Rule.InlinedSize; why = Why.TooMuch (excess Counted.Nodes costs.nodes) } }
+    ensures bodies { costs.nodes.whole ≤ most_nodes → most_bodies < costs.bodies.whole → result ≡ record { place = place; rule = Rule.InlinedSize; why = Why.TooMuch (excess Counted.Bodies costs.bodies) } }
+    ensures declared_bytes { costs.nodes.whole ≤ most_nodes → costs.bodies.whole ≤ most_bodies → result ≡ record { place = place; rule = Rule.DeclaredBytes; why = Why.TooMuch (excess Counted.DeclaredBytes costs.declared_bytes) } }
+{
+    if costs.nodes.whole > u64::from(MOST_NODES) {
+        let why = Why::TooMuch(costs.nodes.excess(Counted::Nodes));
+        return Violation {
+            place,
+            rule: Rule::InlinedSize,
+            why,
+        };
+    }
+    if costs.bodies.whole > u64::from(MOST_BODIES) {
+        let why = Why::TooMuch(costs.bodies.excess(Counted::Bodies));
+        return Violation {
+            place,
+            rule: Rule::InlinedSize,
+            why,
+        };
+    }
+    let why = Why::TooMuch(costs.declared_bytes.excess(Counted::DeclaredBytes));
+    Violation {
+        place,
+        rule: Rule::DeclaredBytes,
+        why,
+    }
+}
+
+/// How many nodes the export has with every call replaced by the called body, where it passes no limit; else the first that
+/// it passes.
+fn limited<'s, 'a>(
+    earlier: &Names<'a, Measured<'s, 'a>>,
+    export: &Procedure<'a>,
+) -> Result<u32, Violation>
+    ensures nodes { IfOk result (λ nodes. (nodes ≤ most_nodes) × (nodes ≡ nodes_of (extents_in earlier.now) (procedure_tree export.now))) }
+    ensures within { IfOk result (λ _. length (limits_passed (extents_in earlier.now) (procedure_tree export.now)) ≡ 0) }
+    ensures named { IfErr result (IsNamed (limits_passed (extents_in earlier.now) (procedure_tree export.now))) }
+{
+    match nodes_within(size_of_export(earlier, export)) {
+        Some(nodes) => Ok(nodes),
+        None => Err(first_passed(export.place, costs_of(earlier, export))),
+    }
+}
+
+/// How many nodes the export has with every call replaced by the called body, where it passes no limit; else the
+/// first that it passes. Where no procedure is earlier no memory is asked for.
+pub fn measure<'a>(
+    alloc: Global,
+    earlier: &[Procedure<'a>],
+    export: &Procedure<'a>,
+) -> Result<u32, Refusal>
+    ensures nodes { IfOk result (λ nodes. nodes ≡ nodes_of (extents_of (map procedure_tree earlier.now)) (procedure_tree export.now)) }
+    ensures within { IfOk result (λ _. length (size_violations (map procedure_tree earlier.now) (procedure_tree export.now)) ≡ 0) }
+    ensures refused { IfErr result (λ refusal. IsRefusedFor (size_violations (map procedure_tree earlier.now) (procedure_tree export.now)) refusal.rule refusal.place) }
+    ensures told { IfErr result (IsToldOf (size_violations (map procedure_tree earlier.now) (procedure_tree export.now))) }
+    ensures memory { earlier.now ≡ [] → IfErr result (λ refusal. IsWantOfMemory refusal.rule refusal.place → ⊥) }
+{
+    let known = measured_all(alloc, earlier)?;
+    match limited(&known, export) {
+        Ok(nodes) => Ok(nodes),
+        Err(violation) => Err(Refusal::of(violation)),
+    }
+}
