@@ -170,7 +170,7 @@ because_of why place rules = map (λ rule. record { place = place; rule = rule; 
 
 -- for this reason
 abbrev pub because : Why → Place → List Rule → List Violation
-because why place rules = because_of (λ rule. why) place rules
+because why place rules = map (λ rule. record { place = place; rule = rule; why = why }) rules
 
 -- where rule and place say it all
 abbrev pub at : Place → List Rule → List Violation
