@@ -1,5 +1,5 @@
 -- A rule is violated at a head of the tree, or at the place where a text begins.
-use Rattle.std.proofs.Common.{◌≡◌, ℕ, Bool, true, false, not, ◌&&◌, ◌+◌, ◌==◌, if◌then◌else◌, List, [], ◌∷◌, ◌++◌, length}
+use Rattle.std.proofs.Common.{◌≡◌, ℕ, Bool, true, false, not, ◌+◌, ◌==◌, if◌then◌else◌, List, [], ◌∷◌, ◌++◌, length}
 use Rattle.std.proofs.Common.{Option, None, Some, is_some, refl, arith}
 use Rattle.word.specs.Places.{origin}
 use Rattle.word.specs.declared.place.Place.{Place}
@@ -14,12 +14,15 @@ use Rattle.language.specs.declared.typing.VariableType.{VariableType}
 use Rattle.language.specs.declared.typing.Violation.{Violation}
 use Rattle.language.specs.declared.typing.WordType.{WordType}
 use Rattle.language.specs.declared.why.Part.{Part}
+use Rattle.language.specs.declared.why.Part.TheVariants.{Element, Result, Variable as VariablePart}
 use Rattle.language.specs.declared.why.SecretControl.{SecretControl}
 use Rattle.language.specs.declared.why.SharedArray.{SharedArray}
 use Rattle.language.specs.declared.why.Typed.{Typed}
 use Rattle.language.specs.declared.why.Why.{Why}
 use Rattle.language.specs.declared.why.Why.TheVariants.{ArgumentCounts}
-use Rattle.language.specs.ExprTyping.{expr_violations, exprs_violations, name_rules, number_rules, typed_of, typed_of_all}
+use Rattle.language.specs.ExprTyping.{binary_rules, convert_rules, element_rules, element_type, expr_violations}
+use Rattle.language.specs.ExprTyping.{exprs_violations, name_rules, name_type, number_rules, prefix_rules, rotate_rules}
+use Rattle.language.specs.ExprTyping.{select_rules, type_of, typed_of, typed_of_all}
 use Rattle.language.specs.Operators.{operation_of}
 use Rattle.language.specs.Reasons.{operand_why, operands_why, rotate_why, choice_why, element_why, condition_why}
 use Rattle.language.specs.Reasons.{bounds_why, control_under}
@@ -29,9 +32,10 @@ use Rattle.language.specs.Tree.{CallTree, RightTree, called, computed, Statement
 use Rattle.language.specs.Tree.{element_assignment, call, conditional, loop, BlockTree, nothing, first, ParameterTree}
 use Rattle.language.specs.Tree.{ReturnTree, ProcedureTree, ProgramTree, written}
 use Rattle.language.specs.Types.{Scope, asked_of_one, asked_of_two, asked_of_three, because, because_of, declared, empty}
-use Rattle.language.specs.Types.{found, label_of, label_under, of_one, when}
+use Rattle.language.specs.Types.{callee, declared_at, found, kind_of, label_of, label_under, of_one, of_two, variable, when}
 use Rattle.language.specs.Typing.{Passed, arguments_violations, array_violations, assignment_violations}
-use Rattle.language.specs.Typing.{block_violations, bounds_rules, call_violations, change_violations, clash_violations}
+use Rattle.language.specs.Typing.{block_violations, body_scope, bounds_rules, called_one, right_typed, scope_after_all}
+use Rattle.language.specs.Typing.{call_violations, change_violations, clash_violations}
 use Rattle.language.specs.Typing.{condition_rules, control_rules, control_violations, count_violations, counter_as}
 use Rattle.language.specs.Typing.{declaration_control_violations, declaration_violations}
 use Rattle.language.specs.Typing.{element_assignment_violations, export_place, export_violations, exports, first_clash}
@@ -87,20 +91,26 @@ module _ (w : Place → ℕ) where
   expr scope (truth place value) h = none
   expr scope (name place text) h = at_place _ place h (name_rules scope text)
   expr scope (prefix place operator operand) h =
-      both (expr scope operand (omega arith)) (of_one_part operand_why place (omega arith) _ _)
+      both (expr scope operand (omega arith)) (of_one_part operand_why place (omega arith) (prefix_rules operator)
+      (typed_of scope operand))
   expr scope (binary place operator left right) h =
       both (both (expr scope left (omega arith)) (expr scope right (omega arith)))
-      (of_two_parts (operands_why (operation_of operator)) place (omega arith) _ _ _)
+      (of_two_parts (operands_why (operation_of operator)) place (omega arith) (binary_rules scope.profile operator)
+      (typed_of scope left) (typed_of scope right))
   expr scope (rotate place operand amount) h =
-      both (expr scope operand (omega arith)) (of_one_part (rotate_why amount) place (omega arith) _ _)
+      both (expr scope operand (omega arith)) (of_one_part (rotate_why amount) place (omega arith) (rotate_rules amount)
+      (typed_of scope operand))
   expr scope (convert place kind operand) h =
-      both (expr scope operand (omega arith)) (of_one_part operand_why place (omega arith) _ _)
+      both (expr scope operand (omega arith)) (of_one_part operand_why place (omega arith) convert_rules
+      (typed_of scope operand))
   expr scope (select place condition accepted otherwise) h =
       both (both (both (expr scope condition (omega arith)) (expr scope accepted (omega arith)))
-      (expr scope otherwise (omega arith))) (of_three_parts choice_why place (omega arith) _ _ _ _)
+      (expr scope otherwise (omega arith))) (of_three_parts choice_why place (omega arith) select_rules
+      (typed_of scope condition) (typed_of scope accepted) (typed_of scope otherwise))
   expr scope (element place target text index) h =
       both (both (at_place _ target (omega arith) (name_rules scope text)) (expr scope index (omega arith)))
-      (of_two_parts element_why place (omega arith) _ _ _)
+      (of_two_parts element_why place (omega arith) element_rules (typed_of scope (name target text))
+      (typed_of scope index))
 
   exprs : (scope : Scope) (es : List ExprTree) → in_exprs w es ≡ 0 → AreAtLight (exprs_violations scope es)
   exprs scope [] h = none
@@ -153,7 +163,8 @@ module _ (w : Place → ℕ) where
             taken = length p.parameters;
             procedure = p.place;
           })) place (ArgumentCount ∷ []))
-      by true = both (arguments scope place is _) (shared_array place is _)
+      by true = both (arguments scope place is (passed p.parameters ts es))
+          (shared_array place is (first_clash [] (passed p.parameters ts es)))
       by false = more is none
 
   known_call : (scope : Scope) (control : Option SecretControl) (c : CallTree) → w c.place ≡ 0
@@ -167,12 +178,12 @@ module _ (w : Place → ℕ) where
     declares : (taken : Bool) (label : Label) (mutable : Bool) (kind : Kind) (given : Typed)
         → AreAtLight (declaration_violations control place taken label mutable kind given)
     declares taken label mutable kind given =
-        both (both (at_place _ place is (when taken NameDeclaredTwice)) (value place is _ _ given))
+        both (both (at_place _ place is (when taken NameDeclaredTwice)) (value place is VariablePart (record { kind = kind; label = label }) given))
         (declared_under_control control place is label mutable)
 
     first_values : (wanted : WordType) (ts : List Typed) → AreAtLight (values_violations place wanted ts)
     first_values wanted [] = none
-    first_values wanted (t ∷ ts) = both (value place is _ wanted t) (first_values wanted ts)
+    first_values wanted (t ∷ ts) = both (value place is Element wanted t) (first_values wanted ts)
 
     counts : (size : ℕ) (given : Option (List ExprTree)) → AreAtLight (count_violations place size given)
     counts size None = none
@@ -182,7 +193,7 @@ module _ (w : Place → ℕ) where
         (given : Option (List ExprTree)) (ts : List Typed)
         → AreAtLight (array_violations control place taken label mutable kind size given ts)
     declares_array taken label mutable kind size given ts =
-        both (both (both (at_place _ place is (when taken NameDeclaredTwice)) (first_values _ ts)) (counts size given))
+        both (both (both (at_place _ place is (when taken NameDeclaredTwice)) (first_values (record { kind = kind; label = label }) ts)) (counts size given))
         (declared_under_control control place is label mutable)
 
     assigns : (known_at : Place) (v : Option VariableType) (given : Option Typed)
@@ -195,7 +206,8 @@ module _ (w : Place → ℕ) where
     assigns_element : (known_at : Place) (v : Option VariableType) (type : Option ValueType) (given : Option Typed)
         → AreAtLight (element_assignment_violations control place known_at v type given)
     assigns_element known_at (Some v) (Some type) (Some given) =
-        both (value place is _ _ given) (change control place known_at is v.mutable (label_of type))
+        both (value place is Element (record { kind = kind_of type; label = label_of type }) given)
+        (change control place known_at is v.mutable (label_of type))
     assigns_element known_at (Some v) (Some type) None = none
     assigns_element known_at (Some v) None given = none
     assigns_element known_at None type given = none
@@ -205,7 +217,9 @@ module _ (w : Place → ℕ) where
         → AreAtLight (call_violations earlier scope control c)
     calls scope control c h =
         both (exprs scope c.arguments (omega arith))
-        (where_known _ (known_call scope control c (omega arith) _) (typed_of_all scope c.arguments))
+        (where_known (known_call_violations scope control c (called_one earlier (callee (found scope c.name))))
+        (known_call scope control c (omega arith) (called_one earlier (callee (found scope c.name))))
+        (typed_of_all scope c.arguments))
 
     right_side : (scope : Scope) (control : Option SecretControl) (r : RightTree) → in_right w r ≡ 0
         → AreAtLight (right_violations earlier scope control r)
@@ -217,26 +231,35 @@ module _ (w : Place → ℕ) where
           → AreAtLight (statement_violations earlier scope control s)
       statement scope control (declaration place label mutable kind text right) h =
           both (right_side scope control right (omega arith))
-          (where_known _ (declares control place (omega arith) _ label mutable kind) _)
+          (where_known (declaration_violations control place (is_some (found scope text)) label mutable kind)
+          (declares control place (omega arith) (is_some (found scope text)) label mutable kind)
+          (right_typed earlier scope control right))
       statement scope control (array place label mutable kind size text given) h =
           both (values scope given (omega arith))
-          (where_known _ (declares_array control place (omega arith) _ label mutable kind size given) _)
+          (where_known (array_violations control place (is_some (found scope text)) label mutable kind size given)
+          (declares_array control place (omega arith) (is_some (found scope text)) label mutable kind size given)
+          (typed_of_all scope (written given)))
       statement scope control (assignment place target text right) h =
           both (both (at_place _ target (omega arith) (name_rules scope text))
-          (right_side scope control right (omega arith))) (assigns control place (omega arith) _ _ _)
+          (right_side scope control right (omega arith))) (assigns control place (omega arith) (declared_at scope text)
+          (variable (found scope text)) (right_typed earlier scope control right))
       statement scope control (element_assignment place bracket target text index right) h =
           both (both (both (both (at_place _ target (omega arith) (name_rules scope text))
-          (expr scope index (omega arith))) (of_two_parts element_why bracket (omega arith) _ _ _))
-          (right_side scope control right (omega arith))) (assigns_element control place (omega arith) _ _ _ _)
+          (expr scope index (omega arith))) (of_two_parts element_why bracket (omega arith) element_rules
+          (typed_of scope (name target text)) (typed_of scope index)))
+          (right_side scope control right (omega arith))) (assigns_element control place (omega arith)
+          (declared_at scope text) (variable (found scope text))
+          (of_two None element_type (name_type scope text) (type_of scope index))
+          (right_typed earlier scope control right))
       statement scope control (call c) h = calls scope control c h
       statement scope control (conditional place condition accepted otherwise) h =
           let within = control_under place control (typed_of scope condition) in
           both (both (both (expr scope condition (omega arith))
-          (of_one_part condition_why place (omega arith) condition_rules _))
+          (of_one_part condition_why place (omega arith) condition_rules (typed_of scope condition)))
           (block scope within accepted (omega arith))) (block scope within otherwise (omega arith))
       statement scope control (loop place counter text low high body) h =
           both (both (both (both (expr scope low (omega arith)) (expr scope high (omega arith)))
-          (of_two_parts bounds_why place (omega arith) bounds_rules _ _))
+          (of_two_parts bounds_why place (omega arith) bounds_rules (typed_of scope low) (typed_of scope high)))
           (at_place _ counter (omega arith) (when (is_some (found scope text)) NameDeclaredTwice)))
           (block (declared scope counter text counter_as) control body (omega arith))
 
@@ -256,13 +279,14 @@ module _ (w : Place → ℕ) where
   returned_value : (place : Place) → w place ≡ 0 → (result : Option WordType) (given : Typed)
       → AreAtLight (returned_violations place result given)
   returned_value place is None given = more is none
-  returned_value place is (Some wanted) given = value place is _ wanted given
+  returned_value place is (Some wanted) given = value place is Result wanted given
 
   returned : (scope : Scope) (result : Option WordType) (r : Option ReturnTree) → in_return w r ≡ 0
       → AreAtLight (return_violations scope result r)
   returned scope result None h = none
   returned scope result (Some r) h =
-      both (expr scope r.value (omega arith)) (where_known _ (returned_value r.place (omega arith) result) _)
+      both (expr scope r.value (omega arith)) (where_known (returned_violations r.place result)
+      (returned_value r.place (omega arith) result) (typed_of scope r.value))
 
   missing : (place : Place) → w place ≡ 0 → (result : Option WordType) (r : Option ReturnTree)
       → AreAtLight (missing_violations place result r)
@@ -273,8 +297,10 @@ module _ (w : Place → ℕ) where
       → AreAtLight (procedure_violations earlier scope p)
   procedure earlier scope p h =
       both (both (both (both (at_place _ p.place (omega arith) (when (is_some (found scope p.name)) NameDeclaredTwice))
-      (missing p.place (omega arith) p.result p.returned)) (parameters _ p.parameters (omega arith)))
-      (block earlier _ None p.body (omega arith))) (returned _ p.result p.returned (omega arith))
+      (missing p.place (omega arith) p.result p.returned))
+      (parameters (with_procedure scope (length earlier) p) p.parameters (omega arith)))
+      (block earlier (body_scope scope (length earlier) p) None p.body (omega arith)))
+      (returned (scope_after_all (body_scope scope (length earlier) p) p.body) p.result p.returned (omega arith))
 
   procedures : (earlier : List ProcedureTree) (scope : Scope) (ps : List ProcedureTree) → in_procedures w ps ≡ 0
       → AreAtLight (procedures_violations earlier scope ps)
@@ -312,4 +338,4 @@ module _ (w : Place → ℕ) where
 
   pub sizes_light : (before : List ProcedureTree) (p : ProcedureTree) → in_procedure w p ≡ 0
       → AreAtLight (size_violations before p)
-  sizes_light before p h = search (arith, at_place)
+  sizes_light before p h = both (at_place _ p.place (omega arith) _) (at_place _ p.place (omega arith) _)

@@ -27,7 +27,7 @@ use Rattle.language.specs.declared.typing.Callee.{Callee}
 use Rattle.language.specs.declared.typing.ValueType.{ValueType}
 use Rattle.language.specs.declared.typing.ValueType.TheVariants.{Word as a_word}
 use Rattle.language.specs.declared.typing.WordType.{WordType}
-use Rattle.language.specs.Evaluation.{Run, Runnable, runnable, runnables, given, value, values, passed}
+use Rattle.language.specs.Evaluation.{Run, Runnable, runnable, runnables, given, value, passed}
 use Rattle.language.specs.Evaluation.{call_run, right_run, turns, run, run_all, body_run}
 use Rattle.language.specs.Grammatical.{AreAllSmall, IsSmallRight, IsPlain, ArePlain}
 use Rattle.language.specs.Meaning.{gives, begun, counting, word_arguments, written}
@@ -238,7 +238,7 @@ module _ (ps : List ProcedureTree) where
         then evaluated_all m (block (callables ps) names k otherwise)
         else evaluated_all m (block (callables ps) names n accepted))) (sym same) arms)))
         (omega (arith, same_nodes names condition))
-    statement_spends (rules.repeats {scope = scope} {text = text} {low = low} {high = high} {body = body} one other
+    statement_spends (rules.repeats {scope = scope} {counter = counter} {text = text} {low = low} {high = high} {body = body} one other
         new inner) names n ready calls plain s m shows =
         let a = value_in m (term names low) in
         let b = value_in m (term names high) in
@@ -251,8 +251,8 @@ module _ (ps : List ProcedureTree) where
         let began = λ (i : ℕ) (s : State) (m : Values) (shows : Shows names s m).
         shows_declared ready.linked s m shows text {own = own} {v = single (word_at Uint32 i)} {numbers = i ∷ []}
         (record { is = refl; count = refl }) new in
-        let within = ready_declared ready text own new in
-        let calls_within = callable_declared ps (IsCallable HasBound ps) scope text _ calls in
+        let within = ready_declared ready counter text own new in
+        let calls_within = callable_declared ps (IsCallable HasBound ps) scope counter text _ calls in
         let each = λ (i : ℕ) (s : State) (m : Values) (shows : Shows names s m).
         block_spends inner inside_names (n + 1) within calls_within plain.2 (counting s text i)
         (flat.with_value m n (i ∷ [])) (began i s m shows) in

@@ -200,8 +200,9 @@ module _ (declared : List FlatVariable) where
             block_summed other inside (in_otherwise declared works h condition accepted),
             same_nodes h.names condition,
           )
-      statement_summed (repeats {scope = scope} {text = text} {low = low} {high = high} has is new all) inside h =
-          let b = block_summed all (callable_declared earlier (IsAt at) scope text _ inside)
+      statement_summed (repeats {scope = scope} {counter = counter} {text = text} {low = low} {high = high} has is new
+          all) inside h =
+          let b = block_summed all (callable_declared earlier (IsAt at) scope counter text _ inside)
           (in_turn declared h text low high) in
           let many = ap (λ w. (turns declared h low high + 1) * (1 + w)) b in
           omega (arith, many, same_nodes h.names low, same_nodes h.names high)
