@@ -2,6 +2,7 @@ mod Below
 pub mod ElementLemmas
 pub mod DataLemmas
 pub mod SpaceLemmas
+pub mod TellingLemmas
 pub mod LoadLemmas
 pub mod ExecutedLemmas
 pub mod BuiltLemmas

@@ -8,6 +8,7 @@ pub mod Paired
 pub mod Exact
 pub mod CodeFor
 pub mod Built
+pub mod Told
 pub mod Answers
 pub mod Text
 pub mod CutOff

@@ -5,6 +5,7 @@ ghost use Rattle.std.specs.Prelude.{◌≡◌, List, map, IfOk, IfErr};
 ghost use Rattle.inline.specs.Numbering.{flattened, param_of};
 ghost use Rattle.language.specs.Tree.{ProcedureTree, program_tree};
 ghost use Rattle.hepurita.specs.Built.{IsSmall, Judges, JudgesProgram, IsRefusal, accepts};
+ghost use Rattle.hepurita.specs.Told.{IsToldOfProgram, IsToldOfText};
 
 use inline::{Flat, inline};
 use intervals::check_ranges;
@@ -22,6 +23,7 @@ pub(crate) fn flat_of(
 ) -> Result<Flat, Refusal>
     ensures accepted { IfOk result (λ flat. (before : List ProcedureTree) × (export : ProcedureTree) × IsSmall profile (program_tree program.now) before export × (flat ≡ flattened profile before export)) }
     ensures refused { IfErr result (IsRefusal (JudgesProgram profile (program_tree program.now))) }
+    ensures told { IfErr result (IsToldOfProgram profile (program_tree program.now)) }
 {
     let checked = check_as(alloc, program, profile)?;
     inline(alloc, &checked)
@@ -36,10 +38,11 @@ pub struct Accepted<'a> {
 }
 
 /// The program of a text that is accepted for an observer of profile 1, or the first refusal: the one that
-/// `build` names.
+/// `build` names, which tells what was found there.
 pub fn judge<'a>(alloc: Global, text: &'a str) -> Result<Accepted<'a>, Refusal>
     ensures accepted { IfOk result (λ accepted. (before : List ProcedureTree) × (export : ProcedureTree) × Judges Profile.P1 text.now (accepts (program_tree accepted.program) before export) × (accepted.params.items ≡ map param_of export.parameters) × (accepted.returned ≡ export.result)) }
     ensures refused { IfErr result (IsRefusal (Judges Profile.P1 text.now)) }
+    ensures told { IfErr result (IsToldOfText Profile.P1 text.now) }
 {
     judge_as(alloc, text, Profile::P1)
 }
@@ -48,6 +51,7 @@ pub fn judge<'a>(alloc: Global, text: &'a str) -> Result<Accepted<'a>, Refusal>
 pub fn judge_as<'a>(alloc: Global, text: &'a str, profile: Profile) -> Result<Accepted<'a>, Refusal>
     ensures accepted { IfOk result (λ accepted. (before : List ProcedureTree) × (export : ProcedureTree) × Judges profile text.now (accepts (program_tree accepted.program) before export) × (accepted.params.items ≡ map param_of export.parameters) × (accepted.returned ≡ export.result)) }
     ensures refused { IfErr result (IsRefusal (Judges profile text.now)) }
+    ensures told { IfErr result (IsToldOfText profile text.now) }
 {
     let program = parse(alloc, text)?;
     let flat = flat_of(alloc, &program, profile)?;
