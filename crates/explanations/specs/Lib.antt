@@ -5,3 +5,4 @@ pub mod explained_refusals
 pub mod Listed
 pub mod Text
 pub mod Table
+pub mod private

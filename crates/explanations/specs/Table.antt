@@ -1,8 +1,9 @@
--- The texts of the rules and of the stops, by their codes.
-use Rattle.std.specs.Prelude.{ℕ, List, ◌∷◌, [], ◌++◌, codes, Option}
+-- The texts of the rules and of the stops, by their codes, and the names of the rules.
+use Rattle.std.specs.Prelude.{◌≡◌, ℕ, List, ◌∷◌, [], ◌++◌, codes, Option}
 use Rattle.std.specs.List.{find}
 use Rattle.std.specs.Option.{option_map}
 use Rattle.std.specs.Str.{bytes_eq}
+use Rattle.explanations.specs.declared.row.Explanation.{Explanation}
 use Rattle.explanations.specs.declared.rows.files.TheConstants.{B1, B2, B3, B4, B5, B6, A1, A2, A3, H1, H2, H3, H4}
 use Rattle.explanations.specs.declared.rows.files.TheConstants.{V1, C1, C2, C3, F1}
 use Rattle.explanations.specs.declared.rows.limits.TheConstants.{S1, S2, I1, I2, S3, M1}
@@ -12,6 +13,12 @@ use Rattle.explanations.specs.declared.rows.reading.TheConstants.{X1, X2, X3, X4
 use Rattle.explanations.specs.declared.rows.runs.TheConstants.{E1, E2, ECALL, BREAK, ILLEGAL, ACCESS_FAULT}
 use Rattle.explanations.specs.declared.rows.runs.TheConstants.{MISALIGNED, BUDGET, RECORDER_REFUSED}
 use Rattle.explanations.specs.declared.rows.secrecy.TheConstants.{L1, L2, L3, L4, L5, L6, L7}
+use Rattle.language.specs.Rules.{code_of, name_of}
+use Rattle.language.specs.declared.rule.Rule.{Rule}
+
+-- a row that has the code of a rule has the rule's name
+abbrev pub HasItsName : Explanation → Type 0
+HasItsName row = (rule : Rule) → row.code.now ≡ code_of rule → row.name.now ≡ name_of rule
 
 -- a code, and what is said of it
 abbrev pub Row : Type 0

@@ -3,7 +3,7 @@ ghost use Rattle.std.specs.List.{IsDistinct};
 ghost use Rattle.std.specs.Option.{option_map};
 ghost use Rattle.std.specs.Str.{bytes_eq};
 ghost use Rattle.explanations.specs.Listed.{listed};
-ghost use Rattle.explanations.specs.Table.{text_of};
+ghost use Rattle.explanations.specs.Table.{HasItsName, text_of};
 
 use crate::row::Explanation;
 use crate::rows::{files, limits, names_and_types, reading, runs, secrecy};
@@ -70,10 +70,12 @@ const CODES: [&str; 58] = [
     "RecorderRefused",
 ];
 
-/// What a code means, with the table's text of it: there is an answer exactly for the codes that are listed.
+/// What a code means, with the table's text of it and, of a rule, its name: there is an answer exactly for the codes that
+/// are listed.
 pub fn explanation(code: &str) -> Option<Explanation>
     ensures text { option_map (λ row. row.rule.now) result ≡ text_of code.now }
     ensures asked { IfSome result (λ row. row.code.now ≡ code.now) }
+    ensures named { IfSome result HasItsName }
     ensures listed { IsSome result ↔ (Contains listed code.now) }
 {
     reading::row(code)

@@ -3,7 +3,7 @@
 ghost use Rattle.std.specs.Prelude.{◌≡◌, ◌↔◌, IfSome, IsSome, Contains};
 ghost use Rattle.std.specs.Option.{option_map};
 ghost use Rattle.explanations.specs.Listed.{limits};
-ghost use Rattle.explanations.specs.Table.{text_in, limit_texts};
+ghost use Rattle.explanations.specs.Table.{HasItsName, text_in, limit_texts};
 
 use crate::finding::row_of;
 use crate::row::Explanation;
@@ -138,6 +138,7 @@ export secret uint32 f(public uint32 n, secret uint32 x) {
 pub fn row(code: &str) -> Option<Explanation>
     ensures text { option_map (λ row. row.rule.now) result ≡ text_in limit_texts code.now }
     ensures asked { IfSome result (λ row. row.code.now ≡ code.now) }
+    ensures named { IfSome result HasItsName }
     ensures known { IsSome result ↔ (Contains limits code.now) }
 {
     row_of(&ROWS, code)

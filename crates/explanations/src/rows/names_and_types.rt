@@ -3,7 +3,7 @@
 ghost use Rattle.std.specs.Prelude.{◌≡◌, ◌↔◌, IfSome, IsSome, Contains};
 ghost use Rattle.std.specs.Option.{option_map};
 ghost use Rattle.explanations.specs.Listed.{names_and_types};
-ghost use Rattle.explanations.specs.Table.{text_in, name_and_type_texts};
+ghost use Rattle.explanations.specs.Table.{HasItsName, text_in, name_and_type_texts};
 
 use crate::finding::row_of;
 use crate::row::Explanation;
@@ -280,6 +280,7 @@ export secret uint32 f(secret uint32 x) {
 pub fn row(code: &str) -> Option<Explanation>
     ensures text { option_map (λ row. row.rule.now) result ≡ text_in name_and_type_texts code.now }
     ensures asked { IfSome result (λ row. row.code.now ≡ code.now) }
+    ensures named { IfSome result HasItsName }
     ensures known { IsSome result ↔ (Contains names_and_types code.now) }
 {
     row_of(&ROWS, code)

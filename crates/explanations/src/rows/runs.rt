@@ -3,7 +3,7 @@
 ghost use Rattle.std.specs.Prelude.{◌≡◌, ◌↔◌, IfSome, IsSome, Contains};
 ghost use Rattle.std.specs.Option.{option_map};
 ghost use Rattle.explanations.specs.Listed.{runs};
-ghost use Rattle.explanations.specs.Table.{text_in, run_texts};
+ghost use Rattle.explanations.specs.Table.{HasItsName, text_in, run_texts};
 
 use crate::finding::row_of;
 use crate::row::Explanation;
@@ -119,6 +119,7 @@ const ROWS: [Explanation; 9] = [
 pub fn row(code: &str) -> Option<Explanation>
     ensures text { option_map (λ row. row.rule.now) result ≡ text_in run_texts code.now }
     ensures asked { IfSome result (λ row. row.code.now ≡ code.now) }
+    ensures named { IfSome result HasItsName }
     ensures known { IsSome result ↔ (Contains runs code.now) }
 {
     row_of(&ROWS, code)

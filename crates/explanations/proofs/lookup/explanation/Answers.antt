@@ -7,6 +7,7 @@ use Rattle.explanations.specs.Listed.{reading, names_and_types, labels, limits, 
 use Rattle.explanations.specs.Table.{Row, text_in, table, reading_texts, name_and_type_texts, label_texts, limit_texts}
 use Rattle.explanations.specs.Table.{file_texts, run_texts}
 use Rattle.explanations.specs.declared.row.Explanation.{Explanation}
+use Rattle.explanations.proofs.NamedRows.{named_in_either}
 use Rattle.explanations.proofs.OneOfGroups.{known_in_either}
 use Rattle.explanations.proofs.lookup.explanation.Goals as goal
 
@@ -51,6 +52,15 @@ returns-clause-text c =
     let five = in_both code e file_texts c.or-3.result c.row-5.result c.or-4.result four c.row-5.ensures.text
     c.or-4.ensures in
     in_both code f run_texts c.or-4.result c.row-6.result c.or-5.result five c.row-6.ensures.text c.or-5.ensures
+
+pub returns-clause-named : goal.returns-clause-named
+returns-clause-named c =
+    let two = named_in_either c.row.result c.row-2.result c.or.result c.or.ensures c.row.ensures.named
+    c.row-2.ensures.named in
+    let three = named_in_either c.or.result c.row-3.result c.or-2.result c.or-2.ensures two c.row-3.ensures.named in
+    let four = named_in_either c.or-2.result c.row-4.result c.or-3.result c.or-3.ensures three c.row-4.ensures.named in
+    let five = named_in_either c.or-3.result c.row-5.result c.or-4.result c.or-4.ensures four c.row-5.ensures.named in
+    named_in_either c.or-4.result c.row-6.result c.or-5.result c.or-5.ensures five c.row-6.ensures.named
 
 pub returns-clause-listed : goal.returns-clause-listed
 unfolding listed reading names_and_types labels limits files runs
