@@ -1,2 +1,3 @@
 pub mod DetailLemmas
 pub mod ExportLemmas
+pub mod SourceNames

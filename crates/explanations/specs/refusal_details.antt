@@ -2,4 +2,6 @@ pub mod Details
 pub mod ExpectedLines
 pub mod Found
 pub mod SizeLines
+pub mod TypeLines
 pub mod TypingLines
+pub mod WhyLines

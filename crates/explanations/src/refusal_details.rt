@@ -12,28 +12,28 @@ mod characters;
 mod expectations;
 mod exports;
 mod name_lines;
+mod number_lines;
+mod programs;
 mod ranges;
 mod size_lines;
+mod source_names;
 mod topics;
+mod type_lines;
 mod typing;
+mod why_lines;
 mod work_lines;
 
 ghost use Rattle.std.specs.Prelude.{◌≡◌, IfOk, IfErr};
 ghost use Rattle.std.specs.String.{string_bytes};
-ghost use Rattle.language.specs.Tree.{program_tree};
 ghost use Rattle.language.specs.WantOfMemory.{IsWantOfMemory};
-ghost use Rattle.explanations.specs.refusal_details.Details.{Says, SaysOfProgram, SaysOfText};
+ghost use Rattle.explanations.specs.refusal_details.Details.{Finds, FindsBeside, Says};
 
 use crate::refusal_details::characters::character_line;
 use crate::refusal_details::expectations::expected_lines;
-use crate::refusal_details::name_lines::name_line;
-use crate::refusal_details::ranges::range_lines;
-use crate::refusal_details::size_lines::{declared_bytes_lines, inlined_size_lines};
-use crate::refusal_details::typing::typing_lines;
-use crate::refusal_details::work_lines::work_lines;
-use language::{Place, Program, Refusal, Rule};
+use crate::refusal_details::programs::{call_lines, rule_lines};
+use crate::refusal_details::why_lines::why_lines;
+use language::{Refusal, Rule, Why};
 use std::alloc::Global;
-use syntax::parse;
 
 /// What is said of a source's refusal beside its rule: lines, each with its end, or nothing. It fails only when out of
 /// memory.
@@ -44,44 +44,38 @@ pub fn details(alloc: Global, source: &str, refusal: Refusal) -> Result<String, 
     let Some(place) = refusal.place else {
         return Ok(String::new(alloc));
     };
-    match parse(alloc, source) {
-        Ok(program) => program_lines(alloc, refusal.rule, place, &program),
-        Err(unread) => match unread.place {
-            Some(_) => text_lines(alloc, refusal.rule, place, source),
-            None => Err(unread),
-        },
-    }
+    let evidence = why_lines(alloc, source, refusal.why)?;
+    let found = found_beside(alloc, source, refusal.rule, refusal.why, place.offset)?;
+    let lines = format!(in alloc; "{evidence}{found}")?;
+    Ok(lines)
 }
 
-/// What is said of a program's violation of a rule.
-fn program_lines(
+/// What is found in a source beside the evidence of a violation.
+fn found_beside(
     alloc: Global,
+    source: &str,
     rule: Rule,
-    place: Place,
-    program: &Program<'_>,
+    why: Why,
+    at: u32,
 ) -> Result<String, Refusal>
-    ensures said { IfOk result (λ lines. SaysOfProgram rule place.offset (program_tree program.now) (string_bytes lines)) }
+    ensures said { IfOk result (λ lines. FindsBeside source.now rule why at (string_bytes lines)) }
     ensures memory { IfErr result (λ fault. IsWantOfMemory fault.rule fault.place) }
 {
-    let at = place.offset;
-    match rule {
-        Rule::UndeclaredName => Ok(name_line(alloc, at, program)?),
-        Rule::InlinedSize => Ok(inlined_size_lines(alloc, program)?),
-        Rule::DeclaredBytes => Ok(declared_bytes_lines(alloc, program)?),
-        Rule::TooMuchWork => work_lines(alloc, program),
-        Rule::IndexOutOfRange | Rule::DivisorMayBeZero => range_lines(alloc, at, program),
-        _ => Ok(typing_lines(alloc, rule, at, program)?),
+    match why {
+        Why::Plain => found_lines(alloc, source, rule, at),
+        Why::Index(_) | Why::Divisor(_) => call_lines(alloc, source, at),
+        _ => Ok(String::new(alloc)),
     }
 }
 
-/// What is said of a text that is no program.
-fn text_lines(alloc: Global, rule: Rule, place: Place, text: &str) -> Result<String, Refusal>
-    ensures said { IfOk result (λ lines. SaysOfText rule place.offset text.now (string_bytes lines)) }
+/// What is found in a source behind so many bytes, where rule and place are all that is known.
+fn found_lines(alloc: Global, source: &str, rule: Rule, at: u32) -> Result<String, Refusal>
+    ensures said { IfOk result (λ lines. Finds source.now rule at (string_bytes lines)) }
     ensures memory { IfErr result (λ fault. IsWantOfMemory fault.rule fault.place) }
 {
     match rule {
-        Rule::UnknownCharacter => Ok(character_line(alloc, place.offset, text.as_bytes())?),
-        Rule::UnexpectedToken => expected_lines(alloc, place.offset, text),
-        _ => Ok(String::new(alloc)),
+        Rule::UnknownCharacter => Ok(character_line(alloc, at, source.as_bytes())?),
+        Rule::UnexpectedToken => expected_lines(alloc, at, source),
+        _ => rule_lines(alloc, source, rule, at),
     }
 }

@@ -5,10 +5,11 @@ use Rattle.std.specs.Option.{option_map}
 use Rattle.inline.specs.Flat.{FlatProgram}
 use Rattle.inline.specs.Numbering.{flattened}
 use Rattle.language.specs.Meaning.{exported}
+use Rattle.language.specs.declared.why.Counted.TheVariants.{Work}
 use Rattle.language.specs.Tree.{ProcedureTree, ProgramTree}
 use Rattle.explanations.specs.refusal_details.Details.{SaysWork, export_work}
 use Rattle.explanations.specs.refusal_details.Found.{IsExportOf, flat_of, ill_typed, one_body, too_large}
-use Rattle.explanations.specs.refusal_details.SizeLines.{work_line}
+use Rattle.explanations.specs.refusal_details.SizeLines.{excess_line, excess_of}
 use Rattle.explanations.specs.statement_work.WorkCosts.{work_cost}
 use Rattle.word.specs.declared.profile.Profile.{Profile}
 
@@ -45,12 +46,12 @@ no_work program (Some e) text is body empty = absurd (none-some (flat_of e) body
 pub some_work : (program : ProgramTree) (export : Option Export) (f : FlatProgram) (e : Export) (text : List ℕ)
     → IsExportOf program export
     → Some f ≡ option_map flat_of export → exported [] program.procedures ≡ Some e
-    → text ≡ work_line (work_cost e.0 e.1) → SaysWork program text
+    → text ≡ excess_line (excess_of Work (work_cost e.0 e.1)) → SaysWork program text
 some_work program export f e text is body there said =
     let found = export_there program export f is body in
     let same = same_Some found.0 e (sym found.2 ∙ there) in
     record {
       export = export;
       is = is;
-      printed = said ∙ sym (ap export_work found.1 ∙ ap (λ (x : Export). work_line (work_cost x.0 x.1)) same);
+      printed = said ∙ sym (ap export_work found.1 ∙ ap (λ (x : Export). excess_line (excess_of Work (work_cost x.0 x.1))) same);
     }

@@ -1,23 +1,26 @@
 -- What is said of a refusal beside its rule: lines, each with its end, or nothing.
-use Rattle.std.specs.Prelude.{◌≡◌, ℕ, ◌==◌, nat_eq, Bool, if◌then◌else◌, List, [], ◌∷◌, ◌++◌, take, drop, length}
+use Rattle.std.specs.Prelude.{◌≡◌, ℕ, nat_eq, Bool, if◌then◌else◌, List, [], ◌∷◌, ◌++◌, take, drop, length}
 use Rattle.std.specs.Prelude.{nat_lt, codes, Option, None, Some}
 use Rattle.std.specs.List.{starts_with}
-use Rattle.std.specs.Fmt.{decimal}
 use Rattle.std.specs.Option.{option_map}
 use Rattle.intervals.specs.declared.found.Cause.{Cause}
 use Rattle.intervals.specs.declared.found.Cause.TheVariants.{Index, Divisor}
 use Rattle.intervals.specs.declared.found.Finding.{Finding}
-use Rattle.language.specs.declared.interval.Interval.{Interval}
 use Rattle.explanations.specs.refusal_details.ExpectedLines.{SaysExpected}
 use Rattle.explanations.specs.refusal_details.Found.{IsExportOf, first_in, flat_of}
-use Rattle.explanations.specs.refusal_details.SizeLines.{declared_bytes_lines, inlined_size_lines, work_line}
+use Rattle.explanations.specs.refusal_details.SizeLines.{declared_bytes_lines, excess_line, excess_of}
+use Rattle.explanations.specs.refusal_details.SizeLines.{inlined_size_lines}
 use Rattle.explanations.specs.refusal_details.TypingLines.{typing_lines}
+use Rattle.explanations.specs.refusal_details.WhyLines.{divisor_line, index_line, why_lines}
 use Rattle.diagnostics.specs.call_places.CallPlaces.{call_places, procedure_at}
 use Rattle.language.specs.declared.refusal.Refusal.{Refusal}
 use Rattle.language.specs.declared.rule.Rule.{Rule}
 use Rattle.language.specs.declared.rule.Rule.TheVariants.{UnknownCharacter, UnexpectedToken, UndeclaredName}
 use Rattle.language.specs.declared.rule.Rule.TheVariants.{InlinedSize, DeclaredBytes, TooMuchWork, IndexOutOfRange}
 use Rattle.language.specs.declared.rule.Rule.TheVariants.{DivisorMayBeZero}
+use Rattle.language.specs.declared.why.Counted.TheVariants.{Work}
+use Rattle.language.specs.declared.why.Why.{Why}
+use Rattle.language.specs.declared.why.Why.TheVariants as why
 use Rattle.language.specs.Signature.{exported}
 use Rattle.language.specs.Tree.{ProcedureTree, ProgramTree}
 use Rattle.diagnostics.specs.name_uses.Nearest.{nearest}
@@ -52,15 +55,10 @@ abbrev pub name_line : Option Use → List ℕ
 name_line None = []
 name_line (Some u) = use_line u
 
--- I1: which numbers the index may be, and the length of its array; I2: which the divisor may be
-abbrev pub interval_text : Interval → List ℕ
-interval_text i = if i.low == i.high then decimal i.low else decimal i.low ++ (codes " to " ++ decimal i.high)
-
+-- I1, I2: the numbers that an index or a divisor may be
 abbrev pub cause_line : Cause → List ℕ
-cause_line (Index i size) =
-    codes "  the index is "
-    ++ (interval_text i ++ (codes ", and the array's length is " ++ (decimal size ++ codes "\n")))
-cause_line (Divisor i) = codes "  the divisor is " ++ (interval_text i ++ codes "\n")
+cause_line (Index i size) = index_line (record { index = i; length = size })
+cause_line (Divisor i) = divisor_line i
 
 abbrev pub finding_line : Option Finding → List ℕ
 finding_line None = []
@@ -99,7 +97,7 @@ pub record SaysRange (at : ℕ) (program : ProgramTree) (lines : List ℕ) : Typ
 -- S3: how much work the export has, how much is allowed, and the part that has most
 abbrev pub export_work : Option (List ProcedureTree × ProcedureTree) → List ℕ
 export_work None = []
-export_work (Some export) = work_line (work_cost export.0 export.1)
+export_work (Some export) = excess_line (excess_of Work (work_cost export.0 export.1))
 
 pub record SaysWork (program : ProgramTree) (lines : List ℕ) : Type 0 where
   pub export : Option (List ProcedureTree × ProcedureTree)
@@ -107,31 +105,48 @@ pub record SaysWork (program : ProgramTree) (lines : List ℕ) : Type 0 where
   pub printed : lines ≡ export_work export
 
 -- of a program that violates a rule behind so many bytes
-abbrev pub SaysOfProgram : Rule → ℕ → ProgramTree → List ℕ → Type 0
-SaysOfProgram UndeclaredName at program lines = lines ≡ name_line (use_in_procedures at program.procedures)
-SaysOfProgram InlinedSize at program lines = lines ≡ inlined_size_lines (exported [] program.procedures)
-SaysOfProgram DeclaredBytes at program lines = lines ≡ declared_bytes_lines (exported [] program.procedures)
-SaysOfProgram TooMuchWork at program lines = SaysWork program lines
-SaysOfProgram IndexOutOfRange at program lines = SaysRange at program lines
-SaysOfProgram DivisorMayBeZero at program lines = SaysRange at program lines
-SaysOfProgram rule at program lines = lines ≡ typing_lines rule at program
+abbrev pub SaysOfRule : Rule → ℕ → ProgramTree → List ℕ → Type 0
+SaysOfRule UndeclaredName at program lines = lines ≡ name_line (use_in_procedures at program.procedures)
+SaysOfRule InlinedSize at program lines = lines ≡ inlined_size_lines (exported [] program.procedures)
+SaysOfRule DeclaredBytes at program lines = lines ≡ declared_bytes_lines (exported [] program.procedures)
+SaysOfRule TooMuchWork at program lines = SaysWork program lines
+SaysOfRule IndexOutOfRange at program lines = SaysRange at program lines
+SaysOfRule DivisorMayBeZero at program lines = SaysRange at program lines
+SaysOfRule rule at program lines = lines ≡ typing_lines rule at program
 
--- of a text that is no program
-abbrev pub SaysOfText : Rule → ℕ → List ℕ → List ℕ → Type 0
-SaysOfText UnknownCharacter at text lines = lines ≡ character_line (drop at text)
-SaysOfText UnexpectedToken at text lines = SaysExpected text at lines
-SaysOfText rule at text lines = lines ≡ []
+-- the program that a source is, if it is one
+pub data IsProgramOf (source : List ℕ) : Option ProgramTree → Type 0 where
+  read : {program : ProgramTree} → Reads source (accepted program) → IsProgramOf source (Some program)
+  unread : {rule : Rule} {place : Place} → Reads source (refused rule place) → IsProgramOf source None
 
--- what is said of a refusal of a source
+-- what is said of it; nothing where there is none
+abbrev pub SaysOfFound : (ProgramTree → List ℕ → Type 0) → Option ProgramTree → List ℕ → Type 0
+SaysOfFound said None lines = lines ≡ []
+SaysOfFound said (Some program) lines = said program lines
+
+abbrev pub SaysOfProgram : List ℕ → (ProgramTree → List ℕ → Type 0) → List ℕ → Type 0
+SaysOfProgram source said lines = (found : Option ProgramTree) × IsProgramOf source found × SaysOfFound said found lines
+
+-- what is found in a source behind so many bytes, where rule and place are all that is known
+abbrev pub Finds : List ℕ → Rule → ℕ → List ℕ → Type 0
+Finds source UnknownCharacter at lines = lines ≡ character_line (drop at source)
+Finds source UnexpectedToken at lines = SaysExpected source at lines
+Finds source rule at lines = SaysOfProgram source (SaysOfRule rule at) lines
+
+-- and what is found beside the evidence of a violation
+abbrev pub FindsBeside : List ℕ → Rule → Why → ℕ → List ℕ → Type 0
+FindsBeside source rule why.Plain at lines = Finds source rule at lines
+FindsBeside source rule (why.Index range) at lines =
+    SaysOfProgram source (λ program lines. lines ≡ calls_line at program.procedures) lines
+FindsBeside source rule (why.Divisor divisor) at lines =
+    SaysOfProgram source (λ program lines. lines ≡ calls_line at program.procedures) lines
+FindsBeside source rule evidence at lines = lines ≡ []
+
+-- what is said of a refusal of a source: what its evidence says, and what is found beside it
 pub data Says (source : List ℕ) (refusal : Refusal) : List ℕ → Type 0 where
   nowhere : {lines : List ℕ} → refusal.place ≡ None → lines ≡ [] → Says source refusal lines
-  of_program : {place : Place} {program : ProgramTree} {lines : List ℕ}
+  somewhere : {place : Place} {lines : List ℕ} (found : List ℕ)
       → refusal.place ≡ Some place
-      → Reads source (accepted program)
-      → SaysOfProgram refusal.rule place.offset program lines
-      → Says source refusal lines
-  of_text : {place unread : Place} {rule : Rule} {lines : List ℕ}
-      → refusal.place ≡ Some place
-      → Reads source (refused rule unread)
-      → SaysOfText refusal.rule place.offset source lines
+      → FindsBeside source refusal.rule refusal.why place.offset found
+      → lines ≡ why_lines source refusal.why ++ found
       → Says source refusal lines

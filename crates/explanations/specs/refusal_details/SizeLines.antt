@@ -2,14 +2,18 @@
 -- that has most.
 use Rattle.std.specs.Prelude.{ℕ, nat_lt, List, [], ◌++◌, codes, Option, None, Some, if◌then◌else◌}
 use Rattle.std.specs.Fmt.{decimal}
+use Rattle.std.specs.Option.{option_map}
 use Rattle.intervals.specs.Limits.{most_work}
 use Rattle.language.specs.Limits.{most_bodies, most_declared_bytes, most_nodes}
 use Rattle.language.specs.Tree.{ProcedureTree}
+use Rattle.language.specs.declared.why.Counted.{Counted}
+use Rattle.language.specs.declared.why.Counted.TheVariants.{Nodes, Bodies, DeclaredBytes, Work}
+use Rattle.language.specs.declared.why.Excess.{Excess}
+use Rattle.language.specs.declared.why.Share.{Share}
 use Rattle.explanations.specs.statement_costs.Costs.{cost_of}
 use Rattle.explanations.specs.statement_costs.Counts.{most_counted}
 use Rattle.explanations.specs.declared.statement_costs.costs.Cost.{Cost}
-use Rattle.explanations.specs.declared.statement_costs.costs.Limit.{Limit}
-use Rattle.explanations.specs.declared.statement_costs.costs.Limit.TheVariants.{Nodes, Bodies, DeclaredBytes}
+use Rattle.explanations.specs.declared.statement_costs.costs.Limit.TheVariants as limit
 use Rattle.explanations.specs.declared.statement_costs.costs.Part.{Part}
 use Rattle.word.specs.Places.{place_text}
 
@@ -21,32 +25,46 @@ count_text n = if nat_lt n most_counted then decimal n else codes "1844674407370
 abbrev pub part_head : ℕ → List ℕ
 part_head n = if nat_lt n most_counted then codes "; its largest part is at " else codes "; a part of it is at "
 
-abbrev pub part_text : Option Part → List ℕ
-part_text None = []
-part_text (Some p) = part_head p.cost ++ (place_text p.place ++ (codes ": " ++ count_text p.cost))
+abbrev pub share_text : Option Share → List ℕ
+share_text None = []
+share_text (Some s) = part_head s.count ++ (place_text s.place ++ (codes ": " ++ count_text s.count))
 
--- what is counted of a limit
-abbrev pub counted_things : Limit → List ℕ
-counted_things Nodes = codes "nodes"
-counted_things Bodies = codes "bodies open at once"
-counted_things DeclaredBytes = codes "declared bytes"
-
-abbrev pub most_of : Limit → ℕ
-most_of Nodes = most_nodes
-most_of Bodies = most_bodies
-most_of DeclaredBytes = most_declared_bytes
-
-abbrev pub cost_line : Limit → Cost → List ℕ
-cost_line limit cost =
-    codes "  the export has " ++ (count_text cost.whole ++ (codes " " ++ (counted_things limit
+-- S1, S2: a size, of which so much is allowed
+abbrev pub size_line : List ℕ → ℕ → Excess → List ℕ
+size_line things most e =
+    codes "  the export has " ++ (count_text e.whole ++ (codes " " ++ (things
     ++ (codes ", and at most "
-    ++ (decimal (most_of limit) ++ (codes " are allowed" ++ (part_text cost.costliest ++ codes "\n")))))))
+    ++ (decimal most ++ (codes " are allowed" ++ (share_text e.largest ++ codes "\n")))))))
+
+-- S3: the work
+abbrev pub work_line : Excess → List ℕ
+work_line e =
+    codes "  the export's work is " ++ (count_text e.whole ++ (codes ", and at most " ++ (decimal most_work
+    ++ (codes " is allowed" ++ (share_text e.largest ++ codes "\n")))))
+
+-- by what is counted
+abbrev pub counted_line : Counted → Excess → List ℕ
+counted_line Nodes e = size_line (codes "nodes") most_nodes e
+counted_line Bodies e = size_line (codes "bodies open at once") most_bodies e
+counted_line DeclaredBytes e = size_line (codes "declared bytes") most_declared_bytes e
+counted_line Work e = work_line e
+
+abbrev pub excess_line : Excess → List ℕ
+excess_line e = counted_line e.counted e
+
+-- what the export has of what is counted
+abbrev pub share_of : Part → Share
+share_of part = record { place = part.place; count = part.cost }
+
+abbrev pub excess_of : Counted → Cost → Excess
+excess_of counted cost =
+    record { counted = counted; whole = cost.whole; largest = option_map share_of cost.costliest }
 
 -- S1: the nodes, and where they are within their limit the bodies that are open at once
 abbrev pub inlined_size_line : List ProcedureTree → ProcedureTree → List ℕ
 inlined_size_line before p =
-    if nat_lt most_nodes (cost_of Nodes before p).whole then cost_line Nodes (cost_of Nodes before p)
-    else cost_line Bodies (cost_of Bodies before p)
+    if nat_lt most_nodes (cost_of limit.Nodes before p).whole then excess_line (excess_of Nodes (cost_of limit.Nodes before p))
+    else excess_line (excess_of Bodies (cost_of limit.Bodies before p))
 
 abbrev pub inlined_size_lines : Option (List ProcedureTree × ProcedureTree) → List ℕ
 inlined_size_lines None = []
@@ -55,10 +73,5 @@ inlined_size_lines (Some export) = inlined_size_line export.0 export.1
 -- S2
 abbrev pub declared_bytes_lines : Option (List ProcedureTree × ProcedureTree) → List ℕ
 declared_bytes_lines None = []
-declared_bytes_lines (Some export) = cost_line DeclaredBytes (cost_of DeclaredBytes export.0 export.1)
-
--- S3: the work
-abbrev pub work_line : Cost → List ℕ
-work_line cost =
-    codes "  the export's work is " ++ (count_text cost.whole ++ (codes ", and at most " ++ (decimal most_work
-    ++ (codes " is allowed" ++ (part_text cost.costliest ++ codes "\n")))))
+declared_bytes_lines (Some export) =
+    excess_line (excess_of DeclaredBytes (cost_of limit.DeclaredBytes export.0 export.1))

@@ -4,14 +4,15 @@ ghost use Rattle.std.specs.Prelude.{◌≡◌, None, Some, IfOk, IfErr};
 ghost use Rattle.std.specs.String.{string_bytes};
 ghost use Rattle.language.specs.Tree.{program_tree};
 ghost use Rattle.language.specs.WantOfMemory.{IsWantOfMemory};
-ghost use Rattle.explanations.specs.refusal_details.Details.{SaysRange, finding_line, cause_line, interval_text};
+ghost use Rattle.explanations.specs.refusal_details.Details.{SaysRange, cause_line, finding_line};
 ghost use Rattle.explanations.specs.refusal_details.Found.{first_in};
 
 use crate::refusal_details::calls::calls_line;
 use crate::refusal_details::exports::flat_in;
+use crate::refusal_details::number_lines::{divisor_line, index_line};
 use inline::Flat;
-use intervals::{Cause, Finding, Interval, first_finding};
-use language::{Program, Refusal};
+use intervals::{Cause, Finding, first_finding};
+use language::{IndexRange, Program, Refusal};
 use std::alloc::{AllocError, Global};
 
 /// What is said of a program's first violation of ranges: why it is one, and where the procedure is called that the place
@@ -50,30 +51,12 @@ fn finding_line(alloc: Global, found: Option<Finding>) -> Result<String, AllocEr
     }
 }
 
+/// What is said of why it is one.
 fn cause_line(alloc: Global, cause: Cause) -> Result<String, AllocError>
     ensures { IfOk result (λ line. string_bytes line ≡ cause_line cause) }
 {
     match cause {
-        Cause::Index(index, size) => {
-            let index = interval_text(alloc, index)?;
-            format!(in alloc; "  the index is {index}, and the array's length is {size}\n")
-        }
-        Cause::Divisor(divisor) => {
-            let divisor = interval_text(alloc, divisor)?;
-            format!(in alloc; "  the divisor is {divisor}\n")
-        }
-    }
-}
-
-/// `LOW to HIGH`, or the one number that both are.
-fn interval_text(alloc: Global, interval: Interval) -> Result<String, AllocError>
-    ensures { IfOk result (λ text. string_bytes text ≡ interval_text interval) }
-{
-    let low = interval.low;
-    let high = interval.high;
-    if low == high {
-        format!(in alloc; "{low}")
-    } else {
-        format!(in alloc; "{low} to {high}")
+        Cause::Index(index, length) => index_line(alloc, IndexRange { index, length }),
+        Cause::Divisor(divisor) => divisor_line(alloc, divisor),
     }
 }

@@ -1,15 +1,18 @@
-// A size of the export that is above its limit.
+// A size of the export, or its work, that is above its limit.
 
 ghost use Rattle.std.specs.Prelude.{◌≡◌, [], map, IfOk};
 ghost use Rattle.std.specs.String.{string_bytes};
 ghost use Rattle.language.specs.Signature.{exported};
 ghost use Rattle.language.specs.Tree.{procedure_tree, program_tree};
-ghost use Rattle.explanations.specs.refusal_details.SizeLines.{cost_line, count_text, counted_things};
-ghost use Rattle.explanations.specs.refusal_details.SizeLines.{declared_bytes_lines, inlined_size_line};
-ghost use Rattle.explanations.specs.refusal_details.SizeLines.{inlined_size_lines, most_of, part_head, part_text};
+ghost use Rattle.explanations.specs.refusal_details.SizeLines.{count_text, declared_bytes_lines, excess_line, excess_of};
+ghost use Rattle.explanations.specs.refusal_details.SizeLines.{inlined_size_line, inlined_size_lines, part_head};
+ghost use Rattle.explanations.specs.refusal_details.SizeLines.{share_of, share_text, size_line, work_line};
 
 use crate::statement_costs::{Cost, Limit, Part, measured};
-use language::{MOST_BODIES, MOST_DECLARED_BYTES, MOST_NODES, Procedure, Program};
+use intervals::MOST_WORK;
+use language::{
+    Counted, Excess, MOST_BODIES, MOST_DECLARED_BYTES, MOST_NODES, Procedure, Program, Share,
+};
 use std::alloc::{AllocError, Global};
 
 /// What is said of a program whose export has too many nodes, or too many bodies that are open at once.
@@ -32,10 +35,10 @@ fn inlined_size_line<'a>(
 {
     let nodes = measured(alloc, Limit::Nodes, earlier, export)?;
     if nodes.whole > u64::from(MOST_NODES) {
-        return cost_line(alloc, Limit::Nodes, nodes);
+        return excess_line(alloc, excess_of(Counted::Nodes, nodes));
     }
     let bodies = measured(alloc, Limit::Bodies, earlier, export)?;
-    cost_line(alloc, Limit::Bodies, bodies)
+    excess_line(alloc, excess_of(Counted::Bodies, bodies))
 }
 
 /// What is said of a program whose export declares too many bytes.
@@ -45,54 +48,74 @@ pub fn declared_bytes_lines(alloc: Global, program: &Program<'_>) -> Result<Stri
     match program.exported() {
         Some((earlier, export)) => {
             let bytes = measured(alloc, Limit::DeclaredBytes, earlier, export)?;
-            cost_line(alloc, Limit::DeclaredBytes, bytes)
+            excess_line(alloc, excess_of(Counted::DeclaredBytes, bytes))
         }
         None => Ok(String::new(alloc)),
     }
 }
 
-/// What is said of what is counted of a limit.
-fn cost_line(alloc: Global, limit: Limit, cost: Cost) -> Result<String, AllocError>
-    ensures { IfOk result (λ line. string_bytes line ≡ cost_line limit cost) }
+/// What the export has of what is counted.
+pub fn excess_of(counted: Counted, cost: Cost) -> Excess
+    ensures { result ≡ excess_of counted cost }
 {
-    let whole = count_text(alloc, cost.whole)?;
-    let things = counted_things(limit);
-    let most = most_of(limit);
-    let part = part_text(alloc, cost.costliest)?;
+    Excess {
+        counted,
+        whole: cost.whole,
+        largest: cost.costliest.map(share_of),
+    }
+}
+
+/// A part, and how much it has.
+fn share_of(part: Part) -> Share
+    ensures { result ≡ share_of part }
+{
+    Share {
+        place: part.place,
+        count: part.cost,
+    }
+}
+
+/// What is said of a count above its limit: how much there is, how much is allowed, and where the part stands that has
+/// most.
+pub fn excess_line(alloc: Global, excess: Excess) -> Result<String, AllocError>
+    ensures { IfOk result (λ line. string_bytes line ≡ excess_line excess) }
+{
+    match excess.counted {
+        Counted::Nodes => size_line(alloc, "nodes", MOST_NODES, excess),
+        Counted::Bodies => size_line(alloc, "bodies open at once", MOST_BODIES, excess),
+        Counted::DeclaredBytes => size_line(alloc, "declared bytes", MOST_DECLARED_BYTES, excess),
+        Counted::Work => work_line(alloc, excess),
+    }
+}
+
+/// A size, of which so much is allowed.
+fn size_line(alloc: Global, things: &str, most: u32, excess: Excess) -> Result<String, AllocError>
+    ensures { IfOk result (λ line. string_bytes line ≡ size_line things.now most excess) }
+{
+    let whole = count_text(alloc, excess.whole)?;
+    let part = share_text(alloc, excess.largest)?;
     format!(in alloc; "  the export has {whole} {things}, and at most {most} are allowed{part}\n")
 }
 
-/// What is counted.
-fn counted_things(limit: Limit) -> &'static str
-    ensures { result.now ≡ counted_things limit }
+/// The work.
+fn work_line(alloc: Global, excess: Excess) -> Result<String, AllocError>
+    ensures { IfOk result (λ line. string_bytes line ≡ work_line excess) }
 {
-    match limit {
-        Limit::Nodes => "nodes",
-        Limit::Bodies => "bodies open at once",
-        Limit::DeclaredBytes => "declared bytes",
-    }
-}
-
-/// How much is allowed.
-fn most_of(limit: Limit) -> u32
-    ensures { result ≡ most_of limit }
-{
-    match limit {
-        Limit::Nodes => MOST_NODES,
-        Limit::Bodies => MOST_BODIES,
-        Limit::DeclaredBytes => MOST_DECLARED_BYTES,
-    }
+    let whole = count_text(alloc, excess.whole)?;
+    let part = share_text(alloc, excess.largest)?;
+    let most = MOST_WORK;
+    format!(in alloc; "  the export's work is {whole}, and at most {most} is allowed{part}\n")
 }
 
 /// Where the part stands that has most, and how much it has.
-pub fn part_text(alloc: Global, part: Option<Part>) -> Result<String, AllocError>
-    ensures { IfOk result (λ text. string_bytes text ≡ part_text part) }
+fn share_text(alloc: Global, share: Option<Share>) -> Result<String, AllocError>
+    ensures { IfOk result (λ text. string_bytes text ≡ share_text share) }
 {
-    match part {
-        Some(part) => {
-            let head = part_head(part.cost);
-            let place = part.place;
-            let count = count_text(alloc, part.cost)?;
+    match share {
+        Some(share) => {
+            let head = part_head(share.count);
+            let place = share.place;
+            let count = count_text(alloc, share.count)?;
             format!(in alloc; "{head}{place}: {count}")
         }
         None => Ok(String::new(alloc)),
@@ -111,7 +134,7 @@ fn part_head(count: u64) -> &'static str
 }
 
 /// A count. The greatest number stands for those above it too.
-pub fn count_text(alloc: Global, count: u64) -> Result<String, AllocError>
+fn count_text(alloc: Global, count: u64) -> Result<String, AllocError>
     ensures { IfOk result (λ text. string_bytes text ≡ count_text count) }
 {
     if count < u64::MAX {

@@ -8,16 +8,16 @@ ghost use Rattle.language.specs.Tree.{ProcedureTree, procedure_tree, program_tre
 ghost use Rattle.language.specs.WantOfMemory.{IsWantOfMemory};
 ghost use Rattle.explanations.specs.refusal_details.Details.{SaysWork};
 ghost use Rattle.explanations.specs.refusal_details.Found.{IsExportOf, flat_of};
-ghost use Rattle.explanations.specs.refusal_details.SizeLines.{work_line};
+ghost use Rattle.explanations.specs.refusal_details.SizeLines.{excess_line, excess_of};
+ghost use Rattle.language.specs.declared.why.Counted.TheVariants.{Work};
 ghost use Rattle.explanations.specs.statement_work.WorkCosts.{work_cost};
 
 use crate::refusal_details::exports::flat_in;
-use crate::refusal_details::size_lines::{count_text, part_text};
-use crate::statement_costs::Cost;
+use crate::refusal_details::size_lines::{excess_line, excess_of};
 use crate::statement_work::measured_work;
 use inline::Flat;
-use intervals::{MOST_WORK, turns};
-use language::{Procedure, Program, Refusal};
+use intervals::turns;
+use language::{Counted, Procedure, Program, Refusal};
 use std::alloc::{AllocError, Global};
 
 /// What is said of a program whose export has too much work: how much it has, how much is allowed, and where the part stands
@@ -56,19 +56,9 @@ fn export_line<'a>(
     flat: &Flat,
 ) -> Result<String, AllocError>
     requires { flat.now ≡ flattened flat.now.profile (map procedure_tree earlier.now) (procedure_tree export.now) }
-    ensures { IfOk result (λ line. string_bytes line ≡ work_line (work_cost (map procedure_tree earlier.now) (procedure_tree export.now))) }
+    ensures { IfOk result (λ line. string_bytes line ≡ excess_line (excess_of Work (work_cost (map procedure_tree earlier.now) (procedure_tree export.now)))) }
 {
     let turns = turns(alloc, flat)?;
     let cost = measured_work(alloc, earlier, export, turns.as_slice(), flat)?;
-    work_line(alloc, cost)
-}
-
-/// What is said of what is counted of the limit on work.
-fn work_line(alloc: Global, cost: Cost) -> Result<String, AllocError>
-    ensures { IfOk result (λ line. string_bytes line ≡ work_line cost) }
-{
-    let whole = count_text(alloc, cost.whole)?;
-    let part = part_text(alloc, cost.costliest)?;
-    let most = MOST_WORK;
-    format!(in alloc; "  the export's work is {whole}, and at most {most} is allowed{part}\n")
+    excess_line(alloc, excess_of(Counted::Work, cost))
 }

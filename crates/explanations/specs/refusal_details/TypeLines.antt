@@ -1,0 +1,85 @@
+-- Types that a rule compares: lines, each with its end.
+use Rattle.std.specs.Prelude.{ℕ, Bool, List, ◌++◌, drop, codes, if◌then◌else◌}
+use Rattle.std.specs.Fmt.{decimal}
+use Rattle.std.specs.List.{take_while}
+use Rattle.language.specs.declared.signature.Kind.{Kind}
+use Rattle.language.specs.declared.signature.Kind.TheVariants.{Boolean, Uint8, Uint16, Uint32}
+use Rattle.language.specs.declared.signature.Label.{Label}
+use Rattle.language.specs.declared.signature.Label.TheVariants.{Public, Secret}
+use Rattle.language.specs.declared.typing.ValueType.{ValueType}
+use Rattle.language.specs.declared.typing.ValueType.TheVariants.{Word, Array, Nothing}
+use Rattle.language.specs.declared.typing.WordType.{WordType}
+use Rattle.language.specs.declared.why.ComparedTypes.{ComparedTypes}
+use Rattle.language.specs.declared.why.ComparedTypes.TheVariants.{One, Two, Choice}
+use Rattle.language.specs.declared.why.Part.{Part}
+use Rattle.language.specs.declared.why.Part.TheVariants.{Operand, LeftOperand, RightOperand, Condition, FirstBound}
+use Rattle.language.specs.declared.why.Part.TheVariants.{SecondBound, Index, Variable, Element, Result, Value, Argument}
+use Rattle.language.specs.declared.why.Part.TheVariants.{Parameter}
+use Rattle.language.specs.declared.why.TypedPart.{TypedPart}
+use Rattle.syntax.specs.Spelling.{is_word_byte}
+use Rattle.word.specs.declared.place.Place.{Place}
+
+-- the name that stands at a place of a source: the letters, digits and `_` from there on
+abbrev pub name_at : List ℕ → Place → List ℕ
+name_at source place = take_while is_word_byte (drop place.offset source)
+
+abbrev pub kind_text : Kind → List ℕ
+kind_text Boolean = codes "bool"
+kind_text Uint8 = codes "uint8"
+kind_text Uint16 = codes "uint16"
+kind_text Uint32 = codes "uint32"
+
+abbrev pub label_text : Label → List ℕ
+label_text Public = codes "public "
+label_text Secret = codes "secret "
+
+-- a type with its label, or without
+abbrev pub word_text : Bool → WordType → List ℕ
+word_text labelled w = if labelled then label_text w.label ++ kind_text w.kind else kind_text w.kind
+
+abbrev pub type_text : Bool → ValueType → List ℕ
+type_text labelled (Word w) = word_text labelled w
+type_text labelled (Array a) = word_text labelled a.element ++ (codes "[" ++ (decimal a.length ++ codes "]"))
+type_text labelled Nothing = codes "void"
+
+-- what a part is called
+abbrev pub part_name : List ℕ → Part → List ℕ
+part_name source Operand = codes "operand"
+part_name source LeftOperand = codes "left operand"
+part_name source RightOperand = codes "right operand"
+part_name source Condition = codes "condition"
+part_name source FirstBound = codes "first bound"
+part_name source SecondBound = codes "second bound"
+part_name source Index = codes "index"
+part_name source Variable = codes "variable"
+part_name source Element = codes "element"
+part_name source Result = codes "result"
+part_name source Value = codes "value"
+part_name source Argument = codes "argument"
+part_name source (Parameter place) = codes "parameter `" ++ (name_at source place ++ codes "`")
+
+-- a part's type
+abbrev pub typed_text : Bool → List ℕ → TypedPart → List ℕ
+typed_text labelled source t =
+    codes "the " ++ (part_name source t.part ++ (codes " is " ++ type_text labelled t.value))
+
+abbrev pub one_line : Bool → List ℕ → TypedPart → List ℕ
+one_line labelled source t = codes "  " ++ (typed_text labelled source t ++ codes "\n")
+
+abbrev pub two_line : Bool → List ℕ → TypedPart → TypedPart → List ℕ
+two_line labelled source t other =
+    codes "  " ++ (typed_text labelled source t ++ (codes ", " ++ (typed_text labelled source other ++ codes "\n")))
+
+abbrev pub choice_lines : Bool → ValueType → ValueType → ValueType → List ℕ
+choice_lines labelled condition accepted otherwise =
+    codes "  the first operand is "
+    ++ (type_text labelled condition
+    ++ (codes "\n  the second operand is "
+    ++ (type_text labelled accepted
+    ++ (codes ", the third operand is " ++ (type_text labelled otherwise ++ codes "\n")))))
+
+-- types that a rule compares, with their labels or without
+abbrev pub type_lines : Bool → List ℕ → ComparedTypes → List ℕ
+type_lines labelled source (One t) = one_line labelled source t
+type_lines labelled source (Two t other) = two_line labelled source t other
+type_lines labelled source (Choice condition accepted otherwise) = choice_lines labelled condition accepted otherwise
