@@ -3,5 +3,3 @@ pub mod edit_distance_lemmas
 pub mod expected_tokens_lemmas
 pub mod name_uses_lemmas
 pub mod call_places_lemmas
-pub mod operand_types_lemmas
-pub mod misfits_lemmas

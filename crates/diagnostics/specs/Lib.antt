@@ -3,5 +3,3 @@ pub mod source_excerpts
 pub mod expected_tokens
 pub mod name_uses
 pub mod call_places
-pub mod operand_types
-pub mod misfits

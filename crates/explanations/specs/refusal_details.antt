@@ -3,5 +3,4 @@ pub mod ExpectedLines
 pub mod Found
 pub mod SizeLines
 pub mod TypeLines
-pub mod TypingLines
 pub mod WhyLines

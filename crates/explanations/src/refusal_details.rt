@@ -17,9 +17,7 @@ mod programs;
 mod ranges;
 mod size_lines;
 mod source_names;
-mod topics;
 mod type_lines;
-mod typing;
 mod why_lines;
 mod work_lines;
 

@@ -10,7 +10,6 @@ use Rattle.explanations.specs.refusal_details.ExpectedLines.{SaysExpected}
 use Rattle.explanations.specs.refusal_details.Found.{IsExportOf, first_in, flat_of}
 use Rattle.explanations.specs.refusal_details.SizeLines.{declared_bytes_lines, excess_line, excess_of}
 use Rattle.explanations.specs.refusal_details.SizeLines.{inlined_size_lines}
-use Rattle.explanations.specs.refusal_details.TypingLines.{typing_lines}
 use Rattle.explanations.specs.refusal_details.WhyLines.{divisor_line, index_line, why_lines}
 use Rattle.diagnostics.specs.call_places.CallPlaces.{call_places, procedure_at}
 use Rattle.language.specs.declared.refusal.Refusal.{Refusal}
@@ -112,7 +111,7 @@ SaysOfRule DeclaredBytes at program lines = lines ≡ declared_bytes_lines (expo
 SaysOfRule TooMuchWork at program lines = SaysWork program lines
 SaysOfRule IndexOutOfRange at program lines = SaysRange at program lines
 SaysOfRule DivisorMayBeZero at program lines = SaysRange at program lines
-SaysOfRule rule at program lines = lines ≡ typing_lines rule at program
+SaysOfRule rule at program lines = lines ≡ []
 
 -- the program that a source is, if it is one
 pub data IsProgramOf (source : List ℕ) : Option ProgramTree → Type 0 where

@@ -11,7 +11,6 @@ use crate::refusal_details::calls::calls_line;
 use crate::refusal_details::name_lines::name_line;
 use crate::refusal_details::ranges::range_lines;
 use crate::refusal_details::size_lines::{declared_bytes_lines, inlined_size_lines};
-use crate::refusal_details::typing::typing_lines;
 use crate::refusal_details::work_lines::work_lines;
 use language::{Program, Refusal, Rule};
 use std::alloc::Global;
@@ -69,6 +68,6 @@ fn lines_of_rule(
         Rule::DeclaredBytes => Ok(declared_bytes_lines(alloc, program)?),
         Rule::TooMuchWork => work_lines(alloc, program),
         Rule::IndexOutOfRange | Rule::DivisorMayBeZero => range_lines(alloc, at, program),
-        _ => Ok(typing_lines(alloc, rule, at, program)?),
+        _ => Ok(String::new(alloc)),
     }
 }

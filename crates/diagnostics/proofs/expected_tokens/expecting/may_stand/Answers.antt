@@ -1,6 +1,6 @@
 use Rattle.language.specs.Tree.{program_tree}
 use Rattle.syntax.specs.Reading.{accepted, refused, Reads}
-use Rattle.diagnostics.specs.expected_tokens.Expected.{by_answer, lacks_tokens}
+use Rattle.diagnostics.specs.expected_tokens.Expected.{by_answer}
 use Rattle.diagnostics.proofs.expected_tokens_lemmas.ExpectedLemmas.{placed_at}
 use Rattle.diagnostics.proofs.expected_tokens.expecting.may_stand.Goals as goal
 
