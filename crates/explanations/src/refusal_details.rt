@@ -1,11 +1,10 @@
 // What is said of a refusal beside its rule: lines with what there is at the place, for who wrote the source.
 //
-// It promises which lines these are, by the source's tree or, where it has none, by its bytes
-// (`specs/refusal_details/Details.antt`). It stands on `syntax` for the tree; on the modules of `diagnostics`,
-// `expected_tokens` for what may stand at a place, `name_uses` for what is near a name, `operand_types` for types and
-// secret names, `misfits` for what does not fit and `call_places` for calls; on `statement_costs` and `statement_work`
-// for sizes and work; and on `intervals` for the numbers that an index or a divisor may be and for the turns of loops:
-// those by which it was refused.
+// It promises which lines these are: those of the refusal's own evidence, which the pass that refused has handed out
+// (`specs/refusal_details/WhyLines.antt`), and what is found in the source beside it
+// (`specs/refusal_details/Details.antt`). For that it stands on the modules of `diagnostics`, `expected_tokens` for what
+// may stand at a place, `name_uses` for what is near a name and `call_places` for calls; and on `statement_work` for the
+// part of the export that has most work.
 
 mod calls;
 mod characters;
@@ -14,7 +13,6 @@ mod exports;
 mod name_lines;
 mod number_lines;
 mod programs;
-mod ranges;
 mod size_lines;
 mod source_names;
 mod type_lines;
@@ -28,7 +26,7 @@ ghost use Rattle.explanations.specs.refusal_details.Details.{Finds, FindsBeside,
 
 use crate::refusal_details::characters::character_line;
 use crate::refusal_details::expectations::expected_lines;
-use crate::refusal_details::programs::{call_lines, rule_lines};
+use crate::refusal_details::programs::{call_lines, export_lines, name_lines};
 use crate::refusal_details::why_lines::why_lines;
 use language::{Refusal, Rule, Why};
 use std::alloc::Global;
@@ -74,6 +72,8 @@ fn found_lines(alloc: Global, source: &str, rule: Rule, at: u32) -> Result<Strin
     match rule {
         Rule::UnknownCharacter => Ok(character_line(alloc, at, source.as_bytes())?),
         Rule::UnexpectedToken => expected_lines(alloc, at, source),
-        _ => rule_lines(alloc, source, rule, at),
+        Rule::UndeclaredName => name_lines(alloc, source, at),
+        Rule::TooMuchWork => export_lines(alloc, source),
+        _ => Ok(String::new(alloc)),
     }
 }

@@ -2,25 +2,18 @@
 use Rattle.std.specs.Prelude.{◌≡◌, ℕ, nat_eq, Bool, if◌then◌else◌, List, [], ◌∷◌, ◌++◌, take, drop, length}
 use Rattle.std.specs.Prelude.{nat_lt, codes, Option, None, Some}
 use Rattle.std.specs.List.{starts_with}
-use Rattle.std.specs.Option.{option_map}
-use Rattle.intervals.specs.declared.found.Cause.{Cause}
-use Rattle.intervals.specs.declared.found.Cause.TheVariants.{Index, Divisor}
-use Rattle.intervals.specs.declared.found.Finding.{Finding}
 use Rattle.explanations.specs.refusal_details.ExpectedLines.{SaysExpected}
-use Rattle.explanations.specs.refusal_details.Found.{IsExportOf, first_in, flat_of}
-use Rattle.explanations.specs.refusal_details.SizeLines.{declared_bytes_lines, excess_line, excess_of}
-use Rattle.explanations.specs.refusal_details.SizeLines.{inlined_size_lines}
-use Rattle.explanations.specs.refusal_details.WhyLines.{divisor_line, index_line, why_lines}
+use Rattle.explanations.specs.refusal_details.Found.{IsExportOf}
+use Rattle.explanations.specs.refusal_details.SizeLines.{excess_line, excess_of}
+use Rattle.explanations.specs.refusal_details.WhyLines.{why_lines}
 use Rattle.diagnostics.specs.call_places.CallPlaces.{call_places, procedure_at}
 use Rattle.language.specs.declared.refusal.Refusal.{Refusal}
 use Rattle.language.specs.declared.rule.Rule.{Rule}
 use Rattle.language.specs.declared.rule.Rule.TheVariants.{UnknownCharacter, UnexpectedToken, UndeclaredName}
-use Rattle.language.specs.declared.rule.Rule.TheVariants.{InlinedSize, DeclaredBytes, TooMuchWork, IndexOutOfRange}
-use Rattle.language.specs.declared.rule.Rule.TheVariants.{DivisorMayBeZero}
+use Rattle.language.specs.declared.rule.Rule.TheVariants.{TooMuchWork}
 use Rattle.language.specs.declared.why.Counted.TheVariants.{Work}
 use Rattle.language.specs.declared.why.Why.{Why}
 use Rattle.language.specs.declared.why.Why.TheVariants as why
-use Rattle.language.specs.Signature.{exported}
 use Rattle.language.specs.Tree.{ProcedureTree, ProgramTree}
 use Rattle.diagnostics.specs.name_uses.Nearest.{nearest}
 use Rattle.diagnostics.specs.name_uses.Scopes.{Seen, Use, use_in_procedures}
@@ -54,16 +47,7 @@ abbrev pub name_line : Option Use → List ℕ
 name_line None = []
 name_line (Some u) = use_line u
 
--- I1, I2: the numbers that an index or a divisor may be
-abbrev pub cause_line : Cause → List ℕ
-cause_line (Index i size) = index_line (record { index = i; length = size })
-cause_line (Divisor i) = divisor_line i
-
-abbrev pub finding_line : Option Finding → List ℕ
-finding_line None = []
-finding_line (Some found) = cause_line found.cause
-
--- and where the procedure is called that the place is in; of more than eight places the first eight
+-- I1, I2: where the procedure is called that the place is in; of more than eight places the first eight
 abbrev pub most_others : ℕ
 most_others = 7
 
@@ -88,11 +72,6 @@ procedure_line procedures (Some p) = called_line p.name (call_places p.name proc
 abbrev pub calls_line : ℕ → List ProcedureTree → List ℕ
 calls_line at procedures = procedure_line procedures (procedure_at at procedures)
 
-pub record SaysRange (at : ℕ) (program : ProgramTree) (lines : List ℕ) : Type 0 where
-  pub export : Option (List ProcedureTree × ProcedureTree)
-  pub is : IsExportOf program export
-  pub printed : lines ≡ finding_line (first_in (option_map flat_of export)) ++ calls_line at program.procedures
-
 -- S3: how much work the export has, how much is allowed, and the part that has most
 abbrev pub export_work : Option (List ProcedureTree × ProcedureTree) → List ℕ
 export_work None = []
@@ -102,16 +81,6 @@ pub record SaysWork (program : ProgramTree) (lines : List ℕ) : Type 0 where
   pub export : Option (List ProcedureTree × ProcedureTree)
   pub is : IsExportOf program export
   pub printed : lines ≡ export_work export
-
--- of a program that violates a rule behind so many bytes
-abbrev pub SaysOfRule : Rule → ℕ → ProgramTree → List ℕ → Type 0
-SaysOfRule UndeclaredName at program lines = lines ≡ name_line (use_in_procedures at program.procedures)
-SaysOfRule InlinedSize at program lines = lines ≡ inlined_size_lines (exported [] program.procedures)
-SaysOfRule DeclaredBytes at program lines = lines ≡ declared_bytes_lines (exported [] program.procedures)
-SaysOfRule TooMuchWork at program lines = SaysWork program lines
-SaysOfRule IndexOutOfRange at program lines = SaysRange at program lines
-SaysOfRule DivisorMayBeZero at program lines = SaysRange at program lines
-SaysOfRule rule at program lines = lines ≡ []
 
 -- the program that a source is, if it is one
 pub data IsProgramOf (source : List ℕ) : Option ProgramTree → Type 0 where
@@ -126,19 +95,27 @@ SaysOfFound said (Some program) lines = said program lines
 abbrev pub SaysOfProgram : List ℕ → (ProgramTree → List ℕ → Type 0) → List ℕ → Type 0
 SaysOfProgram source said lines = (found : Option ProgramTree) × IsProgramOf source found × SaysOfFound said found lines
 
+-- of the name that is used behind so many bytes, and of the procedure that they end in
+abbrev pub SaysOfName : List ℕ → ℕ → List ℕ → Type 0
+SaysOfName source at lines =
+    SaysOfProgram source (λ program line. line ≡ name_line (use_in_procedures at program.procedures)) lines
+
+abbrev pub SaysOfCalls : List ℕ → ℕ → List ℕ → Type 0
+SaysOfCalls source at lines = SaysOfProgram source (λ program line. line ≡ calls_line at program.procedures) lines
+
 -- what is found in a source behind so many bytes, where rule and place are all that is known
 abbrev pub Finds : List ℕ → Rule → ℕ → List ℕ → Type 0
 Finds source UnknownCharacter at lines = lines ≡ character_line (drop at source)
 Finds source UnexpectedToken at lines = SaysExpected source at lines
-Finds source rule at lines = SaysOfProgram source (SaysOfRule rule at) lines
+Finds source UndeclaredName at lines = SaysOfName source at lines
+Finds source TooMuchWork at lines = SaysOfProgram source SaysWork lines
+Finds source rule at lines = lines ≡ []
 
 -- and what is found beside the evidence of a violation
 abbrev pub FindsBeside : List ℕ → Rule → Why → ℕ → List ℕ → Type 0
 FindsBeside source rule why.Plain at lines = Finds source rule at lines
-FindsBeside source rule (why.Index range) at lines =
-    SaysOfProgram source (λ program lines. lines ≡ calls_line at program.procedures) lines
-FindsBeside source rule (why.Divisor divisor) at lines =
-    SaysOfProgram source (λ program lines. lines ≡ calls_line at program.procedures) lines
+FindsBeside source rule (why.Index range) at lines = SaysOfCalls source at lines
+FindsBeside source rule (why.Divisor divisor) at lines = SaysOfCalls source at lines
 FindsBeside source rule evidence at lines = lines ≡ []
 
 -- what is said of a refusal of a source: what its evidence says, and what is found beside it

@@ -1,9 +1,7 @@
--- The export of a program as the passes make one body of it, and what there is at its first violation of ranges.
-use Rattle.std.specs.Prelude.{◌≡◌, List, [], length, fold, Option, None, Some}
+-- The export of a program as the passes make one body of it.
+use Rattle.std.specs.Prelude.{◌≡◌, List, [], length, Option, None, Some}
 use Rattle.inline.specs.Flat.{FlatProgram}
 use Rattle.inline.specs.Numbering.{flattened}
-use Rattle.intervals.specs.declared.found.Finding.{Finding}
-use Rattle.intervals.specs.Findings.{range_findings, sooner_finding}
 use Rattle.language.specs.FirstViolation.{IsFirst}
 use Rattle.language.specs.Meaning.{exported}
 use Rattle.language.specs.Size.{size_violations}
@@ -28,8 +26,3 @@ pub data IsExportOf (program : ProgramTree) : Option (List ProcedureTree × Proc
 -- as one body
 abbrev pub flat_of : List ProcedureTree × ProcedureTree → FlatProgram
 flat_of export = flattened P1 export.0 export.1
-
--- the first violation of ranges in a body, with why it is one
-abbrev pub first_in : Option FlatProgram → Option Finding
-first_in None = None
-first_in (Some flat) = fold sooner_finding None (range_findings flat)

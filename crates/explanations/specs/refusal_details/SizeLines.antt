@@ -5,15 +5,12 @@ use Rattle.std.specs.Fmt.{decimal}
 use Rattle.std.specs.Option.{option_map}
 use Rattle.intervals.specs.Limits.{most_work}
 use Rattle.language.specs.Limits.{most_bodies, most_declared_bytes, most_nodes}
-use Rattle.language.specs.Tree.{ProcedureTree}
 use Rattle.language.specs.declared.why.Counted.{Counted}
 use Rattle.language.specs.declared.why.Counted.TheVariants.{Nodes, Bodies, DeclaredBytes, Work}
 use Rattle.language.specs.declared.why.Excess.{Excess}
 use Rattle.language.specs.declared.why.Share.{Share}
-use Rattle.explanations.specs.statement_costs.Costs.{cost_of}
 use Rattle.explanations.specs.statement_costs.Counts.{most_counted}
 use Rattle.explanations.specs.declared.statement_costs.costs.Cost.{Cost}
-use Rattle.explanations.specs.declared.statement_costs.costs.Limit.TheVariants as limit
 use Rattle.explanations.specs.declared.statement_costs.costs.Part.{Part}
 use Rattle.word.specs.Places.{place_text}
 
@@ -59,19 +56,3 @@ share_of part = record { place = part.place; count = part.cost }
 abbrev pub excess_of : Counted → Cost → Excess
 excess_of counted cost =
     record { counted = counted; whole = cost.whole; largest = option_map share_of cost.costliest }
-
--- S1: the nodes, and where they are within their limit the bodies that are open at once
-abbrev pub inlined_size_line : List ProcedureTree → ProcedureTree → List ℕ
-inlined_size_line before p =
-    if nat_lt most_nodes (cost_of limit.Nodes before p).whole then excess_line (excess_of Nodes (cost_of limit.Nodes before p))
-    else excess_line (excess_of Bodies (cost_of limit.Bodies before p))
-
-abbrev pub inlined_size_lines : Option (List ProcedureTree × ProcedureTree) → List ℕ
-inlined_size_lines None = []
-inlined_size_lines (Some export) = inlined_size_line export.0 export.1
-
--- S2
-abbrev pub declared_bytes_lines : Option (List ProcedureTree × ProcedureTree) → List ℕ
-declared_bytes_lines None = []
-declared_bytes_lines (Some export) =
-    excess_line (excess_of DeclaredBytes (cost_of limit.DeclaredBytes export.0 export.1))

@@ -1,58 +1,14 @@
 // A size of the export, or its work, that is above its limit.
 
-ghost use Rattle.std.specs.Prelude.{◌≡◌, [], map, IfOk};
+ghost use Rattle.std.specs.Prelude.{◌≡◌, IfOk};
 ghost use Rattle.std.specs.String.{string_bytes};
-ghost use Rattle.language.specs.Signature.{exported};
-ghost use Rattle.language.specs.Tree.{procedure_tree, program_tree};
-ghost use Rattle.explanations.specs.refusal_details.SizeLines.{count_text, declared_bytes_lines, excess_line, excess_of};
-ghost use Rattle.explanations.specs.refusal_details.SizeLines.{inlined_size_line, inlined_size_lines, part_head};
-ghost use Rattle.explanations.specs.refusal_details.SizeLines.{share_of, share_text, size_line, work_line};
+ghost use Rattle.explanations.specs.refusal_details.SizeLines.{count_text, excess_line, excess_of, part_head, share_of};
+ghost use Rattle.explanations.specs.refusal_details.SizeLines.{share_text, size_line, work_line};
 
-use crate::statement_costs::{Cost, Limit, Part, measured};
+use crate::statement_costs::{Cost, Part};
 use intervals::MOST_WORK;
-use language::{
-    Counted, Excess, MOST_BODIES, MOST_DECLARED_BYTES, MOST_NODES, Procedure, Program, Share,
-};
+use language::{Counted, Excess, MOST_BODIES, MOST_DECLARED_BYTES, MOST_NODES, Share};
 use std::alloc::{AllocError, Global};
-
-/// What is said of a program whose export has too many nodes, or too many bodies that are open at once.
-pub fn inlined_size_lines(alloc: Global, program: &Program<'_>) -> Result<String, AllocError>
-    ensures { IfOk result (λ line. string_bytes line ≡ inlined_size_lines (exported [] (program_tree program.now).procedures)) }
-{
-    match program.exported() {
-        Some((earlier, export)) => inlined_size_line(alloc, earlier, export),
-        None => Ok(String::new(alloc)),
-    }
-}
-
-/// The same of an export behind the procedures that it may call.
-fn inlined_size_line<'a>(
-    alloc: Global,
-    earlier: &[Procedure<'a>],
-    export: &Procedure<'a>,
-) -> Result<String, AllocError>
-    ensures { IfOk result (λ line. string_bytes line ≡ inlined_size_line (map procedure_tree earlier.now) (procedure_tree export.now)) }
-{
-    let nodes = measured(alloc, Limit::Nodes, earlier, export)?;
-    if nodes.whole > u64::from(MOST_NODES) {
-        return excess_line(alloc, excess_of(Counted::Nodes, nodes));
-    }
-    let bodies = measured(alloc, Limit::Bodies, earlier, export)?;
-    excess_line(alloc, excess_of(Counted::Bodies, bodies))
-}
-
-/// What is said of a program whose export declares too many bytes.
-pub fn declared_bytes_lines(alloc: Global, program: &Program<'_>) -> Result<String, AllocError>
-    ensures { IfOk result (λ line. string_bytes line ≡ declared_bytes_lines (exported [] (program_tree program.now).procedures)) }
-{
-    match program.exported() {
-        Some((earlier, export)) => {
-            let bytes = measured(alloc, Limit::DeclaredBytes, earlier, export)?;
-            excess_line(alloc, excess_of(Counted::DeclaredBytes, bytes))
-        }
-        None => Ok(String::new(alloc)),
-    }
-}
 
 /// What the export has of what is counted.
 pub fn excess_of(counted: Counted, cost: Cost) -> Excess
