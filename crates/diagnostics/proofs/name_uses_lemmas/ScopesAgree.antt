@@ -31,7 +31,7 @@ among text (entry ∷ entries) = ap (λ (b : Bool). bytes_eq text entry.0 || b) 
 
 -- a declaration of a variable
 declares : (scope : Scope) (v : Seen) (what : Declared) → type_known what ≡ Some (v.label, v.kind)
-    → known (declared scope v.name what) ≡ with_variable (known scope) v
+    → known (declared scope v.place v.name what) ≡ with_variable (known scope) v
 declares scope v what type =
     by (is_some (found scope v.name))
     ∙ ap (λ (b : Bool). cond b (known scope) (known scope ++ seen_known v ∷ []))
@@ -52,7 +52,7 @@ put_behind names (w ∷ seen) v = put_behind (with_variable names w) seen v
 -- one variable more
 one_more : (procedures : List Known) (seen : List Seen) (scope : Scope) (v : Seen) (what : Declared)
     → type_known what ≡ Some (v.label, v.kind)
-    → AreInScope procedures seen scope → AreInScope procedures (seen ++ v ∷ []) (declared scope v.name what)
+    → AreInScope procedures seen scope → AreInScope procedures (seen ++ v ∷ []) (declared scope v.place v.name what)
 one_more procedures seen scope v what type before =
     declares scope v what type ∙ ap (λ (names : List Known). with_variable names v) before
     ∙ sym (put_behind procedures seen v)
@@ -87,7 +87,7 @@ behind_parameters : (scope : Scope) (ps : List ParameterTree)
     → AreInScope (known scope) (map variable_of ps) (with_parameters scope ps)
 behind_parameters scope [] = refl
 behind_parameters scope (p ∷ ps) =
-    behind_parameters (declared scope p.name (parameter_as p)) ps
+    behind_parameters (declared scope p.place p.name (parameter_as p)) ps
     ∙ ap (λ (names : List Known). with_variables names (map variable_of ps))
     (declares scope (variable_of p) (parameter_as p) (parameter_type p))
 

@@ -56,4 +56,4 @@ pub record SameScopes : Type 0 where
       → AreInScope procedures (scope_behind seen statements) (scope_after_all scope statements)
   pub counter : (procedures : List Known) (seen : List Seen) (scope : Scope) (place : Place) (text : List ℕ)
       → AreInScope procedures seen scope
-      → AreInScope procedures (seen ++ counter_as place text ∷ []) (declared scope text counter_by_rules)
+      → AreInScope procedures (seen ++ counter_as place text ∷ []) (declared scope place text counter_by_rules)
