@@ -1,4 +1,3 @@
-pub mod statement_costs_lemmas
 pub mod statement_work_lemmas
 pub mod refusal_details_lemmas
 pub mod explained_refusals_lemmas

@@ -1,3 +1,4 @@
+pub mod Arguments
 pub mod Below
 pub mod Callees
 pub mod CountedWork

@@ -1,4 +1,3 @@
-pub mod statement_costs
 pub mod statement_work
 pub mod refusal_details
 pub mod explained_refusals

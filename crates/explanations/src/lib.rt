@@ -3,8 +3,8 @@
 //
 // It promises that there is an explanation exactly for the codes that are listed (`specs/Listed.antt`), that it is that
 // of the code asked for, and that a rule's has the rule's name. Nothing of this takes memory or fails.
-// Its modules explain one refusal of a source: what it says and what there is at its place (`refusal_details`), what its parts cost
-// (`statement_costs`, `statement_work`), and all that is printed (`explained_refusals`). They stand on the passes and
+// Its modules explain one refusal of a source: what it says and what there is at its place (`refusal_details`), what its parts cost of its work
+// (`statement_work`), and all that is printed (`explained_refusals`). They stand on the passes and
 // on `diagnostics`.
 #![tactic(auto)]
 
@@ -14,7 +14,6 @@ pub mod lookup;
 pub mod refusal_details;
 pub mod row;
 mod rows;
-pub mod statement_costs;
 pub mod statement_work;
 
 pub use lookup::{codes, explanation};

@@ -3,8 +3,7 @@
 //
 // It promises that these are the numbers that the passes used to judge the source, and the fields of the one plain
 // image that is built of it (`specs/source_statistics/SourceText.antt`); and that a source is refused exactly as
-// `build` refuses it. It stands on the passes, on `statistics`, and on `statement_costs` and `statement_work` of
-// `explanations`.
+// `build` refuses it. It stands on the passes, on `statistics`, and on `statement_work` of `explanations`.
 
 mod sizes;
 

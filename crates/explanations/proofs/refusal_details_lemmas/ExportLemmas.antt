@@ -9,7 +9,8 @@ use Rattle.language.specs.declared.why.Counted.TheVariants.{Work}
 use Rattle.language.specs.Tree.{ProcedureTree, ProgramTree}
 use Rattle.explanations.specs.refusal_details.Details.{SaysWork, export_work}
 use Rattle.explanations.specs.refusal_details.Found.{IsExportOf, flat_of, ill_typed, one_body, too_large}
-use Rattle.explanations.specs.refusal_details.SizeLines.{excess_line, excess_of}
+use Rattle.explanations.specs.refusal_details.SizeLines.{excess_line}
+use Rattle.language.specs.Shares.{excess}
 use Rattle.explanations.specs.statement_work.WorkCosts.{work_cost}
 use Rattle.word.specs.declared.profile.Profile.{Profile}
 
@@ -46,12 +47,12 @@ no_work program (Some e) text is body empty = absurd (none-some (flat_of e) body
 pub some_work : (program : ProgramTree) (export : Option Export) (f : FlatProgram) (e : Export) (text : List ℕ)
     → IsExportOf program export
     → Some f ≡ option_map flat_of export → exported [] program.procedures ≡ Some e
-    → text ≡ excess_line (excess_of Work (work_cost e.0 e.1)) → SaysWork program text
+    → text ≡ excess_line (excess Work (work_cost e.0 e.1)) → SaysWork program text
 some_work program export f e text is body there said =
     let found = export_there program export f is body in
     let same = same_Some found.0 e (sym found.2 ∙ there) in
     record {
       export = export;
       is = is;
-      printed = said ∙ sym (ap export_work found.1 ∙ ap (λ (x : Export). excess_line (excess_of Work (work_cost x.0 x.1))) same);
+      printed = said ∙ sym (ap export_work found.1 ∙ ap (λ (x : Export). excess_line (excess Work (work_cost x.0 x.1))) same);
     }

@@ -2,7 +2,7 @@
 use Rattle.std.proofs.Common.{inl, inr, ◌≡◌, ◌<◌, ℕ, ◌*◌, arith}
 use Rattle.std.proofs.lemmas.Bool.{cases_lt}
 use Rattle.std.proofs.Math.Nat.{le-mul_of_pos_right, mul_comm}
-use Rattle.explanations.specs.statement_costs.Counts.{counted, most_counted}
+use Rattle.language.specs.Shares.{counted, most_counted}
 
 -- so many times a count, at least once, is counted as so many times what is counted
 pub times_counted : (t m : ℕ) → 0 < t → counted (t * counted m) ≡ counted (t * m)

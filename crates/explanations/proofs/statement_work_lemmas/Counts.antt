@@ -3,7 +3,7 @@ use Rattle.std.proofs.Common.{◌≡◌, ℕ, is_some, List, Option, Some, None,
 use Rattle.std.specs.Option.{option_map}
 use Rattle.language.specs.Tree.{CallTree, RightTree, called, computed, StatementTree, declaration, array, assignment}
 use Rattle.language.specs.Tree.{element_assignment, call, conditional, loop, BlockTree, nothing, first, ProcedureTree}
-use Rattle.explanations.specs.statement_costs.Counts.{counted}
+use Rattle.language.specs.Shares.{counted}
 use Rattle.explanations.specs.statement_work.Inlined.{AreCountsOf, counted_inlined}
 use Rattle.explanations.specs.statement_work.Lengths.{Inlined, Lengths, block_length, call_length, dropped_length}
 use Rattle.explanations.specs.statement_work.Lengths.{element_length}

@@ -8,15 +8,15 @@ use Rattle.inline.specs.Kept.{IsFlat}
 use Rattle.inline.specs.Numbering.{callables, flattened, parameter_names}
 use Rattle.intervals.specs.Ranges.{turns_of}
 use Rattle.language.specs.Tree.{BlockTree, nothing, first, ProcedureTree}
-use Rattle.explanations.specs.statement_costs.Costs.{costlier, costliest, counted_part, return_parts}
-use Rattle.explanations.specs.statement_costs.Counts.{most_counted}
+use Rattle.language.specs.Shares.{counted_share, larger, largest, most_counted}
+use Rattle.language.specs.Size.{return_shares}
 use Rattle.explanations.proofs.statement_work_lemmas.Callees.{all_alike, count}
 use Rattle.explanations.proofs.statement_work_lemmas.Counts.{statement_same}
-use Rattle.explanations.proofs.statement_work_lemmas.Splits.{fewer_than_nodes, pieces_are_parts}
+use Rattle.explanations.proofs.statement_work_lemmas.Splits.{fewer_than_nodes, pieces_are_shares}
 use Rattle.explanations.specs.statement_work.Inlined.{AreCountsOf}
 use Rattle.explanations.specs.statement_work.Lengths.{Lengths, lengths_of}
 use Rattle.explanations.specs.statement_work.Pieces.{pieces}
-use Rattle.explanations.specs.statement_work.WorkCosts.{work_parts}
+use Rattle.explanations.specs.statement_work.WorkCosts.{work_shares}
 use Rattle.word.specs.declared.profile.Profile.{Profile}
 
 -- counts of the lengths give the same pieces
@@ -36,11 +36,11 @@ pub most_of_parts : (profile : Profile) (before : List ProcedureTree) (p : Proce
     → AreCountsOf counts (lengths_of before) → turns ≡ turns_of (flattened profile before p)
     → flat_block body ≡ (flattened profile before p).body
     → IsFlat (flattened profile before p)
-    → fold costlier (fold costlier None (map counted_part (pieces turns counts body p.body)))
-    (map counted_part (return_parts p.returned))
-    ≡ costliest (map counted_part (work_parts before p))
+    → fold larger (fold larger None (map counted_share (pieces turns counts body p.body)))
+    (map counted_share (return_shares p.returned))
+    ≡ largest (map counted_share (work_shares before p))
 most_of_parts profile before p turns counts body same worked is kept =
     let few = few_statements (flattened profile before p) kept in
-    let parts = pieces_are_parts turns (lengths_of before) (callables before) (all_alike before) p.body
+    let parts = pieces_are_shares turns (lengths_of before) (callables before) (all_alike before) p.body
     (parameter_names p) (length p.parameters) body is few in
     simp (pieces_same turns counts (lengths_of before) same, parts, map-append, fold-append) (rw worked)

@@ -6,14 +6,13 @@ use Rattle.inline.specs.Flat as flat
 use Rattle.inline.specs.FlatSize.{body_nodes, tree_nodes}
 use Rattle.inline.specs.Numbering.{Callables, Numbers, block, names_after, numbers_taken, statement}
 use Rattle.intervals.specs.Work.{body_work}
-use Rattle.language.specs.Tree.{BlockTree, nothing, first}
-use Rattle.explanations.specs.statement_costs.Costs.{place_of}
-use Rattle.explanations.specs.statement_costs.Counts.{counted, most_counted}
-use Rattle.explanations.specs.declared.statement_costs.costs.Part.{Part}
+use Rattle.language.specs.Tree.{BlockTree, nothing, first, place_of}
+use Rattle.language.specs.Shares.{counted, most_counted}
+use Rattle.language.specs.declared.why.Share.{Share}
 use Rattle.explanations.proofs.statement_work_lemmas.Callees.{AllAlike, count, count_chain, count_statement}
 use Rattle.explanations.specs.statement_work.Lengths.{Lengths, statement_length}
 use Rattle.explanations.specs.statement_work.Pieces.{pieces}
-use Rattle.explanations.specs.statement_work.WorkCosts.{statement_parts}
+use Rattle.explanations.specs.statement_work.WorkCosts.{statement_shares}
 
 taken : (a b : FlatBlock) (xs : List FlatStatement) → flat_block xs ≡ chain a b → flat_block (take (count a) xs) ≡ a
 taken flat.nothing b xs is = refl
@@ -38,11 +37,11 @@ fewer_than_nodes flat.nothing = omega arith
 fewer_than_nodes (flat.first s rest) = omega (arith, some_nodes s, fewer_than_nodes rest)
 
 module _ (turns : List ℕ) (lengths : Lengths) (known : Callables) (alike : AllAlike lengths known) where
-  pub pieces_are_parts : (b : BlockTree) (names : Numbers) (n : ℕ) (left : List FlatStatement)
+  pub pieces_are_shares : (b : BlockTree) (names : Numbers) (n : ℕ) (left : List FlatStatement)
       → flat_block left ≡ block known names n b → count (block known names n b) ≤ most_counted
-      → pieces turns lengths left b ≡ statement_parts turns known names n b
-  pieces_are_parts nothing names n left is few = refl
-  pieces_are_parts (first s rest) names n left is few =
+      → pieces turns lengths left b ≡ statement_shares turns known names n b
+  pieces_are_shares nothing names n left is few = refl
+  pieces_are_shares (first s rest) names n left is few =
       let next = names_after known names n s in
       let later = n + numbers_taken known s in
       let one = statement known names n s in
@@ -51,6 +50,6 @@ module _ (turns : List ℕ) (lengths : Lengths) (known : Callables) (alike : All
       omega (arith, count_statement lengths known alike names n s, count_chain one others) in
       let own = ap (λ k. flat_block (take k left)) within ∙ taken one others left is in
       let behind = ap (λ k. flat_block (drop k left)) within ∙ left_over one others left is in
-      ap₂ (λ (n : ℕ) (ps : List Part). record { place = place_of s; cost = n } ∷ ps) (ap (body_work turns) own)
-      (pieces_are_parts rest next later (drop (counted (statement_length lengths s)) left) behind
+      ap₂ (λ (n : ℕ) (ps : List Share). record { place = place_of s; count = n } ∷ ps) (ap (body_work turns) own)
+      (pieces_are_shares rest next later (drop (counted (statement_length lengths s)) left) behind
       (omega (arith, count_chain one others)))

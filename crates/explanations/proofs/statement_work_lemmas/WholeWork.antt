@@ -7,10 +7,10 @@ use Rattle.inline.specs.Numbering.{parameter_names, return_names}
 use Rattle.intervals.specs.Ranges.{turns_of}
 use Rattle.intervals.specs.Work.{body_work, work_of}
 use Rattle.language.specs.Tree.{BlockTree, nothing, first, ProcedureTree}
-use Rattle.explanations.specs.statement_costs.Costs.{return_parts, sum_of}
-use Rattle.explanations.proofs.statement_costs_lemmas.PartLemmas.{return_together, sum_append}
-use Rattle.explanations.proofs.statement_work_lemmas.Below.{same_result}
-use Rattle.explanations.specs.statement_work.WorkCosts.{statement_parts, work_parts}
+use Rattle.language.specs.Shares.{sum_of}
+use Rattle.language.specs.Size.{return_shares}
+use Rattle.explanations.proofs.statement_work_lemmas.Below.{return_together, same_result, sum_append}
+use Rattle.explanations.specs.statement_work.WorkCosts.{statement_shares, work_shares}
 use Rattle.word.specs.declared.profile.Profile.{Profile}
 
 work_chain : (turns : List ℕ) (a b : FlatBlock) → body_work turns (chain a b) ≡ body_work turns a + body_work turns b
@@ -18,7 +18,7 @@ work_chain turns flat.nothing b = omega arith
 work_chain turns (flat.first s a) b = omega (arith, work_chain turns a b)
 
 together : (turns : List ℕ) (known : Callables) (names : Numbers) (n : ℕ) (b : BlockTree)
-    → sum_of (statement_parts turns known names n b) ≡ body_work turns (block known names n b)
+    → sum_of (statement_shares turns known names n b) ≡ body_work turns (block known names n b)
 together turns known names n nothing = refl
 together turns known names n (first s rest) =
     simp (work_chain turns) (omega (
@@ -27,12 +27,12 @@ together turns known names n (first s rest) =
     ))
 
 pub work_whole : (profile : Profile) (before : List ProcedureTree) (p : ProcedureTree)
-    → sum_of (work_parts before p) ≡ work_of (flattened profile before p)
+    → sum_of (work_shares before p) ≡ work_of (flattened profile before p)
 work_whole profile before p =
     let turns = turns_of (flattened profile before p) in
     let known = callables before in
-    let sum = sum_append (statement_parts turns known (parameter_names p) (length p.parameters) p.body)
-    (return_parts p.returned) in
+    let sum = sum_append (statement_shares turns known (parameter_names p) (length p.parameters) p.body)
+    (return_shares p.returned) in
     let body = together turns known (parameter_names p) (length p.parameters) p.body in
     let value = same_result (return_names known p) p.returned in
     omega (arith, sum, body, value, return_together p.returned)

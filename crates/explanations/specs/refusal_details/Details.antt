@@ -4,7 +4,8 @@ use Rattle.std.specs.Prelude.{nat_lt, codes, Option, None, Some}
 use Rattle.std.specs.List.{starts_with}
 use Rattle.explanations.specs.refusal_details.ExpectedLines.{SaysExpected}
 use Rattle.explanations.specs.refusal_details.Found.{IsExportOf}
-use Rattle.explanations.specs.refusal_details.SizeLines.{excess_line, excess_of}
+use Rattle.explanations.specs.refusal_details.SizeLines.{excess_line}
+use Rattle.language.specs.Shares.{excess}
 use Rattle.explanations.specs.refusal_details.WhyLines.{why_lines}
 use Rattle.diagnostics.specs.call_places.CallPlaces.{call_places, procedure_at}
 use Rattle.language.specs.declared.refusal.Refusal.{Refusal}
@@ -75,7 +76,7 @@ calls_line at procedures = procedure_line procedures (procedure_at at procedures
 -- S3: how much work the export has, how much is allowed, and the part that has most
 abbrev pub export_work : Option (List ProcedureTree × ProcedureTree) → List ℕ
 export_work None = []
-export_work (Some export) = excess_line (excess_of Work (work_cost export.0 export.1))
+export_work (Some export) = excess_line (excess Work (work_cost export.0 export.1))
 
 pub record SaysWork (program : ProgramTree) (lines : List ℕ) : Type 0 where
   pub export : Option (List ProcedureTree × ProcedureTree)

@@ -2,16 +2,13 @@
 -- that has most.
 use Rattle.std.specs.Prelude.{ℕ, nat_lt, List, [], ◌++◌, codes, Option, None, Some, if◌then◌else◌}
 use Rattle.std.specs.Fmt.{decimal}
-use Rattle.std.specs.Option.{option_map}
 use Rattle.intervals.specs.Limits.{most_work}
 use Rattle.language.specs.Limits.{most_bodies, most_declared_bytes, most_nodes}
+use Rattle.language.specs.Shares.{most_counted}
 use Rattle.language.specs.declared.why.Counted.{Counted}
 use Rattle.language.specs.declared.why.Counted.TheVariants.{Nodes, Bodies, DeclaredBytes, Work}
 use Rattle.language.specs.declared.why.Excess.{Excess}
 use Rattle.language.specs.declared.why.Share.{Share}
-use Rattle.explanations.specs.statement_costs.Counts.{most_counted}
-use Rattle.explanations.specs.declared.statement_costs.costs.Cost.{Cost}
-use Rattle.explanations.specs.declared.statement_costs.costs.Part.{Part}
 use Rattle.word.specs.Places.{place_text}
 
 -- a count: the greatest number stands for those above it too
@@ -48,11 +45,3 @@ counted_line Work e = work_line e
 
 abbrev pub excess_line : Excess → List ℕ
 excess_line e = counted_line e.counted e
-
--- what the export has of what is counted
-abbrev pub share_of : Part → Share
-share_of part = record { place = part.place; count = part.cost }
-
-abbrev pub excess_of : Counted → Cost → Excess
-excess_of counted cost =
-    record { counted = counted; whole = cost.whole; largest = option_map share_of cost.costliest }

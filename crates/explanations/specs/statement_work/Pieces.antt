@@ -4,17 +4,16 @@ use Rattle.std.specs.Prelude.{ℕ, List, [], ◌∷◌, take, drop}
 use Rattle.inline.specs.declared.flat.FlatStatement.{FlatStatement}
 use Rattle.inline.specs.Flat.{flat_block}
 use Rattle.intervals.specs.Work.{body_work}
-use Rattle.language.specs.Tree.{BlockTree, nothing, first}
-use Rattle.explanations.specs.statement_costs.Costs.{place_of}
-use Rattle.explanations.specs.statement_costs.Counts.{counted}
-use Rattle.explanations.specs.declared.statement_costs.costs.Part.{Part}
+use Rattle.language.specs.declared.why.Share.{Share}
+use Rattle.language.specs.Shares.{counted}
+use Rattle.language.specs.Tree.{BlockTree, nothing, first, place_of}
 use Rattle.explanations.specs.statement_work.Lengths.{Lengths, statement_length}
 
-abbrev pub pieces : List ℕ → Lengths → List FlatStatement → BlockTree → List Part
+abbrev pub pieces : List ℕ → Lengths → List FlatStatement → BlockTree → List Share
 pieces turns lengths left nothing = []
 pieces turns lengths left (first s rest) =
     record {
       place = place_of s;
-      cost = body_work turns (flat_block (take (counted (statement_length lengths s)) left));
+      count = body_work turns (flat_block (take (counted (statement_length lengths s)) left));
     }
     ∷ pieces turns lengths (drop (counted (statement_length lengths s)) left) rest

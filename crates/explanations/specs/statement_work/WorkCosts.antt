@@ -1,35 +1,32 @@
 -- What each part of the export costs of its work, with a called body in each call and the turns of its loops.
-use Rattle.std.specs.Prelude.{ℕ, List, [], ◌∷◌, ◌++◌, ◌+◌, length, map}
+use Rattle.std.specs.Prelude.{ℕ, List, [], ◌∷◌, ◌++◌, ◌+◌, length}
 use Rattle.inline.specs.Numbering.{Callables, Numbers, callables, flattened, names_after, numbers_taken}
 use Rattle.inline.specs.Numbering.{parameter_names, statement}
 use Rattle.intervals.specs.Ranges.{turns_of}
 use Rattle.intervals.specs.Work.{body_work, work_of}
-use Rattle.language.specs.Tree.{BlockTree, nothing, first, ProcedureTree}
-use Rattle.explanations.specs.statement_costs.Costs.{costliest, counted_part, place_of, return_parts}
-use Rattle.explanations.specs.statement_costs.Counts.{counted}
-use Rattle.explanations.specs.declared.statement_costs.costs.Cost.{Cost}
-use Rattle.explanations.specs.declared.statement_costs.costs.Part.{Part}
+use Rattle.language.specs.declared.cost.Cost.{Cost}
+use Rattle.language.specs.declared.why.Share.{Share}
+use Rattle.language.specs.Shares.{cost_of}
+use Rattle.language.specs.Size.{return_shares}
+use Rattle.language.specs.Tree.{BlockTree, nothing, first, ProcedureTree, place_of}
 use Rattle.word.specs.declared.profile.Profile.TheVariants.{P1}
 
 -- the statements of a body, those inside others aside, each with the work of what it becomes, for these turns of the
 -- loops; in these names, where the next number is the given one
-abbrev pub statement_parts : List ℕ → Callables → Numbers → ℕ → BlockTree → List Part
-statement_parts turns known names n nothing = []
-statement_parts turns known names n (first s rest) =
-    record { place = place_of s; cost = body_work turns (statement known names n s) }
-    ∷ statement_parts turns known (names_after known names n s) (n + numbers_taken known s) rest
+abbrev pub statement_shares : List ℕ → Callables → Numbers → ℕ → BlockTree → List Share
+statement_shares turns known names n nothing = []
+statement_shares turns known names n (first s rest) =
+    record { place = place_of s; count = body_work turns (statement known names n s) }
+    ∷ statement_shares turns known (names_after known names n s) (n + numbers_taken known s) rest
 
 -- the statements of the export behind the procedures that it may call, and its `return`: the work is the same for
 -- each observer
-abbrev pub work_parts : List ProcedureTree → ProcedureTree → List Part
-work_parts before p =
-    statement_parts (turns_of (flattened P1 before p)) (callables before) (parameter_names p)
+abbrev pub work_shares : List ProcedureTree → ProcedureTree → List Share
+work_shares before p =
+    statement_shares (turns_of (flattened P1 before p)) (callables before) (parameter_names p)
     (length p.parameters) p.body
-    ++ return_parts p.returned
+    ++ return_shares p.returned
 
 -- what is counted of its work
 abbrev pub work_cost : List ProcedureTree → ProcedureTree → Cost
-work_cost before p = record {
-  whole = counted (work_of (flattened P1 before p));
-  costliest = costliest (map counted_part (work_parts before p));
-}
+work_cost before p = cost_of (work_of (flattened P1 before p)) (work_shares before p)

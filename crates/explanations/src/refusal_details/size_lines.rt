@@ -2,34 +2,12 @@
 
 ghost use Rattle.std.specs.Prelude.{◌≡◌, IfOk};
 ghost use Rattle.std.specs.String.{string_bytes};
-ghost use Rattle.explanations.specs.refusal_details.SizeLines.{count_text, excess_line, excess_of, part_head, share_of};
-ghost use Rattle.explanations.specs.refusal_details.SizeLines.{share_text, size_line, work_line};
+ghost use Rattle.explanations.specs.refusal_details.SizeLines.{count_text, excess_line, part_head, share_text};
+ghost use Rattle.explanations.specs.refusal_details.SizeLines.{size_line, work_line};
 
-use crate::statement_costs::{Cost, Part};
 use intervals::MOST_WORK;
 use language::{Counted, Excess, MOST_BODIES, MOST_DECLARED_BYTES, MOST_NODES, Share};
 use std::alloc::{AllocError, Global};
-
-/// What the export has of what is counted.
-pub fn excess_of(counted: Counted, cost: Cost) -> Excess
-    ensures { result ≡ excess_of counted cost }
-{
-    Excess {
-        counted,
-        whole: cost.whole,
-        largest: cost.costliest.map(share_of),
-    }
-}
-
-/// A part, and how much it has.
-fn share_of(part: Part) -> Share
-    ensures { result ≡ share_of part }
-{
-    Share {
-        place: part.place,
-        count: part.cost,
-    }
-}
 
 /// What is said of a count above its limit: how much there is, how much is allowed, and where the part stands that has
 /// most.

@@ -8,12 +8,13 @@ ghost use Rattle.language.specs.Tree.{ProcedureTree, procedure_tree, program_tre
 ghost use Rattle.language.specs.WantOfMemory.{IsWantOfMemory};
 ghost use Rattle.explanations.specs.refusal_details.Details.{SaysWork};
 ghost use Rattle.explanations.specs.refusal_details.Found.{IsExportOf, flat_of};
-ghost use Rattle.explanations.specs.refusal_details.SizeLines.{excess_line, excess_of};
+ghost use Rattle.explanations.specs.refusal_details.SizeLines.{excess_line};
+ghost use Rattle.language.specs.Shares.{excess};
 ghost use Rattle.language.specs.declared.why.Counted.TheVariants.{Work};
 ghost use Rattle.explanations.specs.statement_work.WorkCosts.{work_cost};
 
 use crate::refusal_details::exports::flat_in;
-use crate::refusal_details::size_lines::{excess_line, excess_of};
+use crate::refusal_details::size_lines::excess_line;
 use crate::statement_work::measured_work;
 use inline::Flat;
 use intervals::turns;
@@ -56,9 +57,9 @@ fn export_line<'a>(
     flat: &Flat,
 ) -> Result<String, AllocError>
     requires { flat.now ≡ flattened flat.now.profile (map procedure_tree earlier.now) (procedure_tree export.now) }
-    ensures { IfOk result (λ line. string_bytes line ≡ excess_line (excess_of Work (work_cost (map procedure_tree earlier.now) (procedure_tree export.now)))) }
+    ensures { IfOk result (λ line. string_bytes line ≡ excess_line (excess Work (work_cost (map procedure_tree earlier.now) (procedure_tree export.now)))) }
 {
     let turns = turns(alloc, flat)?;
     let cost = measured_work(alloc, earlier, export, turns.as_slice(), flat)?;
-    excess_line(alloc, excess_of(Counted::Work, cost))
+    excess_line(alloc, cost.excess(Counted::Work))
 }

@@ -4,11 +4,11 @@ ghost use Rattle.std.specs.Prelude.{◌≡◌, List};
 ghost use Rattle.inline.specs.Numbering.{flattened};
 ghost use Rattle.intervals.specs.Work.{work_of};
 ghost use Rattle.language.specs.Tree.{ProcedureTree};
-ghost use Rattle.explanations.specs.statement_costs.Costs.{sum_of};
-ghost use Rattle.explanations.specs.statement_work.WorkCosts.{work_parts};
+ghost use Rattle.language.specs.Shares.{sum_of};
+ghost use Rattle.explanations.specs.statement_work.WorkCosts.{work_shares};
 ghost use Rattle.word.specs.declared.profile.Profile.{Profile};
 
 /// What the parts of an export cost of its work together is its work, on which the limit is.
 pub fn parts_make_the_work()
-    ensures { (profile : Profile) (before : List ProcedureTree) (p : ProcedureTree) → sum_of (work_parts before p) ≡ work_of (flattened profile before p) }
+    ensures { (profile : Profile) (before : List ProcedureTree) (p : ProcedureTree) → sum_of (work_shares before p) ≡ work_of (flattened profile before p) }
 {}

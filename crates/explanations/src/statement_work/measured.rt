@@ -6,16 +6,15 @@ ghost use Rattle.inline.specs.Numbering.{flattened};
 ghost use Rattle.intervals.specs.Ranges.{turns_of};
 ghost use Rattle.intervals.specs.Work.{body_work};
 ghost use Rattle.language.specs.Tree.{procedure_tree};
-ghost use Rattle.explanations.specs.statement_costs.Costs.{costlier, counted_part, return_parts};
-ghost use Rattle.explanations.specs.statement_costs.Counts.{counted};
+ghost use Rattle.language.specs.Shares.{counted, counted_share, larger};
+ghost use Rattle.language.specs.Size.{return_shares};
 ghost use Rattle.explanations.specs.statement_work.WorkCosts.{work_cost};
 
-use crate::statement_costs::{Cost, Part, costliest_of_return};
 use crate::statement_work::inlined::lengths;
-use crate::statement_work::parts::costliest_of_statements;
+use crate::statement_work::parts::largest_statement;
 use crate::statement_work::works::{work_of_all, work_of_value};
-use inline::Flat;
-use language::Procedure;
+use inline::{Flat, larger_return};
+use language::{Cost, Procedure, Share};
 use std::alloc::{AllocError, Global};
 
 /// What an export behind the procedures that it may call costs of the limit on work, and its first part of those that cost
@@ -32,18 +31,18 @@ pub fn measured_work<'a>(
     ensures { IfOk result (λ cost. cost ≡ work_cost (map procedure_tree earlier.now) (procedure_tree export.now)) }
 {
     let table = lengths(alloc, earlier)?;
-    let most = costliest_of_statements(&table, turns, flat.body(), &export.body);
+    let most = largest_statement(&table, turns, flat.body(), &export.body);
     Ok(Cost {
         whole: work_of_body(turns, flat),
-        costliest: with_return(export, most),
+        largest: with_return(most, export),
     })
 }
 
-/// The part that costs most of the `return` of the export and one before it.
-fn with_return(export: &Procedure<'_>, before: Option<Part>) -> Option<Part>
-    ensures { result ≡ fold costlier before (map counted_part (return_parts (procedure_tree export.now).returned)) }
+/// The part that has most work of those before and of the `return` of the export.
+fn with_return(most: Option<Share>, export: &Procedure<'_>) -> Option<Share>
+    ensures { result ≡ fold larger most (map counted_share (return_shares (procedure_tree export.now).returned)) }
 {
-    costliest_of_return(export.returned.as_ref(), before)
+    larger_return(most, export.returned.as_ref())
 }
 
 /// The work of a body and of its result.

@@ -2,17 +2,16 @@
 
 ghost use Rattle.std.specs.Prelude.{◌≡◌, None, drop, fold, map, take};
 ghost use Rattle.language.specs.Tree.{block_tree};
-ghost use Rattle.explanations.specs.statement_costs.Costs.{costlier, counted_part};
+ghost use Rattle.language.specs.Shares.{counted_share, larger};
 ghost use Rattle.explanations.specs.statement_work.Inlined.{lengths_in};
 ghost use Rattle.explanations.specs.statement_work.Pieces.{pieces};
 
-use crate::statement_costs::{Part, costlier, place_of};
 use crate::statement_work::inlined::Inlined;
 use crate::statement_work::lengths::statement_length;
 use crate::statement_work::works::work_of_all;
 use inline::FlatStatement;
-use language::Statement;
 use language::names::Names;
+use language::{Share, Statement, larger};
 
 /// The first statements, so many, and those behind them.
 fn split(body: &[FlatStatement], count: u64) -> (&[FlatStatement], &[FlatStatement])
@@ -23,24 +22,24 @@ fn split(body: &[FlatStatement], count: u64) -> (&[FlatStatement], &[FlatStateme
     (&body[..length], &body[length..])
 }
 
-/// The part that costs most among statements, which become these of the one body.
-pub fn costliest_of_statements<'a>(
+/// The statement that has most work, of statements that become these of the one body.
+pub fn largest_statement<'a>(
     earlier: &Names<'a, Inlined<'_, 'a>>,
     turns: &[u32],
     body: &[FlatStatement],
     block: &[Statement<'a>],
-) -> Option<Part>
-    ensures { result ≡ fold costlier None (map counted_part (pieces turns.now (lengths_in earlier.now) body.now (block_tree block.now))) }
+) -> Option<Share>
+    ensures { result ≡ fold larger None (map counted_share (pieces turns.now (lengths_in earlier.now) body.now (block_tree block.now))) }
 {
     let mut left = body;
     let mut most = None;
     for statement in block {
         let (own, rest) = split(left, statement_length(earlier, statement));
-        let part = Part {
-            place: place_of(statement),
-            cost: work_of_all(turns, own),
+        let share = Share {
+            place: statement.place(),
+            count: work_of_all(turns, own),
         };
-        most = costlier(most, part);
+        most = larger(most, share);
         left = rest;
     }
     most

@@ -5,7 +5,7 @@ ghost use Rattle.std.specs.Option.{option_map};
 ghost use Rattle.inline.specs.Flat.{flat_block, flat_tree, term_tree};
 ghost use Rattle.inline.specs.FlatSize.{term_nodes, terms_nodes, value_nodes};
 ghost use Rattle.intervals.specs.Work.{body_work, tree_work};
-ghost use Rattle.explanations.specs.statement_costs.Counts.{counted};
+ghost use Rattle.language.specs.Shares.{counted};
 
 use inline::{FlatStatement, Term};
 

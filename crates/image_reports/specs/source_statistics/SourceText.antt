@@ -8,11 +8,10 @@ use Rattle.codegen.specs.image_fields.Fields.{Fields}
 use Rattle.inline.specs.Numbering.{flattened}
 use Rattle.intervals.specs.Ranged.{RangedProgram}
 use Rattle.intervals.specs.Work.{ranged}
+use Rattle.language.specs.declared.cost.Cost.{Cost}
+use Rattle.language.specs.declared.why.Share.{Share}
+use Rattle.language.specs.Size.{bodies_cost, bytes_cost, extents_of, nodes_cost}
 use Rattle.language.specs.Tree.{ProcedureTree, ProgramTree}
-use Rattle.explanations.specs.statement_costs.Costs.{cost_of}
-use Rattle.explanations.specs.declared.statement_costs.costs.Cost.{Cost}
-use Rattle.explanations.specs.declared.statement_costs.costs.Limit.TheVariants.{Nodes, Bodies, DeclaredBytes}
-use Rattle.explanations.specs.declared.statement_costs.costs.Part.{Part}
 use Rattle.explanations.specs.statement_work.WorkCosts.{work_cost}
 use Rattle.image_reports.specs.statistics.FieldsText.{fields_text}
 use Rattle.word.specs.declared.profile.Profile.{Profile}
@@ -25,22 +24,22 @@ costs_text body fields =
     ++ fields_text fields
 
 -- the first of the parts that have most of something: how much, and where it stands
-abbrev pub most_line : List ℕ → Option Part → List ℕ
+abbrev pub most_line : List ℕ → Option Share → List ℕ
 most_line name None = []
 most_line name (Some p) =
-    codes "most " ++ (name ++ (codes " " ++ (decimal p.cost ++ (codes " at " ++ (place_text p.place ++ codes "\n")))))
+    codes "most " ++ (name ++ (codes " " ++ (decimal p.count ++ (codes " at " ++ (place_text p.place ++ codes "\n")))))
 
 -- of an export behind the procedures that it may call: the bodies that are open at once, the declared bytes, and the
 -- parts with most nodes, most declared bytes and most work
 abbrev pub size_text : Cost → Cost → Cost → Cost → List ℕ
 size_text nodes bodies bytes work =
     codes "bodies " ++ (decimal bodies.whole ++ (codes "\ndeclared_bytes " ++ (decimal bytes.whole ++ (codes "\n"
-    ++ (most_line (codes "nodes") nodes.costliest
-    ++ (most_line (codes "declared_bytes") bytes.costliest ++ most_line (codes "work") work.costliest))))))
+    ++ (most_line (codes "nodes") nodes.largest
+    ++ (most_line (codes "declared_bytes") bytes.largest ++ most_line (codes "work") work.largest))))))
 
 abbrev pub size_lines : List ProcedureTree → ProcedureTree → List ℕ
-size_lines before p = size_text (cost_of Nodes before p) (cost_of Bodies before p) (cost_of DeclaredBytes before p)
-    (work_cost before p)
+size_lines before p = size_text (nodes_cost (extents_of before) p) (bodies_cost (extents_of before) p)
+    (bytes_cost (extents_of before) p) (work_cost before p)
 
 abbrev pub export_lines : Option (List ProcedureTree × ProcedureTree) → List ℕ
 export_lines None = []

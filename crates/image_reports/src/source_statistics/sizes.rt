@@ -8,10 +8,10 @@ ghost use Rattle.language.specs.Tree.{procedure_tree, program_tree};
 ghost use Rattle.image_reports.specs.source_statistics.SourceText.{export_lines, most_line, size_lines, size_text};
 ghost use Rattle.explanations.specs.statement_work.WorkCosts.{work_cost};
 
-use explanations::statement_costs::{Cost, Limit, Part, measured};
 use explanations::statement_work::measured_work;
+use inline::{SizeCosts, size_costs};
 use intervals::Ranged;
-use language::{Procedure, Program};
+use language::{Cost, Procedure, Program, Share};
 use std::alloc::{AllocError, Global};
 use std::fmt::Write;
 
@@ -44,11 +44,9 @@ fn push_export<'a>(
     requires { ranged.now.flat ≡ flattened ranged.now.flat.profile (map procedure_tree earlier.now) (procedure_tree export.now) }
     ensures { OnOk result (string_bytes text.new ≡ string_bytes text.old ++ size_lines (map procedure_tree earlier.now) (procedure_tree export.now)) }
 {
-    let nodes = measured(alloc, Limit::Nodes, earlier, export)?;
-    let bodies = measured(alloc, Limit::Bodies, earlier, export)?;
-    let bytes = measured(alloc, Limit::DeclaredBytes, earlier, export)?;
+    let sizes = size_costs(alloc, earlier, export)?;
     let work = work_of(alloc, earlier, export, ranged)?;
-    push_costs(text, nodes, bodies, bytes, work)
+    push_costs(text, sizes, work)
 }
 
 /// What it costs of the limit on work.
@@ -65,31 +63,25 @@ fn work_of<'a>(
 }
 
 /// Puts the lines of what was counted at the end.
-fn push_costs(
-    text: &mut String,
-    nodes: Cost,
-    bodies: Cost,
-    bytes: Cost,
-    work: Cost,
-) -> Result<(), AllocError>
-    ensures { OnOk result (string_bytes text.new ≡ string_bytes text.old ++ size_text nodes bodies bytes work) }
+fn push_costs(text: &mut String, sizes: SizeCosts, work: Cost) -> Result<(), AllocError>
+    ensures { OnOk result (string_bytes text.new ≡ string_bytes text.old ++ size_text sizes.nodes sizes.bodies sizes.declared_bytes work) }
 {
-    let open = bodies.whole;
-    let declared = bytes.whole;
-    writeln!(text, "bodies {open}\ndeclared_bytes {declared}")?;
-    push_part(text, "nodes", nodes.costliest)?;
-    push_part(text, "declared_bytes", bytes.costliest)?;
-    push_part(text, "work", work.costliest)
+    let bodies = sizes.bodies.whole;
+    let declared = sizes.declared_bytes.whole;
+    writeln!(text, "bodies {bodies}\ndeclared_bytes {declared}")?;
+    push_share(text, "nodes", sizes.nodes.largest)?;
+    push_share(text, "declared_bytes", sizes.declared_bytes.largest)?;
+    push_share(text, "work", work.largest)
 }
 
 /// Puts the line of a part at the end, where there is one.
-fn push_part(text: &mut String, name: &str, part: Option<Part>) -> Result<(), AllocError>
-    ensures { OnOk result (string_bytes text.new ≡ string_bytes text.old ++ most_line name.now part) }
+fn push_share(text: &mut String, name: &str, share: Option<Share>) -> Result<(), AllocError>
+    ensures { OnOk result (string_bytes text.new ≡ string_bytes text.old ++ most_line name.now share) }
 {
-    if let Some(part) = part {
-        let cost = part.cost;
-        let place = part.place;
-        writeln!(text, "most {name} {cost} at {place}")?;
+    if let Some(share) = share {
+        let count = share.count;
+        let place = share.place;
+        writeln!(text, "most {name} {count} at {place}")?;
     }
     Ok(())
 }

@@ -1,6 +1,6 @@
 use Rattle.std.proofs.Common.{◌≡◌, ◌≤◌, ◌+◌, drop}
 use Rattle.language.specs.Tree.{block_tree}
-use Rattle.explanations.specs.statement_costs.Counts.{counted, most_counted}
+use Rattle.language.specs.Shares.{counted, most_counted}
 use Rattle.explanations.specs.statement_work.Inlined.{lengths_in}
 use Rattle.explanations.specs.statement_work.Lengths.{block_length}
 use Rattle.explanations.proofs.statement_work.lengths.block_length.Given as goal

@@ -5,8 +5,8 @@ use Rattle.inline.specs.Kept.{IsFlat}
 use Rattle.intervals.specs.Ranges.{turns_of}
 use Rattle.intervals.specs.Work.{body_work}
 use Rattle.language.specs.Tree.{block_tree, procedure_tree}
-use Rattle.explanations.specs.statement_costs.Costs.{costlier, counted_part, return_parts}
-use Rattle.explanations.specs.statement_costs.Counts.{counted}
+use Rattle.language.specs.Shares.{counted, counted_share, larger}
+use Rattle.language.specs.Size.{return_shares}
 use Rattle.explanations.proofs.statement_work_lemmas.MostWork.{most_of_parts}
 use Rattle.explanations.specs.statement_work.Inlined.{lengths_in}
 use Rattle.explanations.specs.statement_work.Pieces.{pieces}
@@ -26,9 +26,9 @@ returns c =
     let kept = subst IsFlat flat c.body.ensures.kept in
     let parts = most_of_parts c.args.flat.now.profile before export turns counts c.body.result.now
     c.in_ok-table.ensures worked body kept in
-    let own = ap (λ ss. fold costlier None (map counted_part (pieces turns counts c.body.result.now (block_tree ss))))
+    let own = ap (λ ss. fold larger None (map counted_share (pieces turns counts c.body.result.now (block_tree ss))))
     c.deref.ensures.value in
-    let first = ap (λ most. fold costlier most (map counted_part (return_parts export.returned)))
-    (c.costliest_of_statements-most.ensures ∙ own) in
+    let first = ap (λ most. fold larger most (map counted_share (return_shares export.returned)))
+    (c.largest_statement-most.ensures ∙ own) in
     let most = c.with_return.ensures ∙ (first ∙ parts) in
-    λ i. record { whole = whole i; costliest = most i }
+    λ i. record { whole = whole i; largest = most i }

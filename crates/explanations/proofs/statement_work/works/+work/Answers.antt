@@ -1,7 +1,7 @@
 use Rattle.std.proofs.Common.{◌≡◌, ◌+◌, ◌*◌, slice_index, ap, ap₂, ◌∙◌, arith}
 use Rattle.inline.specs.Flat.{flat_block}
 use Rattle.intervals.specs.Work.{body_work}
-use Rattle.explanations.specs.statement_costs.Counts.{counted}
+use Rattle.language.specs.Shares.{counted}
 use Rattle.explanations.proofs.statement_work_lemmas.Below.{branch_work, loop_work}
 use Rattle.explanations.proofs.statement_work_lemmas.CountedWork.{times_counted}
 use Rattle.explanations.proofs.statement_work.works.+work.Goals as goal

@@ -1,7 +1,7 @@
 use Rattle.std.proofs.Common.{◌≡◌, ◌≤◌, ◌+◌, drop}
 use Rattle.inline.specs.Flat.{flat_block}
 use Rattle.intervals.specs.Work.{body_work}
-use Rattle.explanations.specs.statement_costs.Counts.{counted, most_counted}
+use Rattle.language.specs.Shares.{counted, most_counted}
 use Rattle.explanations.proofs.statement_work.works.+work.Given as goal
 
 -- the sum is a count, and with the work of the statements left it is the count of all

@@ -1,14 +1,14 @@
 use Rattle.std.proofs.Common.{◌≡◌, None, drop, fold, map}
 use Rattle.language.specs.Tree.{block_tree}
-use Rattle.explanations.specs.statement_costs.Costs.{costlier, counted_part}
+use Rattle.language.specs.Shares.{counted_share, larger}
 use Rattle.explanations.specs.statement_work.Inlined.{lengths_in}
 use Rattle.explanations.specs.statement_work.Pieces.{pieces}
-use Rattle.explanations.proofs.statement_work.parts.costliest_of_statements.Given as goal
+use Rattle.explanations.proofs.statement_work.parts.largest_statement.Given as goal
 
 -- what is kept so far and the statements left give what all give
 abbrev pub invariant-loop-statement : goal.invariant-loop-statement
 invariant-loop-statement l =
-    fold costlier l.most
-    (map counted_part (pieces l.turns (lengths_in l.earlier) l.left
+    fold larger l.most
+    (map counted_share (pieces l.turns (lengths_in l.earlier) l.left
     (block_tree (drop l.statement-index l.block))))
-    ≡ fold costlier None (map counted_part (pieces l.turns (lengths_in l.earlier) l.body (block_tree l.block)))
+    ≡ fold larger None (map counted_share (pieces l.turns (lengths_in l.earlier) l.body (block_tree l.block)))

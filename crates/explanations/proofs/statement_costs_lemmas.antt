@@ -1,4 +1,0 @@
-pub mod Below
-pub mod TreeLemmas
-pub mod PartLemmas
-pub mod GreatestLemmas
