@@ -33,7 +33,9 @@ use Rattle.language.specs.Tree.{ExprTree, number, truth, name, prefix, binary, r
 use Rattle.language.specs.Tree.{CallTree, RightTree, called, computed, StatementTree, declaration, array, assignment}
 use Rattle.language.specs.Tree.{element_assignment, call, conditional, loop, BlockTree, nothing, first, ParameterTree}
 use Rattle.language.specs.Tree.{ReturnTree, ProcedureTree, written}
-use Rattle.language.specs.Types.{at, when}
+use Rattle.language.specs.Types.{because, when}
+use Rattle.language.specs.declared.why.Why.{Why}
+use Rattle.language.specs.declared.why.Why.TheVariants.{Index, Divisor, Plain}
 use Rattle.language.specs.WellTyped.{labelled}
 use Rattle.word.specs.declared.place.Place.{Place}
 use Rattle.word.specs.declared.profile.Profile.{Profile}
@@ -47,13 +49,14 @@ violations_chain declared bounds (flat.first s rest) b =
     rw (violations_chain declared (bounds_after declared bounds s) rest b, append_assoc)
 
 module _ (w : Place → ℕ) where
-  at_place : (place : Place) → w place ≡ 0 → (rules : List Rule) → AreAtLight w (at place rules)
-  at_place place is [] = none
-  at_place place is (r ∷ rules) = more is (at_place place is rules)
+  at_place : (why : Why) (place : Place) → w place ≡ 0 → (rules : List Rule) → AreAtLight w (because why place rules)
+  at_place why place is [] = none
+  at_place why place is (r ∷ rules) = more is (at_place why place is rules)
 
   index_light : (place : Place) (size : ℕ) (i : Interval) → w place ≡ 0
       → AreAtLight w (index_violations place size i)
-  index_light place size i h = at_place place h (when (nat_le size i.high) IndexOutOfRange)
+  index_light place size i h =
+      at_place (Index (record { index = i; length = size })) place h (when (nat_le size i.high) IndexOutOfRange)
 
   -- nothing is said at a place that has a weight, whatever is declared and known
   abbrev IsLight : TermTree → Type 0
@@ -99,7 +102,7 @@ module _ (w : Place → ℕ) where
     term_light names (prefix place operator operand) h = term_light names operand (omega arith)
     term_light names (binary place operator left right) h =
         both (both (term_light names left (omega arith)) (term_light names right (omega arith)))
-        (at_place place (omega arith)
+        (at_place (Divisor (interval declared bounds (term names right))) place (omega arith)
         (when (divides operator && ((interval declared bounds (term names right)).low == 0)) DivisorMayBeZero))
     term_light names (rotate place operand amount) h = term_light names operand (omega arith)
     term_light names (convert place kind operand) h = term_light names operand (omega arith)
@@ -260,4 +263,4 @@ module _ (w : Place → ℕ) where
   pub work_light : (before : List ProcedureTree) (p : ProcedureTree) → in_procedure w p ≡ 0
       → AreAtLight w (work_violations before p)
   work_light before p h =
-      at_place p.place (omega arith) (when (nat_lt most_work (source_work before p)) TooMuchWork)
+      at_place Plain p.place (omega arith) (when (nat_lt most_work (source_work before p)) TooMuchWork)
