@@ -31,4 +31,11 @@ impl Code {
     {
         &self.fields
     }
+
+    /// The same fields, handed over.
+    pub fn into_fields(self) -> ImageFields
+        ensures { result ≡ self }
+    {
+        self.fields
+    }
 }

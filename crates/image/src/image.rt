@@ -1,11 +1,12 @@
 ghost use Rattle.std.specs.Prelude.{◌≡◌};
 ghost use Rattle.codegen.specs.image_fields.Fields.{Fields, IsImage};
 
+use codegen::Code;
 use codegen::image_fields::{ImageFields, ResultSlot, Slot};
 use language::Profile;
 use std::marker::Model;
 
-/// A program for the machine, as it was read: its code, and where its words lie in the frame.
+/// A program for the machine, as it was read or generated: its code, and where its words lie in the frame.
 #[derive(Debug, Drop)]
 pub struct Image {
     fields: ImageFields,
@@ -25,6 +26,13 @@ impl Image {
         ensures { result ≡ fields }
     {
         Image { fields }
+    }
+
+    /// Its fields.
+    pub fn fields(&self) -> &ImageFields
+        ensures { result.now ≡ self.now }
+    {
+        &self.fields
     }
 
     /// For which observer it is.
@@ -73,5 +81,14 @@ impl Image {
         ensures allowed { IsImage self.now }
     {
         self.fields.words()
+    }
+}
+
+/// The image of generated code, the one that its bytes would be read as.
+impl From<Code> for Image {
+    ghost from_gives = { λ code image. image ≡ code };
+
+    fn from(code: Code) -> Self {
+        Image::new(code.into_fields())
     }
 }
