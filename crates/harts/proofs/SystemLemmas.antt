@@ -43,9 +43,9 @@ fit_of job from =
       program = built.program;
       before = built.before;
       export = built.export;
-      compiled = rw images at built.compiled;
-      allowed = rw images at built.allowed;
-      bases = rw images at built.bases;
+      compiled = rw images at built.compilation.compiled;
+      allowed = rw images at built.compilation.allowed;
+      bases = rw images at built.compilation.bases;
       within = from.within;
     }
 

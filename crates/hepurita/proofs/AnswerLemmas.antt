@@ -61,12 +61,13 @@ pub fits : OneAnswer → (optimisation : Optimisation) (profile : Profile) (text
     → Builds optimisation profile text bytes program before export image → Fits program before export image
 fits one optimisation profile text bytes program before export image is =
     let built = is.built in
-    let same = one_export profile one text built.program program built.before before built.export export built.judged
+    let found = built.compilation in
+    let same = one_export profile one text built.program program built.before before built.export export found.judged
     is.judged in
     let images : built.image ≡ image = same_fields bytes built.image image built.spelled is.spelled in
     record {
-      compiled = rw (same.0, same.1, same.2, images) at built.compiled;
-      bases = subst (λ (f : Fields). AreBases f code_base frame_base) images (built.bases 0 (omega arith));
+      compiled = rw (same.0, same.1, same.2, images) at found.compiled;
+      bases = subst (λ (f : Fields). AreBases f code_base frame_base) images (found.bases 0 (omega arith));
     }
 
 module _ {program : ProgramTree} {before : List ProcedureTree} {export : ProcedureTree} {image : Fields}

@@ -10,6 +10,7 @@ pub mod FaultLemmas
 pub mod PairedLemmas
 pub mod Exports
 pub mod GrammaticalExports
+pub mod FlattenedLemmas
 pub mod JudgementLemmas
 pub mod PlaceLemmas
 pub mod RefusalLemmas
@@ -17,6 +18,7 @@ pub mod Existence
 pub mod TheoremLemmas
 pub mod AnswerLemmas
 pub mod OneImage
+pub mod Compilations
 pub mod PassedOn
 pub mod BaseLemmas
 pub mod Compiler

@@ -4,8 +4,9 @@ use Rattle.std.specs.Result.{IfOk}
 use Rattle.image.proofs.Spellings.{one_by_fields}
 use Rattle.image.specs.Reading.{Spells}
 use Rattle.codegen.specs.image_fields.Fields.{Fields}
+use Rattle.language.specs.Tree.{ProcedureTree, ProgramTree}
 use Rattle.syntax.specs.Reading.{OneAnswer}
-use Rattle.hepurita.specs.Built.{IsBuilt}
+use Rattle.hepurita.specs.Built.{IsBuilt, IsCompilation}
 use Rattle.hepurita.specs.Exact.{image_for}
 use Rattle.hepurita.specs.declared.optimised.Optimisation.{Optimisation}
 use Rattle.hepurita.proofs.JudgementLemmas.{one_export}
@@ -16,11 +17,19 @@ pub ok_both : {X Y : Type 0} (r : Result X Y) (P Q : X → Type 0) → IfOk r P 
 ok_both (Ok x) P Q p q = (p, q)
 ok_both (Err y) P Q p q = tt
 
+-- of a text there is one compilation
+pub one_image : OneAnswer → (optimisation : Optimisation) (profile : Profile) (text : List ℕ)
+    (program program' : ProgramTree) (before before' : List ProcedureTree) (export export' : ProcedureTree)
+    (image image' : Fields) → IsCompilation optimisation profile text program before export image
+    → IsCompilation optimisation profile text program' before' export' image' → image ≡ image'
+one_image answer optimisation profile text program program' before before' export export' image image' a b =
+    let same = one_export profile answer text program program' before before' export export' a.judged b.judged in
+    a.exact ∙ (ap₂ (image_for optimisation profile) same.1 same.2 ∙ sym b.exact)
+
 pub one_build : OneAnswer → (optimisation : Optimisation) (profile : Profile) (text one other : List ℕ)
     → IsBuilt optimisation profile text one → IsBuilt optimisation profile text other → one ≡ other
 one_build answer optimisation profile text one other a b =
-    let same = one_export profile answer text a.program b.program a.before b.before a.export b.export a.judged
-    b.judged in
-    let images : a.image ≡ b.image = a.exact ∙ (ap₂ (image_for optimisation profile) same.1 same.2 ∙ sym b.exact) in
+    let images = one_image answer optimisation profile text a.program b.program a.before b.before a.export b.export
+    a.image b.image a.compilation b.compilation in
     one_by_fields one other b.image a.are_bytes b.are_bytes
     (subst (λ (f : Fields). Spells one f) images a.spelled) b.spelled

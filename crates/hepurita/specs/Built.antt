@@ -76,21 +76,26 @@ abbrev pub IsRefusal : (Judgement → Type 0) → Refusal → Type 0
 IsRefusal J refusal = IsWantOfMemory refusal.rule refusal.place
     ⊎ ((place : Place) × (refusal.place ≡ Some place) × J (refuses refusal.rule place))
 
--- the bytes are the image of an accepted text, plain or optimised, for an observer: they spell fields, which are
--- those of the exported procedure and what it calls, compiled; which texts are accepted is one question for both
-pub record IsBuilt (optimisation : Optimisation) (profile : Profile) (text bytes : List ℕ) : Type 0 where
-  pub program : ProgramTree
-  pub before : List ProcedureTree
-  pub export : ProcedureTree
-  pub image : Fields
+-- the image is that of an accepted text, plain or optimised, for an observer: the exported procedure and what it calls,
+-- compiled; which texts are accepted is one question for both
+pub record IsCompilation (optimisation : Optimisation) (profile : Profile) (text : List ℕ) (program : ProgramTree)
+    (before : List ProcedureTree) (export : ProcedureTree) (image : Fields) : Type 0 where
   pub judged : Judges profile text (accepts program before export)
   pub observed : image.profile ≡ profile
   -- the export decides which image it is
   pub exact : image ≡ image_for optimisation profile before export
   pub allowed : IsImage image
-  pub are_bytes : AreBytes bytes
-  pub spelled : Spells bytes image
   pub compiled : IsCompiled program before export image
   -- code and frame may lie at the standard bases, and those of several images side by side
   pub bases : (k : ℕ) → k < most_images
       → AreBases image (code_base + code_distance * k) (frame_base + frame_distance * k)
+
+-- the bytes spell that image
+pub record IsBuilt (optimisation : Optimisation) (profile : Profile) (text bytes : List ℕ) : Type 0 where
+  pub program : ProgramTree
+  pub before : List ProcedureTree
+  pub export : ProcedureTree
+  pub image : Fields
+  pub compilation : IsCompilation optimisation profile text program before export image
+  pub are_bytes : AreBytes bytes
+  pub spelled : Spells bytes image

@@ -9,6 +9,7 @@ pub mod Exact
 pub mod CodeFor
 pub mod Built
 pub mod Told
+pub mod Flattened
 pub mod Answers
 pub mod Text
 pub mod CutOff

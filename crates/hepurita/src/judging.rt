@@ -7,12 +7,11 @@ ghost use Rattle.language.specs.Tree.{ProcedureTree, program_tree};
 ghost use Rattle.hepurita.specs.Built.{IsSmall, Judges, JudgesProgram, IsRefusal, accepts};
 ghost use Rattle.hepurita.specs.Told.{IsToldOfProgram, IsToldOfText};
 
+use crate::flattening::{Flattened, flatten};
 use inline::{Flat, inline};
-use intervals::check_ranges;
 use labels::check_as;
 use language::{Param, Profile, Program, Refusal, WordType};
 use std::alloc::Global;
-use syntax::parse;
 
 /// The export of a program that violates no rule on names, types and labels, with the bodies that it
 /// calls as one body within the limits on size; or the first refusal.
@@ -53,9 +52,9 @@ pub fn judge_as<'a>(alloc: Global, text: &'a str, profile: Profile) -> Result<Ac
     ensures refused { IfErr result (IsRefusal (Judges profile text.now)) }
     ensures told { IfErr result (IsToldOfText profile text.now) }
 {
-    let program = parse(alloc, text)?;
-    let flat = flat_of(alloc, &program, profile)?;
-    let _ranged = check_ranges(alloc, &flat)?;
+    let flattened = flatten(alloc, text, profile)?;
+    drop(flattened.ranged(alloc)?);
+    let Flattened { program, flat } = flattened;
     let params = flat.parameters().to_vec(alloc)?;
     Ok(Accepted {
         program,

@@ -19,7 +19,7 @@ ghost use Rattle.language.specs.arguments.PublicResults.{AgreeInPublic};
 ghost use Rattle.language.specs.Size.{extents_of, nodes_of};
 ghost use Rattle.language.specs.Limits.{most_nodes};
 ghost use Rattle.hepurita.specs.Bases.{code_base, frame_base, most_images, code_distance, frame_distance};
-ghost use Rattle.hepurita.specs.Built.{IsBuilt, Judges, JudgesProgram, accepts};
+ghost use Rattle.hepurita.specs.Built.{IsBuilt, IsCompilation, Judges, JudgesProgram, accepts};
 ghost use Rattle.hepurita.specs.Compiled.{IsCompiled, Means};
 ghost use Rattle.hepurita.specs.CutOff.{IsRightSoFar};
 ghost use Rattle.source_eval.specs.Answer.{answer};
@@ -63,6 +63,14 @@ pub fn builds_agree()
 {
     one_answer_for_a_text();
 }
+
+/// A compilation has bytes: those that `build_with` answers, from which it is read.
+pub fn compilations_are_spelled()
+    ensures { (optimisation : Optimisation) (profile : Profile) (text : List ℕ) (program : ProgramTree)
+        (before : List ProcedureTree) (export : ProcedureTree) (image : Fields)
+        → IsCompilation optimisation profile text program before export image
+        → (bytes : List ℕ) × Builds optimisation profile text bytes program before export image }
+{}
 
 /// The calls, one after another. The image of a text that is accepted for an observer, plain or optimised, read from the bytes that
 /// `build_with` answers and executed on arguments within the parameter types, gives the one outcome that the text

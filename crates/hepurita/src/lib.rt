@@ -6,9 +6,11 @@
 mod building;
 mod checking;
 mod comparing;
+mod compiling;
 mod elements;
 mod executing;
 mod fault;
+mod flattening;
 mod judging;
 mod laws;
 mod loading;
@@ -22,13 +24,15 @@ pub use building::{
 };
 pub use checking::first_fault;
 pub use comparing::{fault_of_both, pair};
+pub use compiling::{Compiled, code_of, compile_with};
 pub use executing::{answer, execute};
 pub use fault::RunFault;
+pub use flattening::{Flattened, flatten};
 pub use judging::{Accepted, judge, judge_as};
 pub use laws::{
     accepted_texts_are_evaluated, bases_fit, builds_agree, comparisons_agree,
-    cut_off_runs_are_right, executions_agree, images_do_what_texts_mean, readings_agree,
-    texts_are_compiled,
+    compilations_are_spelled, cut_off_runs_are_right, executions_agree, images_do_what_texts_mean,
+    readings_agree, texts_are_compiled,
 };
 pub use loading::{CODE_BASE, FRAME_BASE, code, frame, load, params, put_argument, put_arguments};
 pub use optimised::Optimisation;

@@ -11,33 +11,15 @@ ghost use Rattle.image_reports.specs.image_statistics.ImageText.{BeginsOtherwise
 ghost use Rattle.image_reports.specs.statistics.FieldsText.{fields_text};
 
 use crate::statistics::push_fields;
-use codegen::image_fields::ImageFields;
 use image::{Image, ImageFault, read};
 use std::alloc::{AllocError, Global};
-
-/// The fields of an image that was read.
-fn fields_of(alloc: Global, image: &Image) -> Result<ImageFields, AllocError>
-    ensures { IfOk result (λ fields. fields ≡ image.now) }
-{
-    let slots = image.slots().to_vec(alloc)?;
-    let words = image.words().to_vec(alloc)?;
-    Ok(ImageFields::new(
-        image.profile(),
-        slots,
-        image.returned(),
-        image.frame_bytes(),
-        image.max_steps(),
-        words,
-    ))
-}
 
 /// The fields of an image as lines.
 fn lines_of(alloc: Global, image: &Image) -> Result<String, AllocError>
     ensures { IfOk result (λ text. string_bytes text ≡ fields_text image.now) }
 {
-    let fields = fields_of(alloc, image)?;
     let mut text = String::new(alloc);
-    push_fields(&mut text, &fields)?;
+    push_fields(&mut text, image.fields())?;
     Ok(text)
 }
 

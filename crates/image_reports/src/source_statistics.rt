@@ -3,52 +3,37 @@
 //
 // It promises that these are the numbers that the passes used to judge the source, and the fields of the one plain
 // image that is built of it (`specs/source_statistics/SourceText.antt`); and that a source is refused exactly as
-// `build` refuses it. It stands on the passes, on `statistics`, and on `statement_work` of `explanations`.
+// `build` refuses it. It stands on `hepurita`, on `statistics`, and on `statement_work` of `explanations`.
 
 mod sizes;
 
-ghost use Rattle.std.specs.Prelude.{◌≡◌, [], List, ◌++◌, IfOk, IfErr, IfSome};
+ghost use Rattle.std.specs.Prelude.{◌≡◌, [], ◌++◌, IfOk, IfErr, IfSome};
 ghost use Rattle.std.specs.String.{string_bytes};
 ghost use Rattle.branch_removal.specs.Exact.{straight_of};
 ghost use Rattle.codegen.specs.Exact.{fields_of};
-ghost use Rattle.hepurita.specs.Built.{IsSmall, Judges, JudgesProgram, IsRefusal};
+ghost use Rattle.hepurita.specs.Built.{Judges, IsRefusal};
 ghost use Rattle.inline.specs.Numbering.{flattened};
 ghost use Rattle.language.specs.Signature.{exported};
-ghost use Rattle.language.specs.Tree.{ProcedureTree, program_tree};
+ghost use Rattle.language.specs.Tree.{program_tree};
 ghost use Rattle.language.specs.WantOfMemory.{IsWantOfMemory};
 ghost use Rattle.image_reports.specs.source_statistics.SourceText.{costs_text, export_lines, SaysCosts};
 
 use crate::source_statistics::sizes::push_sizes;
 use crate::statistics::push_fields;
-use branch_removal::remove;
-use codegen::generate;
-use inline::{Flat, inline};
-use intervals::{Ranged, check_ranges};
-use labels::check_as;
+use hepurita::{Optimisation, code_of, flatten};
+use intervals::Ranged;
 use language::{Profile, Program, Refusal};
 use std::alloc::Global;
 use std::fmt::Write;
-use syntax::parse;
 
 /// What a source costs that is accepted for an observer, as lines, or the first refusal: the one that `build_as` names.
 pub fn source_statistics(alloc: Global, source: &str, profile: Profile) -> Result<String, Refusal>
     ensures said { IfOk result (λ text. SaysCosts profile source.now (string_bytes text)) }
     ensures refused { IfErr result (IsRefusal (Judges profile source.now)) }
 {
-    let program = parse(alloc, source)?;
-    let flat = flat_of(alloc, &program, profile)?;
-    let ranged = check_ranges(alloc, &flat)?;
-    costs(alloc, &ranged, &program)
-}
-
-/// The export of a program that violates no rule on names, types and labels, with the bodies that it calls as one body
-/// within the limits on size; or the first refusal.
-fn flat_of(alloc: Global, program: &Program<'_>, profile: Profile) -> Result<Flat, Refusal>
-    ensures accepted { IfOk result (λ flat. (before : List ProcedureTree) × (export : ProcedureTree) × IsSmall profile (program_tree program.now) before export × (flat ≡ flattened profile before export)) }
-    ensures refused { IfErr result (IsRefusal (JudgesProgram profile (program_tree program.now))) }
-{
-    let checked = check_as(alloc, program, profile)?;
-    inline(alloc, &checked)
+    let flattened = flatten(alloc, source, profile)?;
+    let ranged = flattened.ranged(alloc)?;
+    costs(alloc, &ranged, &flattened.program)
 }
 
 /// The lines of a body with what was counted for it, and of the program whose export it is. Only memory refuses them.
@@ -67,8 +52,7 @@ fn body_costs(alloc: Global, ranged: &Ranged<'_>) -> Result<String, Refusal>
     ensures said { IfOk result (λ text. string_bytes text ≡ costs_text ranged.now (fields_of (straight_of ranged.now))) }
     ensures memory { IfErr result (λ refusal. IsWantOfMemory refusal.rule refusal.place) }
 {
-    let straight = remove(alloc, ranged)?;
-    let code = generate(alloc, &straight)?;
+    let code = code_of(alloc, ranged, Optimisation::Off)?;
     let nodes = ranged.flat().nodes();
     let work = ranged.work();
     let mut text = String::new(alloc);

@@ -4,15 +4,12 @@ use Rattle.std.proofs.Common.{◌++◌, refl, ◌∙◌}
 use Rattle.std.proofs.lemmas.List.{append_assoc}
 use Rattle.functions.specs.function_text.HeaderText.{comment_lines, guard_lines, include_lines, prototype_lines}
 use Rattle.functions.specs.function_text.Linked.{FunctionsAreLinked, HeadersStateStacks}
-use Rattle.functions.proofs.function_text_lemmas.Below.{fits}
 use Rattle.linked_calls.specs.Callable.{CallsAreLinked}
 use Rattle.linked_calls.specs.FunctionCode.{room_of}
-use Rattle.syntax.specs.Reading.{OneAnswer}
 
-pub functions_are_linked : CallsAreLinked → OneAnswer → FunctionsAreLinked
-functions_are_linked calls answer optimisation profile text parts of code site is =
-    let fit = fits answer optimisation profile text of.bytes of.program of.before of.export parts.image of.builds in
-    calls of.program of.before of.export parts.image fit.compiled of.builds.allowed code site is
+pub functions_are_linked : CallsAreLinked → FunctionsAreLinked
+functions_are_linked calls optimisation profile text parts of code site is =
+    calls of.program of.before of.export parts.image of.compilation.compiled of.compilation.allowed code site is
 
 pub headers_state_stacks : HeadersStateStacks
 headers_state_stacks optimisation profile text assembler header texts =

@@ -7,9 +7,8 @@ use Rattle.functions.specs.function_text.AssemblerText.{tail_lines, sections_lin
 use Rattle.functions.specs.function_text.Functions.{Named, Parts, IsFunctionOf, written_parameter}
 use Rattle.functions.specs.function_text.HeaderText.{header_text}
 use Rattle.functions.specs.function_text.Texts.{AreTextsOf}
-use Rattle.functions.proofs.function_text_lemmas.Below.{one_export, one_build}
+use Rattle.functions.proofs.function_text_lemmas.Below.{one_export, one_image}
 use Rattle.hepurita.specs.declared.optimised.Optimisation.{Optimisation}
-use Rattle.image.specs.Reading.{Spells}
 use Rattle.codegen.specs.image_fields.Fields.{Fields}
 use Rattle.language.specs.Tree.{ProcedureTree}
 use Rattle.listing.specs.Code.{IsTextOf, of_instruction, of_no_instruction}
@@ -25,22 +24,16 @@ same_parts : (name name' : List ℕ) (parameters parameters' : List Named) (imag
     (record { name = name'; parameters = parameters'; image = image' })
 same_parts name name' parameters parameters' image image' names params images = cc
 
-same_fields : (bytes : List ℕ) (f g : Fields) → Spells bytes f → Spells bytes g → f ≡ g
-same_fields bytes f g one other =
-    let both = sym one ∙ other in
-    cc
-
 pub one_function : OneAnswer → (optimisation : Optimisation) (profile : Profile) (text : List ℕ) (one other : Parts)
     → IsFunctionOf optimisation profile text one → IsFunctionOf optimisation profile text other → one ≡ other
 one_function answer optimisation profile text one other a b =
-    let same = one_export profile answer text a.program b.program a.before b.before a.export b.export a.builds.judged
-    b.builds.judged in
-    let bytes = one_build answer optimisation profile text a.bytes b.bytes a.builds.built b.builds.built in
-    let spelled = subst (λ (bytes : List ℕ). Spells bytes one.image) bytes a.builds.spelled in
+    let same = one_export profile answer text a.program b.program a.before b.before a.export b.export
+    a.compilation.judged b.compilation.judged in
     same_parts one.name other.name one.parameters other.parameters one.image other.image
     (a.name ∙ ap (λ (p : ProcedureTree). p.name) same.2 ∙ sym b.name)
     (a.parameters ∙ ap (λ (p : ProcedureTree). map (written_parameter p.name) p.parameters) same.2 ∙ sym b.parameters)
-    (same_fields b.bytes one.image other.image spelled b.builds.spelled)
+    (one_image answer optimisation profile text a.program b.program a.before b.before a.export b.export one.image
+    other.image a.compilation b.compilation)
 
 -- Texts.
 

@@ -6,8 +6,7 @@ use Rattle.functions.specs.declared.function_text.fault.FunctionFault.{FunctionF
 use Rattle.functions.specs.declared.function_text.fault.FunctionFault.TheVariants.{Text, Name}
 use Rattle.functions.specs.declared.function_text.function.Function.{Function}
 use Rattle.functions.specs.declared.function_text.function.NamedParam.{NamedParam}
-use Rattle.hepurita.specs.Answers.{Builds}
-use Rattle.hepurita.specs.Built.{Judges, accepts, IsRefusal}
+use Rattle.hepurita.specs.Built.{IsCompilation, Judges, accepts, IsRefusal}
 use Rattle.hepurita.specs.declared.optimised.Optimisation.{Optimisation}
 use Rattle.codegen.specs.image_fields.Fields.{Fields}
 use Rattle.language.specs.Signature.{param_of}
@@ -43,11 +42,10 @@ written_parameter function p = record { name = written_name function p.name; par
 -- names of its export
 pub record IsFunctionOf (optimisation : Optimisation) (profile : Profile) (text : List ℕ) (parts : Parts) :
     Type 0 where
-  pub bytes : List ℕ
   pub program : ProgramTree
   pub before : List ProcedureTree
   pub export : ProcedureTree
-  pub builds : Builds optimisation profile text bytes program before export parts.image
+  pub compilation : IsCompilation optimisation profile text program before export parts.image
   pub name : parts.name ≡ export.name
   pub free : is_taken_name export.name ≡ false
   pub parameters : parts.parameters ≡ map (written_parameter export.name) export.parameters

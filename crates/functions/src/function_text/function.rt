@@ -5,20 +5,17 @@ ghost use Rattle.functions.specs.function_text.Functions.{IsFunctionOf, IsFaultO
 ghost use Rattle.functions.specs.function_text.Functions.{written_parameter};
 ghost use Rattle.functions.specs.function_text.Names.{is_taken_name};
 ghost use Rattle.functions.specs.function_text.private.OfExport.{IsOfExport, IsTaken};
-ghost use Rattle.image.specs.Reading.{Spells};
-ghost use Rattle.codegen.specs.image_fields.Fields.{Fields, IsImage};
 ghost use Rattle.language.specs.Signature.{exported};
 ghost use Rattle.language.specs.Tree.{ProcedureTree, parameter_tree, procedure_tree, program_tree};
 ghost use Rattle.language.specs.WantOfMemory.{IsWantOfMemory};
 
 use crate::function_text::fault::FunctionFault;
 use crate::function_text::naming::{Macros, is_taken_name, macros_of, written_name};
+use codegen::Code;
 use codegen::image_fields::ImageFields;
-use hepurita::{Optimisation, build_with};
-use image::{Image, ImageFault, read};
+use hepurita::{Compiled, Optimisation, compile_with};
 use language::{Param, Parameter, Procedure, Profile, Program, Refusal};
 use std::alloc::{AllocError, Global};
-use syntax::{one_answer_for_a_text, parse};
 
 /// A parameter under the name that is written for it.
 #[derive(Drop)]
@@ -33,22 +30,6 @@ pub struct Function<'a> {
     pub name: &'a str,
     pub parameters: Vec<NamedParam>,
     pub image: ImageFields,
-}
-
-/// The fields of an image that was read.
-fn fields_of(alloc: Global, image: &Image) -> Result<ImageFields, AllocError>
-    ensures { IfOk result (λ fields. fields ≡ image.now) }
-{
-    let slots = image.slots().to_vec(alloc)?;
-    let words = image.words().to_vec(alloc)?;
-    Ok(ImageFields::new(
-        image.profile(),
-        slots,
-        image.returned(),
-        image.frame_bytes(),
-        image.max_steps(),
-        words,
-    ))
 }
 
 /// Parameters under the names that are written for them.
@@ -81,59 +62,42 @@ fn export_of<'p, 'a>(program: &'p Program<'a>) -> &'p Procedure<'a>
     }
 }
 
-/// The image that bytes spell.
-fn image_of(alloc: Global, bytes: &[u8]) -> Result<ImageFields, Refusal>
-    requires { (image : Fields) × Spells bytes.now image }
-    ensures spelled { IfOk result (λ image. Spells bytes.now image) }
-    ensures allowed { IfOk result IsImage }
-    ensures memory { IfErr result (λ refusal. IsWantOfMemory refusal.rule refusal.place) }
-{
-    match read(alloc, bytes) {
-        Ok(image) => Ok(fields_of(alloc, &image)?),
-        Err(ImageFault::Memory) => Err(Refusal::memory()),
-        Err(ImageFault::Field { .. }) => unreachable!(),
-    }
-}
-
-/// The function of an export whose name is free, and whose image the bytes spell.
+/// The function of an export whose name is free, and of its code.
 fn named_function<'a>(
     alloc: Global,
     export: &Procedure<'a>,
-    bytes: &[u8],
+    code: Code,
 ) -> Result<Function<'a>, Refusal>
-    requires free { is_taken_name export.now.name.now ≡ false }
-    requires spelled { (image : Fields) × Spells bytes.now image }
-    ensures made { IfOk result (λ function. IsOfExport (procedure_tree export.now) bytes.now (parts_of function)) }
+    requires { is_taken_name export.now.name.now ≡ false }
+    ensures made { IfOk result (λ function. IsOfExport (procedure_tree export.now) code (parts_of function)) }
     ensures memory { IfErr result (λ refusal. IsWantOfMemory refusal.rule refusal.place) }
 {
-    let image = image_of(alloc, bytes)?;
     let macros = macros_of(alloc, export.name)?;
     let parameters = named_params(alloc, &macros, export.parameters.as_slice())?;
     Ok(Function {
         name: export.name,
         parameters,
-        image,
+        image: code.into_fields(),
     })
 }
 
-/// The function of an export, whose image the bytes spell.
+/// The function of an export and of its code.
 fn of_export<'a>(
     alloc: Global,
     export: &Procedure<'a>,
-    bytes: &[u8],
+    code: Code,
 ) -> Result<Function<'a>, FunctionFault<Refusal>>
-    requires { (image : Fields) × Spells bytes.now image }
-    ensures made { IfOk result (λ function. IsOfExport (procedure_tree export.now) bytes.now (parts_of function)) }
+    ensures made { IfOk result (λ function. IsOfExport (procedure_tree export.now) code (parts_of function)) }
     ensures fault { IfErr result (λ fault. IsUnlessMemory fault (IsTaken (procedure_tree export.now))) }
 {
     if is_taken_name(export.name) {
         return Err(FunctionFault::Name(export.place));
     }
-    Ok(named_function(alloc, export, bytes)?)
+    Ok(named_function(alloc, export, code)?)
 }
 
 /// The function of a text that is accepted for an observer of this profile, with plain or optimised code. A text that is not
-/// is refused as by `build_with`, before its names are looked at; then an export's name that C, C++ or an assembler cannot take.
+/// is refused as by `compile_with`, before its names are looked at; then an export's name that C, C++ or an assembler cannot take.
 pub fn function_of<'a>(
     alloc: Global,
     text: &'a str,
@@ -143,8 +107,7 @@ pub fn function_of<'a>(
     ensures made { IfOk result (λ function. IsFunctionOf optimisation profile text.now (parts_of function)) }
     ensures fault { IfErr result (IsFaultOf profile text.now) }
 {
-    let bytes = build_with(alloc, text, profile, optimisation)?;
-    let program = parse(alloc, text)?;
-    one_answer_for_a_text();
-    of_export(alloc, export_of(&program), bytes.as_slice())
+    let compiled = compile_with(alloc, text, profile, optimisation)?;
+    let Compiled { program, code } = compiled;
+    of_export(alloc, export_of(&program), code)
 }

@@ -33,5 +33,4 @@ pub fn functions_are_linked()
     ensures stack { HeadersStateStacks }
 {
     calls_are_linked();
-    one_answer_for_a_text();
 }

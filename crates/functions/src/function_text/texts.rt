@@ -23,7 +23,7 @@ pub struct Texts {
 }
 
 /// Both texts of the function of a text, for an observer of this profile, with plain or optimised code. A text that is not
-/// accepted is refused as by `build_with`, then an export's name that C, C++ or an assembler cannot take.
+/// accepted is refused as by `compile_with`, then an export's name that C, C++ or an assembler cannot take.
 pub fn texts_of(
     alloc: Global,
     text: &str,

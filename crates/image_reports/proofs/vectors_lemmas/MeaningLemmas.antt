@@ -31,6 +31,7 @@ use Rattle.rv_machine.specs.declared.stops.Stop.TheVariants.{Ecall, Break, Illeg
 use Rattle.rv_machine.specs.declared.stops.Stop.TheVariants.{RecorderRefused}
 use Rattle.image_reports.specs.vectors.Spelled.{lists_of, returned_list}
 use Rattle.image_reports.specs.vectors.Verdicts.{IsImageOf}
+use Rattle.image_reports.proofs.vectors_lemmas.Below.{spelled}
 use Rattle.word.specs.declared.profile.Profile.{Profile}
 
 -- the law of the crate below
@@ -47,8 +48,9 @@ pub meant : GivesMeaning
     → Executed image args keeps list answer after → IsTheOutcome program args answer
 meant law program image args keeps list after answer is within executed =
     let source = is.2 in
-    law Off is.0 is.1 source.bytes program source.before source.export image args keeps list after answer
-    source.builds within executed
+    let built = spelled Off is.0 is.1 program source.before source.export image source.compilation in
+    law Off is.0 is.1 built.0 program source.before source.export image args keeps list after answer built.1 within
+    executed
 
 -- where the recorder does not refuse, a run fails when out of memory alone
 abbrev failing : RunFault → Result Results RunFault

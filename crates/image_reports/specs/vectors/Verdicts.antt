@@ -10,7 +10,7 @@ use Rattle.certified_runs.specs.declared.certifying.CertifiedEnd.{CertifiedEnd}
 use Rattle.certified_runs.specs.declared.certifying.CertifiedEnd.TheVariants.{Same, MayDiffer}
 use Rattle.certified_runs.specs.declared.shifts.Shifts.TheVariants.{Hidden}
 use Rattle.codegen.specs.Loaded.{params_of}
-use Rattle.hepurita.specs.Answers.{Builds}
+use Rattle.hepurita.specs.Built.{IsCompilation}
 use Rattle.hepurita.specs.Meant.{Means}
 use Rattle.hepurita.specs.declared.optimised.Optimisation.TheVariants.{Off}
 use Rattle.codegen.specs.image_fields.Fields.{Fields}
@@ -24,10 +24,9 @@ use Rattle.word.specs.declared.profile.Profile.{Profile}
 
 -- a source that is accepted for an observer: its program, and its plain image
 pub record IsSource (profile : Profile) (source : List ℕ) (program : ProgramTree) (image : Fields) : Type 0 where
-  pub bytes : List ℕ
   pub before : List ProcedureTree
   pub export : ProcedureTree
-  pub builds : Builds Off profile source bytes program before export image
+  pub compilation : IsCompilation Off profile source program before export image
 
 -- the same, whatever the source and the observer
 abbrev pub IsImageOf : ProgramTree → Fields → Type 0

@@ -17,8 +17,8 @@ use crate::vectors::lines::Vector;
 use crate::vectors::running::{outcome_of, wrong_of};
 use crate::vectors::texts::all_plain;
 use crate::vectors::wanted::difference_of;
-use hepurita::{build_as, params};
-use image::{Image, ImageFault, read as read_image};
+use hepurita::{Compiled, Optimisation, compile_with, params};
+use image::Image;
 use language::{Args, Profile, Refusal};
 use std::alloc::Global;
 use std::fmt::Write;
@@ -35,12 +35,9 @@ fn image_of(alloc: Global, source: &str, profile: Profile) -> Result<Image, Refu
     ensures image { IfOk result (λ image. (program : ProgramTree) × IsSource profile source.now program image) }
     ensures refused { IfErr result (IsRefusal (Judges profile source.now)) }
 {
-    let bytes = build_as(alloc, source, profile)?;
-    match read_image(alloc, bytes.as_slice()) {
-        Ok(image) => Ok(image),
-        Err(ImageFault::Memory) => Err(Refusal::memory()),
-        Err(ImageFault::Field { .. }) => unreachable!(),
-    }
+    let compiled = compile_with(alloc, source, profile, Optimisation::Off)?;
+    let Compiled { code, .. } = compiled;
+    Ok(Image::from(code))
 }
 
 /// What is wrong with a vector that gives these arguments; `None` where it passes.
@@ -99,7 +96,7 @@ fn try_all(alloc: Global, image: &Image, vectors: &[Vector<'_>]) -> Result<Repor
     Ok(Report { text, failures })
 }
 
-/// Tries vectors of a source that is accepted for an observer, or answers its refusal. The source is built once.
+/// Tries vectors of a source that is accepted for an observer, or answers its refusal. The source is compiled once.
 pub fn try_vectors(
     alloc: Global,
     source: &str,

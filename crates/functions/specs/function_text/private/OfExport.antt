@@ -1,15 +1,13 @@
--- What is made of an export and the bytes of its image, whichever text they come from.
-use Rattle.std.specs.Prelude.{◌≡◌, ℕ, true, false, List, map}
+-- What is made of an export and its image, whichever text they come from.
+use Rattle.std.specs.Prelude.{◌≡◌, true, false, map}
 use Rattle.functions.specs.function_text.Functions.{Parts, written_parameter}
 use Rattle.functions.specs.function_text.Names.{is_taken_name}
-use Rattle.image.specs.Reading.{Spells}
-use Rattle.codegen.specs.image_fields.Fields.{IsImage}
+use Rattle.codegen.specs.image_fields.Fields.{Fields}
 use Rattle.language.specs.Tree.{ProcedureTree}
 use Rattle.word.specs.declared.place.Place.{Place}
 
-pub record IsOfExport (export : ProcedureTree) (bytes : List ℕ) (parts : Parts) : Type 0 where
-  pub allowed : IsImage parts.image
-  pub spelled : Spells bytes parts.image
+pub record IsOfExport (export : ProcedureTree) (code : Fields) (parts : Parts) : Type 0 where
+  pub image : parts.image ≡ code
   pub name : parts.name ≡ export.name
   pub free : is_taken_name export.name ≡ false
   pub parameters : parts.parameters ≡ map (written_parameter export.name) export.parameters

@@ -8,10 +8,9 @@ pub returns-clause-made : goal.returns-clause-made
 returns-clause-made c =
     let given = c.as_slice.result.now in
     record {
-      allowed = c.in_ok-image.ensures.allowed;
-      spelled = c.in_ok-image.ensures.spelled;
+      image = c.into_fields.ensures;
       name = refl;
-      free = c.requires.free;
+      free = c.requires;
       parameters =
           c.in_ok-parameters.ensures
           ∙ ap (λ (name : List ℕ). map (written_parameter name) (map parameter_tree given)) c.in_ok-macros.ensures

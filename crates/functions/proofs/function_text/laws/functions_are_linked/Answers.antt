@@ -3,6 +3,6 @@ use Rattle.functions.proofs.function_text.laws.functions_are_linked.Goals as goa
 
 pub returns : goal.returns
 returns c = record {
-  linked = functions_are_linked c.calls_are_linked.ensures c.one_answer_for_a_text.ensures;
+  linked = functions_are_linked c.calls_are_linked.ensures;
   stack = headers_state_stacks;
 }

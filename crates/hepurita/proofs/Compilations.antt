@@ -1,0 +1,56 @@
+-- What is generated for an accepted text is its compilation, and that has bytes.
+use Rattle.std.proofs.Common.{◌≡◌, ℕ, List, ◌∙◌}
+use Rattle.branch_removal.specs.Removed.{IsRemoved}
+use Rattle.branch_removal.specs.Straight.{StraightProgram}
+use Rattle.codegen.specs.Followed.{IsGenerated}
+use Rattle.codegen.specs.image_fields.Fields.{Fields, IsImage}
+use Rattle.image.proofs.Spellings.{allowed_by_bytes}
+use Rattle.inline.specs.Numbering.{flattened}
+use Rattle.intervals.specs.Work.{ranged}
+use Rattle.language.specs.Tree.{ProcedureTree, ProgramTree}
+use Rattle.hepurita.specs.Answers.{Builds}
+use Rattle.hepurita.specs.Built.{IsCompilation, Judges, accepts, fine, readable}
+use Rattle.hepurita.specs.Exact.{image_for}
+use Rattle.hepurita.specs.declared.optimised.Optimisation.{Optimisation}
+use Rattle.hepurita.proofs.BaseLemmas.{bases_of}
+use Rattle.hepurita.proofs.TheoremLemmas.{texts_compiled}
+use Rattle.word.specs.declared.profile.Profile.{Profile}
+
+module _ (optimisation : Optimisation) (profile : Profile) (text : List ℕ) (program : ProgramTree)
+    (before : List ProcedureTree) (export : ProcedureTree) (image : Fields) where
+  pub compilation : (straight : StraightProgram) → Judges profile text (accepts program before export)
+      → IsRemoved (ranged (flattened profile before export)) straight → IsGenerated straight image → IsImage image
+      → image ≡ image_for optimisation profile before export
+      → IsCompilation optimisation profile text program before export image
+  compilation straight (readable reads (fine small in_range in_time)) removed generated allowed exact =
+      let judges = fine small in_range in_time in
+      let is = texts_compiled profile text program before export straight image reads judges removed generated in
+      record {
+        judged = readable reads judges;
+        observed = generated.profile ∙ removed.profile;
+        exact = exact;
+        allowed = allowed;
+        compiled = is;
+        bases = bases_of profile program before export image judges is;
+      }
+
+  pub spelled : IsCompilation optimisation profile text program before export image
+      → (bytes : List ℕ) × Builds optimisation profile text bytes program before export image
+  spelled is =
+      let found = (allowed_by_bytes image).0 is.allowed in (
+        found.0,
+        record {
+          built = record {
+            program = program;
+            before = before;
+            export = export;
+            image = image;
+            compilation = is;
+            are_bytes = found.1;
+            spelled = found.2;
+          };
+          judged = is.judged;
+          allowed = is.allowed;
+          spelled = found.2;
+        },
+      )

@@ -1,0 +1,45 @@
+-- What the last passes find in a text's one body is the judgement on the text.
+use Rattle.std.proofs.Common.{◌≡◌, ℕ, List, length, Result, Ok, Err, ap, ◌∙◌}
+use Rattle.std.specs.Result.{IfOk, OnOk}
+use Rattle.intervals.specs.Ranges.{range_violations}
+use Rattle.intervals.specs.Work.{work_violations, IsRefusedByRanges, IsToldByRanges}
+use Rattle.language.specs.Tree.{ProgramTree, program_tree}
+use Rattle.language.specs.declared.refusal.Refusal.{Refusal}
+use Rattle.hepurita.specs.Built.{IsRefusal, Judges, accepts, fine, readable}
+use Rattle.hepurita.specs.Flattened.{IsFlattened}
+use Rattle.hepurita.specs.Told.{IsToldOfText}
+use Rattle.hepurita.specs.declared.flattening.Flattened.{Flattened}
+use Rattle.hepurita.proofs.TellingLemmas.{told_of_program, told_of_ranges}
+use Rattle.hepurita.proofs.BuiltLemmas.{refusal_of_program, refusal_of_ranges}
+use Rattle.hepurita.proofs.GrammaticalExports.{HasGrammaticalExport, grammatical_export, same_violations}
+use Rattle.word.specs.declared.profile.Profile.{Profile}
+
+-- two facts beside what was answered
+pub ok_beside : {X Y A B : Type 0} (r : Result X Y) (P Q : X → Type 0) → OnOk r A → OnOk r B → IfOk r P
+    → (A → B → (x : X) → P x → Q x) → IfOk r Q
+ok_beside (Ok x) P Q a b p q = q a b x p
+ok_beside (Err y) P Q a b p q = tt
+
+module _ (profile : Profile) (text : List ℕ) (made : Flattened) (is : IsFlattened profile text made) where
+  abbrev program : ProgramTree
+  program = program_tree made.program
+
+  plain : HasGrammaticalExport program
+  plain = grammatical_export text program is.read
+
+  pub judged_fine : length (range_violations made.flat) ≡ 0 → length (work_violations made.flat) ≡ 0
+      → Judges profile text (accepts program is.before is.export)
+  judged_fine in_range in_time =
+      let one = same_violations profile program is.before is.export plain is.small in
+      readable is.read
+      (fine is.small (rw is.body at in_range) (ap (λ vs. length vs) one ∙ (rw is.body at in_time)))
+
+  pub judged_by_ranges : (r : Refusal) → IsRefusedByRanges made.flat r.rule r.place → IsRefusal (Judges profile text) r
+  judged_by_ranges r refused =
+      refusal_of_program profile text program r is.read
+      (refusal_of_ranges profile program is.before is.export made.flat r plain is.small is.body refused)
+
+  pub told_by_ranges : (r : Refusal) → IsToldByRanges made.flat r → IsToldOfText profile text r
+  told_by_ranges r told =
+      told_of_program profile text program r is.read
+      (told_of_ranges profile program made.flat r plain (is.before, is.export, is.small, is.body) told)

@@ -1,0 +1,16 @@
+-- What a text is up to the passes on size.
+use Rattle.std.specs.Prelude.{◌≡◌, ℕ, List}
+use Rattle.hepurita.specs.Built.{IsSmall}
+use Rattle.hepurita.specs.declared.flattening.Flattened.{Flattened}
+use Rattle.inline.specs.Numbering.{flattened}
+use Rattle.language.specs.Tree.{ProcedureTree, program_tree}
+use Rattle.syntax.specs.Reading.{Reads, accepted}
+use Rattle.word.specs.declared.profile.Profile.{Profile}
+
+-- the text is this program, and the body is its export with the bodies that it calls, which passes no limit on size
+pub record IsFlattened (profile : Profile) (text : List ℕ) (made : Flattened) : Type 0 where
+  pub before : List ProcedureTree
+  pub export : ProcedureTree
+  pub read : Reads text (accepted (program_tree made.program))
+  pub small : IsSmall profile (program_tree made.program) before export
+  pub body : made.flat ≡ flattened profile before export

@@ -1,0 +1,110 @@
+// A text, compiled: the value from which all is taken that is made of an accepted text.
+
+ghost use Rattle.std.specs.Prelude.{◌≡◌, ℕ, List, IfOk, IfErr};
+ghost use Rattle.branch_removal.specs.Exact.{straight_of};
+ghost use Rattle.branch_removal.specs.Removed.{IsRemoved};
+ghost use Rattle.branch_removal.specs.Straight.{StraightProgram};
+ghost use Rattle.codegen.specs.Exact.{fields_of};
+ghost use Rattle.codegen.specs.Followed.{IsGenerated};
+ghost use Rattle.codegen.specs.image_fields.Fields.{IsImage};
+ghost use Rattle.language.specs.Tree.{ProcedureTree, program_tree};
+ghost use Rattle.language.specs.WantOfMemory.{IsWantOfMemory};
+ghost use Rattle.hepurita.specs.Built.{IsCompilation, IsRefusal, Judges};
+ghost use Rattle.hepurita.specs.CodeFor.{IsCodeFor};
+ghost use Rattle.hepurita.specs.Exact.{code_for, first_of, optimised_for};
+ghost use Rattle.hepurita.specs.Flattened.{IsFlattened};
+ghost use Rattle.hepurita.specs.Told.{IsToldOfText};
+ghost use Rattle.word.specs.declared.profile.Profile.{Profile};
+
+use crate::flattening::{Flattened, flatten};
+use crate::optimised::Optimisation;
+use crate::optimising::{rolled, unrolled};
+use branch_removal::{Straight, remove};
+use codegen::{Code, generate};
+use intervals::Ranged;
+use language::{Profile, Program, Refusal};
+use std::alloc::Global;
+
+/// The first optimised code of a straight program that is within the limit on words, or else its plain code. Only memory
+/// refuses it.
+fn first_code(alloc: Global, straight: &Straight<'_>) -> Result<Code, Refusal>
+    ensures generated { IfOk result (IsCodeFor straight.now) }
+    ensures exact { IfOk result (λ code. code ≡ first_of (optimised_for straight.now) (fields_of straight.now)) }
+    ensures allowed { IfOk result IsImage }
+    ensures memory { IfErr result (λ refusal. IsWantOfMemory refusal.rule refusal.place) }
+{
+    if let Some(code) = unrolled(alloc, straight.code())? {
+        return Ok(code);
+    }
+    if let Some(code) = rolled(alloc, straight.code())? {
+        return Ok(code);
+    }
+    generate(alloc, straight)
+}
+
+/// The code of a body with what is counted for it, plain or optimised. Only memory refuses it.
+pub fn code_of(
+    alloc: Global,
+    ranged: &Ranged<'_>,
+    optimisation: Optimisation,
+) -> Result<Code, Refusal>
+    ensures generated { IfOk result (λ code. (straight : StraightProgram)
+        × IsRemoved ranged.now straight × IsGenerated straight code) }
+    ensures exact { IfOk result (λ code. code ≡ code_for optimisation (straight_of ranged.now)) }
+    ensures allowed { IfOk result IsImage }
+    ensures memory { IfErr result (λ refusal. IsWantOfMemory refusal.rule refusal.place) }
+{
+    let straight = remove(alloc, ranged)?;
+    match optimisation {
+        Optimisation::Off => generate(alloc, &straight),
+        Optimisation::On => first_code(alloc, &straight),
+    }
+}
+
+/// The code of a text's export, where the text is accepted, or the first refusal.
+fn code_in(
+    alloc: Global,
+    flattened: &Flattened<'_>,
+    optimisation: Optimisation,
+) -> Result<Code, Refusal>
+    ensures compiled { (profile : Profile) (text : List ℕ) (is : IsFlattened profile text flattened.now)
+        → IfOk result (IsCompilation optimisation profile text (program_tree flattened.now.program) is.before is.export) }
+    ensures refused { (profile : Profile) (text : List ℕ) → IsFlattened profile text flattened.now
+        → IfErr result (IsRefusal (Judges profile text)) }
+    ensures told { (profile : Profile) (text : List ℕ) → IsFlattened profile text flattened.now
+        → IfErr result (IsToldOfText profile text) }
+{
+    let ranged = flattened.ranged(alloc)?;
+    code_of(alloc, &ranged, optimisation)
+}
+
+/// An accepted text, compiled: its program, and the code of its export.
+#[derive(Drop)]
+pub struct Compiled<'a> {
+    pub program: Program<'a>,
+    pub code: Code,
+}
+
+/// A text that is accepted for an observer of this profile, compiled to plain or to optimised code, or the first refusal.
+/// Passes are asked in the order: the text itself; names, types and labels; sizes; ranges; work. Which texts are accepted,
+/// and what the others are refused for, does not depend on the optimisation.
+///
+/// Either image, run on any arguments within the parameter types, gives what the text means, within its
+/// stated steps and its frame; and on arguments that are equal where they are public the observer
+/// sees one and the same.
+pub fn compile_with<'a>(
+    alloc: Global,
+    text: &'a str,
+    profile: Profile,
+    optimisation: Optimisation,
+) -> Result<Compiled<'a>, Refusal>
+    ensures compiled { IfOk result (λ made. (before : List ProcedureTree) × (export : ProcedureTree)
+        × IsCompilation optimisation profile text.now (program_tree made.program) before export made.code) }
+    ensures refused { IfErr result (IsRefusal (Judges profile text.now)) }
+    ensures told { IfErr result (IsToldOfText profile text.now) }
+{
+    let flattened = flatten(alloc, text, profile)?;
+    let code = code_in(alloc, &flattened, optimisation)?;
+    let Flattened { program, .. } = flattened;
+    Ok(Compiled { program, code })
+}

@@ -1,0 +1,52 @@
+// A text up to what the passes on its size accept: its program, and its export as one body.
+
+ghost use Rattle.std.specs.Prelude.{◌≡◌, List, ℕ, IfOk, IfErr};
+ghost use Rattle.inline.specs.Numbering.{flattened};
+ghost use Rattle.intervals.specs.Work.{ranged};
+ghost use Rattle.language.specs.Tree.{program_tree};
+ghost use Rattle.hepurita.specs.Built.{Judges, IsRefusal, accepts};
+ghost use Rattle.hepurita.specs.Flattened.{IsFlattened};
+ghost use Rattle.hepurita.specs.Told.{IsToldOfText};
+ghost use Rattle.word.specs.declared.profile.Profile.{Profile};
+
+use crate::judging::flat_of;
+use inline::Flat;
+use intervals::{Ranged, check_ranges};
+use language::{Profile, Program, Refusal};
+use std::alloc::Global;
+use syntax::parse;
+
+/// A text's program, and its export with the bodies that it calls as one body.
+#[derive(Drop)]
+pub struct Flattened<'a> {
+    pub program: Program<'a>,
+    pub flat: Flat,
+}
+
+impl<'a> Flattened<'a> {
+    /// The body with what is counted for it, where its text is accepted; or else the text's refusal, for a range or for the
+    /// work.
+    pub fn ranged<'f>(&'f self, alloc: Global) -> Result<Ranged<'f>, Refusal>
+        ensures accepted { (profile : Profile) (text : List ℕ) (is : IsFlattened profile text self.now)
+            → IfOk result (λ counted. (counted ≡ ranged (flattened profile is.before is.export))
+            × Judges profile text (accepts (program_tree self.now.program) is.before is.export)) }
+        ensures refused { (profile : Profile) (text : List ℕ) → IsFlattened profile text self.now
+            → IfErr result (IsRefusal (Judges profile text)) }
+        ensures told { (profile : Profile) (text : List ℕ) → IsFlattened profile text self.now
+            → IfErr result (IsToldOfText profile text) }
+    {
+        check_ranges(alloc, &self.flat)
+    }
+}
+
+/// The program of a text that passes the rules on the text itself, on names, types and labels, and on sizes, for an
+/// observer of this profile, with its export as one body; or the first refusal.
+pub fn flatten<'a>(alloc: Global, text: &'a str, profile: Profile) -> Result<Flattened<'a>, Refusal>
+    ensures accepted { IfOk result (IsFlattened profile text.now) }
+    ensures refused { IfErr result (IsRefusal (Judges profile text.now)) }
+    ensures told { IfErr result (IsToldOfText profile text.now) }
+{
+    let program = parse(alloc, text)?;
+    let flat = flat_of(alloc, &program, profile)?;
+    Ok(Flattened { program, flat })
+}
