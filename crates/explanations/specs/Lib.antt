@@ -1,3 +1,8 @@
+pub mod edit_distance
+pub mod source_excerpts
+pub mod expected_tokens
+pub mod name_uses
+pub mod call_places
 pub mod statement_work
 pub mod refusal_details
 pub mod explained_refusals

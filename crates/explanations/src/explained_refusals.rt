@@ -2,7 +2,7 @@
 // marked, what there is at the place, and the violated rule with its usual cause and its cure.
 //
 // It promises that the lines are those of this place and of this rule (`specs/explained_refusals/Explained.antt`). It
-// stands on `diagnostics::source_excerpts` for the line, on `refusal_details` for what there is at the place and on the
+// stands on `source_excerpts` for the line, on `refusal_details` for what there is at the place and on the
 // table of this crate for the rules, of which each has a row there.
 
 ghost use Rattle.std.specs.Prelude.{◌≡◌, Some, IfOk, IfErr};
@@ -13,8 +13,8 @@ ghost use Rattle.language.specs.Rules.{code_of};
 ghost use Rattle.language.specs.WantOfMemory.{IsWantOfMemory};
 
 use crate::refusal_details::details;
+use crate::source_excerpts::excerpt;
 use crate::{Explanation, explanation};
-use diagnostics::source_excerpts::excerpt;
 use language::{Place, Refusal, Rule};
 use std::alloc::{AllocError, Global};
 

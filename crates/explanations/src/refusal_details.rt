@@ -2,7 +2,7 @@
 //
 // It promises which lines these are: those of the refusal's own evidence, which the pass that refused has handed out
 // (`specs/refusal_details/WhyLines.antt`), and what is found in the source beside it
-// (`specs/refusal_details/Details.antt`). For that it stands on the modules of `diagnostics`, `expected_tokens` for what
+// (`specs/refusal_details/Details.antt`). For that it stands on `expected_tokens` for what
 // may stand at a place, `name_uses` for what is near a name and `call_places` for calls; and on `statement_work` for the
 // part of the export that has most work.
 
@@ -19,7 +19,7 @@ mod type_lines;
 mod why_lines;
 mod work_lines;
 
-ghost use Rattle.std.specs.Prelude.{◌≡◌, IfOk, IfErr};
+ghost use Rattle.std.specs.Prelude.{IfOk, IfErr};
 ghost use Rattle.std.specs.String.{string_bytes};
 ghost use Rattle.language.specs.WantOfMemory.{IsWantOfMemory};
 ghost use Rattle.explanations.specs.refusal_details.Details.{Finds, FindsBeside, Says};

@@ -4,7 +4,7 @@ use Rattle.explanations.specs.Table.{text_of}
 use Rattle.language.specs.Rules.{code_of}
 use Rattle.language.specs.declared.refusal.Refusal.{Refusal}
 use Rattle.explanations.specs.refusal_details.Details.{Says}
-use Rattle.diagnostics.specs.source_excerpts.Excerpt.{excerpt_text}
+use Rattle.explanations.specs.source_excerpts.Excerpt.{excerpt_text}
 use Rattle.word.specs.declared.place.Place.{Place}
 
 -- the line of a source at a place, marked

@@ -7,7 +7,7 @@ use Rattle.explanations.specs.refusal_details.Found.{IsExportOf}
 use Rattle.explanations.specs.refusal_details.SizeLines.{excess_line}
 use Rattle.language.specs.Shares.{excess}
 use Rattle.explanations.specs.refusal_details.WhyLines.{why_lines}
-use Rattle.diagnostics.specs.call_places.CallPlaces.{call_places, procedure_at}
+use Rattle.explanations.specs.call_places.CallPlaces.{call_places, procedure_at}
 use Rattle.language.specs.declared.refusal.Refusal.{Refusal}
 use Rattle.language.specs.declared.rule.Rule.{Rule}
 use Rattle.language.specs.declared.rule.Rule.TheVariants.{UnknownCharacter, UnexpectedToken, UndeclaredName}
@@ -16,8 +16,8 @@ use Rattle.language.specs.declared.why.Counted.TheVariants.{Work}
 use Rattle.language.specs.declared.why.Why.{Why}
 use Rattle.language.specs.declared.why.Why.TheVariants as why
 use Rattle.language.specs.Tree.{ProcedureTree, ProgramTree}
-use Rattle.diagnostics.specs.name_uses.Nearest.{nearest}
-use Rattle.diagnostics.specs.name_uses.Scopes.{Seen, Use, use_in_procedures}
+use Rattle.explanations.specs.name_uses.Nearest.{nearest}
+use Rattle.explanations.specs.name_uses.Scopes.{Seen, Use, use_in_procedures}
 use Rattle.explanations.specs.statement_work.WorkCosts.{work_cost}
 use Rattle.syntax.specs.Reading.{Reads, accepted, refused}
 use Rattle.word.specs.declared.place.Place.{Place}

@@ -1,8 +1,8 @@
 -- What is said where a token is unexpected: which kinds of tokens may stand there.
 use Rattle.std.specs.Prelude.{ℕ, List, [], ◌∷◌, ◌++◌, take, codes}
 use Rattle.std.specs.Str.{IsCharBoundary}
-use Rattle.diagnostics.specs.expected_tokens.Candidates.{candidates}
-use Rattle.diagnostics.specs.expected_tokens.Expected.{Expects}
+use Rattle.explanations.specs.expected_tokens.Candidates.{candidates}
+use Rattle.explanations.specs.expected_tokens.Expected.{Expects}
 
 -- names, each behind a comma
 abbrev pub more_names : List (List ℕ) → List ℕ

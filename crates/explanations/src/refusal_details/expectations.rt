@@ -5,7 +5,7 @@ ghost use Rattle.std.specs.String.{string_bytes};
 ghost use Rattle.language.specs.WantOfMemory.{IsWantOfMemory};
 ghost use Rattle.explanations.specs.refusal_details.ExpectedLines.{SaysExpected, expected_line, more_names};
 
-use diagnostics::expected_tokens::expected;
+use crate::expected_tokens::expected;
 use language::Refusal;
 use std::alloc::{AllocError, Global};
 

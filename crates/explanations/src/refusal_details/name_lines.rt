@@ -4,11 +4,11 @@ ghost use Rattle.std.specs.Prelude.{◌≡◌, map, IfOk};
 ghost use Rattle.std.specs.Option.{option_map};
 ghost use Rattle.std.specs.String.{string_bytes};
 ghost use Rattle.language.specs.Tree.{program_tree};
-ghost use Rattle.diagnostics.specs.name_uses.Nearest.{nearest};
-ghost use Rattle.diagnostics.specs.name_uses.Scopes.{seen, seen_use, use_in_procedures};
+ghost use Rattle.explanations.specs.name_uses.Nearest.{nearest};
+ghost use Rattle.explanations.specs.name_uses.Scopes.{seen, seen_use, use_in_procedures};
 ghost use Rattle.explanations.specs.refusal_details.Details.{name_line, use_line, variable_line};
 
-use diagnostics::name_uses::{Use, Variable, nearest, use_at};
+use crate::name_uses::{Use, Variable, nearest, use_at};
 use language::Program;
 use std::alloc::{AllocError, Global};
 

@@ -7,7 +7,7 @@ ghost use Rattle.explanations.specs.refusal_details.TypeLines.{part_name, two_li
 ghost use Rattle.explanations.specs.refusal_details.TypeLines.{word_text};
 
 use crate::refusal_details::source_names::name_at;
-use language::{ComparedTypes, Kind, Label, Part, Place, TypedPart, ValueType, WordType};
+use language::{ComparedTypes, Kind, Label, Part, TypedPart, ValueType, WordType};
 use std::alloc::{AllocError, Global};
 
 /// How a kind is written.

@@ -1,0 +1,51 @@
+// What may stand behind the beginning of a source.
+
+ghost use Rattle.std.specs.Prelude.{◌≡◌, length, map, IfOk, IfErr};
+ghost use Rattle.language.specs.WantOfMemory.{IsWantOfMemory};
+ghost use Rattle.explanations.specs.expected_tokens.Candidates.{candidates};
+ghost use Rattle.explanations.specs.expected_tokens.Expected.{MayStand, Expects, lacks_tokens};
+
+use crate::expected_tokens::candidates::candidates;
+use language::{Refusal, Rule};
+use std::alloc::Global;
+use syntax::parse;
+
+/// What the kinds of tokens are called that may stand behind the beginning of a source, in the order of their list. It fails
+/// only when out of memory.
+pub fn expected(alloc: Global, front: &str) -> Result<Vec<&'static str>, Refusal>
+    ensures expected { IfOk result (λ names. Expects front.now candidates (map (λ name. name.now) names.items)) }
+    ensures memory { IfErr result (λ fault. IsWantOfMemory fault.rule fault.place) }
+{
+    let mut names = Vec::new(alloc);
+    for (name, token) in candidates() {
+        if may_stand(alloc, front, token)? {
+            names.push(*name)?;
+        }
+    }
+    Ok(names)
+}
+
+/// Whether this token may stand behind the beginning of a source; of an empty one, whether the source may end there.
+fn may_stand(alloc: Global, front: &str, token: &str) -> Result<bool, Refusal>
+    ensures known { IfOk result (MayStand front.now token.now) }
+    ensures memory { IfErr result (λ fault. IsWantOfMemory fault.rule fault.place) }
+{
+    let text = format!(in alloc; "{front}\n{token}")?;
+    match parse(alloc, text.as_str()) {
+        Ok(_) => Ok(true),
+        Err(refusal) => match refusal.place {
+            Some(place) => Ok(lacks_tokens(refusal.rule, place.offset, text.as_str(), token)),
+            None => Err(refusal),
+        },
+    }
+}
+
+/// Whether a text with this last token, refused by a rule behind so many bytes, lacks nothing but more tokens.
+fn lacks_tokens(rule: Rule, offset: u32, text: &str, token: &str) -> bool
+    ensures { result ≡ lacks_tokens rule offset text.now token.now }
+{
+    match rule {
+        Rule::UnexpectedToken => !token.is_empty() && offset as usize == text.len(),
+        _ => false,
+    }
+}
