@@ -14,7 +14,7 @@ use crate::measured::{Measured, Size};
 use crate::sizes::{measured_all, size_of_export};
 use language::names::Names;
 use language::{
-    Counted, MOST_BODIES, MOST_DECLARED_BYTES, MOST_NODES, Place, Procedure, Refusal, Rule,
+    Counted, Excess, MOST_BODIES, MOST_DECLARED_BYTES, MOST_NODES, Place, Procedure, Refusal, Rule,
     Violation, Why,
 };
 use std::alloc::Global;
@@ -33,6 +33,17 @@ fn nodes_within(size: Size) -> Option<u32>
     Some(size.nodes as u32)
 }
 
+/// A limit is passed by so much.
+fn too_much(place: Place, rule: Rule, excess: Excess) -> Violation
+    ensures { result ≡ record { place = place; rule = rule; why = Why.TooMuch excess } }
+{
+    Violation {
+        place,
+        rule,
+        why: Why::TooMuch(excess),
+    }
+}
+
 /// The first limit that is passed by such costs, at this place, where one is passed.
 fn first_passed(place: Place, costs: SizeCosts) -> Violation
     ensures nodes { most_nodes < costs.nodes.whole → result ≡ record { place = place; rule = Rule.InlinedSize; why = Why.TooMuch (excess Counted.Nodes costs.nodes) } }
@@ -40,27 +51,17 @@ fn first_passed(place: Place, costs: SizeCosts) -> Violation
     ensures declared_bytes { costs.nodes.whole ≤ most_nodes → costs.bodies.whole ≤ most_bodies → result ≡ record { place = place; rule = Rule.DeclaredBytes; why = Why.TooMuch (excess Counted.DeclaredBytes costs.declared_bytes) } }
 {
     if costs.nodes.whole > u64::from(MOST_NODES) {
-        let why = Why::TooMuch(costs.nodes.excess(Counted::Nodes));
-        return Violation {
-            place,
-            rule: Rule::InlinedSize,
-            why,
-        };
+        return too_much(place, Rule::InlinedSize, costs.nodes.excess(Counted::Nodes));
     }
     if costs.bodies.whole > u64::from(MOST_BODIES) {
-        let why = Why::TooMuch(costs.bodies.excess(Counted::Bodies));
-        return Violation {
+        return too_much(
             place,
-            rule: Rule::InlinedSize,
-            why,
-        };
+            Rule::InlinedSize,
+            costs.bodies.excess(Counted::Bodies),
+        );
     }
-    let why = Why::TooMuch(costs.declared_bytes.excess(Counted::DeclaredBytes));
-    Violation {
-        place,
-        rule: Rule::DeclaredBytes,
-        why,
-    }
+    let excess = costs.declared_bytes.excess(Counted::DeclaredBytes);
+    too_much(place, Rule::DeclaredBytes, excess)
 }
 
 /// How many nodes the export has with every call replaced by the called body, where it passes no limit; else the first that
