@@ -1,5 +1,5 @@
 -- The export of an accepted text, and the function that is made of it.
-use Rattle.std.proofs.Common.{◌≡◌, ℕ, List, [], map, true, false, Option, Some, sym, ap, subst, inl, ◌∙◌}
+use Rattle.std.proofs.Common.{◌≡◌, ℕ, List, [], map, true, false, Some, sym, ap, subst, inl, ◌∙◌}
 use Rattle.std.proofs.lemmas.Option.{same_Some}
 use Rattle.codegen.specs.image_fields.Fields.{Fields}
 use Rattle.functions.specs.function_text.Functions.{Parts, IsFunctionOf, HasTakenName, IsFaultOf, IsUnlessMemory}

@@ -1,7 +1,6 @@
 use Rattle.std.proofs.lemmas.Result.{IfOk-weaker, IfErr-weaker}
 use Rattle.functions.specs.function_text.Functions.{parts_of}
 use Rattle.functions.proofs.function_text_lemmas.FunctionLemmas.{has_export, made, fault_of}
-use Rattle.language.specs.Tree.{program_tree}
 use Rattle.functions.proofs.function_text.function.function_of.Goals as goal
 
 pub export_of-requires : goal.export_of-requires
