@@ -6,10 +6,7 @@ mod fault;
 mod laws;
 mod reading;
 
-pub use building::{
-    build_source, build_source_as, build_source_with, build_stream, build_stream_as,
-    build_stream_keeping, build_stream_with,
-};
+pub use building::{build_stream, build_stream_as, build_stream_keeping, build_stream_with};
 pub use fault::{BuildFault, Unbuilt};
 pub use laws::streams_agree;
 pub use reading::{read_text, text_of};

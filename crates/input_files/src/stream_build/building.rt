@@ -1,4 +1,4 @@
-// The image of a text that a source hands out, in memory or on a sink.
+// The image of a text that a source hands out, on a sink.
 
 ghost use Rattle.std.specs.Prelude.{◌≡◌, ◌≢◌, ◌+◌, length, IsTrue, IfOk, IfErr, OnOk, IsErrOf};
 ghost use Rattle.streams.specs.Streams.{LosesPart, Writes, WritesPart};
@@ -13,57 +13,6 @@ use hepurita::{Optimisation, build_with};
 use language::Profile;
 use std::alloc::Global;
 use streams::{Sink, Source, put_all};
-
-/// The bytes of the plain or the optimised image of the text that a source hands out, for an observer of this profile, or
-/// the first fault: too long a text, one that is not UTF-8, then what `build_with` refuses. For whoever opens a sink for
-/// accepted texts alone.
-pub fn build_source_with<R: Source>(
-    alloc: Global,
-    source: &mut R,
-    profile: Profile,
-    optimisation: Optimisation,
-) -> Result<Vec<u8>, BuildFault>
-    ensures built { IsTrue R.TELLS → IfOk result (λ bytes. IsBuilt optimisation profile (R.coming source.old) bytes.items) }
-    ensures text { IsTrue R.TELLS → OnOk result (IsText (R.coming source.old)) }
-    ensures fault { IsTrue R.TELLS → IfErr result (IsFaultOf profile (R.coming source.old)) }
-    ensures unwritten { result ≢ Err BuildFault.Write }
-    ensures part { IsTrue R.TELLS → LosesPart (R.coming source.old) (R.coming source.new) (text_limit + 1) }
-    ensures calm { result ≢ Err BuildFault.Read → R.failures source.new ≡ R.failures source.old }
-    ensures counts { IsErrOf result BuildFault.Read → R.failures source.new ≡ one_more (R.failures source.old) }
-{
-    let text = read_text(alloc, source)?;
-    Ok(build_with(alloc, text.as_str(), profile, optimisation)?)
-}
-
-/// The same of the plain image.
-pub fn build_source_as<R: Source>(
-    alloc: Global,
-    source: &mut R,
-    profile: Profile,
-) -> Result<Vec<u8>, BuildFault>
-    ensures built { IsTrue R.TELLS → IfOk result (λ bytes. IsBuilt Optimisation.Off profile (R.coming source.old) bytes.items) }
-    ensures text { IsTrue R.TELLS → OnOk result (IsText (R.coming source.old)) }
-    ensures fault { IsTrue R.TELLS → IfErr result (IsFaultOf profile (R.coming source.old)) }
-    ensures unwritten { result ≢ Err BuildFault.Write }
-    ensures part { IsTrue R.TELLS → LosesPart (R.coming source.old) (R.coming source.new) (text_limit + 1) }
-    ensures calm { result ≢ Err BuildFault.Read → R.failures source.new ≡ R.failures source.old }
-    ensures counts { IsErrOf result BuildFault.Read → R.failures source.new ≡ one_more (R.failures source.old) }
-{
-    build_source_with(alloc, source, profile, Optimisation::Off)
-}
-
-/// The same of the plain image, for an observer of profile 1.
-pub fn build_source<R: Source>(alloc: Global, source: &mut R) -> Result<Vec<u8>, BuildFault>
-    ensures built { IsTrue R.TELLS → IfOk result (λ bytes. IsBuilt Optimisation.Off Profile.P1 (R.coming source.old) bytes.items) }
-    ensures text { IsTrue R.TELLS → OnOk result (IsText (R.coming source.old)) }
-    ensures fault { IsTrue R.TELLS → IfErr result (IsFaultOf Profile.P1 (R.coming source.old)) }
-    ensures unwritten { result ≢ Err BuildFault.Write }
-    ensures part { IsTrue R.TELLS → LosesPart (R.coming source.old) (R.coming source.new) (text_limit + 1) }
-    ensures calm { result ≢ Err BuildFault.Read → R.failures source.new ≡ R.failures source.old }
-    ensures counts { IsErrOf result BuildFault.Read → R.failures source.new ≡ one_more (R.failures source.old) }
-{
-    build_source_as(alloc, source, Profile::P1)
-}
 
 /// Compiles the text that a source hands out, for an observer of this profile, and hands its plain or its optimised image to
 /// a sink once that is whole. The text is read to its end, or until it is too long; one that is refused is handed out with its
