@@ -1,7 +1,5 @@
 pub mod BlockTrees
-pub mod edit_distance_lemmas
 pub mod expected_tokens_lemmas
-pub mod name_uses_lemmas
 pub mod call_places_lemmas
 pub mod statement_work_lemmas
 pub mod refusal_details_lemmas

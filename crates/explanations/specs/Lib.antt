@@ -1,7 +1,5 @@
-pub mod edit_distance
 pub mod source_excerpts
 pub mod expected_tokens
-pub mod name_uses
 pub mod call_places
 pub mod statement_work
 pub mod refusal_details

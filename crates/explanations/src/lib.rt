@@ -5,18 +5,15 @@
 // of the code asked for, and that a rule's has the rule's name. Nothing of this takes memory or fails.
 // Its modules explain one refusal of a source: what it says and what there is at its place (`refusal_details`), what its
 // parts cost of its work (`statement_work`), and all that is printed (`explained_refusals`). They stand on the passes,
-// and on what there is at a place of a source: its line (`source_excerpts`), the names in scope and the nearest of them
-// (`name_uses`, by `edit_distance`), calls of the procedure (`call_places`), and the tokens that may stand there
-// (`expected_tokens`). Each promises exactly what it finds.
+// and on what there is at a place of a source: its line (`source_excerpts`), calls of the procedure
+// (`call_places`), and the tokens that may stand there (`expected_tokens`). Each promises exactly what it finds.
 #![tactic(auto)]
 
 pub mod call_places;
-pub mod edit_distance;
 pub mod expected_tokens;
 pub mod explained_refusals;
 mod finding;
 pub mod lookup;
-pub mod name_uses;
 pub mod refusal_details;
 pub mod row;
 mod rows;

@@ -8,12 +8,12 @@ use Rattle.language.specs.declared.typing.VariableType.{VariableType}
 use Rattle.language.specs.declared.typing.Violation.{Violation}
 use Rattle.language.specs.declared.why.SecretControl.{SecretControl}
 use Rattle.language.specs.declared.why.Typed.{Typed}
-use Rattle.language.specs.ExprTyping.{element_rules, element_type, expr_violations, name_rules, name_type, type_of}
+use Rattle.language.specs.ExprTyping.{element_rules, element_type, expr_violations, name_type, name_violations, type_of}
 use Rattle.language.specs.ExprTyping.{typed_of}
 use Rattle.language.specs.Reasons.{element_why}
 use Rattle.language.specs.Sooner.{sooner}
 use Rattle.language.specs.Tree.{ExprTree, name, element, RightTree, element_assignment, ProcedureTree}
-use Rattle.language.specs.Types.{Scope, asked_of_two, at, declared_at, found, of_one, of_two, of_three, typed_as}
+use Rattle.language.specs.Types.{Scope, asked_of_two, declared_at, found, of_one, of_two, of_three, typed_as}
 use Rattle.language.specs.Types.{variable}
 use Rattle.language.specs.Typing.{element_assignment_violations, right_typed, right_violations, statement_violations}
 use Rattle.labels.specs.private.Made.{of_operand, of_operands, of_choice}
@@ -44,13 +44,13 @@ of_three-typed a b c k l m type None p q = refl
 -- what an element violates, from what its parts have noted
 pub element_seen : (seen of_name of_index last : Option Violation) (scope : Scope) (place target : Place)
     (text : List ℕ) (index : ExprTree) (array given : Option Typed) → array ≡ typed_of scope (name target text)
-    → given ≡ typed_of scope index → of_name ≡ fold sooner seen (at target (name_rules scope text))
+    → given ≡ typed_of scope index → of_name ≡ fold sooner seen (name_violations scope target text)
     → of_index ≡ fold sooner of_name (expr_violations scope index)
     → last ≡ fold sooner of_index (asked_of_two element_why place element_rules array given)
     → last ≡ fold sooner seen (expr_violations scope (element place target text index))
 element_seen seen of_name of_index last scope place target text index array given is is' n i l =
     let whole : fold sooner seen (expr_violations scope (element place target text index))
-    ≡ fold sooner (fold sooner (fold sooner seen (at target (name_rules scope text)))
+    ≡ fold sooner (fold sooner (fold sooner seen (name_violations scope target text))
     (expr_violations scope index)) (asked_of_two element_why place element_rules
     (typed_of scope (name target text)) (typed_of scope index)) = simp (fold-append sooner) in
     cc
@@ -77,7 +77,7 @@ pub element_assignment_seen : (seen of_name of_index of_element of_right last : 
     → v ≡ variable (found scope text) → known_at ≡ declared_at scope text → array ≡ typed_of scope (name target text)
     → given ≡ typed_of scope index → type ≡ of_two None element_type (name_type scope text) (type_of scope index)
     → value ≡ right_typed earlier scope control right
-    → of_name ≡ fold sooner seen (at target (name_rules scope text))
+    → of_name ≡ fold sooner seen (name_violations scope target text)
     → of_index ≡ fold sooner of_name (expr_violations scope index)
     → of_element ≡ fold sooner of_index (asked_of_two element_why bracket element_rules array given)
     → of_right ≡ fold sooner of_element (right_violations earlier scope control right)
@@ -88,7 +88,7 @@ element_assignment_seen seen of_name of_index of_element of_right last earlier s
     index right array given value type known_at v is_variable at_place is is' typed gives n i e r l =
     let whole : fold sooner seen (statement_violations earlier scope control
     (element_assignment place bracket target text index right))
-    ≡ fold sooner (fold sooner (fold sooner (fold sooner (fold sooner seen (at target (name_rules scope text)))
+    ≡ fold sooner (fold sooner (fold sooner (fold sooner (fold sooner seen (name_violations scope target text))
     (expr_violations scope index)) (asked_of_two element_why bracket element_rules
     (typed_of scope (name target text)) (typed_of scope index))) (right_violations earlier scope control right))
     (element_assignment_violations control place (declared_at scope text) (variable (found scope text))

@@ -10,7 +10,7 @@ ghost use Rattle.language.specs.Typing.{assignment_violations, change_violations
 ghost use Rattle.language.specs.Sooner.{sooner};
 
 use crate::declarations::right_side;
-use crate::expressions::{expression, name};
+use crate::expressions::{expression, name, note_name};
 use crate::nodes::element;
 use crate::reasons::typed_part;
 use crate::values::{note_control, note_value};
@@ -89,7 +89,7 @@ pub fn assignment<'a>(
         control,
         declared_at: names.place(assignment.name),
     };
-    first.note_if(variable.is_none(), assignment.target, Rule::UndeclaredName);
+    note_name(names, first, assignment.target, assignment.name, variable);
     let given = right_side(alloc, names, first, earlier, control, &assignment.value)?;
     note_assignment(first, change, variable, given);
     Ok(())

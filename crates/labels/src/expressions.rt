@@ -1,14 +1,15 @@
 ghost use Rattle.std.specs.Prelude.{◌≡◌, ◌++◌, ◌∷◌, [], None, is_some, fold, length, map, IfOk, IfSome, OnOk};
 ghost use Rattle.std.specs.Option.{option_map};
-ghost use Rattle.language.specs.ExprTyping.{expr_violations, exprs_violations, name_rules, name_type, typed_of, typed_of_all};
+ghost use Rattle.language.specs.ExprTyping.{expr_violations, exprs_violations, name_type, name_violations, typed_of, typed_of_all};
 ghost use Rattle.language.specs.Reasons.{secret_name};
 ghost use Rattle.language.specs.Tree.{expr_tree};
-ghost use Rattle.language.specs.Types.{at, found as found_in, typed_as, variable, word};
+ghost use Rattle.language.specs.Types.{found as found_in, typed_as, variable, word};
 ghost use Rattle.language.specs.declared.signature.Kind.TheVariants.{Boolean};
 ghost use Rattle.language.specs.declared.signature.Label.TheVariants.{Public};
 ghost use Rattle.language.specs.Sooner.{sooner};
 
 use crate::nodes::{binary, choice, convert, element, number, prefix, rotate};
+use crate::reasons::unknown_why;
 use language::scopes::Scope;
 use language::{Expr, First, Kind, Label, Place, Rule, Typed, ValueType, VariableType};
 use std::alloc::{AllocError, Global};
@@ -28,13 +29,32 @@ fn known<'a>(names: &Scope<'a>, text: &str, found: Option<VariableType>) -> Opti
     }
 }
 
+/// Notes a name that is no variable's. What is near it is looked for only where this would be named.
+pub fn note_name<'a>(
+    names: &Scope<'a>,
+    first: &mut First,
+    place: Place,
+    text: &str,
+    found: Option<VariableType>,
+)
+    requires { found ≡ variable (found_in names.now text.now) }
+    ensures { first.new.seen ≡ fold sooner first.old.seen (name_violations names.now place text.now) }
+{
+    if found.is_some() {
+        return;
+    }
+    if first.would_name(place, Rule::UndeclaredName) {
+        first.note(true, place, Rule::UndeclaredName, unknown_why(names, text));
+    }
+}
+
 /// Notes a name that is no variable's, and gives what is known of the variable.
 pub fn name<'a>(names: &Scope<'a>, first: &mut First, place: Place, text: &str) -> Option<Typed>
     ensures typed { result ≡ option_map (typed_as (secret_name names.now text.now) None) (name_type names.now text.now) }
-    ensures first { first.new.seen ≡ fold sooner first.old.seen (at place (name_rules names.now text.now)) }
+    ensures first { first.new.seen ≡ fold sooner first.old.seen (name_violations names.now place text.now) }
 {
     let variable = names.variable(text);
-    first.note_if(variable.is_none(), place, Rule::UndeclaredName);
+    note_name(names, first, place, text, variable);
     known(names, text, variable)
 }
 

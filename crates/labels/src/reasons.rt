@@ -1,6 +1,7 @@
 ghost use Rattle.std.specs.Prelude.{◌≡◌};
-ghost use Rattle.language.specs.Reasons.{control_why, either_literal, literal_as, number_as, operand_literal, typed_part, whole_literal};
+ghost use Rattle.language.specs.Reasons.{control_why, either_literal, literal_as, number_as, operand_literal, typed_part, unknown_why, whole_literal};
 
+use language::scopes::{Scope, nearest_place};
 use language::{
     Kind, Label, Literal, Operation, Part, SecretControl, Typed, TypedPart, ValueType, Why,
 };
@@ -60,6 +61,16 @@ pub fn operand_literal(operation: Operation, left: Typed, right: Typed) -> Optio
         Operation::Equality => either_literal(left, right),
         Operation::Order => either_literal(left, right),
         Operation::Logic => None,
+    }
+}
+
+/// Why a name is unknown: the nearest of the variables in scope, where one is near.
+pub fn unknown_why<'a>(names: &Scope<'a>, text: &str) -> Why
+    ensures { result ≡ unknown_why names.now text.now }
+{
+    match nearest_place(names, text) {
+        Some(place) => Why::Nearest(place),
+        None => Why::Plain,
     }
 }
 

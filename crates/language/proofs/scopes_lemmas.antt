@@ -1,2 +1,4 @@
 pub mod EffectLemmas
 pub mod ScopeLemmas
+pub mod Distances
+pub mod NearLemmas

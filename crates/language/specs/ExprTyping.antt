@@ -19,15 +19,17 @@ use Rattle.language.specs.declared.operation.Operation.TheVariants.{Equality, Or
 use Rattle.language.specs.declared.typing.ValueType.{ValueType}
 use Rattle.language.specs.declared.typing.VariableType.{VariableType}
 use Rattle.language.specs.declared.typing.Violation.{Violation}
+use Rattle.word.specs.declared.place.Place.{Place}
 use Rattle.word.specs.declared.profile.Profile.{Profile}
 use Rattle.word.specs.declared.profile.Profile.TheVariants.{P1, P2}
 use Rattle.language.specs.declared.why.Typed.{Typed}
 use Rattle.language.specs.declared.why.Why.TheVariants.{Number}
 use Rattle.language.specs.Operators.{operation_of}
 use Rattle.language.specs.Reasons.{secret_in, literal_in, operand_why, rotate_why, operands_why, choice_why, element_why}
+use Rattle.language.specs.Reasons.{unknown_why}
 use Rattle.language.specs.Tree.{ExprTree, number, truth, name, prefix, binary, rotate, convert, select, element}
 use Rattle.language.specs.Types.{Scope, found, variable, bits_of, word, joined, is_numeric, is_bool, is_array}
-use Rattle.language.specs.Types.{is_narrow, is_hidden, kind_of, label_of, widths_differ, are_alike, when, at, unless}
+use Rattle.language.specs.Types.{is_narrow, is_hidden, kind_of, label_of, widths_differ, are_alike, when, unless}
 use Rattle.language.specs.Types.{of_one, of_two, of_three, because, typed_as, with_typed, asked_of_one, asked_of_two}
 use Rattle.language.specs.Types.{asked_of_three}
 
@@ -159,6 +161,9 @@ name_type scope text = option_map (λ (v : VariableType). v.value) (variable (fo
 abbrev pub name_rules : Scope → List ℕ → List Rule
 name_rules scope text = when (not (is_some (variable (found scope text)))) UndeclaredName
 
+abbrev pub name_violations : Scope → Place → List ℕ → List Violation
+name_violations scope place text = because (unknown_why scope text) place (name_rules scope text)
+
 -- the type of an expression, where it is well typed
 abbrev pub type_of : Scope → ExprTree → Option ValueType
 type_of scope (number place value kind) = unless (number_rules value kind) (word kind Public)
@@ -191,7 +196,7 @@ abbrev pub expr_violations : Scope → ExprTree → List Violation
 expr_violations scope (number place value kind) =
     because (Number (record { value = value; kind = kind })) place (number_rules value kind)
 expr_violations scope (truth place value) = []
-expr_violations scope (name place text) = at place (name_rules scope text)
+expr_violations scope (name place text) = name_violations scope place text
 expr_violations scope (prefix place operator operand) =
     expr_violations scope operand
     ++ asked_of_one operand_why place (prefix_rules operator) (typed_of scope operand)
@@ -209,7 +214,7 @@ expr_violations scope (select place condition accepted otherwise) =
     ++ asked_of_three choice_why place select_rules (typed_of scope condition) (typed_of scope accepted)
     (typed_of scope otherwise)
 expr_violations scope (element place array text index) =
-    at array (name_rules scope text) ++ expr_violations scope index
+    name_violations scope array text ++ expr_violations scope index
     ++ asked_of_two element_why place element_rules (typed_of scope (name array text)) (typed_of scope index)
 
 abbrev pub exprs_violations : Scope → List ExprTree → List Violation

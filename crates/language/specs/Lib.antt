@@ -10,6 +10,8 @@ pub mod Known
 pub mod Signature
 pub mod Blocks
 pub mod Types
+pub mod Distance
+pub mod Nearest
 pub mod Reasons
 pub mod ExprTyping
 pub mod Typing

@@ -22,7 +22,8 @@ use Rattle.language.specs.declared.why.SecretControl.{SecretControl}
 use Rattle.language.specs.declared.why.Typed.{Typed}
 use Rattle.language.specs.declared.why.TypedPart.{TypedPart}
 use Rattle.language.specs.declared.why.Why.{Why}
-use Rattle.language.specs.declared.why.Why.TheVariants.{Plain, Types, Amount, Leak, Secret, Control}
+use Rattle.language.specs.declared.why.Why.TheVariants.{Plain, Types, Amount, Nearest, Leak, Secret, Control}
+use Rattle.language.specs.Nearest.{nearest_place}
 use Rattle.language.specs.Tree.{ExprTree, number, truth, name, prefix, binary, rotate, convert, select, element}
 use Rattle.language.specs.Types.{Scope, found, declared_at, variable, bits_of, word, is_numeric, is_hidden, kind_of}
 
@@ -90,6 +91,16 @@ operand_literal Shift a b = whole_literal b
 operand_literal Equality a b = either_literal a b
 operand_literal Order a b = either_literal a b
 operand_literal Logic a b = None
+
+-- Unknown names.
+
+abbrev pub nearest_why : Option Place → Why
+nearest_why (Some place) = Nearest place
+nearest_why None = Plain
+
+-- by the nearest variable in scope, where one is near
+abbrev pub unknown_why : Scope → List ℕ → Why
+unknown_why scope text = nearest_why (nearest_place scope text)
 
 -- Types that are compared.
 

@@ -39,7 +39,7 @@ use Rattle.language.specs.declared.why.TypedPart.{TypedPart}
 use Rattle.language.specs.declared.why.Why.{Why}
 use Rattle.language.specs.declared.why.Why.TheVariants.{Shapes, ArgumentCounts, Fixed, Returned, Missing, Shared}
 use Rattle.language.specs.declared.why.Why.TheVariants.{ValueCounts}
-use Rattle.language.specs.ExprTyping.{name_type, name_rules, type_of, typed_of, typed_of_all, expr_violations}
+use Rattle.language.specs.ExprTyping.{name_type, name_violations, type_of, typed_of, typed_of_all, expr_violations}
 use Rattle.language.specs.ExprTyping.{exprs_violations, element_rules, element_type}
 use Rattle.language.specs.Reasons.{secret_in, literal_in, typed_part, put_why, element_why, condition_why, bounds_why}
 use Rattle.language.specs.Reasons.{control_why, control_under}
@@ -384,11 +384,11 @@ abbrev mutual
       ++ of_one [] (array_violations control place (is_some (found scope text)) label mutable kind size values)
       (typed_of_all scope (written values))
   statement_violations earlier scope control (assignment place target text right) =
-      at target (name_rules scope text) ++ right_violations earlier scope control right
+      name_violations scope target text ++ right_violations earlier scope control right
       ++ assignment_violations control place (declared_at scope text) (variable (found scope text))
       (right_typed earlier scope control right)
   statement_violations earlier scope control (element_assignment place bracket target text index right) =
-      at target (name_rules scope text) ++ expr_violations scope index
+      name_violations scope target text ++ expr_violations scope index
       ++ asked_of_two element_why bracket element_rules (typed_of scope (name target text)) (typed_of scope index)
       ++ right_violations earlier scope control right
       ++ element_assignment_violations control place (declared_at scope text) (variable (found scope text))

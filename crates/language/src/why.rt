@@ -129,6 +129,8 @@ pub enum Why {
     /// An operand of this kind is not rotated by so many bits.
     Amount(Literal),
     ArgumentCounts(ArgumentCounts),
+    /// The nearest of the variables in scope is declared there.
+    Nearest(Place),
     /// The name that is declared there is not `mut`.
     Fixed(Place),
     /// A value of this type is returned where nothing is.

@@ -10,14 +10,11 @@ use Rattle.explanations.specs.refusal_details.WhyLines.{why_lines}
 use Rattle.explanations.specs.call_places.CallPlaces.{call_places, procedure_at}
 use Rattle.language.specs.declared.refusal.Refusal.{Refusal}
 use Rattle.language.specs.declared.rule.Rule.{Rule}
-use Rattle.language.specs.declared.rule.Rule.TheVariants.{UnknownCharacter, UnexpectedToken, UndeclaredName}
-use Rattle.language.specs.declared.rule.Rule.TheVariants.{TooMuchWork}
+use Rattle.language.specs.declared.rule.Rule.TheVariants.{UnknownCharacter, UnexpectedToken, TooMuchWork}
 use Rattle.language.specs.declared.why.Counted.TheVariants.{Work}
 use Rattle.language.specs.declared.why.Why.{Why}
 use Rattle.language.specs.declared.why.Why.TheVariants as why
 use Rattle.language.specs.Tree.{ProcedureTree, ProgramTree}
-use Rattle.explanations.specs.name_uses.Nearest.{nearest}
-use Rattle.explanations.specs.name_uses.Scopes.{Seen, Use, use_in_procedures}
 use Rattle.explanations.specs.statement_work.WorkCosts.{work_cost}
 use Rattle.syntax.specs.Reading.{Reads, accepted, refused}
 use Rattle.word.specs.declared.place.Place.{Place}
@@ -31,22 +28,6 @@ abbrev pub character_line : List ℕ → List ℕ
 character_line bytes =
     if begins_with_mark bytes
     then codes "  this is a byte order mark, which cannot be seen: save the file without it\n" else []
-
--- N1: the nearest variable in scope where the name is used
-abbrev pub variable_line : Seen → List ℕ
-variable_line v = codes "  the nearest name in scope is `"
-    ++ (v.name ++ (codes "`, declared at " ++ (place_text v.place ++ codes "\n")))
-
-abbrev pub nearest_line : Option Seen → List ℕ
-nearest_line None = []
-nearest_line (Some v) = variable_line v
-
-abbrev pub use_line : Use → List ℕ
-use_line u = nearest_line (nearest u.scope u.name)
-
-abbrev pub name_line : Option Use → List ℕ
-name_line None = []
-name_line (Some u) = use_line u
 
 -- I1, I2: where the procedure is called that the place is in; of more than eight places the first eight
 abbrev pub most_others : ℕ
@@ -96,11 +77,7 @@ SaysOfFound said (Some program) lines = said program lines
 abbrev pub SaysOfProgram : List ℕ → (ProgramTree → List ℕ → Type 0) → List ℕ → Type 0
 SaysOfProgram source said lines = (found : Option ProgramTree) × IsProgramOf source found × SaysOfFound said found lines
 
--- of the name that is used behind so many bytes, and of the procedure that they end in
-abbrev pub SaysOfName : List ℕ → ℕ → List ℕ → Type 0
-SaysOfName source at lines =
-    SaysOfProgram source (λ program line. line ≡ name_line (use_in_procedures at program.procedures)) lines
-
+-- of the procedure that so many bytes end in
 abbrev pub SaysOfCalls : List ℕ → ℕ → List ℕ → Type 0
 SaysOfCalls source at lines = SaysOfProgram source (λ program line. line ≡ calls_line at program.procedures) lines
 
@@ -108,7 +85,6 @@ SaysOfCalls source at lines = SaysOfProgram source (λ program line. line ≡ ca
 abbrev pub Finds : List ℕ → Rule → ℕ → List ℕ → Type 0
 Finds source UnknownCharacter at lines = lines ≡ character_line (drop at source)
 Finds source UnexpectedToken at lines = SaysExpected source at lines
-Finds source UndeclaredName at lines = SaysOfName source at lines
 Finds source TooMuchWork at lines = SaysOfProgram source SaysWork lines
 Finds source rule at lines = lines ≡ []
 

@@ -68,6 +68,12 @@ argument_line source c =
     ++ (codes "`, declared at "
     ++ (place_text c.procedure ++ (codes ", takes " ++ (decimal c.taken ++ codes "\n")))))))
 
+-- N1: the nearest of the variables in scope
+abbrev pub nearest_line : List ℕ → Place → List ℕ
+nearest_line source place =
+    codes "  the nearest name in scope is `"
+    ++ (name_at source place ++ (codes "`, declared at " ++ (place_text place ++ codes "\n")))
+
 -- T6: what is not `mut`, and where it is declared
 abbrev pub fixed_line : List ℕ → Place → List ℕ
 fixed_line source place =
@@ -124,6 +130,7 @@ why_lines source (why.Shapes part other) = two_line true source part other
 why_lines source (why.Number n) = number_line n
 why_lines source (why.Amount n) = amount_line n
 why_lines source (why.ArgumentCounts c) = argument_line source c
+why_lines source (why.Nearest place) = nearest_line source place
 why_lines source (why.Fixed place) = fixed_line source place
 why_lines source (why.Returned given) = returned_line given
 why_lines source (why.Missing result) = missing_line result

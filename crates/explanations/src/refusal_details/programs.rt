@@ -5,26 +5,13 @@ ghost use Rattle.std.specs.Option.{option_map};
 ghost use Rattle.std.specs.String.{string_bytes};
 ghost use Rattle.language.specs.Tree.{program_tree};
 ghost use Rattle.language.specs.WantOfMemory.{IsWantOfMemory};
-ghost use Rattle.explanations.specs.refusal_details.Details.{IsProgramOf, SaysOfCalls, SaysOfName, SaysOfProgram};
-ghost use Rattle.explanations.specs.refusal_details.Details.{SaysWork};
+ghost use Rattle.explanations.specs.refusal_details.Details.{IsProgramOf, SaysOfCalls, SaysOfProgram, SaysWork};
 
 use crate::refusal_details::calls::calls_line;
-use crate::refusal_details::name_lines::name_line;
 use crate::refusal_details::work_lines::work_lines;
 use language::{Program, Refusal};
 use std::alloc::Global;
 use syntax::parse;
-
-/// What is said of the name that is used behind so many bytes; nothing where the source is no program.
-pub fn name_lines(alloc: Global, source: &str, at: u32) -> Result<String, Refusal>
-    ensures said { IfOk result (λ lines. SaysOfName source.now at (string_bytes lines)) }
-    ensures memory { IfErr result (λ fault. IsWantOfMemory fault.rule fault.place) }
-{
-    match program_in(alloc, source)? {
-        Some(program) => Ok(name_line(alloc, at, &program)?),
-        None => Ok(String::new(alloc)),
-    }
-}
 
 /// What is said of an export with too much work; nothing where the source is no program.
 pub fn export_lines(alloc: Global, source: &str) -> Result<String, Refusal>

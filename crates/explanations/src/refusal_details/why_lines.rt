@@ -3,7 +3,7 @@
 ghost use Rattle.std.specs.Prelude.{◌≡◌, IfOk};
 ghost use Rattle.std.specs.String.{string_bytes};
 ghost use Rattle.explanations.specs.refusal_details.WhyLines.{argument_line, control_lines, ending, fixed_line};
-ghost use Rattle.explanations.specs.refusal_details.WhyLines.{missing_line, returned_line, secret_line, shared_line};
+ghost use Rattle.explanations.specs.refusal_details.WhyLines.{missing_line, nearest_line, returned_line, secret_line, shared_line};
 ghost use Rattle.explanations.specs.refusal_details.WhyLines.{things, value_line, why_lines};
 
 use crate::refusal_details::number_lines::{
@@ -30,6 +30,7 @@ pub fn why_lines(alloc: Global, source: &str, why: Why) -> Result<String, AllocE
         Why::Number(number) => number_line(alloc, number),
         Why::Amount(amount) => amount_line(alloc, amount),
         Why::ArgumentCounts(counts) => argument_line(alloc, source, counts),
+        Why::Nearest(place) => nearest_line(alloc, source, place),
         Why::Fixed(place) => fixed_line(alloc, source, place),
         Why::Returned(given) => returned_line(alloc, given),
         Why::Missing(result) => missing_line(alloc, result),
@@ -103,6 +104,14 @@ fn argument_line(alloc: Global, source: &str, counts: ArgumentCounts) -> Result<
     let name = name_at(source, place);
     let taken = counts.taken;
     format!(in alloc; "  the call has {given}, and `{name}`, declared at {place}, takes {taken}\n")
+}
+
+/// The nearest of the variables in scope, and where it is declared.
+fn nearest_line(alloc: Global, source: &str, place: Place) -> Result<String, AllocError>
+    ensures { IfOk result (λ line. string_bytes line ≡ nearest_line source.now place) }
+{
+    let name = name_at(source, place);
+    format!(in alloc; "  the nearest name in scope is `{name}`, declared at {place}\n")
 }
 
 /// What is not `mut`, and where it is declared.

@@ -18,12 +18,12 @@ use Rattle.language.specs.ExprTyping.{number_rules, prefix_rules, binary_rules, 
 use Rattle.language.specs.ExprTyping.{select_rules, element_rules, type_of}
 use Rattle.language.specs.ExprTyping.{typed_of, expr_violations}
 use Rattle.language.specs.Reasons.{secret_in, literal_in, operand_why, rotate_why, operands_why, choice_why}
-use Rattle.language.specs.Reasons.{element_why}
+use Rattle.language.specs.Reasons.{element_why, unknown_why}
 use Rattle.language.specs.Operators.{operation_of}
 use Rattle.language.specs.Tree.{ExprTree, number, truth, name, prefix, binary, rotate, convert, select, element}
 use Rattle.language.specs.declared.why.Typed.{Typed}
 use Rattle.language.specs.declared.why.Why.{Why}
-use Rattle.language.specs.Types.{Scope, found, variable, bits_of, because_of, at, when, unless, of_one, of_two, of_three}
+use Rattle.language.specs.Types.{Scope, found, variable, bits_of, because, because_of, when, unless, of_one, of_two, of_three}
 use Rattle.language.specs.Types.{typed_as, asked_of_one, asked_of_two, asked_of_three}
 use Rattle.language.specs.WellTyped.{HasType, of_number, of_truth, of_name, of_prefix, of_binary, of_rotation}
 use Rattle.language.specs.WellTyped.{of_conversion, of_selection, of_element}
@@ -74,30 +74,30 @@ module _ (place : Place) where
   three_parts why rules type a b c k l m typed_one untyped _ = untyped
   three_parts why rules type a b c k l m untyped _ _ = untyped
 
-  named : (o : Option Declared) → Agree (option_map (λ (v : VariableType). v.value) (variable o))
-      (at place (when (not (is_some (variable o))) UndeclaredName))
-  named (Some (Variable v)) = typed_one
-  named (Some (Procedure c)) = untyped
-  named None = untyped
+  named : (why : Why) (o : Option Declared) → Agree (option_map (λ (v : VariableType). v.value) (variable o))
+      (because why place (when (not (is_some (variable o))) UndeclaredName))
+  named why (Some (Variable v)) = typed_one
+  named why (Some (Procedure c)) = untyped
+  named why None = untyped
 
 none_violated : {o : Option ValueType} {type : ValueType} {vs : List Violation} → Agree o vs → o ≡ Some type → vs ≡ []
 none_violated typed_one h = refl
 none_violated untyped h = cc
 
 -- a name that violates no rule is a variable's
-pub is_variable : (place : Place) (o : Option Declared)
-    → at place (when (not (is_some (variable o))) UndeclaredName) ≡ []
+pub is_variable : (why : Why) (place : Place) (o : Option Declared)
+    → because why place (when (not (is_some (variable o))) UndeclaredName) ≡ []
     → (value : ValueType) × (mutable : Bool)
     × (o ≡ Some (Variable (record { value = value; mutable = mutable })))
-is_variable place (Some (Variable v)) h = (v.value, v.mutable, refl)
-is_variable place (Some (Procedure c)) h = cc
-is_variable place None h = cc
+is_variable why place (Some (Variable v)) h = (v.value, v.mutable, refl)
+is_variable why place (Some (Procedure c)) h = cc
+is_variable why place None h = cc
 
 module _ (scope : Scope) where
   agree : (e : ExprTree) → Agree (type_of scope e) (expr_violations scope e)
   agree (number place value kind) = own place _ (number_rules value kind) _
   agree (truth place value) = typed_one
-  agree (name place text) = named place (found scope text)
+  agree (name place text) = named place (unknown_why scope text) (found scope text)
   agree (prefix place operator a) = one_part place operand_why _ _ _ _ (agree a)
   agree (binary place operator a b) =
       two_parts place (operands_why (operation_of operator)) _ _ _ _ _ _ (agree a) (agree b)
@@ -105,7 +105,8 @@ module _ (scope : Scope) where
   agree (convert place kind a) = one_part place operand_why _ _ _ _ (agree a)
   agree (select place c a b) = three_parts place choice_why _ _ _ _ _ _ _ _ (agree c) (agree a) (agree b)
   agree (element place target text i) =
-      two_parts place element_why _ _ _ _ _ _ (named target (found scope text)) (agree i)
+      two_parts place element_why _ _ _ _ _ _ (named target (unknown_why scope text) (found scope text))
+      (agree i)
 
 -- From the rules of inference to the table.
 
@@ -176,7 +177,7 @@ module _ (scope : Scope) where
   known (number place value kind) h =
       as_typed (of_number (ltb-true value (2 ^ bits_of kind) (is_met _ (no_rules _ place h))))
   known (truth place value) h = as_typed of_truth
-  known (name place text) h = as_typed (of_name (is_variable place (found scope text) h).2)
+  known (name place text) h = as_typed (of_name (is_variable (unknown_why scope text) place (found scope text) h).2)
   known (prefix place operator a) h =
       let none = none_of_two h in
       let x = known a none.0 in
@@ -209,7 +210,7 @@ module _ (scope : Scope) where
       as_typed (of_selection (rw w.condition_is at x.has) (rw w.one_is at y.has) (rw w.other_is at z.has))
   known (element place target text i) h =
       let none = none_of_three h in
-      let v = is_variable target (found scope text) none.0 in
+      let v = is_variable (unknown_why scope text) target (found scope text) none.0 in
       let x = known i none.1 in
       let named_is = told_of scope (name target text) (is_typed scope (of_name {place = target} v.2)).is in
       let w = is_element v.0 x.type (no_rules_of_two element_why place element_rules named_is x.told none.2) in

@@ -22,7 +22,7 @@ use Rattle.language.specs.Tree.{written}
 use Rattle.language.specs.declared.why.SecretControl.{SecretControl}
 use Rattle.language.specs.declared.why.Typed.{Typed}
 use Rattle.language.specs.ExprTyping.{typed_of}
-use Rattle.language.specs.Reasons.{secret_in, literal_in, condition_why, bounds_why, control_under}
+use Rattle.language.specs.Reasons.{secret_in, literal_in, condition_why, bounds_why, control_under, unknown_why}
 use Rattle.language.specs.Types.{Scope, found, declared_at, variable, declared, word, is_numeric, is_narrow, is_hidden}
 use Rattle.language.specs.Types.{kind_of, label_of, label_under, joined, when, of_one, typed_as}
 use Rattle.language.specs.Typing.{value_rules, values_violations, count_violations, target_rules, bounds_rules}
@@ -151,7 +151,7 @@ mutual
       (is_declared control place label mutable rules.3)
   statement_typed (assignment place target text right) earlier scope control h =
       let none = none_of_three h in
-      let v = is_variable target (found scope text) none.0 in
+      let v = is_variable (unknown_why scope text) target (found scope text) none.0 in
       let x = right_known earlier scope control right none.1 in
       let rules = assignment_none control place (declared_at scope text) v.2 x.told none.2 in
       let w = target_word v.0 x.type rules.0 in

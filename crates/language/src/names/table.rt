@@ -1,4 +1,5 @@
-ghost use Rattle.std.specs.Prelude.{◌≡◌, [], is_some, length, take, IfOk, OnOk, OnErr};
+ghost use Rattle.std.specs.Prelude.{◌≡◌, [], is_some, length, slice_get, take, IfOk, OnOk, OnErr};
+ghost use Rattle.std.specs.Option.{option_map};
 ghost use Rattle.language.specs.names.Scope.{found, declared};
 
 use indexmap::IndexMap;
@@ -49,6 +50,16 @@ impl<'a, V: Copy> Names<'a, V> {
         ensures { result ≡ found self.now name.now }
     {
         self.map.get(name).copied()
+    }
+
+    /// The name that so many come before, and what it stands for.
+    pub fn get(&self, before: usize) -> Option<(&'a str, V)>
+        ensures { option_map (λ entry. (entry.0.now, entry.1)) result ≡ slice_get self.now before }
+    {
+        match self.map.get_index(before) {
+            Some((name, what)) => Some((*name, *what)),
+            None => None,
+        }
     }
 
     /// Declares a name, and answers whether it was taken: the first declaration of a name keeps it.

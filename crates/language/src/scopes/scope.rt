@@ -1,4 +1,5 @@
-ghost use Rattle.std.specs.Prelude.{◌≡◌, is_some, length, IfOk, OnOk};
+ghost use Rattle.std.specs.Prelude.{◌≡◌, is_some, length, slice_get, IfOk, OnOk};
+ghost use Rattle.std.specs.Option.{option_map};
 ghost use Rattle.language.specs.Types.{callee, declared, declared_at, empty, found, variable};
 ghost use Rattle.language.specs.scopes.Shortened.{shortened};
 
@@ -74,6 +75,16 @@ impl<'a> Scope<'a> {
     {
         match self.names.find(name) {
             Some(entry) => Some(entry.what),
+            None => None,
+        }
+    }
+
+    /// The name that so many come before, and what it stands for.
+    pub fn get(&self, before: usize) -> Option<(&'a str, Declared)>
+        ensures { option_map (λ known. (known.0.now, known.1)) result ≡ slice_get self.now.names before }
+    {
+        match self.names.get(before) {
+            Some((name, entry)) => Some((name, entry.what)),
             None => None,
         }
     }

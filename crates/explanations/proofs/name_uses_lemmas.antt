@@ -1,2 +1,0 @@
-pub mod ScopeLemmas
-pub mod ScopesAgree

@@ -1,4 +1,0 @@
-pub mod NamesAt
-pub mod Nearest
-pub mod SameScopes
-pub mod Scopes
