@@ -1,68 +1,76 @@
 -- What passes the test for types is well typed.
-use Rattle.std.proofs.Common.{◌≡◌, ℕ, ◌+◌, ◌^◌, ◌==◌, ◌&&◌, ◌||◌, not, nat_lt, Bool, true, false}
+use Rattle.std.proofs.Common.{◌≡◌, ℕ, ◌+◌, ◌<◌, ◌==◌, ◌&&◌, ◌||◌, not, Bool, true, false, if◌then◌else◌}
 use Rattle.std.proofs.Common.{List, [], ◌∷◌, length, Option, None, Some, slice_get, refl, sym, ap, ◌∙◌}
 use Rattle.std.proofs.Common.{subst, take as first_of, arith}
 use Rattle.std.proofs.lemmas.Bool.{and_parts, eqb-true, false≢true, ltb-true, ne_eqb, not-true}
 use Rattle.std.proofs.lemmas.Option.{none-some, same_Some}
+use Rattle.std.specs.Option.{option_map}
 use Rattle.inline.specs.declared.flat.FlatVariable.{FlatVariable}
 use Rattle.inline.specs.Flat.{TermTree, number, truth, variable, prefix, binary, rotate, convert, select, element}
 use Rattle.inline.specs.Flat.{array_as, counter_type, word_as}
 use Rattle.inline.specs.FlatTyping.{Types, types_of, HasType, of_number, of_truth, of_variable, of_prefix, of_binary}
 use Rattle.inline.specs.FlatTyping.{of_rotation, of_conversion, of_selection, of_element, Suits, AllSuit, HasCount}
 use Rattle.inline.specs.FlatTyping.{IsResult}
-use Rattle.intervals.proofs.LooseTypes.{joined_public}
-use Rattle.language.specs.ExprTyping.{operation_kind}
+use Rattle.language.specs.ExprTyping.{binary_rules, number_rules, prefix_rules, rotate_rules}
+use Rattle.language.specs.ExprTyping.{operation_kind, select_rules}
 use Rattle.language.specs.Grammatical.{IsNumberKind}
 use Rattle.language.specs.Operators.{operation_of, width_of}
-use Rattle.language.specs.Types.{bits_of, is_number, is_secret, joined, same_kind, same_label}
-use Rattle.language.specs.WellTyped.{labelled, MayBeMultiplied, unseen, both_public, Makes, Takes, arithmetic}
-use Rattle.language.specs.WellTyped.{multiplication, division, shift, equality, order, logic}
-use Rattle.language.specs.declared.operation.Operation.{Operation}
-use Rattle.language.specs.declared.operation.Operation.TheVariants.{Arithmetic, Multiplication, Division, Shift}
-use Rattle.language.specs.declared.operation.Operation.TheVariants.{Equality, Order, Logic}
+use Rattle.language.specs.Types.{are_met, bits_of, is_hidden, is_narrow, is_secret, joined, of_one, of_three, of_two}
+use Rattle.language.specs.Types.{same_label, unless}
+use Rattle.language.specs.WellTyped.{labelled, Makes, public_flows, secret_flows, suits as flow_suits, Takes}
+use Rattle.language.specs.WellTyped.{Suits as SuitsWord}
 use Rattle.language.specs.declared.operators.BinaryOperator.{BinaryOperator}
 use Rattle.language.specs.declared.operators.PrefixOperator.{PrefixOperator}
-use Rattle.language.specs.declared.operators.PrefixOperator.TheVariants.{Not, Complement, Negate}
-use Rattle.language.specs.declared.signature.Kind.{Kind}
-use Rattle.language.specs.declared.signature.Kind.TheVariants.{Boolean, Uint8, Uint16, Uint32}
+use Rattle.language.specs.declared.rule.Rule.{Rule}
+use Rattle.language.specs.declared.signature.Kind.TheVariants.{Boolean}
 use Rattle.language.specs.declared.signature.Label.{Label}
 use Rattle.language.specs.declared.signature.Label.TheVariants.{Public, Secret}
+use Rattle.language.specs.declared.typing.ValueType.{ValueType}
+use Rattle.language.specs.declared.typing.ValueType.TheVariants.{Word}
 use Rattle.language.specs.declared.typing.WordType.{WordType}
+use Rattle.language.proofs.typing_laws_lemmas.NoRules.{is_met}
+use Rattle.language.proofs.typing_laws_lemmas.Nodes.{is_operated, is_rotated, is_selected, made, public_index}
+use Rattle.language.proofs.typing_laws_lemmas.Nodes.{taken_by_sign}
+use Rattle.language.proofs.typing_laws_lemmas.TypeTests.{a_number, bool_word, one_kind}
+use Rattle.language.proofs.typing_laws_lemmas.Values.{is_suited}
+use Rattle.word.specs.Widths.{bits}
 use Rattle.word.specs.declared.place.Place.{Place}
-use Rattle.word.specs.declared.profile.Profile.{Profile}
-use Rattle.word.specs.declared.profile.Profile.TheVariants.{P1, P2}
 use Rattle.word.specs.declared.width.Width.{Width}
 use Rattle.word.specs.declared.width.Width.TheVariants.{W8, W16, W32}
+use Rattle.word.specs.declared.profile.Profile.{Profile}
 use Rattle.branch_removal.specs.Straight.{StraightTree, set, array, put, take, branch, repeats}
 use Rattle.branch_removal.specs.Straight.{StraightBlock, nothing, first}
 use Rattle.branch_removal.specs.StraightTyping.{IsAmong, IsTyped, AreTyped, IsHidden, AreHidden, IsSecretWithin}
 use Rattle.branch_removal.specs.StraightTyping.{types_but}
-use Rattle.branch_removal.specs.private.Checks.{all_suit, are_typed, between, come_first, converted, element_by}
-use Rattle.branch_removal.specs.private.Checks.{element_in, indexed, is_among, is_bool, is_counter, is_loop_counter}
-use Rattle.branch_removal.specs.private.Checks.{is_result, is_typed, makes, may_fill, may_keep, may_multiply, may_set}
-use Rattle.branch_removal.specs.private.Checks.{only_if, prefixed, rotated, same_elements, same_truth, same_variable}
-use Rattle.branch_removal.specs.private.Checks.{same_width, selected, suits, takes, type_of, types_beside, word_by}
-use Rattle.branch_removal.specs.private.Checks.{word_in}
+use Rattle.branch_removal.specs.private.Checks.{all_suit, are_typed, come_first, decides, element_by}
+use Rattle.branch_removal.specs.private.Checks.{element_in, is_among, is_counter, is_loop_counter, is_result}
+use Rattle.branch_removal.specs.private.Checks.{is_typed, may_fill, may_keep, may_set, passes, same_elements}
+use Rattle.branch_removal.specs.private.Checks.{same_truth, same_variable, suits, type_of, types_beside, word_by, word_in}
 
--- Kinds, labels and widths.
+-- Tests of which each is made.
+both : {a b : Bool} {A B : Type 0} → (a ≡ true → A) → (b ≡ true → B) → (a && b) ≡ true → A × B
+both {a = a} {b = b} one other h = let parts = and_parts a b h in (one parts.0, other parts.1)
 
-one_kind : (k l : Kind) → same_kind k l ≡ true → l ≡ k
-one_kind Boolean Boolean h = refl
-one_kind Uint8 Uint8 h = refl
-one_kind Uint16 Uint16 h = refl
-one_kind Uint32 Uint32 h = refl
-one_kind k l h = absurd (false≢true h)
+-- Labels, widths and variables.
 
 one_label : (l m : Label) → same_label l m ≡ true → m ≡ l
 one_label Public Public h = refl
 one_label Secret Secret h = refl
 one_label l m h = absurd (false≢true h)
 
-one_width : (v w : Width) → same_width v w ≡ true → v ≡ w
+one_width : (v w : Width) → (bits v == bits w) ≡ true → v ≡ w
 one_width W8 W8 h = refl
 one_width W16 W16 h = refl
 one_width W32 W32 h = refl
 one_width v w h = absurd (false≢true h)
+
+a_public : (l : Label) → not (is_secret l) ≡ true → l ≡ Public
+a_public Public h = refl
+a_public Secret h = absurd (false≢true h)
+
+a_secret : (l : Label) → is_secret l ≡ true → l ≡ Secret
+a_secret Public h = absurd (false≢true h)
+a_secret Secret h = refl
 
 one_truth : (a b : Bool) → same_truth a b ≡ true → b ≡ a
 one_truth true true h = refl
@@ -74,24 +82,20 @@ one_count None None h = refl
 one_count (Some m) (Some n) h = ap Some (sym (eqb-true m n h))
 one_count m n h = absurd (false≢true h)
 
-numeric : (k : Kind) → is_number k ≡ true → IsNumberKind k
-numeric Boolean h = absurd (false≢true h)
-numeric k h = tt
+one_variable : (d e : FlatVariable) → same_variable d e ≡ true → e ≡ d
+one_variable d e h =
+    let same = both (both (both (one_kind d.word.kind e.word.kind) (one_label d.word.label e.word.label))
+    (one_truth d.mutable e.mutable)) (one_count d.elements e.elements) h in
+    λ i. record {
+      word = record { kind = same.0.0.0 i; label = same.0.0.1 i };
+      mutable = same.0.1 i;
+      elements = same.1 i;
+    }
 
-a_public : (l : Label) → not (is_secret l) ≡ true → l ≡ Public
-a_public Public h = refl
-a_public Secret h = absurd (false≢true h)
-
-a_secret : (l : Label) → is_secret l ≡ true → l ≡ Secret
-a_secret Public h = absurd (false≢true h)
-a_secret Secret h = refl
-
--- what has a type only if something holds
-only : (b : Bool) (one word : WordType) → only_if b one ≡ Some word → (b ≡ true) × (one ≡ word)
+-- what is there only if something holds
+only : {A : Type 0} (b : Bool) (one word : A) → (if b then Some one else None) ≡ Some word → (b ≡ true) × (one ≡ word)
 only true one word is = (refl, same_Some one word is)
 only false one word is = absurd (none-some word is)
-
--- Variables.
 
 a_word : (o : Option FlatVariable) (word : WordType) → word_in o ≡ Some word
     → (mutable : Bool) × (o ≡ Some (word_as word mutable))
@@ -117,196 +121,175 @@ an_array size (Some d) word is = (d.mutable, ap Some (declared d.elements refl i
         let count : d.elements ≡ Some size = some ∙ ap Some (eqb-true n size both.0) in
         λ i. record { word = both.1 i; mutable = d.mutable; elements = count i }
 
--- Operators.
-
-it_takes : (operator : PrefixOperator) (k : Kind) → takes operator k ≡ true → Takes operator k
-it_takes Not k h = sym (one_kind k Boolean h)
-it_takes Complement k h = numeric k h
-it_takes Negate k h = numeric k h
-
-may_be : (profile : Profile) (l m : Label) → may_multiply profile (joined l m) ≡ true → MayBeMultiplied profile l m
-may_be P1 l m h = unseen
-may_be P2 l m h = let both = joined_public l m (a_public (joined l m) h) in rw (both.0, both.1) both_public
-
-it_makes : (profile : Profile) (operation : Operation) (k j : Kind) (l m : Label)
-    → makes profile operation k j (joined l m) ≡ true
-    → Makes profile operation (labelled k l) (labelled j m) (labelled (operation_kind operation k) (joined l m))
-it_makes profile Arithmetic k j l m h =
-    let both = and_parts (is_number k) (same_kind k j) h in
-    rw (one_kind k j both.1) (arithmetic (numeric k both.0))
-it_makes profile Multiplication k j l m h =
-    let all = and_parts (is_number k && same_kind k j) (may_multiply profile (joined l m)) h in
-    let both = and_parts (is_number k) (same_kind k j) all.0 in
-    rw (one_kind k j both.1) (multiplication (numeric k both.0) (may_be profile l m all.1))
-it_makes profile Division k j l m h =
-    let all = and_parts (is_number k && same_kind k j) (not (is_secret (joined l m))) h in
-    let both = and_parts (is_number k) (same_kind k j) all.0 in
-    let labels = joined_public l m (a_public (joined l m) all.1) in
-    rw (one_kind k j both.1, labels.0, labels.1) (division (numeric k both.0))
-it_makes profile Shift k j l m h =
-    let both = and_parts (is_number k) (same_kind j Uint32) h in
-    rw (sym (one_kind j Uint32 both.1)) (shift (numeric k both.0))
-it_makes profile Equality k j l m h = rw (one_kind k j h) equality
-it_makes profile Order k j l m h =
-    let both = and_parts (is_number k) (same_kind k j) h in
-    rw (one_kind k j both.1) (order (numeric k both.0))
-it_makes profile Logic k j l m h =
-    let both = and_parts (same_kind k Boolean) (same_kind j Boolean) h in
-    rw (sym (one_kind k Boolean both.0), sym (one_kind j Boolean both.1)) logic
-
 -- Expressions.
 
+-- what has a type by the test has it by the rules of inference, and it is a word's
+pub data Typed (types : Types) (e : TermTree) : Option ValueType → Type 0 where
+  typed : {w : WordType} → HasType types e w → Typed types e (Some (Word w))
+  untyped : Typed types e None
+
+module _ {types : Types} {e : TermTree} where
+  where_true : (b : Bool) {type : Option ValueType} → (b ≡ true → Typed types e type)
+      → Typed types e (if b then type else None)
+  where_true true so = so refl
+  where_true false so = untyped
+
+  where_met : (rules : List Rule) {type : ValueType} → (rules ≡ [] → Typed types e (Some type))
+      → Typed types e (unless rules type)
+  where_met [] so = so refl
+  where_met (rule ∷ rules) so = untyped
+
+  where_known : (word : Option WordType) → ((w : WordType) → word ≡ Some w → HasType types e w)
+      → Typed types e (option_map Word word)
+  where_known (Some w) so = typed (so w refl)
+  where_known None so = untyped
+
+  of_part : {f : TermTree} (make : ValueType → Option ValueType) {type : Option ValueType} → Typed types f type
+      → ((w : WordType) → HasType types f w → Typed types e (make (Word w))) → Typed types e (of_one None make type)
+  of_part make (typed {w = w} has) so = so w has
+  of_part make untyped so = untyped
+
+  of_parts : {f g : TermTree} (make : ValueType → ValueType → Option ValueType) {type other : Option ValueType}
+      → Typed types f type → Typed types g other
+      → ((v w : WordType) → HasType types f v → HasType types g w → Typed types e (make (Word v) (Word w)))
+      → Typed types e (of_two None make type other)
+  of_parts make (typed {w = v} has) (typed {w = w} more) so = so v w has more
+  of_parts make (typed has) untyped so = untyped
+  of_parts make untyped _ so = untyped
+
+  of_all_parts : {f g h : TermTree} (make : ValueType → ValueType → ValueType → Option ValueType)
+      {type other last : Option ValueType} → Typed types f type → Typed types g other → Typed types h last
+      → ((u v w : WordType) → HasType types f u → HasType types g v → HasType types h w
+      → Typed types e (make (Word u) (Word v) (Word w)))
+      → Typed types e (of_three None make type other last)
+  of_all_parts make (typed {w = u} has) (typed {w = v} more) (typed {w = w} most) so = so u v w has more most
+  of_all_parts make (typed has) (typed more) untyped so = untyped
+  of_all_parts make (typed has) untyped _ so = untyped
+  of_all_parts make untyped _ _ so = untyped
+
+  -- what is tested of its type is so of a word that it has
+  where_passed : (test : ValueType → Bool) {A : Type 0} {type : Option ValueType} → Typed types e type
+      → ((w : WordType) → HasType types e w → test (Word w) ≡ true → A) → of_one false test type ≡ true → A
+  where_passed test (typed {w = w} has) so h = so w has h
+  where_passed test untyped so h = absurd (false≢true h)
+
+  has_counter : {w : WordType} → HasType types e w → is_counter (Word w) ≡ true → HasType types e counter_type
+  has_counter {w = w} has h =
+      let parts = both (both (λ number. number) (not-true (is_narrow (Word w)))) (not-true (is_hidden (Word w))) h in
+      let index = public_index (Word w) parts.0.1 parts.0.0 parts.1 in
+      let same : w ≡ counter_type = cc in
+      subst (HasType types e) same has
+
 module _ (types : Types) where
-  -- what an expression has the type of, if it has one
-  abbrev Has : TermTree → Option WordType → Type 0
-  Has e type = (word : WordType) → type ≡ Some word → HasType types e word
+  has_sign : (operator : PrefixOperator) (width : Width) (e : TermTree) (w : WordType) → HasType types e w
+      → width ≡ width_of w.kind → prefix_rules operator (Word w) ≡ [] → HasType types (prefix operator width e) w
+  has_sign operator width e w has wide none =
+      let taken = taken_by_sign operator (Word w) none in
+      let same : taken.0 ≡ w = cc in
+      of_prefix {kind = w.kind} {label = w.label} has (subst (λ v. Takes operator v.kind) same taken.2) wide
 
-  has_prefix : (operator : PrefixOperator) (width : Width) (e : TermTree) (type : Option WordType) → Has e type
-      → Has (prefix operator width e) (prefixed operator width type)
-  has_prefix operator width e None has word is = absurd (none-some word is)
-  has_prefix operator width e (Some one) has word is =
-      let fits = only _ one word is in
-      let both = and_parts (takes operator one.kind) (same_width width (width_of one.kind)) fits.0 in
-      subst (HasType types (prefix operator width e)) fits.1
-      (of_prefix {kind = one.kind} {label = one.label} (has one refl) (it_takes operator one.kind both.0)
-      (one_width width (width_of one.kind) both.1))
+  has_binary : (place : Place) (operator : BinaryOperator) (width : Width) (e f : TermTree) (v w : WordType)
+      → HasType types e v → HasType types f w → width ≡ width_of v.kind
+      → binary_rules types.profile operator (Word v) (Word w) ≡ []
+      → HasType types (binary place operator width e f)
+      (labelled (operation_kind (operation_of operator) v.kind) (joined v.label w.label))
+  has_binary place operator width e f v w has more wide none =
+      let x = is_operated types.profile (operation_of operator) (Word v) (Word w) none in
+      let one : x.one ≡ v = cc in
+      let other : x.other ≡ w = cc in
+      let makes : Makes types.profile (operation_of operator) v w x.whole =
+      subst (λ (u : WordType). Makes types.profile (operation_of operator) v u x.whole) other
+      (subst (λ (u : WordType). Makes types.profile (operation_of operator) u x.other x.whole) one x.makes) in
+      subst (HasType types (binary place operator width e f)) (sym (made makes).whole_is)
+      (of_binary has more makes wide)
 
-  has_binary : (place : Place) (operator : BinaryOperator) (width : Width) (e f : TermTree)
-      (type other : Option WordType) → Has e type → Has f other
-      → Has (binary place operator width e f) (between types.profile operator width type other)
-  has_binary place operator width e f (Some one) (Some two) has more word is =
-      let fits = only _ _ word is in
-      let both = and_parts
-      (makes types.profile (operation_of operator) one.kind two.kind (joined one.label two.label))
-      (same_width width (width_of one.kind)) fits.0 in
-      subst (HasType types (binary place operator width e f)) fits.1
-      (of_binary {one = one} {other = two} (has one refl) (more two refl)
-      (it_makes types.profile (operation_of operator) one.kind two.kind one.label two.label both.0)
-      (one_width width (width_of one.kind) both.1))
-  has_binary place operator width e f (Some one) None has more word is = absurd (none-some word is)
-  has_binary place operator width e f None other has more word is = absurd (none-some word is)
+  has_rotation : (width : Width) (e : TermTree) (amount : ℕ) (w : WordType) → HasType types e w
+      → width ≡ width_of w.kind → rotate_rules amount (Word w) ≡ [] → HasType types (rotate width e amount) w
+  has_rotation width e amount w has wide none =
+      let x = is_rotated amount (Word w) none in
+      let same : x.of ≡ w = cc in
+      of_rotation {kind = w.kind} {label = w.label} has (subst (λ (v : WordType). IsNumberKind v.kind) same x.number)
+      x.low (subst (λ (v : WordType). amount < bits_of v.kind) same x.high) wide
 
-  has_rotation : (width : Width) (e : TermTree) (amount : ℕ) (type : Option WordType) → Has e type
-      → Has (rotate width e amount) (rotated width amount type)
-  has_rotation width e amount None has word is = absurd (none-some word is)
-  has_rotation width e amount (Some one) has word is =
-      let fits = only _ one word is in
-      let third = and_parts (is_number one.kind && nat_lt 0 amount && nat_lt amount (bits_of one.kind))
-      (same_width width (width_of one.kind)) fits.0 in
-      let second = and_parts (is_number one.kind && nat_lt 0 amount) (nat_lt amount (bits_of one.kind)) third.0 in
-      let both = and_parts (is_number one.kind) (nat_lt 0 amount) second.0 in
-      subst (HasType types (rotate width e amount)) fits.1
-      (of_rotation {kind = one.kind} {label = one.label} (has one refl) (numeric one.kind both.0)
-      (ltb-true 0 amount both.1) (ltb-true amount (bits_of one.kind) second.1)
-      (one_width width (width_of one.kind) third.1))
+  has_selection : (e f g : TermTree) (u v w : WordType) → HasType types e u → HasType types f v → HasType types g w
+      → select_rules (Word u) (Word v) (Word w) ≡ []
+      → HasType types (select e f g) (labelled v.kind (joined u.label (joined v.label w.label)))
+  has_selection e f g u v w has more most none =
+      let x = is_selected (Word u) (Word v) (Word w) none in
+      let chooser : u ≡ labelled Boolean x.condition = cc in
+      let one : v ≡ labelled x.kind x.one = cc in
+      let other : w ≡ labelled x.kind x.other = cc in
+      subst (HasType types (select e f g))
+      (λ i. labelled (sym one i).kind (joined (sym chooser i).label (joined (sym one i).label (sym other i).label)))
+      (of_selection (subst (HasType types e) chooser has) (subst (HasType types f) one more)
+      (subst (HasType types g) other most))
 
-  has_conversion : (kind : Kind) (e : TermTree) (type : Option WordType) → Has e type
-      → Has (convert kind e) (converted kind type)
-  has_conversion kind e None has word is = absurd (none-some word is)
-  has_conversion kind e (Some one) has word is =
-      let fits = only _ _ word is in
-      subst (HasType types (convert kind e)) fits.1
-      (of_conversion {other = one.kind} {label = one.label} (has one refl) (numeric kind fits.0))
-
-  has_selection : (e f g : TermTree) (type other last : Option WordType) → Has e type → Has f other → Has g last
-      → Has (select e f g) (selected type other last)
-  has_selection e f g (Some one) (Some two) (Some three) has more most word is =
-      let fits = only _ _ word is in
-      let both = and_parts (same_kind one.kind Boolean) (same_kind two.kind three.kind) fits.0 in
-      let chooser = subst (λ k. HasType types e (labelled k one.label)) (sym (one_kind one.kind Boolean both.0))
-      (has one refl) in
-      let third = subst (λ k. HasType types g (labelled k three.label)) (one_kind two.kind three.kind both.1)
-      (most three refl) in
-      subst (HasType types (select e f g)) fits.1
-      (of_selection {kind = two.kind} {l = one.label} {m = two.label} {n = three.label} chooser (more two refl) third)
-  has_selection e f g (Some one) (Some two) None has more most word is = absurd (none-some word is)
-  has_selection e f g (Some one) None last has more most word is = absurd (none-some word is)
-  has_selection e f g None other last has more most word is = absurd (none-some word is)
-
-  counts : (e : TermTree) (type : Option WordType) → Has e type → is_counter type ≡ true
-      → HasType types e counter_type
-  counts e None has h = absurd (false≢true h)
-  counts e (Some one) has h =
-      let both = and_parts (same_kind one.kind Uint32) (not (is_secret one.label)) h in
-      let same : one ≡ counter_type =
-      λ i. record { kind = sym (one_kind one.kind Uint32 both.0) i; label = a_public one.label both.1 i } in
-      has counter_type (ap Some same)
-
-  has_element : (place : Place) (x size : ℕ) (e : TermTree) (type found : Option WordType) → Has e type
-      → found ≡ element_in size (types.at x) → Has (element place x size e) (indexed found type)
-  has_element place x size e type None has there word is = absurd (none-some word is)
-  has_element place x size e type (Some one) has there word is =
-      let fits = only _ one word is in
-      let array = an_array size (types.at x) word (sym there ∙ ap Some fits.1) in
-      of_element {mutable = array.0} array.1 (counts e type has fits.0)
-
-  pub has_type : (e : TermTree) → Has e (type_of types e)
-  has_type (number value kind) = λ word is.
-      let fits = only _ _ word is in
-      subst (HasType types (number value kind)) fits.1 (of_number (ltb-true value (2 ^ bits_of kind) fits.0))
-  has_type (truth value) = λ word is. subst (HasType types (truth value)) (same_Some _ word is) of_truth
-  has_type (variable x) = λ word is.
-      let found = a_word (types.at x) word is in of_variable {mutable = found.0} found.1
-  has_type (prefix operator width e) = has_prefix operator width e (type_of types e) (has_type e)
-  has_type (binary place operator width e f) =
-      has_binary place operator width e f (type_of types e) (type_of types f) (has_type e) (has_type f)
-  has_type (rotate width e amount) = has_rotation width e amount (type_of types e) (has_type e)
-  has_type (convert kind e) = has_conversion kind e (type_of types e) (has_type e)
-  has_type (select e f g) =
-      has_selection e f g (type_of types e) (type_of types f) (type_of types g) (has_type e) (has_type f) (has_type g)
-  has_type (element place x size e) =
-      has_element place x size e (type_of types e) (element_in size (types.at x)) (has_type e) refl
+  pub is_typed_term : (e : TermTree) → Typed types e (type_of types e)
+  is_typed_term (number value kind) =
+      where_met (number_rules value kind) (λ none. typed (of_number (ltb-true _ _ (is_met _ none))))
+  is_typed_term (truth value) = typed of_truth
+  is_typed_term (variable x) =
+      where_known (word_in (types.at x)) (λ w known. of_variable (a_word (types.at x) w known).1)
+  is_typed_term (prefix operator width e) =
+      of_part _ (is_typed_term e) (λ w has.
+      where_true _ (λ wide. where_met _ (λ none. typed (has_sign operator width e w has (one_width _ _ wide) none))))
+  is_typed_term (binary place operator width e f) =
+      of_parts _ (is_typed_term e) (is_typed_term f) (λ v w has more.
+      where_true _ (λ wide. where_met _ (λ none.
+      typed (has_binary place operator width e f v w has more (one_width _ _ wide) none))))
+  is_typed_term (rotate width e amount) =
+      of_part _ (is_typed_term e) (λ w has.
+      where_true _ (λ wide. where_met _ (λ none. typed (has_rotation width e amount w has (one_width _ _ wide) none))))
+  is_typed_term (convert kind e) =
+      of_part _ (is_typed_term e) (λ w has.
+      where_true _ (λ number. where_met _ (λ none.
+      typed (of_conversion {other = w.kind} {label = w.label} has (a_number kind number)))))
+  is_typed_term (select e f g) =
+      of_all_parts _ (is_typed_term e) (is_typed_term f) (is_typed_term g) (λ u v w has more most.
+      where_met _ (λ none. typed (has_selection e f g u v w has more most none)))
+  is_typed_term (element place x size e) =
+      of_part _ (is_typed_term e) (λ w has.
+      where_true _ (λ counts. where_known (element_in size (types.at x)) (λ word known.
+      of_element (an_array size (types.at x) word known).1 (has_counter has counts))))
 
   -- Values.
 
-  flows : (wanted label : Label) → (is_secret wanted || not (is_secret label)) ≡ true → wanted ≡ Public
-      → label ≡ Public
-  flows Public label h public = a_public label h
-  flows Secret label h public = cc
+  flowing : {wanted w : WordType} {e : TermTree} → SuitsWord w wanted → HasType types e w → Suits types wanted e
+  flowing (flow_suits public_flows) has = record { word = _; has_type = has; kind = refl; label = λ is. refl }
+  flowing (flow_suits secret_flows) has = record { word = _; has_type = has; kind = refl; label = λ is. cc }
 
-  suiting : (wanted : WordType) (e : TermTree) (type : Option WordType) → Has e type → suits wanted type ≡ true
-      → Suits types wanted e
-  suiting wanted e None has h = absurd (false≢true h)
-  suiting wanted e (Some one) has h =
-      let both = and_parts (same_kind one.kind wanted.kind) (is_secret wanted.label || not (is_secret one.label)) h in
-      record {
-        word = one;
-        has_type = has one refl;
-        kind = sym (one_kind one.kind wanted.kind both.0);
-        label = flows wanted.label one.label both.1;
-      }
+  no_rule : (rules : List Rule) → are_met rules ≡ true → rules ≡ []
+  no_rule [] h = refl
+  no_rule (rule ∷ rules) h = absurd (false≢true h)
 
-  pub it_suits : (wanted : WordType) (e : TermTree) → suits wanted (type_of types e) ≡ true → Suits types wanted e
-  it_suits wanted e = suiting wanted e (type_of types e) (has_type e)
+  pub it_suits : (wanted : WordType) (e : TermTree) → passes (suits wanted) types e ≡ true → Suits types wanted e
+  it_suits wanted e = where_passed _ (is_typed_term e) (λ w has h.
+      let suited = is_suited wanted (Word w) (no_rule _ h) in
+      let same : w ≡ suited.0 = cc in
+      flowing suited.2 (subst (HasType types e) same has))
 
   pub they_suit : (wanted : WordType) (es : List TermTree) → all_suit types wanted es ≡ true
       → AllSuit types wanted es
   they_suit wanted [] h = tt
-  they_suit wanted (e ∷ es) h =
-      let both = and_parts (suits wanted (type_of types e)) (all_suit types wanted es) h in
-      (it_suits wanted e both.0, they_suit wanted es both.1)
+  they_suit wanted (e ∷ es) h = both (it_suits wanted e) (they_suit wanted es) h
 
-  pub it_counts : (e : TermTree) → is_counter (type_of types e) ≡ true → HasType types e counter_type
-  it_counts e = counts e (type_of types e) (has_type e)
+  pub it_counts : (e : TermTree) → passes is_counter types e ≡ true → HasType types e counter_type
+  it_counts e = where_passed _ (is_typed_term e) (λ w has h. has_counter has h)
 
-  a_bool : (public : Bool) (e : TermTree) (type : Option WordType) → Has e type → is_bool public type ≡ true
+  pub it_decides : (public : Bool) (e : TermTree) → passes (decides public) types e ≡ true
       → (label : Label) × HasType types e (labelled Boolean label) × (public ≡ true → label ≡ Public)
-  a_bool public e None has h = absurd (false≢true h)
-  a_bool public e (Some one) has h =
-      let both = and_parts (same_kind one.kind Boolean) (not (public && is_secret one.label)) h in (
-        one.label,
-        subst (λ k. HasType types e (labelled k one.label)) (sym (one_kind one.kind Boolean both.0)) (has one refl),
-        λ is. a_public one.label (rw is at both.1),
-      )
-
-  pub it_decides : (public : Bool) (e : TermTree) → is_bool public (type_of types e) ≡ true
-      → (label : Label) × HasType types e (labelled Boolean label) × (public ≡ true → label ≡ Public)
-  it_decides public e = a_bool public e (type_of types e) (has_type e)
+  it_decides public e = where_passed _ (is_typed_term e) (λ w has h.
+      let parts = both (bool_word (Word w)) (λ (open_to : not (public && is_hidden (Word w)) ≡ true). open_to) h in
+      let same : w ≡ labelled Boolean parts.0.0 = cc in (
+        parts.0.0,
+        subst (HasType types e) same has,
+        λ is. sym (ap (λ (v : WordType). v.label) same) ∙ a_public w.label (rw is at parts.1),
+      ))
 
   pub it_results : (returned : Option WordType) (value : Option TermTree) → is_result types returned value ≡ true
       → IsResult types returned value
   it_results None None h = tt
-  it_results (Some word) (Some value) h = it_suits word value h
+  it_results (Some wanted) (Some value) h = it_suits wanted value h
   it_results returned value h = absurd (false≢true h)
 
 or_right : (a b : Bool) → a ≡ false → (a || b) ≡ true → b ≡ true
@@ -329,167 +312,100 @@ module _ (profile : Profile) (declared : List FlatVariable) (controls : ℕ) whe
   among None h = tt
   among (Some control) h = ltb-true control controls h
 
-  -- what is set, and is secret under a control value
-  record IsGiven (within : Option ℕ) (x : ℕ) (o : Option WordType) (e : TermTree) : Type 0 where
-    pub word : WordType
-    pub known : o ≡ Some word
-    pub suits : Suits types word e
-    pub hidden : may_keep within word.label ≡ true
-
-  given : (within : Option ℕ) (x : ℕ) (o : Option WordType) (e : TermTree)
-      → may_set within o (type_of types e) ≡ true → IsGiven within x o e
-  given within x None e h = absurd (false≢true h)
-  given within x (Some word) e h =
-      let both = and_parts (may_keep within word.label) (suits word (type_of types e)) h in
-      record { word = word; known = refl; suits = it_suits types word e both.1; hidden = both.0 }
-
   secret : (within : Option ℕ) (x : ℕ) (d : FlatVariable) → slice_get declared x ≡ Some d
       → may_keep within d.word.label ≡ true → IsSecretWithin declared within x
   secret None x d there h = tt
   secret (Some control) x d there h =
       λ other is. rw (same_Some other d (sym is ∙ there)) (a_secret d.word.label h)
 
-  -- well typed, and sets only what is secret under a control value
-  abbrev Fits : StraightTree → Type 0
-  Fits s = IsTyped profile declared controls s × IsHidden declared s
+  -- a word that is set, and is secret under a control value
+  record IsGiven (within : Option ℕ) (o : Option WordType) (e : TermTree) : Type 0 where
+    pub word : WordType
+    pub known : o ≡ Some word
+    pub among : IsAmong controls within
+    pub suits : Suits types word e
+    pub hidden : may_keep within word.label ≡ true
 
-  pub record Fit (b : StraightBlock) : Type 0 where
-    pub typed : AreTyped profile declared controls b
-    pub hidden : AreHidden declared b
+  given : (within : Option ℕ) (o : Option WordType) (e : TermTree) → may_set types controls within o e ≡ true
+      → IsGiven within o e
+  given within None e h = absurd (false≢true h)
+  given within (Some word) e h =
+      let all = both (both (among within) (λ (keeps : may_keep within word.label ≡ true). keeps)) (it_suits types word e) h in
+      record { word = word; known = refl; among = all.0.0; suits = all.1; hidden = all.0.1 }
 
-  filled : (x size : ℕ) (es : List TermTree) (o : Option WordType) → o ≡ element_in size (slice_get declared x)
+  filled : (x size : ℕ) (es : List TermTree) (o : Option WordType) → element_in size (slice_get declared x) ≡ o
       → may_fill (types_beside profile declared (Some x)) size o es ≡ true
       → IsTyped profile declared controls (array x size es)
   filled x size es None there h = absurd (false≢true h)
   filled x size es (Some word) there h =
-      let both = and_parts ((length es == 0) || (length es == size))
-      (all_suit (types_beside profile declared (Some x)) word es) h in
-      let found = an_array size (slice_get declared x) word (sym there) in
-      record {
-        word = word;
-        mutable = found.0;
-        known = found.1;
-        suit = they_suit (types_but profile declared x) word es both.1;
-        count = it_counts_all size es both.0;
-      }
+      let parts = both (it_counts_all size es) (they_suit (types_but profile declared x) word es) h in
+      let found = an_array size (slice_get declared x) word there in
+      record { word = word; mutable = found.0; known = found.1; suit = parts.1; count = parts.0 }
 
   a_counter : (o : Option FlatVariable) → is_loop_counter o ≡ true → o ≡ Some (word_as counter_type false)
   a_counter None h = absurd (false≢true h)
-  a_counter (Some d) h = by_type (word_in (Some d)) refl
-    where
-      both : (not d.mutable ≡ true) × (is_counter (word_in (Some d)) ≡ true)
-      both = and_parts (not d.mutable) (is_counter (word_in (Some d))) h
+  a_counter (Some d) h = ap Some (one_variable (word_as counter_type false) d h)
 
-      by_type : (type : Option WordType) → word_in (Some d) ≡ type → Some d ≡ Some (word_as counter_type false)
-      by_type None is = absurd (false≢true (ap is_counter (sym is) ∙ both.1))
-      by_type (Some word) is =
-          let found = a_word (Some d) word is in
-          let two = and_parts (same_kind word.kind Uint32) (not (is_secret word.label))
-          (ap is_counter (sym is) ∙ both.1) in
-          let same : word ≡ counter_type =
-          λ i. record { kind = sym (one_kind word.kind Uint32 two.0) i; label = a_public word.label two.1 i } in
-          let fixed : found.0 ≡ false =
-          ap (λ (v : FlatVariable). v.mutable) (sym (same_Some d (word_as word found.0) found.1))
-          ∙ not-true d.mutable both.0 in
-          found.1 ∙ λ i. Some (word_as (same i) (fixed i))
+  -- well typed, and sets only what is secret under a control value
+  pub record Fit (b : StraightBlock) : Type 0 where
+    pub typed : AreTyped profile declared controls b
+    pub hidden : AreHidden declared b
 
   mutual
-    pub fits : (s : StraightTree) → is_typed profile declared controls s ≡ true → Fits s
+    fits : (s : StraightTree) → is_typed profile declared controls s ≡ true
+        → IsTyped profile declared controls s × IsHidden declared s
     fits (set within x value) h =
-        let both = and_parts (is_among controls within) _ h in
-        let is = given within x (word_in (slice_get declared x)) value both.1 in
+        let is = given within (word_in (slice_get declared x)) value h in
         let found = a_word (slice_get declared x) is.word is.known in (
-          (
-            among within both.0,
-            record { word = is.word; mutable = found.0; known = found.1; suits = is.suits },
-          ),
+          (is.among, record { word = is.word; mutable = found.0; known = found.1; suits = is.suits }),
           secret within x (word_as is.word found.0) found.1 is.hidden,
         )
     fits (array x size es) h = (filled x size es (element_in size (slice_get declared x)) refl h, tt)
     fits (put within place x size index value) h =
-        let all = and_parts (is_among controls within && is_counter (type_of types index)) _ h in
-        let both = and_parts (is_among controls within) (is_counter (type_of types index)) all.0 in
-        let is = given within x (element_in size (slice_get declared x)) value all.1 in
+        let parts = both (it_counts types index) (given within (element_in size (slice_get declared x)) value) h in
+        let is = parts.1 in
         let found = an_array size (slice_get declared x) is.word is.known in (
           (
-            among within both.0,
+            is.among,
             record {
               word = is.word;
               mutable = found.0;
               known = found.1;
-              index_type = it_counts types index both.1;
+              index_type = parts.0;
               suits = is.suits;
             },
           ),
           secret within x (array_as is.word found.0 size) found.1 is.hidden,
         )
     fits (take control within condition) h =
-        let all = and_parts (nat_lt (control + 1) controls && is_among controls within)
-        (is_bool false (type_of types condition)) h in
-        let both = and_parts (nat_lt (control + 1) controls) (is_among controls within) all.0 in
-        let decides = it_decides types false condition all.1 in
-        ((ltb-true (control + 1) controls both.0, among within both.1, (decides.0, decides.1)), tt)
+        let parts = both (both (ltb-true (control + 1) controls) (among within)) (it_decides types false condition) h in
+        ((parts.0.0, parts.0.1, (parts.1.0, parts.1.1)), tt)
     fits (branch condition accepted otherwise) h =
-        let all = and_parts (is_bool true (type_of types condition) && are_typed profile declared controls accepted)
-        (are_typed profile declared controls otherwise) h in
-        let both = and_parts (is_bool true (type_of types condition)) (are_typed profile declared controls accepted)
-        all.0 in
-        let decides = it_decides types true condition both.0 in
-        let one = all_fit accepted both.1 in
-        let other = all_fit otherwise all.1 in (
+        let parts = both (both (it_decides types true condition) (all_fit accepted)) (all_fit otherwise) h in
+        let decides = parts.0.0 in (
           (
             subst (λ l. HasType types condition (labelled Boolean l)) (decides.2 refl) decides.1,
-            one.typed,
-            other.typed,
+            parts.0.1.typed,
+            parts.1.typed,
           ),
-          (one.hidden, other.hidden),
+          (parts.0.1.hidden, parts.1.hidden),
         )
     fits (repeats x low high body) h =
-        let all = and_parts (is_loop_counter (slice_get declared x) && is_counter (type_of types low)
-        && is_counter (type_of types high)) (are_typed profile declared controls body) h in
-        let more = and_parts (is_loop_counter (slice_get declared x) && is_counter (type_of types low))
-        (is_counter (type_of types high)) all.0 in
-        let both = and_parts (is_loop_counter (slice_get declared x)) (is_counter (type_of types low)) more.0 in
-        let inner = all_fit body all.1 in (
-          (
-            it_counts types low both.1,
-            it_counts types high more.1,
-            a_counter (slice_get declared x) both.0,
-            inner.typed,
-          ),
-          inner.hidden,
-        )
+        let parts = both (both (both (a_counter (slice_get declared x)) (it_counts types low)) (it_counts types high))
+        (all_fit body) h in
+        ((parts.0.0.1, parts.0.1, parts.0.0.0, parts.1.typed), parts.1.hidden)
 
     pub all_fit : (b : StraightBlock) → are_typed profile declared controls b ≡ true → Fit b
     all_fit nothing h = record { typed = tt; hidden = tt }
     all_fit (first s rest) h =
-        let both = and_parts (is_typed profile declared controls s) (are_typed profile declared controls rest) h in
-        let one = fits s both.0 in
-        let others = all_fit rest both.1 in
-        record { typed = (one.0, others.typed); hidden = (one.1, others.hidden) }
+        let parts = both (fits s) (all_fit rest) h in
+        record { typed = (parts.0.0, parts.1.typed); hidden = (parts.0.1, parts.1.hidden) }
 
 -- Parameters.
-
-one_variable : (d e : FlatVariable) → same_variable d e ≡ true → e ≡ d
-one_variable d e h =
-    let all = and_parts (same_kind d.word.kind e.word.kind && same_label d.word.label e.word.label
-    && same_truth d.mutable e.mutable) (same_elements d.elements e.elements) h in
-    let more = and_parts (same_kind d.word.kind e.word.kind && same_label d.word.label e.word.label)
-    (same_truth d.mutable e.mutable) all.0 in
-    let both = and_parts (same_kind d.word.kind e.word.kind) (same_label d.word.label e.word.label) more.0 in
-    λ i. record {
-      word = record {
-        kind = one_kind d.word.kind e.word.kind both.0 i;
-        label = one_label d.word.label e.word.label both.1 i;
-      };
-      mutable = one_truth d.mutable e.mutable more.1 i;
-      elements = one_count d.elements e.elements all.1 i;
-    }
 
 pub they_come_first : (ps ds : List FlatVariable) → come_first ps ds ≡ true
     → first_of (length ps) ds ≡ ps
 they_come_first [] ds h = refl
 they_come_first (p ∷ ps) [] h = absurd (false≢true h)
 they_come_first (p ∷ ps) (d ∷ ds) h =
-    let both = and_parts (same_variable p d) (come_first ps ds) h in
-    λ i. one_variable p d both.0 i ∷ they_come_first ps ds both.1 i
+    let same = both (one_variable p d) (they_come_first ps ds) h in λ i. same.0 i ∷ same.1 i

@@ -14,6 +14,7 @@ mod quiet;
 mod removal;
 mod sizes;
 mod straight;
+mod term_types;
 mod type_checks;
 mod uses;
 

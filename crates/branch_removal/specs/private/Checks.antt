@@ -1,30 +1,30 @@
 -- Whether straight code is well typed, as a test: the type of each expression, where it has one, and whether each
 -- statement sets what its types allow.
-use Rattle.std.specs.Prelude.{ℕ, ◌+◌, ◌^◌, ◌==◌, ◌&&◌, ◌||◌, Bool, true, false, not, if◌then◌else◌, nat_lt, List, [], ◌∷◌}
+use Rattle.std.specs.Prelude.{ℕ, ◌+◌, ◌==◌, ◌&&◌, ◌||◌, Bool, true, false, not, if◌then◌else◌, nat_lt, List, [], ◌∷◌}
 use Rattle.std.specs.Prelude.{length, Option, None, Some, slice_get}
+use Rattle.std.specs.Option.{option_map}
 use Rattle.branch_removal.specs.Straight.{StraightTree, set, array, put, take, branch, repeats}
 use Rattle.branch_removal.specs.Straight.{StraightBlock, nothing, first}
 use Rattle.inline.specs.declared.flat.FlatVariable.{FlatVariable}
 use Rattle.inline.specs.Flat.{TermTree, number, truth, variable, prefix, binary, rotate, convert, select, element}
+use Rattle.inline.specs.Flat.{counter_type, word_as}
 use Rattle.inline.specs.FlatTyping.{Types}
-use Rattle.language.specs.ExprTyping.{operation_kind}
-use Rattle.language.specs.Operators.{operation_of, width_of}
-use Rattle.language.specs.Types.{bits_of, is_number, is_secret, joined, same_kind, same_label}
-use Rattle.language.specs.WellTyped.{labelled}
-use Rattle.language.specs.declared.operation.Operation.{Operation}
-use Rattle.language.specs.declared.operation.Operation.TheVariants.{Arithmetic, Multiplication, Division, Shift}
-use Rattle.language.specs.declared.operation.Operation.TheVariants.{Equality, Order, Logic}
+use Rattle.language.specs.ExprTyping.{binary_type, convert_type, number_rules, prefix_type, rotate_type, select_type}
+use Rattle.language.specs.Operators.{width_of}
+use Rattle.language.specs.Types.{are_met, is_bool, is_hidden, is_narrow, is_number, is_numeric, is_secret, kind_of}
+use Rattle.language.specs.Types.{of_one, of_three, of_two, same_kind, same_label, unless, word}
+use Rattle.language.specs.Typing.{value_rules}
 use Rattle.language.specs.declared.operators.BinaryOperator.{BinaryOperator}
 use Rattle.language.specs.declared.operators.PrefixOperator.{PrefixOperator}
-use Rattle.language.specs.declared.operators.PrefixOperator.TheVariants.{Not, Complement, Negate}
 use Rattle.language.specs.declared.signature.Kind.{Kind}
-use Rattle.language.specs.declared.signature.Kind.TheVariants.{Boolean, Uint32}
+use Rattle.language.specs.declared.signature.Kind.TheVariants.{Boolean}
 use Rattle.language.specs.declared.signature.Label.{Label}
 use Rattle.language.specs.declared.signature.Label.TheVariants.{Public}
+use Rattle.language.specs.declared.typing.ValueType.{ValueType}
+use Rattle.language.specs.declared.typing.ValueType.TheVariants.{Word}
 use Rattle.language.specs.declared.typing.WordType.{WordType}
 use Rattle.word.specs.Widths.{bits}
 use Rattle.word.specs.declared.profile.Profile.{Profile}
-use Rattle.word.specs.declared.profile.Profile.TheVariants.{P1, P2}
 use Rattle.word.specs.declared.width.Width.{Width}
 
 -- Variables.
@@ -56,164 +56,65 @@ abbrev pub element_in : ℕ → Option FlatVariable → Option WordType
 element_in size None = None
 element_in size (Some d) = element_by size d.word d.elements
 
--- Expressions.
+-- Expressions: the language's own type of each operator, at the width of its operand.
 
-abbrev pub only_if : Bool → WordType → Option WordType
-only_if fits word = if fits then Some word else None
-
-abbrev pub same_width : Width → Width → Bool
-same_width one other = bits one == bits other
+abbrev pub is_at : Width → ValueType → Bool
+is_at width operand = bits width == bits (width_of (kind_of operand))
 
 -- a public `uint32`
-abbrev pub is_counter : Option WordType → Bool
-is_counter None = false
-is_counter (Some word) = same_kind word.kind Uint32 && not (is_secret word.label)
+abbrev pub is_counter : ValueType → Bool
+is_counter type = is_numeric type && not (is_narrow type) && not (is_hidden type)
 
--- a bool, which is public where it has to be
-abbrev pub is_bool : Bool → Option WordType → Bool
-is_bool public None = false
-is_bool public (Some word) = same_kind word.kind Boolean && not (public && is_secret word.label)
+abbrev pub prefixed : PrefixOperator → Width → ValueType → Option ValueType
+prefixed operator width operand = if is_at width operand then prefix_type operator operand else None
 
-abbrev pub takes : PrefixOperator → Kind → Bool
-takes Not kind = same_kind kind Boolean
-takes Complement kind = is_number kind
-takes Negate kind = is_number kind
+abbrev pub between : Profile → BinaryOperator → Width → ValueType → ValueType → Option ValueType
+between profile operator width left right =
+    if is_at width left then binary_type profile operator left right else None
 
--- what has this label may be multiplied
-abbrev pub may_multiply : Profile → Label → Bool
-may_multiply P1 label = true
-may_multiply P2 label = not (is_secret label)
+abbrev pub rotated : Width → ℕ → ValueType → Option ValueType
+rotated width amount operand = if is_at width operand then rotate_type amount operand else None
 
--- an operation takes two words of these kinds, where their labels together are this
-abbrev pub makes : Profile → Operation → Kind → Kind → Label → Bool
-makes profile Arithmetic one other label = is_number one && same_kind one other
-makes profile Multiplication one other label = is_number one && same_kind one other && may_multiply profile label
-makes profile Division one other label = is_number one && same_kind one other && not (is_secret label)
-makes profile Shift one other label = is_number one && same_kind other Uint32
-makes profile Equality one other label = same_kind one other
-makes profile Order one other label = is_number one && same_kind one other
-makes profile Logic one other label = same_kind one Boolean && same_kind other Boolean
+abbrev pub converted : Kind → ValueType → Option ValueType
+converted kind operand = if is_number kind then convert_type kind operand else None
 
-abbrev pub prefixed : PrefixOperator → Width → Option WordType → Option WordType
-prefixed operator width None = None
-prefixed operator width (Some word) =
-    only_if (takes operator word.kind && same_width width (width_of word.kind)) word
-
-abbrev pub between : Profile → BinaryOperator → Width → Option WordType → Option WordType → Option WordType
-between profile operator width (Some one) (Some other) =
-    only_if (makes profile (operation_of operator) one.kind other.kind (joined one.label other.label)
-    && same_width width (width_of one.kind))
-    (labelled (operation_kind (operation_of operator) one.kind) (joined one.label other.label))
-between profile operator width (Some one) None = None
-between profile operator width None other = None
-
-abbrev pub rotated : Width → ℕ → Option WordType → Option WordType
-rotated width amount None = None
-rotated width amount (Some word) =
-    only_if (is_number word.kind && nat_lt 0 amount && nat_lt amount (bits_of word.kind)
-    && same_width width (width_of word.kind)) word
-
-abbrev pub converted : Kind → Option WordType → Option WordType
-converted kind None = None
-converted kind (Some word) = only_if (is_number kind) (labelled kind word.label)
-
-abbrev pub selected : Option WordType → Option WordType → Option WordType → Option WordType
-selected (Some condition) (Some accepted) (Some otherwise) =
-    only_if (same_kind condition.kind Boolean && same_kind accepted.kind otherwise.kind)
-    (labelled accepted.kind (joined condition.label (joined accepted.label otherwise.label)))
-selected (Some condition) (Some accepted) None = None
-selected (Some condition) None otherwise = None
-selected None accepted otherwise = None
-
-abbrev pub indexed : Option WordType → Option WordType → Option WordType
-indexed None index = None
-indexed (Some word) index = only_if (is_counter index) word
+abbrev pub indexed : Option WordType → ValueType → Option ValueType
+indexed given index = if is_counter index then option_map Word given else None
 
 -- the type of an expression
-abbrev pub type_of : Types → TermTree → Option WordType
-type_of types (number value kind) = only_if (nat_lt value (2 ^ bits_of kind)) (labelled kind Public)
-type_of types (truth value) = Some (labelled Boolean Public)
-type_of types (variable x) = word_in (types.at x)
-type_of types (prefix operator width operand) = prefixed operator width (type_of types operand)
+abbrev pub type_of : Types → TermTree → Option ValueType
+type_of types (number value kind) = unless (number_rules value kind) (word kind Public)
+type_of types (truth value) = Some (word Boolean Public)
+type_of types (variable x) = option_map Word (word_in (types.at x))
+type_of types (prefix operator width operand) = of_one None (prefixed operator width) (type_of types operand)
 type_of types (binary place operator width left right) =
-    between types.profile operator width (type_of types left) (type_of types right)
-type_of types (rotate width operand amount) = rotated width amount (type_of types operand)
-type_of types (convert kind operand) = converted kind (type_of types operand)
+    of_two None (between types.profile operator width) (type_of types left) (type_of types right)
+type_of types (rotate width operand amount) = of_one None (rotated width amount) (type_of types operand)
+type_of types (convert kind operand) = of_one None (converted kind) (type_of types operand)
 type_of types (select condition accepted otherwise) =
-    selected (type_of types condition) (type_of types accepted) (type_of types otherwise)
-type_of types (element place x size index) = indexed (element_in size (types.at x)) (type_of types index)
+    of_three None select_type (type_of types condition) (type_of types accepted) (type_of types otherwise)
+type_of types (element place x size index) =
+    of_one None (indexed (element_in size (types.at x))) (type_of types index)
 
--- Statements.
+-- Values.
 
--- a value of this type may be put where that is wanted
-abbrev pub suits : WordType → Option WordType → Bool
-suits wanted None = false
-suits wanted (Some word) =
-    same_kind word.kind wanted.kind && (is_secret wanted.label || not (is_secret word.label))
+-- it may be put where this is wanted
+abbrev pub suits : WordType → ValueType → Bool
+suits wanted value = are_met (value_rules wanted value)
+
+-- a bool, which is public where it has to be
+abbrev pub decides : Bool → ValueType → Bool
+decides public type = is_bool type && not (public && is_hidden type)
+
+-- an expression has a type that passes a test
+abbrev pub passes : (ValueType → Bool) → Types → TermTree → Bool
+passes test types e = of_one false test (type_of types e)
 
 abbrev pub all_suit : Types → WordType → List TermTree → Bool
 all_suit types wanted [] = true
-all_suit types wanted (e ∷ es) = suits wanted (type_of types e) && all_suit types wanted es
+all_suit types wanted (e ∷ es) = passes (suits wanted) types e && all_suit types wanted es
 
--- a control value is among so many
-abbrev pub is_among : ℕ → Option ℕ → Bool
-is_among controls None = true
-is_among controls (Some control) = nat_lt control controls
-
--- under a control value only what is secret is set
-abbrev pub may_keep : Option ℕ → Label → Bool
-may_keep None label = true
-may_keep (Some control) label = is_secret label
-
--- a word of this type may be set to a value of that
-abbrev pub may_set : Option ℕ → Option WordType → Option WordType → Bool
-may_set within None value = false
-may_set within (Some wanted) value = may_keep within wanted.label && suits wanted value
-
--- an array of so many elements of this type may be given these values
-abbrev pub may_fill : Types → ℕ → Option WordType → List TermTree → Bool
-may_fill types size None values = false
-may_fill types size (Some wanted) values =
-    ((length values == 0) || (length values == size)) && all_suit types wanted values
-
--- a counter
-abbrev pub is_loop_counter : Option FlatVariable → Bool
-is_loop_counter None = false
-is_loop_counter (Some d) = not d.mutable && is_counter (word_in (Some d))
-
-abbrev mutual
-  pub is_typed : Profile → List FlatVariable → ℕ → StraightTree → Bool
-  is_typed profile declared controls (set within x value) =
-      is_among controls within
-      && may_set within (word_in (slice_get declared x)) (type_of (types_beside profile declared None) value)
-  is_typed profile declared controls (array x size values) =
-      may_fill (types_beside profile declared (Some x)) size (element_in size (slice_get declared x)) values
-  is_typed profile declared controls (put within place x size index value) =
-      is_among controls within && is_counter (type_of (types_beside profile declared None) index)
-      && may_set within (element_in size (slice_get declared x)) (type_of (types_beside profile declared None) value)
-  is_typed profile declared controls (take control within condition) =
-      nat_lt (control + 1) controls && is_among controls within
-      && is_bool false (type_of (types_beside profile declared None) condition)
-  is_typed profile declared controls (branch condition accepted otherwise) =
-      is_bool true (type_of (types_beside profile declared None) condition)
-      && are_typed profile declared controls accepted && are_typed profile declared controls otherwise
-  is_typed profile declared controls (repeats x low high body) =
-      is_loop_counter (slice_get declared x) && is_counter (type_of (types_beside profile declared None) low)
-      && is_counter (type_of (types_beside profile declared None) high) && are_typed profile declared controls body
-
-  pub are_typed : Profile → List FlatVariable → ℕ → StraightBlock → Bool
-  are_typed profile declared controls nothing = true
-  are_typed profile declared controls (first statement rest) =
-      is_typed profile declared controls statement && are_typed profile declared controls rest
-
--- Programs.
-
--- a value stands exactly where there is a result, and suits its type
-abbrev pub is_result : Types → Option WordType → Option TermTree → Bool
-is_result types None None = true
-is_result types None (Some value) = false
-is_result types (Some word) None = false
-is_result types (Some word) (Some value) = suits word (type_of types value)
+-- Variables that are set.
 
 abbrev pub same_elements : Option ℕ → Option ℕ → Bool
 same_elements None None = true
@@ -229,6 +130,68 @@ abbrev pub same_variable : FlatVariable → FlatVariable → Bool
 same_variable d e =
     same_kind d.word.kind e.word.kind && same_label d.word.label e.word.label && same_truth d.mutable e.mutable
     && same_elements d.elements e.elements
+
+-- the counter of a loop
+abbrev pub is_loop_counter : Option FlatVariable → Bool
+is_loop_counter None = false
+is_loop_counter (Some d) = same_variable (word_as counter_type false) d
+
+-- a control value is among so many
+abbrev pub is_among : ℕ → Option ℕ → Bool
+is_among controls None = true
+is_among controls (Some control) = nat_lt control controls
+
+-- under a control value only what is secret is set
+abbrev pub may_keep : Option ℕ → Label → Bool
+may_keep None label = true
+may_keep (Some control) label = is_secret label
+
+-- under a control value, where there is one of so many, a word of this type may be set to this
+abbrev pub may_set : Types → ℕ → Option ℕ → Option WordType → TermTree → Bool
+may_set types controls within None value = false
+may_set types controls within (Some wanted) value =
+    is_among controls within && may_keep within wanted.label && passes (suits wanted) types value
+
+-- an array of so many elements of this type may be given these values
+abbrev pub may_fill : Types → ℕ → Option WordType → List TermTree → Bool
+may_fill types size None values = false
+may_fill types size (Some wanted) values =
+    ((length values == 0) || (length values == size)) && all_suit types wanted values
+
+-- Statements.
+
+abbrev mutual
+  pub is_typed : Profile → List FlatVariable → ℕ → StraightTree → Bool
+  is_typed profile declared controls (set within x value) =
+      may_set (types_beside profile declared None) controls within (word_in (slice_get declared x)) value
+  is_typed profile declared controls (array x size values) =
+      may_fill (types_beside profile declared (Some x)) size (element_in size (slice_get declared x)) values
+  is_typed profile declared controls (put within place x size index value) =
+      passes is_counter (types_beside profile declared None) index
+      && may_set (types_beside profile declared None) controls within (element_in size (slice_get declared x)) value
+  is_typed profile declared controls (take control within condition) =
+      nat_lt (control + 1) controls && is_among controls within
+      && passes (decides false) (types_beside profile declared None) condition
+  is_typed profile declared controls (branch condition accepted otherwise) =
+      passes (decides true) (types_beside profile declared None) condition
+      && are_typed profile declared controls accepted && are_typed profile declared controls otherwise
+  is_typed profile declared controls (repeats x low high body) =
+      is_loop_counter (slice_get declared x) && passes is_counter (types_beside profile declared None) low
+      && passes is_counter (types_beside profile declared None) high && are_typed profile declared controls body
+
+  pub are_typed : Profile → List FlatVariable → ℕ → StraightBlock → Bool
+  are_typed profile declared controls nothing = true
+  are_typed profile declared controls (first statement rest) =
+      is_typed profile declared controls statement && are_typed profile declared controls rest
+
+-- Programs.
+
+-- a value stands exactly where there is a result, and suits its type
+abbrev pub is_result : Types → Option WordType → Option TermTree → Bool
+is_result types None None = true
+is_result types None (Some value) = false
+is_result types (Some wanted) None = false
+is_result types (Some wanted) (Some value) = passes (suits wanted) types value
 
 -- the parameters are the first variables
 abbrev pub come_first : List FlatVariable → List FlatVariable → Bool
