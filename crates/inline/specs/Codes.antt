@@ -26,11 +26,6 @@ head gnil = gnil
 head (gnum n) = gnil
 head (gcons a b) = a
 
-abbrev tail : Gv → Gv
-tail gnil = gnil
-tail (gnum n) = gnil
-tail (gcons a b) = b
-
 abbrev pub term_code : TermTree → Gv
 term_code (number n k) = gcons (gnum 0) (gcons (coded_ℕ.code n) (kind.the_row.coded.code k))
 term_code (truth b) = gcons (gnum 1) (coded_bool.code b)
@@ -47,39 +42,24 @@ term_code (element q z u d) = gcons (gnum 8)
     (gcons (place.the_row.coded.code q) (gcons (coded_ℕ.code z) (gcons (coded_ℕ.code u) (term_code d))))
 
 pub term_inj : (x y : TermTree) → term_code x ≡ term_code y → x ≡ y
-term_inj (number n k) (number n' k') p =
-    λ i. number (coded_ℕ.inj n n' (ap (λ g. head (tail g)) p) i)
-    (kind.the_row.coded.inj k k' (ap (λ g. tail (tail g)) p) i)
-term_inj (truth b) (truth b') p =
-    λ i. truth (coded_bool.inj b b' (ap (λ g. tail g) p) i)
-term_inj (variable x) (variable x') p =
-    λ i. variable (coded_ℕ.inj x x' (ap (λ g. tail g) p) i)
+term_inj (number n k) (number n' k') p = λ i. number (coded_ℕ.inj n n' (cc) i) (kind.the_row.coded.inj k k' (cc) i)
+term_inj (truth b) (truth b') p = λ i. truth (coded_bool.inj b b' (cc) i)
+term_inj (variable x) (variable x') p = λ i. variable (coded_ℕ.inj x x' (cc) i)
 term_inj (prefix o w e) (prefix o' w' e') p =
-    λ i. prefix (prefix_operator.the_row.coded.inj o o' (ap (λ g. head (tail g)) p) i)
-    (width.the_row.coded.inj w w' (ap (λ g. head (tail (tail g))) p) i)
-    (term_inj e e' (ap (λ g. tail (tail (tail g))) p) i)
+    λ i. prefix (prefix_operator.the_row.coded.inj o o' (cc) i) (width.the_row.coded.inj w w' (cc) i)
+    (term_inj e e' (cc) i)
 term_inj (binary q o w l r) (binary q' o' w' l' r') p =
-    λ i. binary (place.the_row.coded.inj q q' (ap (λ g. head (tail g)) p) i)
-    (operator.the_row.coded.inj o o' (ap (λ g. head (tail (tail g))) p) i)
-    (width.the_row.coded.inj w w' (ap (λ g. head (tail (tail (tail g)))) p) i)
-    (term_inj l l' (ap (λ g. head (tail (tail (tail (tail g))))) p) i)
-    (term_inj r r' (ap (λ g. tail (tail (tail (tail (tail g))))) p) i)
+    λ i. binary (place.the_row.coded.inj q q' (cc) i) (operator.the_row.coded.inj o o' (cc) i)
+    (width.the_row.coded.inj w w' (cc) i) (term_inj l l' (cc) i) (term_inj r r' (cc) i)
 term_inj (rotate w e n) (rotate w' e' n') p =
-    λ i. rotate (width.the_row.coded.inj w w' (ap (λ g. head (tail g)) p) i)
-    (term_inj e e' (ap (λ g. head (tail (tail g))) p) i)
-    (coded_ℕ.inj n n' (ap (λ g. tail (tail (tail g))) p) i)
+    λ i. rotate (width.the_row.coded.inj w w' (cc) i) (term_inj e e' (cc) i) (coded_ℕ.inj n n' (cc) i)
 term_inj (convert k e) (convert k' e') p =
-    λ i. convert (kind.the_row.coded.inj k k' (ap (λ g. head (tail g)) p) i)
-    (term_inj e e' (ap (λ g. tail (tail g)) p) i)
+    λ i. convert (kind.the_row.coded.inj k k' (cc) i) (term_inj e e' (cc) i)
 term_inj (select c a b) (select c' a' b') p =
-    λ i. select (term_inj c c' (ap (λ g. head (tail g)) p) i)
-    (term_inj a a' (ap (λ g. head (tail (tail g))) p) i)
-    (term_inj b b' (ap (λ g. tail (tail (tail g))) p) i)
+    λ i. select (term_inj c c' (cc) i) (term_inj a a' (cc) i) (term_inj b b' (cc) i)
 term_inj (element q z u d) (element q' z' u' d') p =
-    λ i. element (place.the_row.coded.inj q q' (ap (λ g. head (tail g)) p) i)
-    (coded_ℕ.inj z z' (ap (λ g. head (tail (tail g))) p) i)
-    (coded_ℕ.inj u u' (ap (λ g. head (tail (tail (tail g)))) p) i)
-    (term_inj d d' (ap (λ g. tail (tail (tail (tail g)))) p) i)
+    λ i. element (place.the_row.coded.inj q q' (cc) i) (coded_ℕ.inj z z' (cc) i) (coded_ℕ.inj u u' (cc) i)
+    (term_inj d d' (cc) i)
 term_inj (element q z u d) (rotate w e n) p = let tags : gnum 8 ≡ gnum 5 = ap head p in cc
 term_inj x y p = cc
 
@@ -92,7 +72,7 @@ terms_code (e ∷ es) = gcons (term_code e) (terms_code es)
 
 pub terms_inj : (x y : List TermTree) → terms_code x ≡ terms_code y → x ≡ y
 terms_inj [] [] p = refl
-terms_inj (e ∷ es) (e' ∷ es') p = λ i. term_inj e e' (ap head p) i ∷ terms_inj es es' (ap tail p) i
+terms_inj (e ∷ es) (e' ∷ es') p = λ i. term_inj e e' (cc) i ∷ terms_inj es es' (cc) i
 terms_inj x y p = cc
 
 abbrev mutual
@@ -121,47 +101,29 @@ abbrev mutual
 mutual
   pub tree_inj : (x y : FlatTree) → tree_code x ≡ tree_code y → x ≡ y
   tree_inj (declare x w m v) (declare x' w' m' v') p =
-      λ i. declare (coded_ℕ.inj x x' (ap (λ g. head (tail g)) p) i)
-      (word.the_row.coded.inj w w' (ap (λ g. head (tail (tail g))) p) i)
-      (coded_bool.inj m m' (ap (λ g. head (tail (tail (tail g)))) p) i)
-      (term_inj v v' (ap (λ g. tail (tail (tail (tail g)))) p) i)
+      λ i. declare (coded_ℕ.inj x x' (cc) i) (word.the_row.coded.inj w w' (cc) i) (coded_bool.inj m m' (cc) i)
+      (term_inj v v' (cc) i)
   tree_inj (array x w m n es) (array x' w' m' n' es') p =
-      λ i. array (coded_ℕ.inj x x' (ap (λ g. head (tail g)) p) i)
-      (word.the_row.coded.inj w w' (ap (λ g. head (tail (tail g))) p) i)
-      (coded_bool.inj m m' (ap (λ g. head (tail (tail (tail g)))) p) i)
-      (coded_ℕ.inj n n' (ap (λ g. head (tail (tail (tail (tail g))))) p) i)
-      (terms_inj es es' (ap (λ g. tail (tail (tail (tail (tail g))))) p) i)
-  tree_inj (assign x v) (assign x' v') p =
-      λ i. assign (coded_ℕ.inj x x' (ap (λ g. head (tail g)) p) i)
-      (term_inj v v' (ap (λ g. tail (tail g)) p) i)
+      λ i. array (coded_ℕ.inj x x' (cc) i) (word.the_row.coded.inj w w' (cc) i) (coded_bool.inj m m' (cc) i)
+      (coded_ℕ.inj n n' (cc) i) (terms_inj es es' (cc) i)
+  tree_inj (assign x v) (assign x' v') p = λ i. assign (coded_ℕ.inj x x' (cc) i) (term_inj v v' (cc) i)
   tree_inj (put q x n e v) (put q' x' n' e' v') p =
-      λ i. put (place.the_row.coded.inj q q' (ap (λ g. head (tail g)) p) i)
-      (coded_ℕ.inj x x' (ap (λ g. head (tail (tail g))) p) i)
-      (coded_ℕ.inj n n' (ap (λ g. head (tail (tail (tail g)))) p) i)
-      (term_inj e e' (ap (λ g. head (tail (tail (tail (tail g))))) p) i)
-      (term_inj v v' (ap (λ g. tail (tail (tail (tail (tail g))))) p) i)
+      λ i. put (place.the_row.coded.inj q q' (cc) i) (coded_ℕ.inj x x' (cc) i) (coded_ℕ.inj n n' (cc) i)
+      (term_inj e e' (cc) i) (term_inj v v' (cc) i)
   tree_inj (hold x q n e) (hold x' q' n' e') p =
-      λ i. hold (coded_ℕ.inj x x' (ap (λ g. head (tail g)) p) i)
-      (place.the_row.coded.inj q q' (ap (λ g. head (tail (tail g))) p) i)
-      (coded_ℕ.inj n n' (ap (λ g. head (tail (tail (tail g)))) p) i)
-      (term_inj e e' (ap (λ g. tail (tail (tail (tail g)))) p) i)
+      λ i. hold (coded_ℕ.inj x x' (cc) i) (place.the_row.coded.inj q q' (cc) i) (coded_ℕ.inj n n' (cc) i)
+      (term_inj e e' (cc) i)
   tree_inj skip skip p = refl
   tree_inj (branch l c a b) (branch l' c' a' b') p =
-      λ i. branch (label.the_row.coded.inj l l' (ap (λ g. head (tail g)) p) i)
-      (term_inj c c' (ap (λ g. head (tail (tail g))) p) i)
-      (block_inj a a' (ap (λ g. head (tail (tail (tail g)))) p) i)
-      (block_inj b b' (ap (λ g. tail (tail (tail (tail g)))) p) i)
+      λ i. branch (label.the_row.coded.inj l l' (cc) i) (term_inj c c' (cc) i) (block_inj a a' (cc) i)
+      (block_inj b b' (cc) i)
   tree_inj (loop x c d b) (loop x' c' d' b') p =
-      λ i. loop (coded_ℕ.inj x x' (ap (λ g. head (tail g)) p) i)
-      (term_inj c c' (ap (λ g. head (tail (tail g))) p) i)
-      (term_inj d d' (ap (λ g. head (tail (tail (tail g)))) p) i)
-      (block_inj b b' (ap (λ g. tail (tail (tail (tail g)))) p) i)
+      λ i. loop (coded_ℕ.inj x x' (cc) i) (term_inj c c' (cc) i) (term_inj d d' (cc) i) (block_inj b b' (cc) i)
   tree_inj x y p = cc
 
   pub block_inj : (x y : FlatBlock) → block_code x ≡ block_code y → x ≡ y
   block_inj nothing nothing p = refl
-  block_inj (first s rest) (first s' rest') p =
-      λ i. first (tree_inj s s' (ap head p) i) (block_inj rest rest' (ap tail p) i)
+  block_inj (first s rest) (first s' rest') p = λ i. first (tree_inj s s' (cc) i) (block_inj rest rest' (cc) i)
   block_inj x y p = cc
 
 abbrev pub coded_block : Coded FlatBlock
