@@ -1,5 +1,5 @@
 -- How the logic stores straight code.
-use Rattle.std.proofs.Common.{◌≡◌, ℕ, List, Option, refl, ap}
+use Rattle.std.proofs.Common.{◌≡◌, ℕ, List, Option, refl}
 use Rattle.std.specs.Coded.{Coded, code_by, coded×, coded_ℕ, coded_list, coded_option}
 use base.Stored.{Gv, gnil, gnum, gcons}
 use Rattle.inline.specs.Codes.{coded_term}
@@ -15,16 +15,6 @@ use Rattle.word.specs.contracts.profile.Profile as profile
 use Rattle.word.specs.declared.profile.Profile.{Profile}
 use Rattle.branch_removal.specs.Straight.{StraightTree, set, array, put, take, branch, repeats}
 use Rattle.branch_removal.specs.Straight.{StraightBlock, nothing, first, StraightProgram}
-
-abbrev head : Gv → Gv
-head gnil = gnil
-head (gnum n) = gnil
-head (gcons a b) = a
-
-abbrev tail : Gv → Gv
-tail gnil = gnil
-tail (gnum n) = gnil
-tail (gcons a b) = b
 
 abbrev terms : Coded (List TermTree)
 terms = coded_list coded_term
@@ -54,39 +44,24 @@ abbrev mutual
 mutual
   pub tree_inj : (x y : StraightTree) → tree_code x ≡ tree_code y → x ≡ y
   tree_inj (set w x v) (set w' x' v') p =
-      λ i. set (control_within.inj w w' (ap (λ g. head (tail g)) p) i)
-      (coded_ℕ.inj x x' (ap (λ g. head (tail (tail g))) p) i)
-      (coded_term.inj v v' (ap (λ g. tail (tail (tail g))) p) i)
+      λ i. set (control_within.inj w w' (cc) i) (coded_ℕ.inj x x' (cc) i) (coded_term.inj v v' (cc) i)
   tree_inj (array x n vs) (array x' n' vs') p =
-      λ i. array (coded_ℕ.inj x x' (ap (λ g. head (tail g)) p) i)
-      (coded_ℕ.inj n n' (ap (λ g. head (tail (tail g))) p) i)
-      (terms.inj vs vs' (ap (λ g. tail (tail (tail g))) p) i)
+      λ i. array (coded_ℕ.inj x x' (cc) i) (coded_ℕ.inj n n' (cc) i) (terms.inj vs vs' (cc) i)
   tree_inj (put w q x n j v) (put w' q' x' n' j' v') p =
-      λ i. put (control_within.inj w w' (ap (λ g. head (tail g)) p) i)
-      (place.the_row.coded.inj q q' (ap (λ g. head (tail (tail g))) p) i)
-      (coded_ℕ.inj x x' (ap (λ g. head (tail (tail (tail g)))) p) i)
-      (coded_ℕ.inj n n' (ap (λ g. head (tail (tail (tail (tail g))))) p) i)
-      (coded_term.inj j j' (ap (λ g. head (tail (tail (tail (tail (tail g)))))) p) i)
-      (coded_term.inj v v' (ap (λ g. tail (tail (tail (tail (tail (tail g)))))) p) i)
+      λ i. put (control_within.inj w w' (cc) i) (place.the_row.coded.inj q q' (cc) i) (coded_ℕ.inj x x' (cc) i)
+      (coded_ℕ.inj n n' (cc) i) (coded_term.inj j j' (cc) i) (coded_term.inj v v' (cc) i)
   tree_inj (take c w e) (take c' w' e') p =
-      λ i. take (coded_ℕ.inj c c' (ap (λ g. head (tail g)) p) i)
-      (control_within.inj w w' (ap (λ g. head (tail (tail g))) p) i)
-      (coded_term.inj e e' (ap (λ g. tail (tail (tail g))) p) i)
+      λ i. take (coded_ℕ.inj c c' (cc) i) (control_within.inj w w' (cc) i) (coded_term.inj e e' (cc) i)
   tree_inj (branch e a b) (branch e' a' b') p =
-      λ i. branch (coded_term.inj e e' (ap (λ g. head (tail g)) p) i)
-      (block_inj a a' (ap (λ g. head (tail (tail g))) p) i)
-      (block_inj b b' (ap (λ g. tail (tail (tail g))) p) i)
+      λ i. branch (coded_term.inj e e' (cc) i) (block_inj a a' (cc) i) (block_inj b b' (cc) i)
   tree_inj (repeats x l h b) (repeats x' l' h' b') p =
-      λ i. repeats (coded_ℕ.inj x x' (ap (λ g. head (tail g)) p) i)
-      (coded_term.inj l l' (ap (λ g. head (tail (tail g))) p) i)
-      (coded_term.inj h h' (ap (λ g. head (tail (tail (tail g)))) p) i)
-      (block_inj b b' (ap (λ g. tail (tail (tail (tail g)))) p) i)
+      λ i. repeats (coded_ℕ.inj x x' (cc) i) (coded_term.inj l l' (cc) i) (coded_term.inj h h' (cc) i)
+      (block_inj b b' (cc) i)
   tree_inj x y p = cc
 
   pub block_inj : (x y : StraightBlock) → block_code x ≡ block_code y → x ≡ y
   block_inj nothing nothing p = refl
-  block_inj (first s rest) (first s' rest') p =
-      λ i. first (tree_inj s s' (ap head p) i) (block_inj rest rest' (ap tail p) i)
+  block_inj (first s rest) (first s' rest') p = λ i. first (tree_inj s s' (cc) i) (block_inj rest rest' (cc) i)
   block_inj x y p = cc
 
 abbrev pub coded_block : Coded StraightBlock
