@@ -1,8 +1,8 @@
 -- What passes the test is straight.
-use Rattle.std.proofs.Common.{◌≡◌, ◌+◌, ◌*◌, ◌&&◌, true, nat_le, List, Option, None, map}
+use Rattle.std.proofs.Common.{◌≡◌, ◌+◌, ◌*◌, true, List, Option, None, map}
 use Rattle.std.proofs.Common.{Some, Bool, false, if◌then◌else◌, IfSome, Bor, option_copied, option_map, refl, ap₂, ap, ◌∙◌, subst, sym}
 use Rattle.std.proofs.lemmas.Option.{none-some, same_Some}
-use Rattle.std.proofs.lemmas.Bool.{and_parts, cond-false, cond-true, leb-true}
+use Rattle.std.proofs.lemmas.Bool.{cond-false, cond-true, leb-true}
 use Rattle.std.proofs.lemmas.List.{length-map}
 use Rattle.inline.specs.declared.flat.FlatVariable.{FlatVariable}
 use Rattle.inline.specs.declared.flat.Term.{Term}
@@ -11,13 +11,12 @@ use Rattle.inline.specs.FlatSize.{declared_words, value_nodes}
 use Rattle.inline.specs.FlatTyping.{types_of}
 use Rattle.inline.specs.Limits.{most_variable_bytes}
 use Rattle.branch_removal.specs.Bounds.{block_work}
-use Rattle.branch_removal.specs.Checked.{checked, has_room, is_checked}
+use Rattle.branch_removal.specs.Checked.{checked, is_checked}
 use Rattle.branch_removal.specs.Heights.{depth_in_all, program_height}
 use Rattle.branch_removal.specs.Kept.{IsStraight}
 use Rattle.branch_removal.specs.declared.straight.StraightStatement.{StraightStatement}
 use Rattle.branch_removal.specs.Straight.{StraightBlock, StraightProgram, straight_block, with_variables}
-use Rattle.branch_removal.specs.private.Checks.{are_typed, come_first, is_result}
-use Rattle.branch_removal.proofs.CheckedTypes.{all_fit, it_results, they_come_first}
+use Rattle.branch_removal.proofs.CheckedTypes.{all_fit, both, it_results, they_come_first}
 
 module _ (p : StraightProgram) (declared : List FlatVariable) (body : StraightBlock) (value : Option TermTree) where
   abbrev made : StraightProgram
@@ -26,33 +25,27 @@ module _ (p : StraightProgram) (declared : List FlatVariable) (body : StraightBl
   pub made_straight : IsStraight p → is_checked made ≡ true → IsStraight made
   made_straight is h =
       let parameters = map declaration_of p.parameters in
-      let all = and_parts (come_first parameters declared && are_typed p.profile declared p.controls body
-      && is_result (types_of p.profile declared) p.returned value) (has_room made) h in
-      let more = and_parts (come_first parameters declared && are_typed p.profile declared p.controls body)
-      (is_result (types_of p.profile declared) p.returned value) all.0 in
-      let both = and_parts (come_first parameters declared) (are_typed p.profile declared p.controls body) more.0 in
-      let code = all_fit p.profile declared p.controls body both.1 in
-      let room = and_parts (nat_le (4 * declared_words declared) most_variable_bytes
-      && nat_le (block_work p.turns body + value_nodes value) p.work)
-      (nat_le (p.controls + 2 * depth_in_all body + program_height made) p.nodes) all.1 in
-      let less = and_parts (nat_le (4 * declared_words declared) most_variable_bytes)
-      (nat_le (block_work p.turns body + value_nodes value) p.work) room.0 in
+      let all = both (both (both (they_come_first parameters declared) (all_fit p.profile declared p.controls body))
+      (it_results (types_of p.profile declared) p.returned value))
+      (both (both (leb-true (4 * declared_words declared) most_variable_bytes)
+      (leb-true (block_work p.turns body + value_nodes value) p.work))
+      (leb-true (p.controls + 2 * depth_in_all body + program_height made) p.nodes)) h in
+      let code = all.0.0.1 in
       record {
         typed = record {
-          parameters =
-              rw (sym (length-map p.parameters declaration_of)) (they_come_first parameters declared both.0);
+          parameters = rw (sym (length-map p.parameters declaration_of)) all.0.0.0;
           body = code.typed;
           hidden = code.hidden;
-          result = it_results (types_of p.profile declared) p.returned value more.1;
+          result = all.0.1;
         };
         bounded = record {
           lengths = is.bounded.lengths;
           parameters = is.bounded.parameters;
-          declared = leb-true _ _ less.0;
+          declared = all.1.0.0;
           nodes = is.bounded.nodes;
-          worked = leb-true _ _ less.1;
+          worked = all.1.0.1;
           work_fits = is.bounded.work_fits;
-          framed = leb-true _ _ room.1;
+          framed = all.1.1;
         };
       }
 

@@ -1,7 +1,7 @@
 -- What passes the test for types is well typed.
 use Rattle.std.proofs.Common.{◌≡◌, ℕ, ◌+◌, ◌<◌, ◌==◌, ◌&&◌, ◌||◌, not, Bool, true, false, if◌then◌else◌}
 use Rattle.std.proofs.Common.{List, [], ◌∷◌, length, Option, None, Some, slice_get, refl, sym, ap, ◌∙◌}
-use Rattle.std.proofs.Common.{subst, take as first_of, arith}
+use Rattle.std.proofs.Common.{subst, take as first_of, arith, rules}
 use Rattle.std.proofs.lemmas.Bool.{and_parts, eqb-true, false≢true, ltb-true, ne_eqb, not-true}
 use Rattle.std.proofs.lemmas.Option.{none-some, same_Some}
 use Rattle.std.specs.Option.{option_map}
@@ -16,7 +16,7 @@ use Rattle.language.specs.ExprTyping.{operation_kind, select_rules}
 use Rattle.language.specs.Grammatical.{IsNumberKind}
 use Rattle.language.specs.Operators.{operation_of, width_of}
 use Rattle.language.specs.Types.{are_met, bits_of, is_hidden, is_narrow, is_secret, joined, of_one, of_three, of_two}
-use Rattle.language.specs.Types.{same_label, unless}
+use Rattle.language.specs.Types.{unless}
 use Rattle.language.specs.WellTyped.{labelled, Makes, public_flows, secret_flows, suits as flow_suits, Takes}
 use Rattle.language.specs.WellTyped.{Suits as SuitsWord}
 use Rattle.language.specs.declared.operators.BinaryOperator.{BinaryOperator}
@@ -31,7 +31,7 @@ use Rattle.language.specs.declared.typing.WordType.{WordType}
 use Rattle.language.proofs.typing_laws_lemmas.NoRules.{is_met}
 use Rattle.language.proofs.typing_laws_lemmas.Nodes.{is_operated, is_rotated, is_selected, made, public_index}
 use Rattle.language.proofs.typing_laws_lemmas.Nodes.{taken_by_sign}
-use Rattle.language.proofs.typing_laws_lemmas.TypeTests.{a_number, bool_word, one_kind}
+use Rattle.language.proofs.typing_laws_lemmas.TypeTests.{a_number, bool_word}
 use Rattle.language.proofs.typing_laws_lemmas.Values.{is_suited}
 use Rattle.word.specs.Widths.{bits}
 use Rattle.word.specs.declared.place.Place.{Place}
@@ -44,19 +44,14 @@ use Rattle.branch_removal.specs.StraightTyping.{IsAmong, IsTyped, AreTyped, IsHi
 use Rattle.branch_removal.specs.StraightTyping.{types_but}
 use Rattle.branch_removal.specs.private.Checks.{all_suit, are_typed, come_first, decides, element_by}
 use Rattle.branch_removal.specs.private.Checks.{element_in, is_among, is_counter, is_loop_counter, is_result}
-use Rattle.branch_removal.specs.private.Checks.{is_typed, may_fill, may_keep, may_set, passes, same_elements}
-use Rattle.branch_removal.specs.private.Checks.{same_truth, same_variable, suits, type_of, types_beside, word_by, word_in}
+use Rattle.branch_removal.specs.private.Checks.{is_typed, may_fill, may_keep, may_set, passes, same_variable}
+use Rattle.branch_removal.specs.private.Checks.{suits, type_of, types_beside, word_by, word_in}
 
--- Tests of which each is made.
-both : {a b : Bool} {A B : Type 0} → (a ≡ true → A) → (b ≡ true → B) → (a && b) ≡ true → A × B
+-- what two tests say together
+pub both : {a b : Bool} {A B : Type 0} → (a ≡ true → A) → (b ≡ true → B) → (a && b) ≡ true → A × B
 both {a = a} {b = b} one other h = let parts = and_parts a b h in (one parts.0, other parts.1)
 
--- Labels, widths and variables.
-
-one_label : (l m : Label) → same_label l m ≡ true → m ≡ l
-one_label Public Public h = refl
-one_label Secret Secret h = refl
-one_label l m h = absurd (false≢true h)
+-- Widths, labels and variables.
 
 one_width : (v w : Width) → (bits v == bits w) ≡ true → v ≡ w
 one_width W8 W8 h = refl
@@ -72,25 +67,8 @@ a_secret : (l : Label) → is_secret l ≡ true → l ≡ Secret
 a_secret Public h = absurd (false≢true h)
 a_secret Secret h = refl
 
-one_truth : (a b : Bool) → same_truth a b ≡ true → b ≡ a
-one_truth true true h = refl
-one_truth false false h = refl
-one_truth a b h = absurd (false≢true h)
-
-one_count : (m n : Option ℕ) → same_elements m n ≡ true → n ≡ m
-one_count None None h = refl
-one_count (Some m) (Some n) h = ap Some (sym (eqb-true m n h))
-one_count m n h = absurd (false≢true h)
-
-one_variable : (d e : FlatVariable) → same_variable d e ≡ true → e ≡ d
-one_variable d e h =
-    let same = both (both (both (one_kind d.word.kind e.word.kind) (one_label d.word.label e.word.label))
-    (one_truth d.mutable e.mutable)) (one_count d.elements e.elements) h in
-    λ i. record {
-      word = record { kind = same.0.0.0 i; label = same.0.0.1 i };
-      mutable = same.0.1 i;
-      elements = same.1 i;
-    }
+one_variable : (d e : FlatVariable) → same_variable d e ≡ true → d ≡ e
+one_variable d e h = search rules
 
 -- what is there only if something holds
 only : {A : Type 0} (b : Bool) (one word : A) → (if b then Some one else None) ≡ Some word → (b ≡ true) × (one ≡ word)
@@ -344,7 +322,7 @@ module _ (profile : Profile) (declared : List FlatVariable) (controls : ℕ) whe
 
   a_counter : (o : Option FlatVariable) → is_loop_counter o ≡ true → o ≡ Some (word_as counter_type false)
   a_counter None h = absurd (false≢true h)
-  a_counter (Some d) h = ap Some (one_variable (word_as counter_type false) d h)
+  a_counter (Some d) h = ap Some (sym (one_variable (word_as counter_type false) d h))
 
   -- well typed, and sets only what is secret under a control value
   pub record Fit (b : StraightBlock) : Type 0 where
@@ -406,6 +384,6 @@ module _ (profile : Profile) (declared : List FlatVariable) (controls : ℕ) whe
 pub they_come_first : (ps ds : List FlatVariable) → come_first ps ds ≡ true
     → first_of (length ps) ds ≡ ps
 they_come_first [] ds h = refl
-they_come_first (p ∷ ps) [] h = absurd (false≢true h)
+they_come_first (p ∷ ps) [] h = cc
 they_come_first (p ∷ ps) (d ∷ ds) h =
-    let same = both (one_variable p d) (they_come_first ps ds) h in λ i. same.0 i ∷ same.1 i
+    let same = both (one_variable p d) (they_come_first ps ds) h in λ i. sym same.0 i ∷ same.1 i

@@ -7,7 +7,7 @@ ghost use Rattle.language.specs.Types.{of_one};
 ghost use Rattle.branch_removal.specs.Straight.{straight_tree, straight_block};
 ghost use Rattle.branch_removal.specs.private.Checks.{all_suit, are_typed, come_first, decides, element_in, is_among};
 ghost use Rattle.branch_removal.specs.private.Checks.{is_counter, is_loop_counter, is_result, is_typed, may_fill, may_keep};
-ghost use Rattle.branch_removal.specs.private.Checks.{may_set, same_elements, same_variable, suits, types_beside, variable_at};
+ghost use Rattle.branch_removal.specs.private.Checks.{may_set, suits, types_beside, variable_at};
 
 use crate::StraightStatement;
 use crate::term_types::{element_in, is_counter, type_of, variable_at, word_in};
@@ -68,29 +68,6 @@ fn all_suit(
     true
 }
 
-/// Whether two counts of elements are one.
-fn same_elements(one: Option<u32>, other: Option<u32>) -> bool
-    ensures { result ≡ same_elements one other }
-{
-    match one {
-        None => other.is_none(),
-        Some(one) => match other {
-            None => false,
-            Some(other) => one == other,
-        },
-    }
-}
-
-/// Whether two variables are declared alike.
-fn same_variable(one: FlatVariable, other: FlatVariable) -> bool
-    ensures { result ≡ same_variable one other }
-{
-    one.word.kind.is_same(other.word.kind)
-        && one.word.label.is_same(other.word.label)
-        && one.mutable == other.mutable
-        && same_elements(one.elements, other.elements)
-}
-
 /// Whether it is the counter of a loop.
 fn is_loop_counter(variable: Option<FlatVariable>) -> bool
     ensures { result ≡ is_loop_counter variable }
@@ -106,7 +83,7 @@ fn is_loop_counter(variable: Option<FlatVariable>) -> bool
     };
     match variable {
         None => false,
-        Some(variable) => same_variable(counter, variable),
+        Some(variable) => counter == variable,
     }
 }
 
@@ -261,13 +238,5 @@ pub fn is_result(
 pub fn come_first(parameters: &[FlatVariable], declared: &[FlatVariable]) -> bool
     ensures { result ≡ come_first parameters.now declared.now }
 {
-    for (place, parameter) in parameters.iter().enumerate() {
-        let Some(variable) = declared.get(place) else {
-            return false;
-        };
-        if !same_variable(*parameter, *variable) {
-            return false;
-        }
-    }
-    true
+    declared.starts_with(parameters)
 }

@@ -2,9 +2,11 @@
 -- statement sets what its types allow.
 use Rattle.std.specs.Prelude.{ℕ, ◌+◌, ◌==◌, ◌&&◌, ◌||◌, Bool, true, false, not, if◌then◌else◌, nat_lt, List, [], ◌∷◌}
 use Rattle.std.specs.Prelude.{length, Option, None, Some, slice_get}
+use Rattle.std.specs.List.{starts_with}
 use Rattle.std.specs.Option.{option_map}
 use Rattle.branch_removal.specs.Straight.{StraightTree, set, array, put, take, branch, repeats}
 use Rattle.branch_removal.specs.Straight.{StraightBlock, nothing, first}
+use Rattle.inline.specs.contracts.flat.FlatVariablePartialEq.TheImpl.{eq-value}
 use Rattle.inline.specs.declared.flat.FlatVariable.{FlatVariable}
 use Rattle.inline.specs.Flat.{TermTree, number, truth, variable, prefix, binary, rotate, convert, select, element}
 use Rattle.inline.specs.Flat.{counter_type, word_as}
@@ -12,7 +14,7 @@ use Rattle.inline.specs.FlatTyping.{Types}
 use Rattle.language.specs.ExprTyping.{binary_type, convert_type, number_rules, prefix_type, rotate_type, select_type}
 use Rattle.language.specs.Operators.{width_of}
 use Rattle.language.specs.Types.{are_met, is_bool, is_hidden, is_narrow, is_number, is_numeric, is_secret, kind_of}
-use Rattle.language.specs.Types.{of_one, of_three, of_two, same_kind, same_label, unless, word}
+use Rattle.language.specs.Types.{of_one, of_three, of_two, unless, word}
 use Rattle.language.specs.Typing.{value_rules}
 use Rattle.language.specs.declared.operators.BinaryOperator.{BinaryOperator}
 use Rattle.language.specs.declared.operators.PrefixOperator.{PrefixOperator}
@@ -116,20 +118,8 @@ all_suit types wanted (e ∷ es) = passes (suits wanted) types e && all_suit typ
 
 -- Variables that are set.
 
-abbrev pub same_elements : Option ℕ → Option ℕ → Bool
-same_elements None None = true
-same_elements (Some m) (Some n) = m == n
-same_elements (Some m) None = false
-same_elements None (Some n) = false
-
-abbrev pub same_truth : Bool → Bool → Bool
-same_truth true b = b
-same_truth false b = not b
-
 abbrev pub same_variable : FlatVariable → FlatVariable → Bool
-same_variable d e =
-    same_kind d.word.kind e.word.kind && same_label d.word.label e.word.label && same_truth d.mutable e.mutable
-    && same_elements d.elements e.elements
+same_variable d e = eq-value.it d e
 
 -- the counter of a loop
 abbrev pub is_loop_counter : Option FlatVariable → Bool
@@ -195,6 +185,4 @@ is_result types (Some wanted) (Some value) = passes (suits wanted) types value
 
 -- the parameters are the first variables
 abbrev pub come_first : List FlatVariable → List FlatVariable → Bool
-come_first [] declared = true
-come_first (p ∷ ps) [] = false
-come_first (p ∷ ps) (d ∷ ds) = same_variable p d && come_first ps ds
+come_first parameters declared = starts_with same_variable declared parameters
