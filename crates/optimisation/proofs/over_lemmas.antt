@@ -2,5 +2,4 @@ pub mod Rules
 pub mod Variables
 pub mod Values
 pub mod Beside
-pub mod SameWords
 pub mod Whole

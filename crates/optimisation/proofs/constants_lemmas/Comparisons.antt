@@ -4,19 +4,14 @@ use Rattle.std.proofs.Common.{arith}
 use Rattle.std.proofs.lemmas.Bool.Decides.{nat_tests}
 use Rattle.std.specs.Option.{option_and}
 use Rattle.inline.specs.FlatMeaning.{marks_of}
-use Rattle.language.specs.declared.operation.Operation.{Operation}
-use Rattle.language.specs.declared.operation.Operation.TheVariants.{Equality, Order}
 use Rattle.language.specs.declared.operators.BinaryOperator.{BinaryOperator}
 use Rattle.language.specs.declared.operators.BinaryOperator.TheVariants.{Equal, Unequal, Less, LessOrEqual, Greater}
 use Rattle.language.specs.declared.operators.BinaryOperator.TheVariants.{GreaterOrEqual}
-use Rattle.language.specs.declared.typing.WordType.{WordType}
-use Rattle.language.specs.Operators.{operated, operation_of, opposite_of, truth_of, turned_of}
-use Rattle.language.specs.Types.{joined}
-use Rattle.language.specs.WellTyped.{labelled, Makes, equality, order}
+use Rattle.language.specs.Operators.{operated, opposite_of, truth_of, turned_of}
 use Rattle.word.specs.declared.place.Place.{Place}
-use Rattle.word.specs.declared.profile.Profile.{Profile}
 use Rattle.word.specs.declared.width.Width.{Width}
 use Rattle.word.specs.Operators.{word_of}
+use Rattle.optimisation.proofs.constants_lemmas.Bounded.{IsMoved}
 use Rattle.optimisation.proofs.constants_lemmas.Identities.{truth_again}
 
 -- Opposites.
@@ -44,19 +39,25 @@ not_at_most : (a b : ℕ) → word_of (nat_lt b a) ≡ denied (word_of (nat_le a
 not_at_most a b = let same : nat_lt b a ≡ not (nat_le a b) = grind (arith, nat_tests) in
     ap word_of same ∙ denied_word (nat_le a b)
 
--- an operator holds exactly where another does not, takes and gives the same types, and has nothing on the path
+-- an operator holds exactly where another does not, has the same on the path, and moves nothing
 pub record IsOpposite (operator other : BinaryOperator) : Type 0 where
   pub value : (w : Width) (a b : ℕ) → operated other w a b ≡ denied (operated operator w a b)
-  pub operation : operation_of other ≡ operation_of operator
   pub unmarked : (place : Place) (a b : ℕ) → marks_of place other a b ≡ marks_of place operator a b
+  pub unmoved : (w : Width) (a : ℕ) → IsMoved other w a
 
 pub opposite : (operator : BinaryOperator) → IfSome (opposite_of operator) (IsOpposite operator)
-opposite Equal = record { value = λ w a b. denied_word (a == b); operation = refl; unmarked = λ place a b. refl }
-opposite Unequal = record { value = λ w a b. denied_denial (a == b); operation = refl; unmarked = λ place a b. refl }
-opposite Less = record { value = λ w a b. not_less a b; operation = refl; unmarked = λ place a b. refl }
-opposite LessOrEqual = record { value = λ w a b. not_at_most a b; operation = refl; unmarked = λ place a b. refl }
-opposite Greater = record { value = λ w a b. not_less b a; operation = refl; unmarked = λ place a b. refl }
-opposite GreaterOrEqual = record { value = λ w a b. not_at_most b a; operation = refl; unmarked = λ place a b. refl }
+opposite Equal =
+    record { value = λ w a b. denied_word (a == b); unmarked = λ place a b. refl; unmoved = λ w a. tt }
+opposite Unequal =
+    record { value = λ w a b. denied_denial (a == b); unmarked = λ place a b. refl; unmoved = λ w a. tt }
+opposite Less =
+    record { value = λ w a b. not_less a b; unmarked = λ place a b. refl; unmoved = λ w a. tt }
+opposite LessOrEqual =
+    record { value = λ w a b. not_at_most a b; unmarked = λ place a b. refl; unmoved = λ w a. tt }
+opposite Greater =
+    record { value = λ w a b. not_less b a; unmarked = λ place a b. refl; unmoved = λ w a. tt }
+opposite GreaterOrEqual =
+    record { value = λ w a b. not_at_most b a; unmarked = λ place a b. refl; unmoved = λ w a. tt }
 opposite operator = tt
 
 -- Operands turned round.
@@ -64,45 +65,27 @@ opposite operator = tt
 equal_turned : (a b : ℕ) → (b == a) ≡ (a == b)
 equal_turned a b = grind (arith, nat_tests)
 
--- operands of one kind, which an operation takes in the other order too
-abbrev TakesEither : Profile → Operation → WordType → WordType → WordType → Type 0
-TakesEither profile operation one other whole =
-    (other.kind ≡ one.kind) × Makes profile operation other one (labelled whole.kind (joined other.label one.label))
-
-equal_either : {profile : Profile} {one other whole : WordType} → Makes profile Equality one other whole
-    → TakesEither profile Equality one other whole
-equal_either equality = (refl, equality)
-
-order_either : {profile : Profile} {one other whole : WordType} → Makes profile Order one other whole
-    → TakesEither profile Order one other whole
-order_either (order numeric) = (refl, order numeric)
-
--- a comparison holds exactly where another does of the operands turned round, takes them, and has nothing on the path
+-- a comparison holds exactly where another does of the operands turned round, has nothing on the path, and moves nothing
 pub record IsTurnedRound (operator next : BinaryOperator) : Type 0 where
   pub value : (w : Width) (a b : ℕ) → operated next w b a ≡ operated operator w a b
-  pub takes : {profile : Profile} {one other whole : WordType} → Makes profile (operation_of operator) one other whole
-      → TakesEither profile (operation_of next) one other whole
   pub unmarked : (place : Place) (a b : ℕ) → marks_of place next a b ≡ []
+  pub unmoved : (w : Width) (a : ℕ) → IsMoved next w a
 
 -- a comparison has an opposite one
 pub turned_round : (operator : BinaryOperator)
     → IfSome (option_and (opposite_of operator) (turned_of operator)) (IsTurnedRound operator)
 turned_round Equal = record {
   value = λ w a b. ap word_of (equal_turned a b);
-  takes = λ makes. equal_either makes;
   unmarked = λ place a b. refl;
+  unmoved = λ w a. tt;
 }
 turned_round Unequal = record {
   value = λ w a b. ap (λ c. word_of (not c)) (equal_turned a b);
-  takes = λ makes. equal_either makes;
   unmarked = λ place a b. refl;
+  unmoved = λ w a. tt;
 }
-turned_round Less =
-    record { value = λ w a b. refl; takes = λ makes. order_either makes; unmarked = λ place a b. refl }
-turned_round LessOrEqual =
-    record { value = λ w a b. refl; takes = λ makes. order_either makes; unmarked = λ place a b. refl }
-turned_round Greater =
-    record { value = λ w a b. refl; takes = λ makes. order_either makes; unmarked = λ place a b. refl }
-turned_round GreaterOrEqual =
-    record { value = λ w a b. refl; takes = λ makes. order_either makes; unmarked = λ place a b. refl }
+turned_round Less = record { value = λ w a b. refl; unmarked = λ place a b. refl; unmoved = λ w a. tt }
+turned_round LessOrEqual = record { value = λ w a b. refl; unmarked = λ place a b. refl; unmoved = λ w a. tt }
+turned_round Greater = record { value = λ w a b. refl; unmarked = λ place a b. refl; unmoved = λ w a. tt }
+turned_round GreaterOrEqual = record { value = λ w a b. refl; unmarked = λ place a b. refl; unmoved = λ w a. tt }
 turned_round operator = tt

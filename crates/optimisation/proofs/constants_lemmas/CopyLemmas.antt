@@ -1,12 +1,11 @@
--- Variables that may be read as others: they are words of one type.
+-- Variables that are set to others, and may be read as these.
 use Rattle.std.proofs.Common.{◌≡◌, ℕ, ◌==◌, Bool, true, false, not, List, Option, None, Some, slice_get, slice_index}
-use Rattle.std.proofs.Common.{⊎_elim, refl, sym, ap, ◌∙◌, subst}
-use Rattle.std.proofs.lemmas.Bool.{and_parts, eqb-false, false≢true, not-true}
+use Rattle.std.proofs.Common.{⊎_elim, refl, ap, subst}
+use Rattle.std.proofs.lemmas.Bool.{and_parts, eqb-false, not-true}
 use Rattle.std.proofs.lemmas.Option.{none-some, same_Some}
 use Rattle.inline.specs.declared.flat.FlatVariable.{FlatVariable}
-use Rattle.inline.specs.Flat.{TermTree, variable, word_as}
+use Rattle.inline.specs.Flat.{TermTree, variable}
 use Rattle.inline.specs.FlatMeaning.{Values, value_in}
-use Rattle.language.specs.declared.typing.WordType.{WordType}
 use Rattle.optimisation.specs.private.SameWords.{are_alike}
 use Rattle.optimisation.specs.declared.constants.known.Constant.{Constant}
 use Rattle.optimisation.specs.declared.constants.known.WordCopy.{WordCopy}
@@ -15,7 +14,6 @@ use Rattle.optimisation.specs.constants.private.Known.{Words, with_word}
 use Rattle.optimisation.specs.constants.private.Simplification.{copied, copied_where, may_be_read_as, set_to}
 use Rattle.optimisation.specs.constants.private.Simplification.{variable_of}
 use Rattle.optimisation.proofs.constants_lemmas.KnownLemmas.{Fact, valued, copy, IsFree, Knows, in_more, word_by}
-use Rattle.optimisation.proofs.over_lemmas.SameWords.{are_words, as_word}
 
 -- the value of what is a variable
 pub read_value : (m : Values) (e : TermTree) (y : ℕ) → variable_of e ≡ Some y → value_in m e ≡ slice_index (m y) 0
@@ -27,21 +25,6 @@ pub two_variables : (declared : List FlatVariable) (x y : ℕ) → may_be_read_a
 two_variables declared x y is =
     eqb-false x y (not-true (x == y)
     (and_parts (not (x == y)) (are_alike (slice_get declared x) (slice_get declared y)) is).0)
-
--- what is declared alike to a word is a word of its type
-alike : (d : FlatVariable) (o : Option FlatVariable) → are_alike (Some d) o ≡ true
-    → (other : Bool) × (o ≡ Some (word_as d.word other))
-alike d None is = absurd (false≢true is)
-alike d (Some e) is =
-    let words = are_words d e is in (e.mutable, ap Some (as_word e d.word words.word words.other))
-
-pub source_alike : (declared : List FlatVariable) (x y : ℕ) (word : WordType) (mutable : Bool)
-    → may_be_read_as declared x y ≡ true → slice_get declared x ≡ Some (word_as word mutable)
-    → (other : Bool) × (slice_get declared y ≡ Some (word_as word other))
-source_alike declared x y word mutable is there =
-    let parts = and_parts (not (x == y)) (are_alike (slice_get declared x) (slice_get declared y)) is in
-    alike (word_as word mutable) (slice_get declared y)
-    (sym (ap (λ (o : Option FlatVariable). are_alike o (slice_get declared y)) there) ∙ parts.1)
 
 -- what is known where a variable has been set to the value of an expression: its number, or that it is a copy, and what
 -- was known of others

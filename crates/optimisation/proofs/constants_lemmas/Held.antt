@@ -33,6 +33,10 @@ all_held types m fits word (e ∷ es) suit = All-cons (IsWithinKind word.kind) (
 abbrev pub counter_limit : ℕ
 counter_limit = 2 ^ bits_of counter_type.kind
 
+-- a counter
+abbrev pub IsCounter : List FlatVariable → ℕ → Type 0
+IsCounter declared x = slice_get declared x ≡ Some (word_as counter_type false)
+
 module _ (profile : Profile) (declared : List FlatVariable) where
   abbrev types : Types
   types = types_of profile declared
@@ -41,8 +45,7 @@ module _ (profile : Profile) (declared : List FlatVariable) where
   fewer_fit x m fits y d is = fits y d (but_within declared x y d is)
 
   -- where a turn begins
-  pub counted_fits : (x i : ℕ) → slice_get declared x ≡ Some (word_as counter_type false) → i < counter_limit
-      → (s : StraightState) → Fits types s.variables → Fits types (counted x i s).variables
+  pub counted_fits : (x i : ℕ) → IsCounter declared x → i < counter_limit → (s : StraightState) → Fits types s.variables → Fits types (counted x i s).variables
   counted_fits x i there below s fits =
       fits_assigned types s.variables x (i ∷ []) (word_as counter_type false) there
       (one_held counter_type false i below) fits

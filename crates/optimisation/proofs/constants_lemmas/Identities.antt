@@ -12,7 +12,7 @@ use Rattle.language.specs.declared.operators.BinaryOperator.TheVariants.{Either,
 use Rattle.language.specs.declared.operators.BinaryOperator.TheVariants.{ShiftRight, Add, Subtract, Multiply, Divide}
 use Rattle.language.specs.declared.typing.WordType.{WordType}
 use Rattle.language.specs.Operators.{operation_of, operated, truth_of, width_of}
-use Rattle.language.specs.WellTyped.{Makes, arithmetic, multiplication, division, shift, logic}
+use Rattle.language.specs.WellTyped.{Makes, arithmetic, multiplication, shift, logic}
 use Rattle.word.specs.declared.profile.Profile.{Profile}
 use Rattle.word.specs.declared.width.Width.{Width}
 use Rattle.word.specs.declared.width.Width.TheVariants.{W8, W16, W32}
@@ -112,32 +112,3 @@ pub left_leaves : {profile : Profile} (operator : BinaryOperator) {one other who
 left_leaves operator w a b makes even fits =
     subst (λ v. is_left_identity operator v a ≡ true → operated operator v a b ≡ b) (sym even)
     (left_identity operator a b makes fits)
-
--- What is left has the kind of the whole.
-pub right_identity_kind : {profile : Profile} (operator : BinaryOperator) {one other whole : WordType} (w : Width)
-    (b : ℕ) → Makes profile (operation_of operator) one other whole → is_right_identity operator w b ≡ true
-    → one.kind ≡ whole.kind
-right_identity_kind Either w b logic is = refl
-right_identity_kind Both w b logic is = refl
-right_identity_kind BitOr w b (arithmetic numeric) is = refl
-right_identity_kind BitXor w b (arithmetic numeric) is = refl
-right_identity_kind BitAnd w b (arithmetic numeric) is = refl
-right_identity_kind ShiftLeft w b (shift numeric) is = refl
-right_identity_kind ShiftRight w b (shift numeric) is = refl
-right_identity_kind Add w b (arithmetic numeric) is = refl
-right_identity_kind Subtract w b (arithmetic numeric) is = refl
-right_identity_kind Multiply w b (multiplication numeric may) is = refl
-right_identity_kind Divide w b (division numeric) is = refl
-right_identity_kind operator w b makes is = absurd (false≢true is)
-
-pub left_identity_kind : {profile : Profile} (operator : BinaryOperator) {one other whole : WordType} (w : Width)
-    (a : ℕ) → Makes profile (operation_of operator) one other whole → is_left_identity operator w a ≡ true
-    → other.kind ≡ whole.kind
-left_identity_kind Either w a logic is = refl
-left_identity_kind Both w a logic is = refl
-left_identity_kind BitOr w a (arithmetic numeric) is = refl
-left_identity_kind BitXor w a (arithmetic numeric) is = refl
-left_identity_kind BitAnd w a (arithmetic numeric) is = refl
-left_identity_kind Add w a (arithmetic numeric) is = refl
-left_identity_kind Multiply w a (multiplication numeric may) is = refl
-left_identity_kind operator w a makes is = absurd (false≢true is)

@@ -8,9 +8,7 @@ use Rattle.std.proofs.lemmas.Bool.{cond_both, eqb-true, eqb-false, not-true, or_
 use Rattle.std.proofs.lemmas.List.Elements.{All-contains, All-contains_itself, All-filter, Contains-push_cases}
 use Rattle.std.proofs.lemmas.List.Elements.{filter_passes}
 use Rattle.std.proofs.lemmas.Option.{cond_some, none-some}
-use Rattle.language.specs.declared.typing.WordType.{WordType}
-use Rattle.inline.specs.Fitting.{Fits, IsWithinKind}
-use Rattle.inline.specs.Flat.{word_as}
+use Rattle.inline.specs.Fitting.{Fits}
 use Rattle.inline.specs.FlatMeaning.{Values}
 use Rattle.inline.specs.FlatTyping.{Types}
 use Rattle.optimisation.specs.declared.constants.known.Constant.{Constant}
@@ -191,19 +189,7 @@ same_truth (copy c) m n same is =
 abbrev pub Agrees : Words → Values → Type 0
 Agrees words m = (f : Fact) → Knows words f → IsTrue f m
 
--- Facts of what variables are declared as: a number is of their kind, a copy a word of the same type.
-
-abbrev pub IsSuited : Types → Fact → Type 0
-IsSuited types (valued x c) = (word : WordType) (mutable : Bool) → types.at x ≡ Some (word_as word mutable)
-    → (c.kind ≡ word.kind) × IsWithinKind c.kind c.value
-IsSuited types (copy c) = (word : WordType) (mutable : Bool) → types.at c.variable ≡ Some (word_as word mutable)
-    → (other : Bool) × (types.at c.source ≡ Some (word_as word other))
-
-abbrev pub AreOfKind : Types → Words → Type 0
-AreOfKind types words = (f : Fact) → Knows words f → IsSuited types f
-
--- what is known is of its kind and what the variables hold, and each holds what it is declared as
+-- what is known is what the variables hold, and each holds what it is declared as
 pub record Holds (types : Types) (words : Words) (m : Values) : Type 0 where
   pub agrees : Agrees words m
-  pub kinds : AreOfKind types words
   pub fits : Fits types m

@@ -17,12 +17,12 @@ use Rattle.optimisation.specs.constants.private.Folding.{simple, constant, const
 use Rattle.optimisation.specs.constants.private.Known.{Words, behind, in_loop, with_word}
 use Rattle.optimisation.specs.constants.private.Simplification.{at_turn, set_to}
 use Rattle.optimisation.proofs.constants_lemmas.CopyLemmas.{read_value, set_by, two_variables}
-use Rattle.optimisation.proofs.constants_lemmas.Held.{counter_limit, counted_fits, fits_after_all}
+use Rattle.optimisation.proofs.constants_lemmas.Held.{counter_limit, IsCounter, counted_fits, fits_after_all}
 use Rattle.optimisation.proofs.constants_lemmas.KnownLemmas.{Fact, Knows, IsFree, IsTrue, word_by, same_truth, Agrees}
 use Rattle.optimisation.proofs.constants_lemmas.KnownLemmas.{Holds}
 use Rattle.optimisation.proofs.constants_lemmas.StatementRules.{AllSimplify}
-use Rattle.optimisation.proofs.constants_lemmas.TermLemmas.{constant_value, decided_value, same_value}
-use Rattle.optimisation.proofs.constants_lemmas.Typed.{IsCounter, inside_kinds, part_kinds, turn_kinds}
+use Rattle.optimisation.proofs.constants_lemmas.TermLemmas.{same_value}
+use Rattle.optimisation.proofs.constants_lemmas.TermRules.{constant_value, decided_value}
 use Rattle.optimisation.proofs.constants_lemmas.Unset.{IsUnset, behind_part, left_alone, left_alone_all, within_loop}
 
 -- Conditions and bounds that are numbers.
@@ -83,12 +83,11 @@ module _ (profile : Profile) (declared : List FlatVariable) where
   AllHolds words s = Holds (types_of profile declared) words s.variables
 
   -- where a turn begins, its number is known
-  pub turn_known : (words : Words) (s : StraightState) (x i : ℕ) → IsCounter profile declared x → i < counter_limit
+  pub turn_known : (words : Words) (s : StraightState) (x i : ℕ) → IsCounter declared x → i < counter_limit
       → AllHolds words s → AllHolds (at_turn x i words) (counted x i s)
   turn_known words s x i there below holds = record {
     agrees = noted words s.variables x i (Some (constant i counter_type.kind)) holds.agrees
         (λ c is. ap (λ (d : Constant). d.value) (same_Some (constant i counter_type.kind) c is));
-    kinds = turn_kinds profile declared words x i holds.kinds there below;
     fits = counted_fits profile declared x i there below s holds.fits;
   }
 
@@ -97,7 +96,6 @@ module _ (profile : Profile) (declared : List FlatVariable) where
       → AllHolds (behind next accepted) s
   arm_begins all s holds = record {
     agrees = λ f is. holds.agrees f (behind_part all f is).0;
-    kinds = part_kinds profile declared all holds.kinds;
     fits = holds.fits;
   }
 
@@ -105,18 +103,16 @@ module _ (profile : Profile) (declared : List FlatVariable) where
       → AllHolds (in_loop words x body) s
   loop_begins words x body s holds = record {
     agrees = λ f is. holds.agrees f (within_loop words x body f is).0;
-    kinds = inside_kinds profile declared words x body holds.kinds;
     fits = holds.fits;
   }
 
-  module _ (words : Words) (x : ℕ) (body : StraightBlock) (there : IsCounter profile declared x) (i : ℕ)
+  module _ (words : Words) (x : ℕ) (body : StraightBlock) (there : IsCounter declared x) (i : ℕ)
       (t : StraightState) (below : i < counter_limit) (holds : AllHolds (in_loop words x body) t) where
     pub turn_start : AllHolds (in_loop words x body) (counted x i t)
     turn_start = record {
       agrees = λ f is. same_truth f t.variables (counted x i t).variables
           (λ y about. with_value-other t.variables x y (i ∷ []) ((within_loop words x body f is).1.0 y about))
           (holds.agrees f is);
-      kinds = holds.kinds;
       fits = counted_fits profile declared x i there below t holds.fits;
     }
 
@@ -126,6 +122,5 @@ module _ (profile : Profile) (declared : List FlatVariable) where
       agrees = λ f known. same_truth f (counted x i t).variables (after_all (counted x i t) body).variables
           (λ y about. left_alone_all body f (within_loop words x body f known).1.1 y about (counted x i t))
           (turn_start.agrees f known);
-      kinds = holds.kinds;
       fits = fits_after_all profile declared controls body is (counted x i t) turn_start.fits;
     }

@@ -1,16 +1,13 @@
 -- What an operator comes to by one operand alone, whatever the other is: a bool.
-use Rattle.std.proofs.Common.{◌≡◌, ℕ, ◌==◌, Bool, true, false, not, ◌⊎◌, inl, inr, Some, refl, ap, arith}
+use Rattle.std.proofs.Common.{◌≡◌, ℕ, ◌==◌, Bool, true, false, not, Some, refl, ap, arith}
 use Rattle.std.proofs.Math.Dec.{leb-zero}
 use Rattle.std.proofs.lemmas.Bool.{and_right, eqb-true, le-ltb, or_right}
 use Rattle.std.proofs.lemmas.Option.{none-some, same_Some}
 use Rattle.std.specs.Bool.{then_some}
-use Rattle.language.specs.declared.signature.Kind.{Kind}
-use Rattle.language.specs.declared.signature.Kind.TheVariants.{Boolean}
 use Rattle.language.specs.declared.operators.BinaryOperator.{BinaryOperator}
 use Rattle.language.specs.declared.operators.BinaryOperator.TheVariants.{Either, Both, Less, LessOrEqual, Greater}
 use Rattle.language.specs.declared.operators.BinaryOperator.TheVariants.{GreaterOrEqual}
-use Rattle.language.specs.ExprTyping.{operation_kind}
-use Rattle.language.specs.Operators.{operated, operation_of, truth_of}
+use Rattle.language.specs.Operators.{operated, truth_of}
 use Rattle.word.specs.declared.width.Width.{Width}
 use Rattle.word.specs.Operators.{word_of}
 use Rattle.optimisation.specs.constants.private.Folding.{decided_by_left, decided_by_right}
@@ -47,16 +44,3 @@ right_value Less w a b t is =
 right_value GreaterOrEqual w a b t is =
     let found = under (b == 0) true t is in rw (← found.1, eqb-true b 0 found.0, leb-zero a) refl
 right_value operator w a b t is = absurd (none-some t is)
-
--- whatever the other operand is
-pub truth_kind : (operator : BinaryOperator) (n : ℕ) (t : Bool) (k : Kind)
-    → (decided_by_left operator n ≡ Some t) ⊎ (decided_by_right operator n ≡ Some t)
-    → Boolean ≡ operation_kind (operation_of operator) k
-truth_kind Either n t k is = refl
-truth_kind Both n t k is = refl
-truth_kind Less n t k is = refl
-truth_kind LessOrEqual n t k is = refl
-truth_kind Greater n t k is = refl
-truth_kind GreaterOrEqual n t k is = refl
-truth_kind operator n t k (inl is) = absurd (none-some t is)
-truth_kind operator n t k (inr is) = absurd (none-some t is)

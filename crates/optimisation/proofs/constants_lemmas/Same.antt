@@ -17,7 +17,8 @@ use Rattle.branch_removal.proofs.Sequences.{after-chain, path-chain, fine_back}
 use Rattle.optimisation.specs.constants.private.Folding.{simple}
 use Rattle.optimisation.specs.constants.private.Known.{Words, behind, in_loop, without}
 use Rattle.optimisation.specs.constants.private.Simplification.{set_to}
-use Rattle.optimisation.proofs.constants_lemmas.Held.{counter_limit, fewer_fit, fits_after, fits_after_all}
+use Rattle.optimisation.proofs.constants_lemmas.Held.{counter_limit, IsCounter, fewer_fit, fits_after}
+use Rattle.optimisation.proofs.constants_lemmas.Held.{fits_after_all}
 use Rattle.optimisation.proofs.constants_lemmas.KnownLemmas.{Agrees, Holds, without_known}
 use Rattle.optimisation.proofs.constants_lemmas.Learned.{AllHolds, arm_begins, decided_here, kept, loop_begins}
 use Rattle.optimisation.proofs.constants_lemmas.Learned.{noted_copy, number_here, turn_end, turn_known, turn_start}
@@ -25,7 +26,6 @@ use Rattle.optimisation.proofs.constants_lemmas.StatementRules.{Simplifies, sets
 use Rattle.optimisation.proofs.constants_lemmas.StatementRules.{chooses, unrolls, loops, TurnsSimplify, no_turn, a_turn}
 use Rattle.optimisation.proofs.constants_lemmas.StatementRules.{AllSimplify, ends, goes_on}
 use Rattle.optimisation.proofs.constants_lemmas.TermLemmas.{same_value, still_alike, suited_alike, all_alike}
-use Rattle.optimisation.proofs.constants_lemmas.Typed.{IsCounter, but_kinds, kinds_after, kinds_after_all, within_limit}
 use Rattle.optimisation.proofs.constants_lemmas.Unset.{behind_part, within_loop}
 use Rattle.optimisation.proofs.over_lemmas.Values.{IsNoWorse, same_path, both, through, alone, at_index}
 use Rattle.optimisation.proofs.over_lemmas.Beside.{branch_path, loop_path}
@@ -87,7 +87,6 @@ module _ (most : List ℕ) where
           → Holds (types_but profile declared x) words s.variables
       holds_but x size values is = record {
         agrees = holds.agrees;
-        kinds = but_kinds profile declared words x is.word is.mutable size is.known holds.kinds;
         fits = fewer_fit profile declared x s.variables holds.fits;
       }
 
@@ -182,10 +181,17 @@ module _ (most : List ℕ) where
             }
         leads (unrolls {words = words} {x = x} {low = low} {high = high} {body = body} {a = a} {b =
             b} low_is high_is few all) is s holds =
-            turns_lead s x low high body a.value b.value (number_here types words s holds is.0 a low_is)
-            (number_here types words s holds is.1 b high_is)
+            let at_low = number_here types words s holds is.0 a low_is in
+            let at_high = number_here types words s holds is.1 b high_is in
+            turns_lead s x low high body a.value b.value at_low at_high
             (all_turns_lead all
-            (within_limit profile declared words a b holds.kinds is.0 is.1 low_is high_is) is.2 is.3 s holds)
+            (omega (
+              arith,
+              at_low,
+              at_high,
+              value_fits types s.variables holds.fits is.0,
+              value_fits types s.variables holds.fits is.1,
+            )) is.2 is.3 s holds)
         leads (loops {words = words} {after = next} {x = x} {low = low} {high = high} {body = body} {code =
             code} inner) is s holds =
             let from = still_alike most types words s.variables holds is.0 in
@@ -213,7 +219,7 @@ module _ (most : List ℕ) where
 
         all_turns_lead : {x n i : ℕ} {body code : StraightBlock} {words next : Words}
             → TurnsSimplify copies declared x body n i words code next → i + n ≤ counter_limit
-            → IsCounter profile declared x → AreTyped profile declared controls body
+            → IsCounter declared x → AreTyped profile declared controls body
             → (s : StraightState) → AllHolds profile declared words s
             → LeadsTo s code next (turns n i (λ j t. after_all (counted x j t) body) s)
             (path_of_turns n i (λ j t. after_all (counted x j t) body) (λ j t. path_along (counted x j t) body) s)
@@ -227,7 +233,6 @@ module _ (most : List ℕ) where
             both_lead (turn_leads x i s a)
             (all_turns_lead others (omega arith) there is (after_all (counted x i s) body) (record {
               agrees = a.agrees;
-              kinds = kinds_after_all profile declared controls one known.kinds is;
               fits = fits_after_all profile declared controls body is (counted x i s) known.fits;
             }))
 
@@ -241,6 +246,5 @@ module _ (most : List ℕ) where
             both_lead a
             (all_lead others is.1 (after s statement) (record {
               agrees = a.agrees;
-              kinds = kinds_after profile declared controls one holds.kinds is.0;
               fits = fits_after profile declared controls statement is.0 s holds.fits;
             }))

@@ -1,11 +1,18 @@
--- The rules by which an expression is made simpler, and that a node with simple operands becomes what stands in its
--- place by them: what each rule keeps, that keeps.
-use Rattle.std.proofs.Common.{◌≡◌, ℕ, ◌-◌, ◌==◌, ◌&&◌, Bool, true, false, if◌then◌else◌, Option, None, Some, IfSome}
-use Rattle.std.proofs.Common.{option_map, refl, ◌∙◌}
-use Rattle.std.proofs.lemmas.Bool.{cond_both, false≢true}
-use Rattle.std.proofs.lemmas.Option.{option_and_then_some}
+-- What stands in the place of a node with simple operands has the node's value, and its path is fine where that of the
+-- node is.
+use Rattle.std.proofs.Common.{◌≡◌, ℕ, ◌-◌, ◌*◌, ◌/◌, ◌%◌, ◌^◌, ◌<◌, ◌==◌, ◌&&◌, Bool, true, false, not, bit_and}
+use Rattle.std.proofs.Common.{if◌then◌else◌, List, [], ◌∷◌, ◌++◌, Option, None, Some, IfSome, option_map, refl, sym}
+use Rattle.std.proofs.Common.{ap, ap₂, ◌∙◌, subst}
+use Rattle.std.proofs.Math.Nat.{mod-eq_of_lt, mul_comm}
+use Rattle.std.proofs.lemmas.Bool.{cond-false, cond-true, cond_both, false≢true}
+use Rattle.std.proofs.lemmas.Nat.{and_mask}
+use Rattle.std.proofs.lemmas.Option.{none-some, option_and_then_some, same_Some}
 use Rattle.std.specs.Option.{option_and, option_and_then, option_or}
-use Rattle.inline.specs.Flat.{TermTree, number, truth, variable, prefix, binary, rotate, convert, select, element}
+use Rattle.inline.proofs.Fitting.{wrapped_fits}
+use Rattle.inline.specs.Flat.{TermTree, number, truth, prefix, binary, rotate, convert, select}
+use Rattle.inline.specs.FlatMeaning.{Values, value_in, path_in, marks_of}
+use Rattle.inline.specs.Path.{Path, multiplied}
+use Rattle.branch_removal.proofs.Sequences.{fine_both, fine_front, fine_back}
 use Rattle.language.specs.declared.operators.BinaryOperator.{BinaryOperator}
 use Rattle.language.specs.declared.operators.BinaryOperator.TheVariants.{BitAnd, ShiftLeft, ShiftRight, Multiply}
 use Rattle.language.specs.declared.operators.BinaryOperator.TheVariants.{Divide, Remainder}
@@ -14,106 +21,33 @@ use Rattle.language.specs.declared.operators.PrefixOperator.TheVariants.{Not}
 use Rattle.language.specs.declared.signature.Kind.{Kind}
 use Rattle.language.specs.declared.signature.Kind.TheVariants.{Uint32}
 use Rattle.language.specs.ExprTyping.{operation_kind}
-use Rattle.language.specs.Operators.{divides, operated, operation_of, opposite_of, prefix_value, turned_of, width_of}
-use Rattle.word.specs.Operators.{rotated_left, converted}
+use Rattle.language.specs.Operators.{divides, operated, operation_of, opposite_of, prefix_value, truth_of, turned_of}
+use Rattle.language.specs.Operators.{width_of}
+use Rattle.word.specs.Operators.{rotated_left, converted, word_of}
+use Rattle.word.specs.Widths.{IsWord, bits}
 use Rattle.word.specs.declared.place.Place.{Place}
 use Rattle.word.specs.declared.width.Width.{Width}
 use Rattle.word.specs.declared.width.Width.TheVariants.{W32}
 use Rattle.optimisation.specs.declared.constants.fields.Field.{Field}
 use Rattle.optimisation.specs.declared.constants.known.Constant.{Constant}
-use Rattle.optimisation.specs.constants.private.Fields.{amount_of, cleared_by, field_of, field_within, mask_of, moved}
-use Rattle.optimisation.specs.constants.private.Fields.{moved_or}
+use Rattle.optimisation.specs.constants.private.Fields.{amount_of, cleared_by, field_of, field_within, mask_of}
+use Rattle.optimisation.specs.constants.private.Fields.{moved, moved_or}
 use Rattle.optimisation.specs.constants.private.Folding.{applied, between, binary_or, chosen, constant, constant_of}
 use Rattle.optimisation.specs.constants.private.Folding.{converted_to, decided, decided_by_left, decided_by_right}
 use Rattle.optimisation.specs.constants.private.Folding.{decision, is_among, is_left_identity, is_right_identity}
-use Rattle.optimisation.specs.constants.private.Folding.{known_or, negation_of, number_of, operated_on, operation}
-use Rattle.optimisation.specs.constants.private.Folding.{prefixed, reduced, rotated, simple, stepped, stepped_or}
-use Rattle.optimisation.specs.constants.private.Folding.{truth_or, turned, turned_by}
-use Rattle.optimisation.specs.constants.private.Known.{Words, known, source_in}
+use Rattle.optimisation.specs.constants.private.Folding.{known_or, negation_of, operated_on, operation, prefixed}
+use Rattle.optimisation.specs.constants.private.Folding.{reduced, rotated, stepped, stepped_or, truth_or, turned}
+use Rattle.optimisation.specs.constants.private.Folding.{turned_by}
 use Rattle.optimisation.specs.constants.private.Powers.{exponent_of, step_by, step_of, turned_step}
-use Rattle.optimisation.proofs.constants_lemmas.Comparisons.{IsOpposite, IsTurnedRound, opposite, turned_round}
-use Rattle.optimisation.proofs.constants_lemmas.Powers.{IsPower, is_power}
-use Rattle.optimisation.proofs.constants_lemmas.TwoShifts.{IsField, is_field}
-
-pub data Becomes : TermTree → TermTree → Type 0 where
-  stays : {e : TermTree} → Becomes e e
-  and_then : {e f g : TermTree} → Becomes e f → Becomes f g → Becomes e g
-  -- what is made of numbers is a number
-  number_prefixed : {operator : PrefixOperator} {width : Width} {operand : TermTree} {c : Constant}
-      → constant_of operand ≡ Some c
-      → Becomes (prefix operator width operand) (number (prefix_value operator width c.value) c.kind)
-  number_rotated : {width : Width} {operand : TermTree} {amount : ℕ} {c : Constant}
-      → constant_of operand ≡ Some c
-      → Becomes (rotate width operand amount) (number (rotated_left width c.value amount) c.kind)
-  number_converted : {kind : Kind} {operand : TermTree} {c : Constant}
-      → constant_of operand ≡ Some c
-      → Becomes (convert kind operand) (number (converted (width_of kind) c.value) kind)
-  numbers_operated : {place : Place} {operator : BinaryOperator} {width : Width} {left right : TermTree}
-      {a b : Constant}
-      → constant_of left ≡ Some a
-      → constant_of right ≡ Some b
-      → Becomes (binary place operator width left right)
-      (number (operated operator width a.value b.value) (operation_kind (operation_of operator) a.kind))
-  -- `!` of `!`, and of a comparison
-  twice_negated : {width w : Width} {operand : TermTree} → Becomes (prefix Not width (prefix Not w operand)) operand
-  comparison_negated : {width w : Width} {place : Place} {operator other : BinaryOperator} {left right : TermTree}
-      → IsOpposite operator other
-      → Becomes (prefix Not width (binary place operator w left right)) (binary place other w left right)
-  -- an operand that decides alone, or leaves the other one as it is
-  left_decides : {place : Place} {operator : BinaryOperator} {width : Width} {left right : TermTree} {c : Constant}
-      {t : Bool}
-      → constant_of left ≡ Some c
-      → decided_by_left operator c.value ≡ Some t
-      → Becomes (binary place operator width left right) (truth t)
-  right_decides : {place : Place} {operator : BinaryOperator} {width : Width} {left right : TermTree} {c : Constant}
-      {t : Bool}
-      → constant_of right ≡ Some c
-      → decided_by_right operator c.value ≡ Some t
-      → Becomes (binary place operator width left right) (truth t)
-  left_alone : {place : Place} {operator : BinaryOperator} {width : Width} {left right : TermTree} {c : Constant}
-      → constant_of right ≡ Some c
-      → is_right_identity operator width c.value ≡ true
-      → Becomes (binary place operator width left right) left
-  right_alone : {place : Place} {operator : BinaryOperator} {width : Width} {left right : TermTree} {c : Constant}
-      → constant_of left ≡ Some c
-      → is_left_identity operator width c.value ≡ true
-      → Becomes (binary place operator width left right) right
-  -- operands turned round, where a number is on the left
-  comparison_turned : {place : Place} {operator next : BinaryOperator} {width : Width} {left right : TermTree}
-      {c : Constant}
-      → constant_of left ≡ Some c
-      → IsTurnedRound operator next
-      → Becomes (binary place operator width left right) (binary place next width right left)
-  product_turned : {place : Place} {width : Width} {left right : TermTree} {c : Constant}
-      → constant_of left ≡ Some c
-      → Becomes (binary place Multiply width left right) (binary place Multiply width right left)
-  -- an operator by a power of two
-  shifted_up : {place : Place} {width : Width} {left right : TermTree} {power : Constant} {k : ℕ}
-      → constant_of right ≡ Some power
-      → IsPower power.value k
-      → Becomes (binary place Multiply width left right) (binary place ShiftLeft width left (number k Uint32))
-  shifted_down : {place : Place} {width : Width} {left right : TermTree} {power : Constant} {k : ℕ}
-      → constant_of right ≡ Some power
-      → IsPower power.value k
-      → Becomes (binary place Divide width left right) (binary place ShiftRight width left (number k Uint32))
-  masked : {place : Place} {width : Width} {left right : TermTree} {power : Constant} {k : ℕ}
-      → constant_of right ≡ Some power
-      → IsPower power.value k
-      → Becomes (binary place Remainder width left right)
-      (binary place BitAnd width left (number (power.value - 1) power.kind))
-  -- bits of a word, by two shifts
-  bits_moved : {place inner : Place} {width : Width} {word amount right : TermTree} {by mask : Constant} {field : Field}
-      → constant_of amount ≡ Some by
-      → constant_of right ≡ Some mask
-      → IsField by mask.value field
-      → Becomes (binary place BitAnd width (binary inner ShiftRight W32 word amount) right) (moved place W32 word field)
-  -- a condition that is a number
-  accepted_chosen : {condition accepted otherwise : TermTree}
-      → decision condition ≡ Some true
-      → Becomes (select condition accepted otherwise) accepted
-  otherwise_chosen : {condition accepted otherwise : TermTree}
-      → decision condition ≡ Some false
-      → Becomes (select condition accepted otherwise) otherwise
+use Rattle.optimisation.proofs.constants_lemmas.Bounded.{IsNegated, IsMoved, IsBounded, AreTaken, divided_fits}
+use Rattle.optimisation.proofs.constants_lemmas.Bounded.{moved_fits, word_moved}
+use Rattle.optimisation.proofs.constants_lemmas.Comparisons.{IsOpposite, IsTurnedRound, denied_twice, opposite}
+use Rattle.optimisation.proofs.constants_lemmas.Comparisons.{turned_round}
+use Rattle.optimisation.proofs.constants_lemmas.Identities.{left_leaves, right_leaves}
+use Rattle.optimisation.proofs.constants_lemmas.OneOperand.{left_value, right_value}
+use Rattle.optimisation.proofs.constants_lemmas.Powers.{IsPower, is_power, quotient_below}
+use Rattle.optimisation.proofs.constants_lemmas.TwoShifts.{IsField, is_field, lifted_by, moved_value}
+use Rattle.optimisation.proofs.over_lemmas.Values.{IsNoWorse, same_path, through, alone, IsAlike}
 
 -- What there may be.
 
@@ -127,202 +61,403 @@ option_by : {A : Type 0} (P : Option A → Type 0) (o : Option A) → ((x : A) �
 option_by P None each none = none
 option_by P (Some x) each none = each x refl
 
--- One operand.
+module _ (m : Values) where
+  pub constant_value : (e : TermTree) (c : Constant) → constant_of e ≡ Some c → value_in m e ≡ c.value
+  constant_value (number value kind) c is = ap (λ (d : Constant). d.value) (same_Some (constant value kind) c is)
+  constant_value (truth value) c is = ap (λ (d : Constant). d.value) (same_Some _ c is)
+  constant_value e c is = absurd (none-some c is)
 
-one_operand : (operand : TermTree) (f : Constant → Constant) (e whole : TermTree)
-    → ((c : Constant) → constant_of operand ≡ Some c → Becomes e (number_of (f c))) → Becomes e whole
-    → Becomes e (known_or (option_map f (constant_of operand)) whole)
-one_operand operand f e whole = option_by (λ o. Becomes e (known_or (option_map f o) whole)) (constant_of operand)
+  -- a condition that is decided
+  pub decided_value : (e : TermTree) (b : Bool) → decision e ≡ Some b → (value_in m e == 0) ≡ not b
+  decided_value e b is = by_constant (constant_of e) refl is
+    where
+      twice : (z : Bool) → not z ≡ b → z ≡ not b
+      twice true h = ap not h
+      twice false h = ap not h
 
-negation_becomes : (width : Width) (e : TermTree) → Becomes (prefix Not width e) (negation_of width e)
-negation_becomes width (prefix Not w operand) = twice_negated
-negation_becomes width (binary place operator w left right) =
-    let whole = prefix Not width (binary place operator w left right) in
-    some_by (IsOpposite operator) (λ o. Becomes whole (binary_or o place w left right whole)) (opposite_of operator)
-    (opposite operator) (λ other found. comparison_negated found) stays
-negation_becomes width e = stays
+      by_constant : (o : Option Constant) → constant_of e ≡ o
+          → option_map (λ (c : Constant). truth_of c.value) o ≡ Some b → (value_in m e == 0) ≡ not b
+      by_constant None same h = absurd (none-some b h)
+      by_constant (Some c) same h = ap (λ v. v == 0) (constant_value e c same)
+          ∙ twice (c.value == 0) (same_Some _ b h)
 
-applied_becomes : (operator : PrefixOperator) (width : Width) (e : TermTree)
-    → Becomes (prefix operator width e) (applied operator width e)
-applied_becomes Not width e = negation_becomes width e
-applied_becomes operator width e = stays
+module _ (most : List ℕ) (m : Values) where
+  -- an expression may stand in the place of another one
+  pub record MayStand (e f : TermTree) : Type 0 where
+    pub alike : IsAlike most m m e f
+    pub bounded : IsBounded m f
 
-prefixed_becomes : (operator : PrefixOperator) (width : Width) (e : TermTree)
-    → Becomes (prefix operator width e) (prefixed operator width e)
-prefixed_becomes operator width e =
-    one_operand e (λ c. constant (prefix_value operator width c.value) c.kind) (prefix operator width e)
-    (applied operator width e) (λ c is. number_prefixed is) (applied_becomes operator width e)
+  stays : (e : TermTree) → IsBounded m e → MayStand e e
+  stays e bounded = record { alike = record { value = refl; path = same_path most }; bounded = bounded }
 
-rotated_becomes : (width : Width) (e : TermTree) (amount : ℕ)
-    → Becomes (rotate width e amount) (rotated width e amount)
-rotated_becomes width e amount =
-    one_operand e (λ c. constant (rotated_left width c.value amount) c.kind) (rotate width e amount)
-    (rotate width e amount) (λ c is. number_rotated is) stays
+  -- an expression that may stand in the place of one that is alike
+  pub behind : {e f g : TermTree} → IsAlike most m m e f → MayStand f g → MayStand e g
+  behind one other = record {
+    alike = record {
+      value = other.alike.value ∙ one.value;
+      path = through most one.path other.alike.path;
+    };
+    bounded = other.bounded;
+  }
 
-converted_becomes : (kind : Kind) (e : TermTree) → Becomes (convert kind e) (converted_to kind e)
-converted_becomes kind e =
-    one_operand e (λ c. constant (converted (width_of kind) c.value) kind) (convert kind e) (convert kind e)
-    (λ c is. number_converted is) stays
+  -- what is a number meets nothing
+  to_number : {e : TermTree} (v : ℕ) (kind : Kind) → v ≡ value_in m e → MayStand e (number v kind)
+  to_number v kind same =
+      record { alike = record { value = same; path = record { fine = λ fine. tt } }; bounded = tt }
 
--- Two operands.
+  to_truth : {e : TermTree} (t : Bool) → word_of t ≡ value_in m e → MayStand e (truth t)
+  to_truth t same = record { alike = record { value = same; path = record { fine = λ fine. tt } }; bounded = tt }
 
--- where a word is moved down and then masked
-bits_become : (place inner : Place) (width : Width) (word amount right : TermTree) (operator : BinaryOperator)
-    (mask : Option Constant) (down : BinaryOperator) (w : Width) (by : Option Constant) → constant_of right ≡ mask
-    → constant_of amount ≡ by
-    → Becomes (binary place operator width (binary inner down w word amount) right)
-    (moved_or (field_of (mask_of operator mask) (amount_of down w by)) place w word
-    (binary place operator width (binary inner down w word amount) right))
-bits_become place inner width word amount right BitAnd (Some mask) ShiftRight W32 (Some by) is also =
-    let whole = binary place BitAnd width (binary inner ShiftRight W32 word amount) right in
-    some_by (IsField by mask.value) (λ o. Becomes whole (moved_or o place W32 word whole))
-    (field_within by mask.value (cleared_by mask.value)) (is_field by mask.value)
-    (λ field found. bits_moved also is found) stays
-bits_become place inner width word amount right operator mask down w by is also = stays
+  -- One operand.
 
-operation_becomes : (place : Place) (operator : BinaryOperator) (width : Width) (left right : TermTree)
-    → Becomes (binary place operator width left right) (operation place operator width left right)
-operation_becomes place operator width (binary inner down w word amount) right =
-    bits_become place inner width word amount right operator (constant_of right) down w (constant_of amount) refl refl
-operation_becomes place operator width left right = stays
+  one_operand : (operand : TermTree) (f : Constant → Constant) (e whole : TermTree)
+      → ((c : Constant) → constant_of operand ≡ Some c → (f c).value ≡ value_in m e) → MayStand e whole
+      → MayStand e (known_or (option_map f (constant_of operand)) whole)
+  one_operand operand f e whole same =
+      option_by (λ o. MayStand e (known_or (option_map f o) whole)) (constant_of operand)
+      (λ c is. to_number (f c).value (f c).kind (same c is))
 
-module _ (place : Place) (width : Width) (whole word side rest : TermTree) (side_rest : Becomes whole rest) where
-  power_becomes : (operator : BinaryOperator) → Becomes whole (binary place operator width word side)
-      → (power : Constant) → constant_of side ≡ Some power → (k : ℕ) → IsPower power.value k
-      → Becomes whole (stepped_or (step_by operator power k) place width word rest)
-  power_becomes Multiply here power is k found =
-      and_then here (and_then (shifted_up is found) (operation_becomes place ShiftLeft width word (number k Uint32)))
-  power_becomes Divide here power is k found =
-      and_then here (and_then (shifted_down is found) (operation_becomes place ShiftRight width word (number k Uint32)))
-  power_becomes Remainder here power is k found =
-      and_then here (and_then (masked is found)
-      (operation_becomes place BitAnd width word (number (power.value - 1) power.kind)))
-  power_becomes operator here power is k found = side_rest
+  negation_becomes : (width : Width) (e : TermTree) → value_in m e < 2 → IsBounded m e
+      → MayStand (prefix Not width e) (negation_of width e)
+  negation_becomes width (prefix Not w operand) fits bounded = record {
+    alike = record { value = sym (denied_twice (value_in m operand) bounded.0); path = same_path most };
+    bounded = bounded.1;
+  }
+  negation_becomes width (binary place operator w left right) fits bounded =
+      let whole = prefix Not width (binary place operator w left right) in
+      let a = value_in m left in
+      let b = value_in m right in
+      some_by (IsOpposite operator) (λ o. MayStand whole (binary_or o place w left right whole)) (opposite_of operator)
+      (opposite operator)
+      (λ other found. record {
+        alike = record {
+          value = found.value w a b;
+          path = subst (λ (marks : Path). IsNoWorse most
+              ((path_in m left ++ path_in m right) ++ marks_of place operator a b)
+              ((path_in m left ++ path_in m right) ++ marks)) (sym (found.unmarked place a b)) (same_path most);
+        };
+        bounded = found.unmoved w a;
+      })
+      (stays whole (fits, bounded))
+  negation_becomes width e fits bounded = stays (prefix Not width e) (fits, bounded)
 
-  -- an operator by what may be a power of two, or else what it is without
-  step_becomes : (operator : BinaryOperator)
-      → ((c : Constant) → constant_of side ≡ Some c → Becomes whole (binary place operator width word side))
-      → Becomes whole (stepped_or (step_of operator (constant_of side)) place width word rest)
-  step_becomes operator here =
-      option_by (λ o. Becomes whole (stepped_or (step_of operator o) place width word rest)) (constant_of side)
-      (λ power is. some_by (IsPower power.value)
-      (λ k. Becomes whole (stepped_or (option_and_then (step_by operator power) k) place width word rest))
-      (exponent_of power.value) (is_power power.value)
-      (λ k found. power_becomes operator (here power is) power is k found) side_rest)
-      side_rest
+  applied_becomes : (operator : PrefixOperator) (width : Width) (e : TermTree) → IsNegated operator (value_in m e)
+      → IsBounded m e → MayStand (prefix operator width e) (applied operator width e)
+  applied_becomes Not width e fits bounded = negation_becomes width e fits bounded
+  applied_becomes operator width e fits bounded = stays (prefix operator width e) (fits, bounded)
 
-module _ (place : Place) (width : Width) (left right : TermTree) where
-  turned_becomes : (operator : BinaryOperator)
-      → Becomes (binary place operator width left right) (turned place operator width left right)
-  turned_becomes operator =
-      let whole = binary place operator width left right in
-      let plain = operation place operator width left right in
-      option_by (λ o. Becomes whole (binary_or (turned_by operator o) place width right left plain)) (constant_of left)
-      (λ c is. some_by (IsTurnedRound operator) (λ o. Becomes whole (binary_or o place width right left plain))
-      (option_and (opposite_of operator) (turned_of operator)) (turned_round operator)
-      (λ next found. comparison_turned is found) (operation_becomes place operator width left right))
-      (operation_becomes place operator width left right)
+  pub prefixed_becomes : (operator : PrefixOperator) (width : Width) (e : TermTree) → IsNegated operator (value_in m e)
+      → IsBounded m e → MayStand (prefix operator width e) (prefixed operator width e)
+  prefixed_becomes operator width e fits bounded =
+      one_operand e (λ c. constant (prefix_value operator width c.value) c.kind) (prefix operator width e)
+      (applied operator width e) (λ c is. ap (prefix_value operator width) (sym (constant_value m e c is)))
+      (applied_becomes operator width e fits bounded)
 
-  -- by a power of two on the left
-  left_becomes : (operator : BinaryOperator)
-      → Becomes (binary place operator width left right)
-      (stepped_or (turned_step operator (constant_of left)) place width right
-      (turned place operator width left right))
-  left_becomes Multiply =
-      step_becomes place width (binary place Multiply width left right) right left
-      (turned place Multiply width left right) (turned_becomes Multiply) Multiply (λ c is. product_turned is)
-  left_becomes operator = turned_becomes operator
+  pub rotated_becomes : (width : Width) (e : TermTree) (amount : ℕ)
+      → MayStand (rotate width e amount) (rotated width e amount)
+  rotated_becomes width e amount =
+      one_operand e (λ c. constant (rotated_left width c.value amount) c.kind) (rotate width e amount)
+      (rotate width e amount) (λ c is. ap (λ v. rotated_left width v amount) (sym (constant_value m e c is)))
+      (stays (rotate width e amount) tt)
 
-  stepped_becomes : (operator : BinaryOperator)
-      → Becomes (binary place operator width left right) (stepped place operator width left right)
-  stepped_becomes operator =
-      step_becomes place width (binary place operator width left right) left right
-      (stepped_or (turned_step operator (constant_of left)) place width right
-      (turned place operator width left right)) (left_becomes operator) operator (λ c is. stays)
+  pub converted_becomes : (kind : Kind) (e : TermTree) → MayStand (convert kind e) (converted_to kind e)
+  converted_becomes kind e =
+      one_operand e (λ c. constant (converted (width_of kind) c.value) kind) (convert kind e) (convert kind e)
+      (λ c is. ap (converted (width_of kind)) (sym (constant_value m e c is))) (stays (convert kind e) tt)
+
+  -- Paths of operands.
+
+  module _ (place : Place) (operator : BinaryOperator) (width : Width) (left right : TermTree) where
+    abbrev all_path : Path
+    all_path = path_in m (binary place operator width left right)
+
+    operands : IsNoWorse most all_path (path_in m left ++ path_in m right)
+    operands = record {
+      fine = fine_front most (path_in m left ++ path_in m right)
+          (marks_of place operator (value_in m left) (value_in m right));
+    }
+
+    left_path : IsNoWorse most all_path (path_in m left)
+    left_path = record { fine = λ fine. fine_front most (path_in m left) (path_in m right) (operands.fine fine) }
+
+    right_path : IsNoWorse most all_path (path_in m right)
+    right_path = record { fine = λ fine. fine_back most (path_in m left) (path_in m right) (operands.fine fine) }
+
+    turned_path : IsNoWorse most all_path (path_in m right ++ path_in m left)
+    turned_path = record {
+      fine = λ fine. fine_both most (path_in m right) (path_in m left) (right_path.fine fine) (left_path.fine fine);
+    }
+
+  -- with a number on the right
+  by_number : {p q : Path} → IsNoWorse most p q → IsNoWorse most p ((q ++ []) ++ [])
+  by_number one = alone most (alone most one)
+
+  power_value : (e : TermTree) (c : Constant) (k : ℕ) → constant_of e ≡ Some c → IsPower c.value k
+      → 2 ^ k ≡ value_in m e
+  power_value e c k is power = sym (constant_value m e c is ∙ power.is)
+
+  -- Two operands.
+
+  module _ (place inner : Place) (width : Width) (word amount right : TermTree) where
+    abbrev down_then : TermTree
+    down_then = binary inner ShiftRight W32 word amount
+
+    -- bits of a word, by two shifts
+    bits_moved : (by mask : Constant) (field : Field) → value_in m word < 2 ^ 32 → constant_of amount ≡ Some by
+        → constant_of right ≡ Some mask → IsField by mask.value field
+        → MayStand (binary place BitAnd width down_then right) (moved place W32 word field)
+    bits_moved by mask field below is also found = record {
+      alike = record {
+        value = moved_value m place word amount right by mask.value field below (constant_value m amount by is)
+            (constant_value m right mask also) found;
+        path =
+            let front = through most (left_path place BitAnd width down_then right)
+            (left_path inner ShiftRight W32 word amount) in
+            by_number (lifted_by (λ e. IsNoWorse most (path_in m (binary place BitAnd width down_then right)) (path_in m e))
+            place W32 word field (λ zero. front) (by_number front));
+      };
+      bounded = lifted_by (λ e. value_in m e < 2 ^ 32) place W32 word field (λ zero. below) (wrapped_fits W32 _);
+    }
+
+  -- where a word is moved down and then masked
+  bits_become : (place inner : Place) (width : Width) (word amount right : TermTree) (operator : BinaryOperator)
+      (mask : Option Constant) (down : BinaryOperator) (w : Width) (by : Option Constant) → constant_of right ≡ mask
+      → constant_of amount ≡ by → IsMoved down w (value_in m word)
+      → IsMoved operator width (value_in m (binary inner down w word amount))
+      → MayStand (binary place operator width (binary inner down w word amount) right)
+      (moved_or (field_of (mask_of operator mask) (amount_of down w by)) place w word
+      (binary place operator width (binary inner down w word amount) right))
+  bits_become place inner width word amount right BitAnd (Some mask) ShiftRight W32 (Some by) is also below whole =
+      let e = binary place BitAnd width (binary inner ShiftRight W32 word amount) right in
+      some_by (IsField by mask.value) (λ o. MayStand e (moved_or o place W32 word e))
+      (field_within by mask.value (cleared_by mask.value)) (is_field by mask.value)
+      (λ field found. bits_moved place inner width word amount right by mask field below also is found) (stays e tt)
+  bits_become place inner width word amount right operator mask down w by is also below whole =
+      stays (binary place operator width (binary inner down w word amount) right) whole
+
+  operation_becomes : (place : Place) (operator : BinaryOperator) (width : Width) (left right : TermTree)
+      → IsBounded m left → IsMoved operator width (value_in m left)
+      → MayStand (binary place operator width left right) (operation place operator width left right)
+  operation_becomes place operator width (binary inner down w word amount) right bounded whole =
+      bits_become place inner width word amount right operator (constant_of right) down w (constant_of amount) refl
+      refl bounded whole
+  operation_becomes place operator width left right bounded whole = stays (binary place operator width left right) whole
+
+  module _ (place : Place) (width : Width) (word side : TermTree) (bounded : IsBounded m word) (power : Constant)
+      (is : constant_of side ≡ Some power) (k : ℕ) (found : IsPower power.value k) where
+    abbrev a : ℕ
+    a = value_in m word
+
+    shifted_up : MayStand (binary place Multiply width word side)
+        (operation place ShiftLeft width word (number k Uint32))
+    shifted_up =
+        behind {f = binary place ShiftLeft width word (number k Uint32)} (record {
+          value = ap (λ j. (a * 2 ^ j) % 2 ^ bits width) (mod-eq_of_lt found.few)
+              ∙ ap (λ n. (a * n) % 2 ^ bits width) (power_value side power k is found);
+          path = by_number (left_path place Multiply width word side);
+        })
+        (operation_becomes place ShiftLeft width word (number k Uint32) bounded tt)
+
+    shifted_down : IsWord width a
+        → MayStand (binary place Divide width word side) (operation place ShiftRight width word (number k Uint32))
+    shifted_down low =
+        behind {f = binary place ShiftRight width word (number k Uint32)} (record {
+          value = ap (λ j. (a / 2 ^ j) % 2 ^ bits width) (mod-eq_of_lt found.few)
+              ∙ (mod-eq_of_lt (quotient_below width a (2 ^ k) low)
+              ∙ ap (λ n. a / n) (power_value side power k is found));
+          path = by_number (left_path place Divide width word side);
+        })
+        (operation_becomes place ShiftRight width word (number k Uint32) bounded (word_moved width a low))
+
+    masked : MayStand (binary place Remainder width word side)
+        (operation place BitAnd width word (number (power.value - 1) power.kind))
+    masked =
+        behind {f = binary place BitAnd width word (number (power.value - 1) power.kind)} (record {
+          value = ap (λ n. bit_and a (n - 1)) found.is
+              ∙ (and_mask a k ∙ ap (λ n. a % n) (power_value side power k is found));
+          path = by_number (left_path place Remainder width word side);
+        })
+        (operation_becomes place BitAnd width word (number (power.value - 1) power.kind) bounded tt)
+
+  module _ (place : Place) (width : Width) (whole word side rest : TermTree) (side_rest : MayStand whole rest)
+      (bounded : IsBounded m word) where
+    power_becomes : (operator : BinaryOperator) → IsAlike most m m whole (binary place operator width word side)
+        → (divides operator ≡ true → IsWord width (value_in m word)) → (power : Constant)
+        → constant_of side ≡ Some power → (k : ℕ) → IsPower power.value k
+        → MayStand whole (stepped_or (step_by operator power k) place width word rest)
+    power_becomes Multiply here low power is k found =
+        behind here (shifted_up place width word side bounded power is k found)
+    power_becomes Divide here low power is k found =
+        behind here (shifted_down place width word side bounded power is k found (low refl))
+    power_becomes Remainder here low power is k found =
+        behind here (masked place width word side bounded power is k found)
+    power_becomes operator here low power is k found = side_rest
+
+    -- an operator by what may be a power of two, or else what it is without
+    step_becomes : (operator : BinaryOperator) → IsAlike most m m whole (binary place operator width word side)
+        → (divides operator ≡ true → IsWord width (value_in m word))
+        → MayStand whole (stepped_or (step_of operator (constant_of side)) place width word rest)
+    step_becomes operator here low =
+        option_by (λ o. MayStand whole (stepped_or (step_of operator o) place width word rest)) (constant_of side)
+        (λ power is. some_by (IsPower power.value)
+        (λ k. MayStand whole (stepped_or (option_and_then (step_by operator power) k) place width word rest))
+        (exponent_of power.value) (is_power power.value)
+        (λ k found. power_becomes operator here low power is k found) side_rest)
+        side_rest
 
   among : (numbers : ℕ → Bool) (o : Option Constant) → is_among numbers o ≡ true
       → (c : Constant) × (o ≡ Some c) × (numbers c.value ≡ true)
   among numbers None is = absurd (false≢true is)
   among numbers (Some c) is = (c, refl, is)
 
-  reduced_becomes : (operator : BinaryOperator)
-      → Becomes (binary place operator width left right) (reduced place operator width left right)
-  reduced_becomes operator =
-      let right_number = is_right_identity operator width in
-      let left_number = is_left_identity operator width in
-      let rest = stepped place operator width left right in
-      cond_both (is_among right_number (constant_of right)) left
-      (if is_among left_number (constant_of left) then right else rest)
-      (Becomes (binary place operator width left right))
-      (λ is. let found = among right_number (constant_of right) is in left_alone found.1 found.2)
-      (λ none. cond_both (is_among left_number (constant_of left)) right rest
-      (Becomes (binary place operator width left right))
-      (λ is. let found = among left_number (constant_of left) is in right_alone found.1 found.2)
-      (λ none. stepped_becomes operator))
+  module _ (place : Place) (width : Width) (left right : TermTree) (at_left : IsBounded m left)
+      (at_right : IsBounded m right) where
+    abbrev at : BinaryOperator → TermTree
+    at operator = binary place operator width left right
 
-  operated_becomes : (operator : BinaryOperator)
-      → Becomes (binary place operator width left right) (operated_on place operator width left right)
-  operated_becomes operator =
-      by_numbers (constant_of left) (constant_of right) refl refl
-      (option_by (λ o. Becomes (binary place operator width left right)
-      (truth_or o (reduced place operator width left right)))
-      (decided operator (constant_of left) (constant_of right)) (λ t is. by_left t _ refl is)
-      (reduced_becomes operator))
+    module _ (operator : BinaryOperator) (taken : AreTaken operator width (value_in m left) (value_in m right)) where
+      plain_becomes : MayStand (at operator) (operation place operator width left right)
+      plain_becomes =
+          operation_becomes place operator width left right at_left
+          (moved_fits operator width taken.one.kind (value_in m left) taken.left)
+
+      turned_becomes : MayStand (at operator) (turned place operator width left right)
+      turned_becomes =
+          let plain = operation place operator width left right in
+          option_by (λ o. MayStand (at operator) (binary_or (turned_by operator o) place width right left plain))
+          (constant_of left)
+          (λ c is. some_by (IsTurnedRound operator)
+          (λ o. MayStand (at operator) (binary_or o place width right left plain))
+          (option_and (opposite_of operator) (turned_of operator)) (turned_round operator)
+          (λ next found. record {
+            alike = record {
+              value = found.value width (value_in m left) (value_in m right);
+              path = subst (λ (marks : Path). IsNoWorse most (path_in m (at operator))
+                  ((path_in m right ++ path_in m left) ++ marks))
+                  (sym (found.unmarked place (value_in m right) (value_in m left)))
+                  (alone most (turned_path place operator width left right));
+            };
+            bounded = found.unmoved width (value_in m right);
+          })
+          plain_becomes)
+          plain_becomes
+
+    -- by a power of two on the left
+    left_becomes : (operator : BinaryOperator) → AreTaken operator width (value_in m left) (value_in m right)
+        → MayStand (at operator)
+        (stepped_or (turned_step operator (constant_of left)) place width right
+        (turned place operator width left right))
+    left_becomes Multiply taken =
+        step_becomes place width (at Multiply) right left (turned place Multiply width left right)
+        (turned_becomes Multiply taken) at_right Multiply (record {
+          value = ap (λ v. v % 2 ^ bits width) (mul_comm (value_in m right) (value_in m left));
+          path = record {
+            fine = λ fine. fine_both most (path_in m right ++ path_in m left)
+                (multiplied (value_in m right) (value_in m left) ∷ [])
+                ((turned_path place Multiply width left right).fine fine) (tt, tt);
+          };
+        }) (λ h. absurd (false≢true h))
+    left_becomes operator taken = turned_becomes operator taken
+
+    stepped_becomes : (operator : BinaryOperator) → AreTaken operator width (value_in m left) (value_in m right)
+        → MayStand (at operator) (stepped place operator width left right)
+    stepped_becomes operator taken =
+        step_becomes place width (at operator) left right
+        (stepped_or (turned_step operator (constant_of left)) place width right
+        (turned place operator width left right)) (left_becomes operator taken) at_left operator
+        (record { value = refl; path = same_path most })
+        (divided_fits operator width (value_in m left) (value_in m right) taken)
+
+    reduced_becomes : (operator : BinaryOperator) → AreTaken operator width (value_in m left) (value_in m right)
+        → MayStand (at operator) (reduced place operator width left right)
+    reduced_becomes operator taken =
+        let right_number = is_right_identity operator width in
+        let left_number = is_left_identity operator width in
+        let rest = stepped place operator width left right in
+        cond_both (is_among right_number (constant_of right)) left
+        (if is_among left_number (constant_of left) then right else rest) (MayStand (at operator))
+        (λ is.
+        let found = among right_number (constant_of right) is in
+        record {
+          alike = record {
+            value = sym (right_leaves operator width (value_in m left) (value_in m right) taken.makes taken.even
+                taken.left (ap right_number (constant_value m right found.0 found.1) ∙ found.2));
+            path = left_path place operator width left right;
+          };
+          bounded = at_left;
+        })
+        (λ none. cond_both (is_among left_number (constant_of left)) right rest (MayStand (at operator))
+        (λ is.
+        let found = among left_number (constant_of left) is in
+        record {
+          alike = record {
+            value = sym (left_leaves operator width (value_in m left) (value_in m right) taken.makes taken.even
+                taken.right (ap left_number (constant_value m left found.0 found.1) ∙ found.2));
+            path = right_path place operator width left right;
+          };
+          bounded = at_right;
+        })
+        (λ none. stepped_becomes operator taken))
+
+    pub operated_becomes : (operator : BinaryOperator) → AreTaken operator width (value_in m left) (value_in m right)
+        → MayStand (at operator) (operated_on place operator width left right)
+    operated_becomes operator taken =
+        by_numbers (constant_of left) (constant_of right) refl refl
+        (option_by (λ o. MayStand (at operator) (truth_or o (reduced place operator width left right)))
+        (decided operator (constant_of left) (constant_of right)) (λ t is. by_left t _ refl is)
+        (reduced_becomes operator taken))
+      where
+        by_left : (t : Bool) (o : Option Bool)
+            → option_and_then (λ (c : Constant). decided_by_left operator c.value) (constant_of left) ≡ o
+            → option_or o (option_and_then (λ (c : Constant). decided_by_right operator c.value) (constant_of right))
+            ≡ Some t
+            → MayStand (at operator) (truth t)
+        by_left t None same is =
+            option_and_then_some (λ (c : Constant). decided_by_right operator c.value) (constant_of right) t is
+            (λ c there decides. to_truth t (right_value operator width (value_in m left) (value_in m right) t
+            (ap (decided_by_right operator) (constant_value m right c there) ∙ decides)))
+        by_left t (Some said) same is =
+            option_and_then_some (λ (c : Constant). decided_by_left operator c.value) (constant_of left) t (same ∙ is)
+            (λ c there decides. to_truth t (left_value operator width (value_in m left) (value_in m right) t
+            (ap (decided_by_left operator) (constant_value m left c there) ∙ decides)))
+
+        by_numbers : (a b : Option Constant) → constant_of left ≡ a → constant_of right ≡ b → {told : TermTree}
+            → MayStand (at operator) told → MayStand (at operator) (known_or (between operator width a b) told)
+        by_numbers (Some a) (Some b) is also {told = told} rest =
+            cond_both (divides operator && (b.value == 0)) None (Some (operated operator width a.value b.value))
+            (λ v. MayStand (at operator)
+            (known_or (option_map (λ n. constant n (operation_kind (operation_of operator) a.kind)) v) told))
+            (λ zero. rest)
+            (λ some. to_number (operated operator width a.value b.value) _
+            (ap₂ (operated operator width) (sym (constant_value m left a is)) (sym (constant_value m right b also))))
+        by_numbers a b is also rest = rest
+
+  -- A choice.
+  pub chosen_becomes : (condition accepted otherwise : TermTree) → IsBounded m accepted → IsBounded m otherwise
+      → MayStand (select condition accepted otherwise) (chosen (decision condition) condition accepted otherwise)
+  chosen_becomes condition accepted otherwise at_accepted at_otherwise = by_decision (decision condition) refl
     where
-      by_left : (t : Bool) (o : Option Bool)
-          → option_and_then (λ (c : Constant). decided_by_left operator c.value) (constant_of left) ≡ o
-          → option_or o (option_and_then (λ (c : Constant). decided_by_right operator c.value) (constant_of right))
-          ≡ Some t
-          → Becomes (binary place operator width left right) (truth t)
-      by_left t None same is =
-          option_and_then_some (λ (c : Constant). decided_by_right operator c.value) (constant_of right) t is
-          (λ c there decides. right_decides there decides)
-      by_left t (Some said) same is =
-          option_and_then_some (λ (c : Constant). decided_by_left operator c.value) (constant_of left) t (same ∙ is)
-          (λ c there decides. left_decides there decides)
-
-      by_numbers : (a b : Option Constant) → constant_of left ≡ a → constant_of right ≡ b → {told : TermTree}
-          → Becomes (binary place operator width left right) told
-          → Becomes (binary place operator width left right) (known_or (between operator width a b) told)
-      by_numbers (Some a) (Some b) is also {told = told} rest =
-          cond_both (divides operator && (b.value == 0)) None (Some (operated operator width a.value b.value))
-          (λ v. Becomes (binary place operator width left right)
-          (known_or (option_map (λ n. constant n (operation_kind (operation_of operator) a.kind)) v) told))
-          (λ zero. rest) (λ some. numbers_operated is also)
-      by_numbers a b is also rest = rest
-
--- A choice.
-chosen_becomes : (condition accepted otherwise : TermTree)
-    → Becomes (select condition accepted otherwise) (chosen (decision condition) condition accepted otherwise)
-chosen_becomes condition accepted otherwise = by_decision (decision condition) refl
-  where
-    by_decision : (d : Option Bool) → decision condition ≡ d
-        → Becomes (select condition accepted otherwise) (chosen d condition accepted otherwise)
-    by_decision None is = stays
-    by_decision (Some true) is = accepted_chosen is
-    by_decision (Some false) is = otherwise_chosen is
-
--- Nodes.
-
--- an expression with simple operands; a variable is what is known of it
-abbrev pub around : Words → TermTree → TermTree
-around words (variable x) = known_or (known words x) (variable (source_in words.copies x))
-around words (prefix operator width operand) = prefix operator width (simple words operand)
-around words (binary place operator width left right) =
-    binary place operator width (simple words left) (simple words right)
-around words (rotate width operand amount) = rotate width (simple words operand) amount
-around words (convert kind operand) = convert kind (simple words operand)
-around words (select condition accepted otherwise) =
-    select (simple words condition) (simple words accepted) (simple words otherwise)
-around words (element place x size index) = element place x size (simple words index)
-around words e = e
-
-pub simpler : (words : Words) (e : TermTree) → Becomes (around words e) (simple words e)
-simpler words (prefix operator width operand) = prefixed_becomes operator width (simple words operand)
-simpler words (binary place operator width left right) =
-    operated_becomes place width (simple words left) (simple words right) operator
-simpler words (rotate width operand amount) = rotated_becomes width (simple words operand) amount
-simpler words (convert kind operand) = converted_becomes kind (simple words operand)
-simpler words (select condition accepted otherwise) =
-    chosen_becomes (simple words condition) (simple words accepted) (simple words otherwise)
-simpler words e = stays
+      by_decision : (d : Option Bool) → decision condition ≡ d
+          → MayStand (select condition accepted otherwise) (chosen d condition accepted otherwise)
+      by_decision None is = stays (select condition accepted otherwise) tt
+      by_decision (Some true) is = record {
+        alike = record {
+          value = sym (cond-false (value_in m condition == 0) (value_in m otherwise) (value_in m accepted)
+              (decided_value m condition true is));
+          path = record {
+            fine = λ fine. fine_back most (path_in m condition) (path_in m accepted)
+                (fine_front most (path_in m condition ++ path_in m accepted) (path_in m otherwise) fine);
+          };
+        };
+        bounded = at_accepted;
+      }
+      by_decision (Some false) is = record {
+        alike = record {
+          value = sym (cond-true (value_in m condition == 0) (value_in m otherwise) (value_in m accepted)
+              (decided_value m condition false is));
+          path = record {
+            fine = fine_back most (path_in m condition ++ path_in m accepted) (path_in m otherwise);
+          };
+        };
+        bounded = at_otherwise;
+      }

@@ -5,11 +5,8 @@ use Rattle.std.proofs.Math.Nat.{div-le_self, mod-eq_of_lt, mod-le, mul-div-mul_r
 use Rattle.std.proofs.lemmas.Bool.{and_parts, cond_both, eqb-true, ltb-true, or_cases}
 use Rattle.std.proofs.lemmas.Nat.{and_mask, div-mul-add, mod-pow-add, mod_below, pow-add, pow_pos}
 use Rattle.std.specs.Int.Count.{count_leading_zeros}
-use Rattle.inline.specs.Fitting.{IsWithinKind}
 use Rattle.inline.specs.Flat.{TermTree, number, binary}
 use Rattle.inline.specs.FlatMeaning.{Values, value_in}
-use Rattle.language.specs.declared.signature.Kind.{Kind}
-use Rattle.language.specs.declared.signature.Kind.TheVariants.{Boolean}
 use Rattle.language.specs.declared.operators.BinaryOperator.TheVariants.{ShiftLeft}
 use Rattle.word.specs.declared.place.Place.{Place}
 use Rattle.word.specs.declared.width.Width.{Width}
@@ -34,7 +31,6 @@ pub record IsField (amount : Constant) (n : ℕ) (field : Field) : Type 0 where
   pub ones : n + 1 ≡ 2 ^ (32 - field.down)
   pub few : field.down < 32
   pub reach : amount.value + field.up ≡ field.down
-  pub kind : field.kind ≡ amount.kind
 
 -- a mask that is ones alone
 record IsMask (n others : ℕ) : Type 0 where
@@ -69,7 +65,6 @@ is_field amount n = by_mask (cleared_by n) (is_mask n)
           ones = mask.ones;
           few = mask.few;
           reach = omega (arith, at_most b others (nat_le 2048 n) is);
-          kind = refl;
         })
         (λ is. tt)
 
@@ -109,10 +104,6 @@ two_shifts v n b up down fits ones few reach =
 unmoved : (v : ℕ) → v < 2 ^ 32 → shifted_left W32 v 0 ≡ v
 unmoved v fits = omega arith
 
-within_32 : (k : Kind) (v : ℕ) → IsWithinKind k v → v < 2 ^ 32
-within_32 Boolean v fits = omega arith
-within_32 kind v fits = omega arith
-
 module _ (m : Values) where
   lifted_value : (place : Place) (word : TermTree) (field : Field) → value_in m word < 2 ^ 32
       → value_in m (lifted place W32 word field) ≡ shifted_left W32 (value_in m word) field.up
@@ -121,14 +112,13 @@ module _ (m : Values) where
       (λ zero. sym (ap (shifted_left W32 (value_in m word)) zero ∙ unmoved (value_in m word) fits)) refl
 
   -- two shifts have the value that the operators have
-  pub moved_value : (place : Place) (word amount right : TermTree) (kind : Kind) (by : Constant) (n : ℕ) (field : Field)
-      → IsWithinKind kind (value_in m word) → value_in m amount ≡ by.value → value_in m right ≡ n
+  pub moved_value : (place : Place) (word amount right : TermTree) (by : Constant) (n : ℕ) (field : Field)
+      → value_in m word < 2 ^ 32 → value_in m amount ≡ by.value → value_in m right ≡ n
       → IsField by n field
       → value_in m (moved place W32 word field)
       ≡ bit_and (shifted_right W32 (value_in m word) (value_in m amount)) (value_in m right)
-  moved_value place word amount right kind by n field fits is also found =
+  moved_value place word amount right by n field below is also found =
       let v = value_in m word in
-      let below = within_32 kind v fits in
       ap (λ x. shifted_right W32 x field.down) (lifted_value place word field below)
       ∙ (two_shifts v n by.value field.up field.down below found.ones found.few found.reach
       ∙ ap₂ (λ x y. bit_and (shifted_right W32 v x) y) (sym is) (sym also))

@@ -19,7 +19,6 @@ use Rattle.optimisation.proofs.constants_lemmas.Held.{fits_after_all}
 use Rattle.optimisation.proofs.constants_lemmas.TermLemmas.{result_alike}
 use Rattle.optimisation.proofs.constants_lemmas.Same.{LeadsTo, all_lead}
 use Rattle.optimisation.proofs.constants_lemmas.StatementRules.{AllSimplify, all_simplify}
-use Rattle.optimisation.proofs.constants_lemmas.Typed.{AreKinds, kinds_after_all}
 use Rattle.optimisation.proofs.over_lemmas.Values.{IsNoWorse, both, IsResultAlike}
 use Rattle.optimisation.proofs.over_lemmas.Whole.{is_replaced}
 
@@ -31,13 +30,7 @@ module _ (copies : List ℕ) (p : StraightProgram) where
       (simplified_all copies p.declared (nothing_known p) p.body) last_words
   body_simplifies = all_simplify copies p.declared (nothing_known p) p.body
 
-  first_kinds : AreKinds p.profile p.declared (nothing_known p)
-  first_kinds f is = absurd (nothing_first (length p.declared) f is)
-
   module _ (typed : IsTypedStraight p) where
-    last_kinds : AreKinds p.profile p.declared last_words
-    last_kinds = kinds_after_all p.profile p.declared p.controls body_simplifies first_kinds typed.body
-
     module _ (args : List Arg) (within : AreWithin p.parameters args) where
       abbrev types : Types
       types = types_of p.profile p.declared
@@ -45,7 +38,6 @@ module _ (copies : List ℕ) (p : StraightProgram) where
       first_holds : Holds types (nothing_known p) (start p args).variables
       first_holds = record {
         agrees = λ f is. absurd (nothing_first (length p.declared) f is);
-        kinds = first_kinds;
         fits = given_fits p.parameters p.declared args within typed.parameters;
       }
 
@@ -56,7 +48,6 @@ module _ (copies : List ℕ) (p : StraightProgram) where
       last_holds : Holds types last_words (end_of p args)
       last_holds = record {
         agrees = leads.agrees;
-        kinds = last_kinds;
         fits = fits_after_all p.profile p.declared p.controls p.body typed.body (start p args) first_holds.fits;
       }
 
