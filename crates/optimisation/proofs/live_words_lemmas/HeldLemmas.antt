@@ -77,17 +77,6 @@ grows_where table done held x = by_done (is_done done x)
     by_done true = grows_same held
     by_done false = grows_holding held (share table x) x
 
--- a word that was not set already is held
-pub where_holds : (table : Table) (done : Done) (held : Held) (x : ℕ) (last : Held) → last.fits ≡ true
-    → Grows (living_where table done held x) last → is_done done x ≡ false
-    → holder last.holders (share table x) ≡ Some x
-where_holds table done held x last f grows = by_done (is_done done x) grows
-  where
-    by_done : (b : Bool) → Grows (if b then held else living table held x) last → b ≡ false
-        → holder last.holders (share table x) ≡ Some x
-    by_done true g is = absurd (none_true (sym is))
-    by_done false g is = g.holds f (share table x) x (holds_word held (share table x) x (g.fits f))
-
 pub grows_joined : (held : Held) (v : ℕ) (holders : Holders) → Grows held (joined held v holders)
 grows_joined held v [] = grows_same held
 grows_joined held v (None ∷ holders) = grows_joined held (v + 1) holders

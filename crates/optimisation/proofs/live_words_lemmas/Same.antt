@@ -1,8 +1,8 @@
 -- Code over the variables that words live in, run beside the code: what is live stays alike, and its path is fine where
 -- that of the code is.
 use Rattle.std.proofs.Common.{◌≡◌, ℕ, ◌==◌, Bool, true, false, if◌then◌else◌, List, [], ◌∷◌, map, Option, None}
-use Rattle.std.proofs.Common.{Some, slice_set, refl, ap, subst, arith}
-use Rattle.inline.specs.Flat.{TermTree}
+use Rattle.std.proofs.Common.{Some, slice_set, slice_index, refl, sym, ap, subst, arith}
+use Rattle.inline.specs.Flat.{TermTree, variable, prefix, binary, rotate, convert, select, element}
 use Rattle.inline.specs.FlatMeaning.{Values}
 use Rattle.branch_removal.specs.Straight.{StraightTree, set, array, put, take, branch, repeats, StraightBlock, nothing}
 use Rattle.branch_removal.specs.Straight.{first}
@@ -13,16 +13,15 @@ use Rattle.optimisation.specs.live_words.private.Terms.{reading, reading_all, re
 use Rattle.optimisation.specs.live_words.private.Gathering.{at_head}
 use Rattle.optimisation.specs.live_words.private.Sharing.{setting_within, closed, before, before_all}
 use Rattle.optimisation.specs.live_words.private.Sharing.{in_front, shared, shared_all}
-use Rattle.optimisation.proofs.live_words_lemmas.HeldLemmas.{Grows, grows_same, grows_holding, grows_joined}
+use Rattle.optimisation.proofs.live_words_lemmas.HeldLemmas.{Grows, grows_holding, grows_joined}
 use Rattle.optimisation.proofs.live_words_lemmas.HeldLemmas.{joined_holds, covers_holds, AreAlike, alike_before}
 use Rattle.optimisation.proofs.live_words_lemmas.HeldLemmas.{set_alike, under_alike, dead_alike, alike_living}
-use Rattle.optimisation.proofs.live_words_lemmas.TermLemmas.{read, read_all, held_alike, grows_reading}
-use Rattle.optimisation.proofs.live_words_lemmas.TermLemmas.{grows_reading_all}
 use Rattle.optimisation.proofs.live_words_lemmas.Rules.{front_chain, dead_parts, IsClosed, is_closed}
-use Rattle.optimisation.proofs.live_words_lemmas.Rules.{becomes, all_become}
+use Rattle.optimisation.proofs.live_words_lemmas.Rules.{fits_before, fits_before_all}
 use Rattle.optimisation.proofs.live_words_lemmas.Grown.{grows_head}
-use Rattle.optimisation.proofs.over_lemmas.Values.{same_path, both, alone, at_index, IsAlike, AreAllAlike, alike}
-use Rattle.optimisation.proofs.over_lemmas.Values.{all_alike}
+use Rattle.optimisation.proofs.over_lemmas.Values.{same_path, both, alone, at_index, IsAlike, AreAllAlike}
+use Rattle.optimisation.proofs.over_lemmas.Values.{prefix_alike, binary_alike, rotate_alike, convert_alike}
+use Rattle.optimisation.proofs.over_lemmas.Values.{select_alike, element_alike, all_values_alike}
 use Rattle.optimisation.proofs.over_lemmas.Beside.{AreBeside, within_beside, taken_beside, Follows, FollowsAt}
 use Rattle.optimisation.proofs.over_lemmas.Beside.{branch_follows, loop_follows, then_follows}
 
@@ -46,24 +45,48 @@ module _ (table : Table) where
   }
 
   module _ (most : List ℕ) where
+    -- what a live word holds
+    living_value : (held : Held) (x : ℕ) {s u : StraightState} → AreReady (living table held x) s u
+        → u.variables (share table x) ≡ s.variables x
+    living_value held x {s} {u} ready =
+        sym (alike_living table held x s.variables u.variables ready.fits ready.beside.variables)
+
+    not_living : (held : Held) (x : ℕ) {s u : StraightState} → AreReady (living table held x) s u → AreReady held s u
+    not_living held x = ready_before (grows_holding held (share table x) x)
+
     -- an expression is alike where what it reads is live
     pub reads : (held : Held) (e : TermTree) {s u : StraightState} → AreReady (reading table [] held e) s u
         → IsAlike most s.variables u.variables e (renamed table e) × AreReady held s u
-    reads held e ready =
-        let last = reading table [] held e in (
-          alike most (held_alike table last ready.beside.variables)
-              (read table [] last held e ready.fits (grows_same last)).1,
-          ready_before (grows_reading table [] held e) ready,
-        )
+    reads held (variable x) ready = (
+      record { value = ap (λ numbers. slice_index numbers 0) (living_value held x ready); path = same_path most },
+      not_living held x ready,
+    )
+    reads held (prefix operator width operand) ready =
+        let a = reads held operand ready in (prefix_alike a.0, a.1)
+    reads held (binary place operator width left right) ready =
+        let a = reads (reading table [] held right) left ready in
+        let b = reads held right a.1 in
+        (binary_alike a.0 b.0, b.1)
+    reads held (rotate width operand amount) ready = let a = reads held operand ready in (rotate_alike a.0, a.1)
+    reads held (convert kind operand) ready = let a = reads held operand ready in (convert_alike a.0, a.1)
+    reads held (select condition accepted otherwise) ready =
+        let last = reading table [] held otherwise in
+        let chooser = reads (reading table [] last accepted) condition ready in
+        let a = reads last accepted chooser.1 in
+        let b = reads held otherwise a.1 in
+        (select_alike chooser.0 a.0 b.0, b.1)
+    reads held (element place x size index) ready =
+        let i = reads (living table held x) index ready in
+        (element_alike (living_value held x i.1) i.0, not_living held x i.1)
+    reads held e ready = (record { value = refl; path = same_path most }, ready)
 
     reads_all : (held : Held) (es : List TermTree) {s u : StraightState} → AreReady (reading_all table [] held es) s u
         → AreAllAlike most s.variables u.variables es (map (renamed table) es) × AreReady held s u
-    reads_all held es ready =
-        let last = reading_all table [] held es in (
-          all_alike most (held_alike table last ready.beside.variables)
-              (read_all table [] last held es ready.fits (grows_same last)).1,
-          ready_before (grows_reading_all table [] held es) ready,
-        )
+    reads_all held [] ready = (record { values = refl; filled = λ size. refl; path = same_path most }, ready)
+    reads_all held (e ∷ es) ready =
+        let others = reads_all (reading table [] held e) es ready in
+        let one = reads held e others.1 in
+        (all_values_alike one.0 others.0, one.1)
 
     set_both : (held : Held) (x : ℕ) (v w : List ℕ) {s u : StraightState} → AreReady (setting table held x) s u
         → w ≡ v → AreBeside (Alike held.holders) (with_variable s x v) (with_variable u (share table x) w)
@@ -175,7 +198,7 @@ module _ (table : Table) where
           let one = before_all table (anew second held.holders) accepted in
           let chooser = reads (joined one 0 second.holders) condition ready in
           let at_one = ready_before (grows_joined one 0 second.holders) chooser.1 in
-          let fits = (all_become table (anew second held.holders) accepted at_one.fits).0 in
+          let fits = fits_before_all table (anew second held.holders) accepted at_one.fits in
           branch_follows (Alike held.holders) most chooser.0 (all_follow (anew second held.holders) accepted at_one)
           (all_follow held otherwise (ready_second one second fits chooser.1))
       follows held (repeats x low high body) ready =
@@ -185,7 +208,7 @@ module _ (table : Table) where
           let from = reads (reading table [] last high) low ready in
           let to = reads last high from.1 in
           let parts = is_closed table x head turn to.1.fits in
-          let fits = (all_become table head body parts.turn_fits).0 in
+          let fits = fits_before_all table head body parts.turn_fits in
           let run = loop_follows (Alike head.holders) most x to.1.beside from.0 to.0
           (λ i v w at. all_follow head body (turn_begins x head turn parts i v w at)) in
           rw parts.own (record {
@@ -205,4 +228,4 @@ module _ (table : Table) where
           let one = follows behind statement ready in
           rw (← front_chain (shared table behind statement) (shared_all table held rest))
           (then_follows one
-          (all_follow held rest (record { fits = (becomes table behind statement ready.fits).0; beside = one.beside })))
+          (all_follow held rest (record { fits = fits_before table behind statement ready.fits; beside = one.beside })))

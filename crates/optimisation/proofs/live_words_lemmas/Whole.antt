@@ -27,9 +27,8 @@ use Rattle.optimisation.specs.live_words.private.Whole.{nothing_live, all_fits}
 use Rattle.optimisation.proofs.live_words_lemmas.HeldLemmas.{Grows, grows_same, grows_on, grows_holding, alike_living}
 use Rattle.optimisation.proofs.live_words_lemmas.HeldLemmas.{alike_first}
 use Rattle.optimisation.proofs.live_words_lemmas.TermLemmas.{grows_reading}
-use Rattle.optimisation.proofs.live_words_lemmas.Rules.{layout, all_become}
+use Rattle.optimisation.proofs.live_words_lemmas.Rules.{fits_before_all}
 use Rattle.optimisation.proofs.live_words_lemmas.Same.{AreReady, Alike, ready_before, reads, all_follow}
-use Rattle.optimisation.proofs.over_lemmas.Rules.{AllBecome}
 use Rattle.optimisation.proofs.over_lemmas.Values.{same_path, both, IsResultAlike}
 use Rattle.optimisation.proofs.over_lemmas.Beside.{Follows}
 use Rattle.optimisation.proofs.over_lemmas.Whole.{is_replaced}
@@ -58,9 +57,6 @@ module _ (table : Table) where
   grows_any : (held : Held) (value : Option TermTree) → Grows held (reading_any table held value)
   grows_any held None = grows_same held
   grows_any held (Some value) = grows_reading table [] held value
-
-  pub grows_end : (held : Held) (p : StraightProgram) → Grows held (at_end table held p)
-  grows_end held p = grows_on (grows_results 0 p.parameters held) (grows_any _ p.value)
 
   module _ {s u : StraightState} where
     kept_alike : (b : Bool) (held : Held) (x : ℕ) → b ≡ true
@@ -95,8 +91,8 @@ module _ (table : Table) where
     abbrev code : StraightBlock
     code = shared_all table (at_end table held p) p.body
 
-    end_fits : ((at_end table held p).fits ≡ true) × AllBecome (layout table) p.body code
-    end_fits = all_become table (at_end table held p) p.body fits
+    end_fits : (at_end table held p).fits ≡ true
+    end_fits = fits_before_all table (at_end table held p) p.body fits
 
     module _ (args : List Arg) where
       runs : Follows (Alike table (at_end table held p).holders) p.turns (start p args) (start p args) p.body code
@@ -110,7 +106,7 @@ module _ (table : Table) where
           })
 
       last : AreReady table (at_end table held p) (after_all (start p args) p.body) (after_all (start p args) code)
-      last = record { fits = end_fits.0; beside = runs.beside }
+      last = record { fits = end_fits; beside = runs.beside }
 
       result : IsResultAlike p.turns (end_of p args) (end_of (over table held p) args) p.value
           (option_map (renamed table) p.value)
