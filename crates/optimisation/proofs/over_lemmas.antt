@@ -1,4 +1,3 @@
-pub mod Rules
 pub mod Variables
 pub mod Values
 pub mod Beside

@@ -10,16 +10,15 @@ use Rattle.inline.proofs.Face.{with_value-other, with_value-same}
 use Rattle.branch_removal.specs.Straight.{StraightBlock}
 use Rattle.branch_removal.specs.StraightMeaning.{StraightState, with_variable, value_at, after_all, path_along}
 use Rattle.language.specs.declared.signature.Kind.{Kind}
+use Rattle.word.specs.declared.profile.Profile.{Profile}
 use Rattle.optimisation.specs.declared.element_words.parts.Part.{Part}
 use Rattle.optimisation.specs.element_words.private.Parts.{Parts, part_of}
-use Rattle.optimisation.specs.element_words.private.Splitting.{first_value, given_words}
+use Rattle.optimisation.specs.element_words.private.Splitting.{split, first_value, given_words}
 use Rattle.optimisation.proofs.element_words_lemmas.PartLemmas.{IsSplitting}
-use Rattle.optimisation.proofs.element_words_lemmas.Known.{places_in}
-use Rattle.optimisation.proofs.element_words_lemmas.Values.{AreAlike, held_in}
+use Rattle.optimisation.proofs.element_words_lemmas.Values.{AreAlike, AllStand}
 use Rattle.optimisation.proofs.element_words_lemmas.Held.{no_word, zeros_at}
-use Rattle.optimisation.proofs.over_lemmas.Rules.{AreOver, no_values, a_value}
 use Rattle.optimisation.proofs.over_lemmas.Variables.{but, but_apart, but_within}
-use Rattle.optimisation.proofs.over_lemmas.Values.{IsNoWorse, both, alike as value_alike}
+use Rattle.optimisation.proofs.over_lemmas.Values.{IsNoWorse, both}
 
 -- The elements of a new array.
 
@@ -102,16 +101,17 @@ module _ (declared new : List FlatVariable) (parts : Parts) (is_splitting : IsSp
   first_given n base kind es t v w numbers same rest (suc i) z below place =
       rest i z (omega arith) (omega arith)
 
-  pub words_given : (most : List ℕ) {values es : List TermTree}
-      → AreOver (places_in (but declared x) parts) values es → (n base : ℕ) (kind : Kind) (t : StraightState)
+  pub words_given : (most : List ℕ) (profile : Profile) (values : List TermTree)
+      → AllStand declared new parts is_splitting most profile (but declared x) (but_within declared x) values
+      → (n base : ℕ) (kind : Kind) (t : StraightState)
       → AreAlike (but declared x) parts m t.variables → (o : ℕ) → base ≡ part.base + o → o + n ≤ part.size
-      → AreGiven most values n base t (given_words base n kind es)
-  words_given most all zero base kind t alike o at room = record {
+      → AreGiven most values n base t (given_words base n kind (map (split parts) values))
+  words_given most profile values all zero base kind t alike o at room = record {
     each = λ i z below place. absurd (omega arith);
     path = record { fine = λ fine. tt };
   }
-  words_given most no_values (suc n) base kind t alike o at room =
-      let rest = words_given most no_values n (base + 1) kind (with_variable t base (0 ∷ []))
+  words_given most profile [] all (suc n) base kind t alike o at room =
+      let rest = words_given most profile [] all n (base + 1) kind (with_variable t base (0 ∷ []))
       (undisturbed t.variables base o (0 ∷ []) alike at (omega arith)) (o + 1) (omega arith)
       (omega arith) in
       record {
@@ -119,13 +119,14 @@ module _ (declared new : List FlatVariable) (parts : Parts) (is_splitting : IsSp
             first_given n base kind [] t 0 0 [] refl rest.each i z below place ∙ ap (λ n. n ∷ []) (zeros_at 1 i);
         path = record { fine = rest.path.fine };
       }
-  words_given most (a_value {f = f} {es = values} {fs = es} one others) (suc n) base kind t alike o at room =
-      let a = value_alike most
-      (held_in declared new parts is_splitting (but declared x) (but_within declared x) alike) one in
-      let rest = words_given most others n (base + 1) kind (with_variable t base (value_at t f ∷ []))
+  words_given most profile (e ∷ values) all (suc n) base kind t alike o at room =
+      let f = split parts e in
+      let a = all.0 m t.variables alike in
+      let rest = words_given most profile values all.1 n (base + 1) kind (with_variable t base (value_at t f ∷ []))
       (undisturbed t.variables base o (value_at t f ∷ []) alike at (omega arith)) (o + 1) (omega arith)
       (omega arith) in
       record {
-        each = first_given n base kind es t _ (value_at t f) (map (value_in m) values) a.value rest.each;
+        each = first_given n base kind (map (split parts) values) t _ (value_at t f) (map (value_in m) values) a.value
+            rest.each;
         path = both most a.path rest.path;
       }

@@ -8,7 +8,6 @@ use Rattle.std.proofs.lemmas.List.{length-replicate, length-append}
 use Rattle.std.proofs.lemmas.Option.{cond_some, none-some, same_Some}
 use Rattle.inline.specs.declared.flat.FlatVariable.{FlatVariable}
 use Rattle.inline.specs.Flat.{word_as, array_as}
-use Rattle.inline.specs.FlatSize.{declared_words}
 use Rattle.language.specs.declared.typing.WordType.{WordType}
 use Rattle.optimisation.specs.declared.element_words.parts.Part.{Part}
 use Rattle.optimisation.specs.element_words.Limits.{most_elements_split}
@@ -187,44 +186,6 @@ ordered (stays_whole rest) (suc x) (suc y) part other is also before =
     ordered rest x y part other is also (omega arith)
 ordered (gets_words fits rest) (suc x) (suc y) part other is also before =
     ordered rest x y part other is also (omega arith)
-
--- there is room for all words
-pub within_room : {base room : ℕ} {parts those : Parts} → AreNumbered base room parts those
-    → length (all_words those) ≤ room
-within_room no_parts = omega arith
-within_room (stays_whole rest) = within_room rest
-within_room (gets_words {part = p} {made = more} fits rest) =
-    let words = replicate p.size (word_as p.word true) in
-    omega (
-      arith,
-      fits,
-      length-append words (all_words more),
-      length-replicate p.size (word_as p.word true),
-      within_room rest,
-    )
-
-pub words-append : (xs ys : List FlatVariable) → declared_words (xs ++ ys) ≡ declared_words xs + declared_words ys
-words-append [] ys = omega arith
-words-append (x ∷ xs) ys = omega (arith, words-append xs ys)
-
-words-replicate : (n : ℕ) (word : WordType) → declared_words (replicate n (word_as word true)) ≡ n
-words-replicate zero word = omega arith
-words-replicate (suc n) word = omega (arith, words-replicate n word)
-
--- each word is one word
-pub one_word_each : (parts : Parts) → declared_words (all_words parts) ≡ length (all_words parts)
-one_word_each [] = refl
-one_word_each (None ∷ parts) = one_word_each parts
-one_word_each (Some p ∷ parts) =
-    let word = word_as p.word true in
-    omega (
-      arith,
-      words-append (replicate p.size word) (all_words parts),
-      words-replicate p.size p.word,
-      length-append (replicate p.size word) (all_words parts),
-      length-replicate p.size word,
-      one_word_each parts,
-    )
 
 -- How the arrays of some variables become words behind them.
 pub record IsSplitting (declared new : List FlatVariable) (parts : Parts) : Type 0 where

@@ -1,23 +1,30 @@
 -- The code with words runs in step with the code: variables that stay hold the same, the words of an array its
 -- elements. Its path is fine where that of the code is.
-use Rattle.std.proofs.Common.{◌≡◌, ℕ, ◌+◌, List, [], ◌∷◌, Option, None, Some, slice_get, slice_set, refl, sym, ap, ◌∙◌}
-use Rattle.std.proofs.Common.{arith}
+use Rattle.std.proofs.Common.{◌≡◌, ℕ, ◌+◌, List, [], ◌∷◌, map, Option, None, Some, slice_get, slice_set, refl, sym, ap}
+use Rattle.std.proofs.Common.{false, ◌∙◌, arith}
 use Rattle.inline.specs.declared.flat.FlatVariable.{FlatVariable}
+use Rattle.inline.specs.Flat.{TermTree, counter_type, word_as, array_as}
 use Rattle.inline.specs.FlatMeaning.{Values, elements}
-use Rattle.branch_removal.specs.Straight.{StraightTree, StraightBlock}
+use Rattle.branch_removal.specs.Straight.{StraightTree, set, array, put, take, branch, repeats, StraightBlock, nothing}
+use Rattle.branch_removal.specs.Straight.{first}
 use Rattle.branch_removal.specs.StraightMeaning.{StraightState, with_variable, value_at, after_all}
-use Rattle.optimisation.specs.element_words.private.Parts.{Parts, part_of}
-use Rattle.optimisation.specs.element_words.private.Splitting.{given_words}
-use Rattle.optimisation.proofs.element_words_lemmas.PartLemmas.{IsSplitting}
-use Rattle.optimisation.proofs.element_words_lemmas.Known.{IsStaying, places_in, layout_in}
-use Rattle.optimisation.proofs.element_words_lemmas.Values.{AreAlike, held_in, part_word, stays_whole}
+use Rattle.branch_removal.specs.StraightTyping.{IsFilled, IsPut, IsTyped, AreTyped}
+use Rattle.word.specs.declared.place.Place.{Place}
+use Rattle.word.specs.declared.profile.Profile.{Profile}
+use Rattle.optimisation.specs.declared.element_words.parts.Part.{Part}
+use Rattle.optimisation.specs.element_words.private.Narrowing.{narrowed_at, narrowed, narrowed_by, narrowed_by_all}
+use Rattle.optimisation.specs.element_words.private.Parts.{Parts, part_of, word_in}
+use Rattle.optimisation.specs.element_words.private.Splitting.{split, single, given_words, new_array, put_in, split_in}
+use Rattle.optimisation.specs.element_words.private.Splitting.{split_all}
+use Rattle.optimisation.proofs.element_words_lemmas.Known.{IsKnown, is_number, use_known, before_term, before_all}
+use Rattle.optimisation.proofs.element_words_lemmas.PartLemmas.{IsBelow, IsSplitting}
+use Rattle.optimisation.proofs.element_words_lemmas.Values.{AreAlike, AllStand, stands, all_stand, all_alike, part_size}
+use Rattle.optimisation.proofs.element_words_lemmas.Values.{stays_whole}
 use Rattle.optimisation.proofs.element_words_lemmas.Held.{both_set, words_set, word_set}
 use Rattle.optimisation.proofs.element_words_lemmas.Given.{words_outside, words_given, words_controls, but_alike}
 use Rattle.optimisation.proofs.element_words_lemmas.Given.{elements_count, elements_at}
-use Rattle.optimisation.proofs.over_lemmas.Rules.{Becomes, left_out, sets, fills, gives, puts, puts_word, takes}
-use Rattle.optimisation.proofs.over_lemmas.Rules.{chooses, loops, AllBecome, ends, goes_on}
 use Rattle.optimisation.proofs.over_lemmas.Variables.{but, but_within}
-use Rattle.optimisation.proofs.over_lemmas.Values.{AreHeld, same_path, both, alone, at_index, alike, all_alike}
+use Rattle.optimisation.proofs.over_lemmas.Values.{same_path, both, alone, at_index, IsAlike}
 use Rattle.optimisation.proofs.over_lemmas.Beside.{AreBeside, within_beside, taken_beside, Follows, FollowsAt}
 use Rattle.optimisation.proofs.over_lemmas.Beside.{branch_follows, loop_follows, then_follows}
 
@@ -32,90 +39,130 @@ module _ (declared new : List FlatVariable) (parts : Parts) (is_splitting : IsSp
   abbrev pub InStep : Values → Values → Type 0
   InStep = AreAlike at parts
 
-  pub seen : {s t : StraightState} → AreBeside InStep s t → AreHeld (places_in at parts) s.variables t.variables
-  seen beside = held_in declared new parts is_splitting at same_at beside.variables
-
-  stays : (x : ℕ) → IsStaying at parts x → part_of parts x ≡ None
-  stays = stays_whole declared new parts is_splitting at same_at
-
-  set_both : {s t : StraightState} (x : ℕ) (v w : List ℕ) → IsStaying at parts x → w ≡ v → AreBeside InStep s t
-      → AreBeside InStep (with_variable s x v) (with_variable t x w)
-  set_both {s} {t} x v w is same beside = record {
-    variables = both_set declared new parts is_splitting at same_at s.variables t.variables x is.listed v w
-        beside.variables is.there (stays x is) same;
+  set_both : {s t : StraightState} (x : ℕ) (d : FlatVariable) (v w : List ℕ) → at x ≡ Some d → part_of parts x ≡ None
+      → w ≡ v → AreBeside InStep s t → AreBeside InStep (with_variable s x v) (with_variable t x w)
+  set_both {s} {t} x d v w there whole same beside = record {
+    variables = both_set declared new parts is_splitting at same_at s.variables t.variables x d v w beside.variables
+        there whole same;
     controls = beside.controls;
   }
 
-  module _ (most : List ℕ) where
+  module _ (most : List ℕ) (profile : Profile) (controls : ℕ) where
+    -- a new array that stays whole, and one that becomes words
+    array_follows : (x size : ℕ) (values : List TermTree) → IsFilled profile declared x size values
+        → AllStand declared new parts is_splitting most profile (but declared x) (but_within declared x) values
+        → (o : Option Part) → part_of parts x ≡ o → {s t : StraightState} → AreBeside InStep s t
+        → FollowsAt InStep most s t (array x size values) (new_array o x size (map (split parts) values))
+    array_follows x size values is all None whole {s} {t} beside =
+        let a = all_alike declared new parts is_splitting most profile (but declared x) (but_within declared x) values
+        all (but_alike declared parts x s.variables t.variables beside.variables) in
+        record {
+          beside = set_both x (array_as is.word is.mutable size) _ _ is.known whole (a.filled size) beside;
+          path = alone most a.path;
+        }
+    array_follows x size values is all (Some part) split_in_words {s} {t} beside =
+        let sized = part_size declared new parts is_splitting x is.word is.mutable size part is.known split_in_words in
+        let kind = part.word.kind in
+        let es = map (split parts) values in
+        let words = words_given declared new parts is_splitting x part split_in_words s.variables most profile values
+        all part.size part.base kind t (but_alike declared parts x s.variables t.variables beside.variables) 0
+        (omega arith) (omega arith) in
+        record {
+          beside = record {
+            variables = words_set declared new parts is_splitting at same_at s.variables t.variables
+                (after_all t (given_words part.base part.size kind es)).variables x part
+                (elements s.variables size values) beside.variables split_in_words
+                (elements_count s.variables size values is.count ∙ sym sized)
+                (λ i below. words.each i (part.base + i) below refl
+                ∙ ap (λ n. n ∷ []) (elements_at s.variables size i values))
+                (λ z apart. words_outside part.size part.base kind es t z apart);
+            controls = words_controls part.size part.base kind es t ∙ beside.controls;
+          };
+          path = words.path;
+        }
+
+    put_follows : (within : Option ℕ) (place : Place) (x size : ℕ) (index value : TermTree)
+        → IsPut profile declared x size index value → (o : Option Part) → part_of parts x ≡ o → IsKnown o index
+        → {s t : StraightState} → AreBeside InStep s t
+        → IsAlike most s.variables t.variables index (split parts index)
+        → IsAlike most s.variables t.variables value (split parts value)
+        → FollowsAt InStep most s t (put within place x size index value)
+        (single (put_in (word_in o index) within place x size (split parts index) (split parts value)))
+    put_follows within place x size index value is None whole used {s} {t} beside i a =
+        let d = array_as is.word is.mutable size in
+        let same = beside.variables.plain x d is.known whole in
+        record {
+          beside = within_beside InStep within beside
+              (set_both x d (slice_set (s.variables x) (value_at s index) (value_at s value)) _ is.known whole
+              (rw (same, i.value, a.value) refl) beside);
+          path = alone most (both most i.path (at_index most place size i.value a.path));
+        }
+    put_follows within place x size index value is (Some part) has (is_number {value = n} below found) {s} {t} beside i
+        a =
+        rw found
+        (record {
+          beside = within_beside InStep within beside (record {
+            variables = word_set declared new parts is_splitting at same_at s.variables t.variables x n
+                (value_at s value) (value_at t (split parts value)) (array_as is.word is.mutable size) part
+                beside.variables is.known has below a.value;
+            controls = beside.controls;
+          });
+          path = record { fine = λ fine. (alone most a.path).fine fine.1 };
+        })
+
     mutual
-      follows : {statement : StraightTree} {code : StraightBlock} → Becomes (layout_in declared parts) statement code
-          → {s t : StraightState} → AreBeside InStep s t → FollowsAt InStep most s t statement code
-      follows (left_out never) beside = absurd never
-      follows (sets {within = within} {x = x} is one) {s} {t} beside =
-          let a = alike most (seen beside) one in
+      follows : (statement : StraightTree) → IsTyped profile declared controls statement → (before : Parts)
+          → IsBelow parts (narrowed_by before statement) → {s t : StraightState} → AreBeside InStep s t
+          → FollowsAt InStep most s t statement (split_in parts statement)
+      follows (set within x value) is before h {s} {t} beside =
+          let a = stands declared new parts is_splitting most profile at same_at is.1.suits.has_type before h
+          s.variables t.variables beside.variables in
           record {
-            beside = within_beside InStep within beside (set_both x _ _ is (ap (λ v. v ∷ []) a.value) beside);
+            beside = within_beside InStep within beside (set_both x (word_as is.1.word is.1.mutable) _ _ is.1.known
+                (stays_whole declared new parts is_splitting x is.1.word is.1.mutable is.1.known)
+                (ap (λ v. v ∷ []) a.value) beside);
             path = alone most a.path;
           }
-      follows (fills {x = x} {size = size} is all) {s} {t} beside =
-          let inner = held_in declared new parts is_splitting (but declared x) (but_within declared x)
-          (but_alike declared parts x s.variables t.variables beside.variables) in
-          let a = all_alike most inner all in
-          record { beside = set_both x _ _ is (a.filled size) beside; path = alone most a.path }
-      follows (gives {x = x} {size = size} {part = part} {values = values} {es = es} split count all) {s} {t} beside =
-          let sized = (part_word declared new parts is_splitting at same_at x split.word split.mutable size part
-          split.known split.is).1 in
-          let kind = part.word.kind in
-          let words = words_given declared new parts is_splitting x part split.is s.variables most all part.size
-          part.base kind t (but_alike declared parts x s.variables t.variables beside.variables) 0 (omega arith)
-          (omega arith) in
-          record {
-            beside = record {
-              variables = words_set declared new parts is_splitting at same_at s.variables t.variables
-                  (after_all t (given_words part.base part.size kind es)).variables x part
-                  (elements s.variables size values) beside.variables split.is
-                  (elements_count s.variables size values count ∙ sym sized)
-                  (λ i below. words.each i (part.base + i) below refl
-                  ∙ ap (λ n. n ∷ []) (elements_at s.variables size i values))
-                  (λ z apart. words_outside part.size part.base kind es t z apart);
-              controls = words_controls part.size part.base kind es t ∙ beside.controls;
-            };
-            path = words.path;
-          }
-      follows (puts {within = within} {place = place} {x = x} {size = size} {index = index} {value = value} is inner
-          one) {s} {t} beside =
-          let i = alike most (seen beside) inner in
-          let a = alike most (seen beside) one in
-          let same = beside.variables.plain x is.listed is.there (stays x is) in
-          record {
-            beside = within_beside InStep within beside
-                (set_both x (slice_set (s.variables x) (value_at s index) (value_at s value)) _ is
-                (rw (same, i.value, a.value) refl) beside);
-            path = alone most (both most i.path (at_index most place size i.value a.path));
-          }
-      follows (puts_word {within = within} {x = x} {i = i} {value = value} {e = e} is one) {s} {t} beside =
-          let a = alike most (seen beside) one in
-          record {
-            beside = within_beside InStep within beside (record {
-              variables = rw is.word
-                  (word_set declared new parts is_splitting at same_at s.variables t.variables x i (value_at s value)
-                  (value_at t e) is.listed is.part beside.variables is.there is.is is.below a.value);
-              controls = beside.controls;
-            });
-            path = record { fine = λ fine. (alone most a.path).fine fine.1 };
-          }
-      follows (takes {control = control} {within = within} one) beside =
-          let a = alike most (seen beside) one in
+      follows (array x size values) is before h beside =
+          array_follows x size values is
+          (all_stand declared new parts is_splitting most profile (but declared x) (but_within declared x) is.word values
+          is.suit before h) (part_of parts x) refl beside
+      follows (put within place x size index value) is before h {s} {t} beside =
+          let from = before_term parts value (narrowed (narrowed_at before x index) index) h in
+          put_follows within place x size index value is.1 (part_of parts x) refl
+          (use_known parts before x index (before_term parts index (narrowed_at before x index) from)).1 beside
+          (stands declared new parts is_splitting most profile at same_at is.1.index_type (narrowed_at before x index)
+          from s.variables t.variables beside.variables)
+          (stands declared new parts is_splitting most profile at same_at is.1.suits.has_type
+          (narrowed (narrowed_at before x index) index) h s.variables t.variables beside.variables)
+      follows (take control within condition) is before h {s} {t} beside =
+          let a = stands declared new parts is_splitting most profile at same_at is.2.1 before h s.variables t.variables
+          beside.variables in
           record { beside = taken_beside InStep control within beside a.value; path = alone most a.path }
-      follows (chooses chooser one other) beside =
-          branch_follows InStep most (alike most (seen beside) chooser) (all_follow one beside)
-          (all_follow other beside)
-      follows (loops {x = x} is from to inner) beside =
-          loop_follows InStep most x beside (alike most (seen beside) from) (alike most (seen beside) to)
-          (λ i u v step. all_follow inner (set_both x (i ∷ []) (i ∷ []) is refl step))
+      follows (branch condition accepted otherwise) is before h {s} {t} beside =
+          let second = before_all parts otherwise (narrowed_by_all (narrowed before condition) accepted) h in
+          let one = before_all parts accepted (narrowed before condition) second in
+          branch_follows InStep most
+          (stands declared new parts is_splitting most profile at same_at is.0 before one s.variables t.variables
+          beside.variables)
+          (all_follow accepted is.1 (narrowed before condition) second beside)
+          (all_follow otherwise is.2 (narrowed_by_all (narrowed before condition) accepted) h beside)
+      follows (repeats x low high body) is before h {s} {t} beside =
+          let second = before_all parts body (narrowed (narrowed before low) high) h in
+          let one = before_term parts high (narrowed before low) second in
+          loop_follows InStep most x beside
+          (stands declared new parts is_splitting most profile at same_at is.0 before one s.variables t.variables
+          beside.variables)
+          (stands declared new parts is_splitting most profile at same_at is.1 (narrowed before low) second s.variables
+          t.variables beside.variables)
+          (λ i u v step. all_follow body is.3 (narrowed (narrowed before low) high) h
+          (set_both x (word_as counter_type false) (i ∷ []) (i ∷ []) is.2
+          (stays_whole declared new parts is_splitting x counter_type false is.2) refl step))
 
-      pub all_follow : {body code : StraightBlock} → AllBecome (layout_in declared parts) body code
-          → {s t : StraightState} → AreBeside InStep s t → Follows InStep most s t body code
-      all_follow ends beside = record { beside = beside; path = same_path most }
-      all_follow (goes_on one others) beside =
-          let a = follows one beside in then_follows a (all_follow others a.beside)
+      pub all_follow : (body : StraightBlock) → AreTyped profile declared controls body → (before : Parts)
+          → IsBelow parts (narrowed_by_all before body) → {s t : StraightState} → AreBeside InStep s t
+          → Follows InStep most s t body (split_all parts body)
+      all_follow nothing is before h beside = record { beside = beside; path = same_path most }
+      all_follow (first statement rest) is before h beside =
+          let a = follows statement is.0 before (before_all parts rest (narrowed_by before statement) h) beside in
+          then_follows a (all_follow rest is.1 (narrowed_by before statement) h a.beside)

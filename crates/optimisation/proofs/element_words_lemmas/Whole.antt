@@ -27,11 +27,11 @@ use Rattle.optimisation.proofs.element_words_lemmas.PartLemmas.{IsBelow, below_i
 use Rattle.optimisation.proofs.element_words_lemmas.PartLemmas.{candidate_is, are_numbered, made}
 use Rattle.optimisation.proofs.element_words_lemmas.PartLemmas.{IsSplitting, no_splitting}
 use Rattle.optimisation.proofs.element_words_lemmas.PartLemmas.{splitting}
-use Rattle.optimisation.proofs.element_words_lemmas.Known.{places_in, layout_in, block_known, result_known}
+use Rattle.optimisation.proofs.element_words_lemmas.Known.{before_all, before_result}
+use Rattle.optimisation.proofs.element_words_lemmas.Values.{result_alike}
 use Rattle.optimisation.proofs.element_words_lemmas.Held.{zeros_at}
-use Rattle.optimisation.proofs.element_words_lemmas.Runs.{InStep, seen, all_follow}
-use Rattle.optimisation.proofs.over_lemmas.Rules.{AllBecome, IsResultOver}
-use Rattle.optimisation.proofs.over_lemmas.Values.{both, IsResultAlike, result_alike}
+use Rattle.optimisation.proofs.element_words_lemmas.Runs.{InStep, all_follow}
+use Rattle.optimisation.proofs.over_lemmas.Values.{both, IsResultAlike}
 use Rattle.optimisation.proofs.over_lemmas.Beside.{AreBeside, Follows}
 use Rattle.optimisation.proofs.over_lemmas.Whole.{is_replaced}
 
@@ -64,9 +64,7 @@ same_arrays x (p ∷ params) m k same =
 
 module _ (p : StraightProgram) (is_straight : IsStraight p) (parts : Parts)
     (is_splitting : IsSplitting p.declared (p.declared ++ all_words parts) parts)
-    (body_becomes : AllBecome (layout_in p.declared parts) p.body (split_all parts p.body))
-    (value_becomes : IsResultOver (places_in (λ y. slice_get p.declared y) parts) p.value
-    (option_map (split parts) p.value))
+    (below : IsBelow parts (used_parts p))
     (behind : (x : ℕ) (part : Part) → part_of parts x ≡ Some part → length p.parameters ≤ x) where
   abbrev new : List FlatVariable
   new = p.declared ++ all_words parts
@@ -110,10 +108,17 @@ module _ (p : StraightProgram) (is_straight : IsStraight p) (parts : Parts)
 
     ends : Follows (InStep p.declared new parts is_splitting) p.turns (start p args) (start made_of args) p.body
         (split_all parts p.body)
-    ends = all_follow p.declared new parts is_splitting p.turns body_becomes starts
+    ends =
+        all_follow p.declared new parts is_splitting p.turns p.profile p.controls p.body is_straight.typed.body
+        (candidates (length p.parameters) p.declared)
+        (before_result parts p.value (narrowed_by_all (candidates (length p.parameters) p.declared) p.body) below)
+        starts
 
     result : IsResultAlike p.turns (end_of p args) (end_of made_of args) p.value made_of.value
-    result = result_alike p.turns (seen p.declared new parts is_splitting ends.beside) value_becomes
+    result =
+        result_alike p.declared new parts is_splitting p.turns p.profile (λ y. slice_get p.declared y)
+        (λ y d there. there) p.returned p.value is_straight.typed.result
+        (narrowed_by_all (candidates (length p.parameters) p.declared) p.body) below ends.beside.variables
 
     parameter_stays : (y : ℕ) → y < length p.parameters → (o : Option Part) → part_of parts y ≡ o → o ≡ None
     parameter_stays y below None same = refl
@@ -142,24 +147,13 @@ module _ (p : StraightProgram) (is_straight : IsStraight p) (parts : Parts)
 
 -- The arrays that are chosen.
 
--- what becomes of a program, and which of its arrays were candidates
+-- which of a program's arrays were candidates, and what becomes of it
 module _ (p : StraightProgram) (is_straight : IsStraight p) (last : Parts) (below : IsBelow last (used_parts p)) where
-  abbrev after_result : IsBelow last (narrowed_by_all (candidates (length p.parameters) p.declared) p.body)
-      × IsResultOver (places_in (λ y. slice_get p.declared y) last) p.value (option_map (split last) p.value)
-  after_result =
-      result_known last p.profile (λ y. slice_get p.declared y) p.returned p.value is_straight.typed.result
-      (narrowed_by_all (candidates (length p.parameters) p.declared) p.body) below
-
-  abbrev after_body : IsBelow last (candidates (length p.parameters) p.declared)
-      × AllBecome (layout_in p.declared last) p.body (split_all last p.body)
-  after_body =
-      block_known last p.profile p.declared p.controls p.body is_straight.typed.body
-      (candidates (length p.parameters) p.declared) after_result.0
-
   was_candidate : (x : ℕ) (part : Part) → part_of last x ≡ Some part
       → (length p.parameters ≤ x) × IsArray p.declared x part
   was_candidate x part is =
-      let found = after_body.0 x part is in
+      let from = candidates (length p.parameters) p.declared in
+      let found = before_all last p.body from (before_result last p.value (narrowed_by_all from p.body) below) x part is in
       let was = candidate_is (length p.parameters) p.declared x found.other found.there in
       (was.0, found_array p.declared x part found was.1)
 
@@ -167,7 +161,7 @@ module _ (p : StraightProgram) (is_straight : IsStraight p) (last : Parts) (belo
       → IsStraight (split_by (record { declared = p.declared ++ all_words last; parts = last }) p)
       → IsReplaced p (split_by (record { declared = p.declared ++ all_words last; parts = last }) p)
   replaced_of is_splitting =
-      replaced_by p is_straight last is_splitting after_body.1 after_result.1 (λ x part is. (was_candidate x part is).0)
+      replaced_by p is_straight last is_splitting below (λ x part is. (was_candidate x part is).0)
 
 -- where these are the parts
 abbrev pub split_with : Parts → StraightProgram → StraightProgram

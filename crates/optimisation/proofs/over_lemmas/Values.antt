@@ -1,7 +1,6 @@
--- An expression over other variables has the value that the expression has, where they hold the same, and its path is
--- fine where that one's is.
-use Rattle.std.proofs.Common.{◌≡◌, ℕ, List, [], ◌∷◌, ◌++◌, map, Option, Some}
-use Rattle.std.proofs.Common.{option_map, slice_index, refl, sym, ap, ap₂, subst}
+-- Expressions that are alike: one has the other's value, and its path is fine where the other's is.
+use Rattle.std.proofs.Common.{◌≡◌, ℕ, List, [], ◌∷◌, ◌++◌, map, Option}
+use Rattle.std.proofs.Common.{option_map, sym, ap₂, subst}
 use Rattle.inline.specs.Flat.{TermTree, prefix, binary, rotate, convert, select, element}
 use Rattle.inline.specs.FlatMeaning.{Values, value_in, elements, path_in, path_in_all, marks_of, path_of_result}
 use Rattle.inline.specs.Path.{Path, AreFine, indexed}
@@ -11,9 +10,6 @@ use Rattle.language.specs.declared.signature.Kind.{Kind}
 use Rattle.word.specs.declared.place.Place.{Place}
 use Rattle.word.specs.declared.width.Width.{Width}
 use Rattle.branch_removal.proofs.Sequences.{fine_both, fine_front, fine_back, fine_alone}
-use Rattle.optimisation.proofs.over_lemmas.Rules.{Places, IsOver, a_number, a_truth, a_variable, prefixed, operated}
-use Rattle.optimisation.proofs.over_lemmas.Rules.{rotated, converted, selected, an_element, a_word}
-use Rattle.optimisation.proofs.over_lemmas.Rules.{AreOver, no_values, a_value, IsResultOver, no_result, a_result}
 
 module _ (most : List ℕ) where
   -- a path is fine where another one is
@@ -39,11 +35,6 @@ module _ (most : List ℕ) where
   pub at_index : {p q : Path} {i j : ℕ} (place : Place) (size : ℕ) → j ≡ i → IsNoWorse p q
       → IsNoWorse (indexed place size i ∷ p) (indexed place size j ∷ q)
   at_index place size same one = record { fine = λ fine. (rw same fine.0, one.fine fine.1) }
-
--- what variables hold, the others hold
-pub record AreHeld (p : Places) (m k : Values) : Type 0 where
-  pub stays : (x : ℕ) → p.Stays x → k (p.at x) ≡ m x
-  pub words : (x i w : ℕ) → p.IsWord x i w → k w ≡ slice_index (m x) i ∷ []
 
 -- an expression has the value of another one, and its path is fine where that one's is
 pub record IsAlike (most : List ℕ) (m k : Values) (e f : TermTree) : Type 0 where
@@ -105,30 +96,3 @@ module _ {most : List ℕ} {m k : Values} where
   all_values_alike a b =
       let values = ap₂ (λ (v : ℕ) (vs : List ℕ). v ∷ vs) a.value b.values in
       record { values = values; filled = λ size. values; path = both most a.path b.path }
-
-module _ (most : List ℕ) {p : Places} {m k : Values} (held : AreHeld p m k) where
-  pub alike : {e f : TermTree} → IsOver p e f → IsAlike most m k e f
-  alike a_number = record { value = refl; path = same_path most }
-  alike a_truth = record { value = refl; path = same_path most }
-  alike (a_variable {x} stays) =
-      record { value = ap (λ numbers. slice_index numbers 0) (held.stays x stays); path = same_path most }
-  alike (prefixed one) = prefix_alike (alike one)
-  alike (operated one other) = binary_alike (alike one) (alike other)
-  alike (rotated one) = rotate_alike (alike one)
-  alike (converted one) = convert_alike (alike one)
-  alike (selected chooser one other) = select_alike (alike chooser) (alike one) (alike other)
-  alike (an_element {x = x} stays index) = element_alike (held.stays x stays) (alike index)
-  alike (a_word {x = x} {value = i} {w = w} is) =
-      record {
-        value = ap (λ numbers. slice_index numbers 0) (held.words x i w is);
-        path = record { fine = λ fine. tt };
-      }
-
-  pub all_alike : {es fs : List TermTree} → AreOver p es fs → AreAllAlike most m k es fs
-  all_alike no_values = record { values = refl; filled = λ size. refl; path = same_path most }
-  all_alike (a_value one others) = all_values_alike (alike one) (all_alike others)
-
-  pub result_alike : {value other : Option TermTree} → IsResultOver p value other
-      → IsResultAlike most m k value other
-  result_alike no_result = record { value = refl; path = same_path most }
-  result_alike (a_result one) = let a = alike one in record { value = ap Some a.value; path = a.path }
