@@ -1,14 +1,13 @@
 // Statements over the variables that words live in, from the last one back to the first.
 
-ghost use Rattle.std.specs.Prelude.{◌≡◌, IfOk, OnOk, Some};
+ghost use Rattle.std.specs.Prelude.{◌≡◌, IfOk, OnOk};
 ghost use Rattle.std.specs.Option.{option_map};
 ghost use Rattle.branch_removal.specs.Straight as straight;
 ghost use Rattle.branch_removal.specs.Straight.{nothing, straight_block, straight_tree};
 ghost use Rattle.inline.specs.Flat.{term_tree};
 ghost use Rattle.optimisation.specs.live_words.private.Held.{held_by};
-ghost use Rattle.optimisation.specs.live_words.private.Sharing.{before, before_all, before_branch, before_put};
-ghost use Rattle.optimisation.specs.live_words.private.Sharing.{before_loop, in_front, onto, setting_within, shared};
-ghost use Rattle.optimisation.specs.live_words.private.Sharing.{shared_all, shared_branch, shared_loop};
+ghost use Rattle.optimisation.specs.live_words.private.Sharing.{before, before_all, before_put, in_front, onto};
+ghost use Rattle.optimisation.specs.live_words.private.Sharing.{setting_within, shared, shared_all};
 
 use crate::live_words::gathering::gather_loop;
 use crate::live_words::live::{Live, share};
@@ -152,10 +151,10 @@ fn branch(
     otherwise: &[StraightStatement],
 ) -> Result<Option<StraightStatement>, AllocError>
     ensures code { IfOk result (λ code. option_map straight_tree code
-        ≡ Some (shared_branch table.now (held_by live.old) (term_tree condition.now) (straight_block accepted.now)
+        ≡ shared table.now (held_by live.old) (straight.branch (term_tree condition.now) (straight_block accepted.now)
         (straight_block otherwise.now))) }
-    ensures live { OnOk result (held_by live.new ≡ before_branch table.now (held_by live.old)
-        (term_tree condition.now) (straight_block accepted.now) (straight_block otherwise.now)) }
+    ensures live { OnOk result (held_by live.new ≡ before table.now (held_by live.old)
+        (straight.branch (term_tree condition.now) (straight_block accepted.now) (straight_block otherwise.now))) }
 {
     let behind = live.copy_holders(alloc)?;
     let other = statements(alloc, live, table, otherwise)?;
@@ -177,10 +176,11 @@ fn repeat(
     body: &[StraightStatement],
 ) -> Result<Option<StraightStatement>, AllocError>
     ensures code { IfOk result (λ code. option_map straight_tree code
-        ≡ Some (shared_loop table.now (held_by live.old) bounds.entry.counter (term_tree bounds.entry.low.now)
+        ≡ shared table.now (held_by live.old) (straight.repeats bounds.entry.counter (term_tree bounds.entry.low.now)
         (term_tree bounds.entry.high.now) (straight_block body.now))) }
-    ensures live { OnOk result (held_by live.new ≡ before_loop table.now (held_by live.old) bounds.entry.counter
-        (term_tree bounds.entry.low.now) (term_tree bounds.entry.high.now) (straight_block body.now)) }
+    ensures live { OnOk result (held_by live.new ≡ before table.now (held_by live.old)
+        (straight.repeats bounds.entry.counter (term_tree bounds.entry.low.now) (term_tree bounds.entry.high.now)
+        (straight_block body.now))) }
 {
     gather_loop(alloc, live, table, bounds.counter, body)?;
     let head = live.copy_holders(alloc)?;

@@ -80,29 +80,6 @@ abbrev mutual
   shared_all table held (first statement rest) =
       in_front (shared table (before_all table held rest) statement) (shared_all table held rest)
 
--- So of a branch and a loop, of which a function each makes the code.
-
-abbrev pub before_branch : Table → Held → TermTree → StraightBlock → StraightBlock → Held
-before_branch table held condition accepted otherwise =
-    before_arms table condition (before_all table held otherwise)
-    (before_all table (anew (before_all table held otherwise) held.holders) accepted)
-
-abbrev pub shared_branch : Table → Held → TermTree → StraightBlock → StraightBlock → StraightTree
-shared_branch table held condition accepted otherwise =
-    branch (renamed table condition)
-    (shared_all table (anew (before_all table held otherwise) held.holders) accepted)
-    (shared_all table held otherwise)
-
-abbrev pub before_loop : Table → Held → ℕ → TermTree → TermTree → StraightBlock → Held
-before_loop table held x low high body =
-    before_bounds table low high
-    (closed table x (at_head table held x body) (before_all table (at_head table held x body) body))
-
-abbrev pub shared_loop : Table → Held → ℕ → TermTree → TermTree → StraightBlock → StraightTree
-shared_loop table held x low high body =
-    repeats (share table x) (renamed table low) (renamed table high)
-    (shared_all table (at_head table held x body) body)
-
 -- the statements from the last to the first, and what follows them
 abbrev pub onto : StraightBlock → StraightBlock → StraightBlock
 onto nothing rest = rest
