@@ -65,7 +65,8 @@ opposite operator = tt
 equal_turned : (a b : ℕ) → (b == a) ≡ (a == b)
 equal_turned a b = grind (arith, nat_tests)
 
--- a comparison holds exactly where another does of the operands turned round, has nothing on the path, and moves nothing
+-- a comparison holds exactly where another does of the operands turned round, has nothing on the path, and moves
+-- nothing
 pub record IsTurnedRound (operator next : BinaryOperator) : Type 0 where
   pub value : (w : Width) (a b : ℕ) → operated next w b a ≡ operated operator w a b
   pub unmarked : (place : Place) (a b : ℕ) → marks_of place next a b ≡ []

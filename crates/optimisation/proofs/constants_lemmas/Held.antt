@@ -45,7 +45,8 @@ module _ (profile : Profile) (declared : List FlatVariable) where
   fewer_fit x m fits y d is = fits y d (but_within declared x y d is)
 
   -- where a turn begins
-  pub counted_fits : (x i : ℕ) → IsCounter declared x → i < counter_limit → (s : StraightState) → Fits types s.variables → Fits types (counted x i s).variables
+  pub counted_fits : (x i : ℕ) → IsCounter declared x → i < counter_limit → (s : StraightState)
+      → Fits types s.variables → Fits types (counted x i s).variables
   counted_fits x i there below s fits =
       fits_assigned types s.variables x (i ∷ []) (word_as counter_type false) there
       (one_held counter_type false i below) fits

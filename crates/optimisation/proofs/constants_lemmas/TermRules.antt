@@ -213,8 +213,9 @@ module _ (most : List ℕ) (m : Values) where
         path =
             let front = through most (left_path place BitAnd width down_then right)
             (left_path inner ShiftRight W32 word amount) in
-            by_number (lifted_by (λ e. IsNoWorse most (path_in m (binary place BitAnd width down_then right)) (path_in m e))
-            place W32 word field (λ zero. front) (by_number front));
+            by_number (lifted_by
+            (λ e. IsNoWorse most (path_in m (binary place BitAnd width down_then right)) (path_in m e)) place W32 word
+            field (λ zero. front) (by_number front));
       };
       bounded = lifted_by (λ e. value_in m e < 2 ^ 32) place W32 word field (λ zero. below) (wrapped_fits W32 _);
     }

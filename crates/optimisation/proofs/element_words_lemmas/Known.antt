@@ -50,7 +50,6 @@ module _ (last : Parts) where
         other = found.other;
         there = whole_same parts x y found.other found.there;
         size = found.size;
-        word = found.word;
       }
 
   is_known : (index : TermTree) (o : Option Part) → ((part : Part) → o ≡ Some part → IsKnownIndex part.size index)

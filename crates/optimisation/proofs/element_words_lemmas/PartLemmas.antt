@@ -1,5 +1,5 @@
 -- Which arrays become words, and which words these are.
-use Rattle.std.proofs.Common.{◌≡◌, ℕ, zero, suc, ◌+◌, ◌-◌, ◌≤◌, ◌<◌, Bool, true, List, [], ◌∷◌}
+use Rattle.std.proofs.Common.{◌≡◌, ℕ, zero, suc, ◌+◌, ◌-◌, ◌≤◌, ◌<◌, true, List, [], ◌∷◌}
 use Rattle.std.proofs.Common.{◌++◌, map, length, replicate, Option, None, Some, slice_get, inl, inr, refl, sym, ap, ap₂}
 use Rattle.std.proofs.Common.{◌∙◌, subst, append_assoc, arith}
 use Rattle.std.specs.Prelude.{nat_le}
@@ -7,7 +7,7 @@ use Rattle.std.proofs.lemmas.Bool.{cases_lt, cond_both, leb-true}
 use Rattle.std.proofs.lemmas.List.{length-replicate, length-append}
 use Rattle.std.proofs.lemmas.Option.{cond_some, none-some, same_Some}
 use Rattle.inline.specs.declared.flat.FlatVariable.{FlatVariable}
-use Rattle.inline.specs.Flat.{word_as, array_as}
+use Rattle.inline.specs.Flat.{word_as}
 use Rattle.language.specs.declared.typing.WordType.{WordType}
 use Rattle.optimisation.specs.declared.element_words.parts.Part.{Part}
 use Rattle.optimisation.specs.element_words.Limits.{most_elements_split}
@@ -29,54 +29,46 @@ whole_none [] x part is = none-some part is
 whole_none (p ∷ parts) zero part is = none-some part is
 whole_none (p ∷ parts) (suc x) part is = whole_none parts x part is
 
--- an array that becomes words here becomes as many there, of the same type
+-- an array that becomes words here becomes as many there
 pub record IsFound (parts : Parts) (x : ℕ) (part : Part) : Type 0 where
   pub other : Part
   pub there : part_of parts x ≡ Some other
   pub size : part.size ≡ other.size
-  pub word : part.word ≡ other.word
 
 abbrev pub IsBelow : Parts → Parts → Type 0
 IsBelow less more = (x : ℕ) (part : Part) → part_of less x ≡ Some part → IsFound more x part
 
 pub below_itself : {parts : Parts} → IsBelow parts parts
-below_itself x part is = record { other = part; there = is; size = refl; word = refl }
+below_itself x part is = record { other = part; there = is; size = refl }
 
 -- Candidates.
 
--- an array of so many elements of this type, behind so many parameters
+-- an array of so many elements
 pub record IsArray (declared : List FlatVariable) (x : ℕ) (part : Part) : Type 0 where
-  pub mutable : Bool
-  pub known : slice_get declared x ≡ Some (array_as part.word mutable part.size)
+  pub listed : FlatVariable
+  pub known : slice_get declared x ≡ Some listed
+  pub size : listed.elements ≡ Some part.size
 
 -- so where it becomes words of another number
 pub found_array : (declared : List FlatVariable) {parts : Parts} (x : ℕ) (part : Part) (found : IsFound parts x part)
     → IsArray declared x found.other → IsArray declared x part
-found_array declared x part found array = record {
-  mutable = array.mutable;
-  known = array.known
-      ∙ ap₂ (λ (w : WordType) (n : ℕ). Some (array_as w array.mutable n)) (sym found.word) (sym found.size);
-}
+found_array declared x part found array =
+    record { listed = array.listed; known = array.known; size = array.size ∙ ap Some (sym found.size) }
 
 sized_as : (word : WordType) (elements : Option ℕ) (part : Part) → sized word elements ≡ Some part
-    → (word ≡ part.word) × (elements ≡ Some part.size)
+    → elements ≡ Some part.size
 sized_as word None part is = absurd (none-some part is)
 sized_as word (Some size) part is =
-    let same = (cond_some (nat_le size most_elements_split) (part_at 0 size word) part is).1 in
-    (ap (λ (p : Part). p.word) same, ap (λ (p : Part). Some p.size) same)
-
-candidate_as : (d : FlatVariable) (part : Part) → candidate d ≡ Some part
-    → d ≡ array_as part.word d.mutable part.size
-candidate_as d part is =
-    let both = sized_as d.word d.elements part is in
-    ap₂ (λ (w : WordType) (e : Option ℕ). record { word = w; mutable = d.mutable; elements = e }) both.0 both.1
+    ap (λ (p : Part). Some p.size) (cond_some (nat_le size most_elements_split) (part_at 0 size word) part is).1
 
 candidate_array : (declared : List FlatVariable) (x : ℕ) (part : Part) → part_of (map candidate declared) x ≡ Some part
     → IsArray declared x part
 candidate_array [] x part is = absurd (none-some part is)
-candidate_array (d ∷ ds) zero part is = record { mutable = d.mutable; known = ap Some (candidate_as d part is) }
+candidate_array (d ∷ ds) zero part is =
+    record { listed = d; known = refl; size = sized_as d.word d.elements part is }
 candidate_array (d ∷ ds) (suc x) part is =
-    let array = candidate_array ds x part is in record { mutable = array.mutable; known = array.known }
+    let array = candidate_array ds x part is in
+    record { listed = array.listed; known = array.known; size = array.size }
 
 no_candidate : (n x : ℕ) (part : Part) → part_of (replicate n None ++ []) x ≡ Some part → ⊥
 no_candidate zero x part is = none-some part is
@@ -91,15 +83,9 @@ candidate_is (suc n) declared zero part is = absurd (none-some part is)
 candidate_is (suc n) [] (suc x) part is = absurd (no_candidate n x part is)
 candidate_is (suc n) (d ∷ ds) (suc x) part is =
     let found = candidate_is n ds x part is in
-    (omega (arith, found.0), record { mutable = found.1.mutable; known = found.1.known })
+    (omega (arith, found.0), record { listed = found.1.listed; known = found.1.known; size = found.1.size })
 
 -- Words.
-
-get_front : (xs ys : List FlatVariable) (i : ℕ) (d : FlatVariable) → slice_get xs i ≡ Some d
-    → slice_get (xs ++ ys) i ≡ Some d
-get_front [] ys i d is = absurd (none-some d is)
-get_front (x ∷ xs) ys zero d is = is
-get_front (x ∷ xs) ys (suc i) d is = get_front xs ys i d is
 
 get_behind : (xs ys : List FlatVariable) (n i y : ℕ) → length xs ≡ n → y ≡ n + i
     → slice_get (xs ++ ys) y ≡ slice_get ys i
@@ -143,7 +129,7 @@ pub record IsMade (base : ℕ) (parts made : Parts) (x : ℕ) (part : Part) : Ty
 
 found_next : {parts : Parts} {x : ℕ} {part : Part} (p : Option Part) → IsFound parts x part
     → IsFound (p ∷ parts) (suc x) part
-found_next p found = record { other = found.other; there = found.there; size = found.size; word = found.word }
+found_next p found = record { other = found.other; there = found.there; size = found.size }
 
 pub made : {base room : ℕ} {parts those : Parts} → AreNumbered base room parts those → (x : ℕ) (part : Part)
     → part_of those x ≡ Some part → IsMade base parts those x part
@@ -156,7 +142,7 @@ made (gets_words {base = base} {part = p} {parts = parts} {made = more} fits res
     let those = Some (part_at base p.size p.word) ∷ more in
     subst (IsMade base (Some p ∷ parts) those zero) (same_Some _ part is)
     record {
-      found = record { other = p; there = refl; size = refl; word = refl };
+      found = record { other = p; there = refl; size = refl };
       from = omega arith;
       words = λ front i y long below place.
           get_behind front (all_words those) base i y long place ∙ get_same p.size i (word_as p.word true) _ below;
@@ -189,8 +175,6 @@ ordered (gets_words fits rest) (suc x) (suc y) part other is also before =
 
 -- How the arrays of some variables become words behind them.
 pub record IsSplitting (declared new : List FlatVariable) (parts : Parts) : Type 0 where
-  -- the variables stay
-  pub kept : (y : ℕ) (d : FlatVariable) → slice_get declared y ≡ Some d → slice_get new y ≡ Some d
   pub arrays : (x : ℕ) (part : Part) → part_of parts x ≡ Some part → IsArray declared x part
   pub words : (x : ℕ) (part : Part) (i : ℕ) → part_of parts x ≡ Some part → i < part.size
       → slice_get new (part.base + i) ≡ Some (word_as part.word true)
@@ -198,15 +182,6 @@ pub record IsSplitting (declared new : List FlatVariable) (parts : Parts) : Type
   -- no two arrays share a word
   pub apart : (x y : ℕ) (part other : Part) (i j : ℕ) → part_of parts x ≡ Some part → part_of parts y ≡ Some other
       → i < part.size → j < other.size → part.base + i ≡ other.base + j → x ≡ y
-
-pub no_splitting : (declared : List FlatVariable) → IsSplitting declared (declared ++ []) []
-no_splitting declared = record {
-  kept = λ y d is. get_front declared [] y d is;
-  arrays = λ x part is. absurd (none-some part is);
-  words = λ x part i is below. absurd (none-some part is);
-  behind = λ x part is. absurd (none-some part is);
-  apart = λ x y part other i j is also below within same. absurd (none-some part is);
-}
 
 -- two arrays with a word in common are one
 apart_by : {base room : ℕ} {parts those : Parts} → AreNumbered base room parts those → (x y : ℕ) (part other : Part)
@@ -228,7 +203,6 @@ pub splitting : (declared : List FlatVariable) (room : ℕ) (parts : Parts)
 splitting declared room parts arrays =
     let all = are_numbered (length declared) room parts in
     record {
-      kept = λ y d is. get_front declared (all_words (numbered (length declared) room parts)) y d is;
       arrays = λ x part is.
           let found = (made all x part is).found in
           found_array declared x part found (arrays x found.other found.there);

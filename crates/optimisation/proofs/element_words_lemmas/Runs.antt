@@ -125,8 +125,8 @@ module _ (declared new : List FlatVariable) (parts : Parts) (is_splitting : IsSp
           }
       follows (array x size values) is before h beside =
           array_follows x size values is
-          (all_stand declared new parts is_splitting most profile (but declared x) (but_within declared x) is.word values
-          is.suit before h) (part_of parts x) refl beside
+          (all_stand declared new parts is_splitting most profile (but declared x) (but_within declared x) is.word
+          values is.suit before h) (part_of parts x) refl beside
       follows (put within place x size index value) is before h {s} {t} beside =
           let from = before_term parts value (narrowed (narrowed_at before x index) index) h in
           put_follows within place x size index value is.1 (part_of parts x) refl

@@ -38,9 +38,8 @@ module _ (declared new : List FlatVariable) (parts : Parts) (is_splitting : IsSp
   whole_by y word mutable there None same = refl
   whole_by y word mutable there (Some part) same =
       let array = is_splitting.arrays y part same in
-      let one = same_Some (word_as word mutable) (array_as part.word array.mutable part.size)
-      (sym there ∙ array.known) in
-      absurd (none-some part.size (ap (λ (d : FlatVariable). d.elements) one))
+      let one = same_Some (word_as word mutable) array.listed (sym there ∙ array.known) in
+      absurd (none-some part.size (ap (λ (d : FlatVariable). d.elements) one ∙ array.size))
 
   -- a word is no array that becomes words
   pub stays_whole : (y : ℕ) (word : WordType) (mutable : Bool) → slice_get declared y ≡ Some (word_as word mutable)
@@ -52,9 +51,8 @@ module _ (declared new : List FlatVariable) (parts : Parts) (is_splitting : IsSp
       → slice_get declared y ≡ Some (array_as word mutable size) → part_of parts y ≡ Some part → part.size ≡ size
   part_size y word mutable size part there same =
       let array = is_splitting.arrays y part same in
-      let one = same_Some (array_as part.word array.mutable part.size) (array_as word mutable size)
-      (sym array.known ∙ there) in
-      same_Some part.size size (ap (λ (d : FlatVariable). d.elements) one)
+      let one = same_Some array.listed (array_as word mutable size) (sym array.known ∙ there) in
+      same_Some part.size size (sym array.size ∙ ap (λ (d : FlatVariable). d.elements) one)
 
   -- Expressions over the variables in scope.
 

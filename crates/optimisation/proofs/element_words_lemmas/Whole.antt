@@ -8,7 +8,7 @@ use Rattle.std.proofs.lemmas.Option.{none-some, same_Some, slice_get-get_or, sli
 use Rattle.language.proofs.arguments_lemmas.FaultLemmas.{length-AreWithin}
 use Rattle.language.specs.arguments.Within.{AreWithin}
 use Rattle.inline.specs.declared.flat.FlatVariable.{FlatVariable}
-use Rattle.inline.specs.Flat.{counter_type, TermTree, word_as, array_as, declaration_of, numbers_in}
+use Rattle.inline.specs.Flat.{counter_type, TermTree, word_as, declaration_of, numbers_in}
 use Rattle.inline.specs.FlatMeaning.{Values, given, array_of, arrays_from}
 use Rattle.language.specs.declared.signature.Param.{Param}
 use Rattle.language.specs.declared.values.Arg.{Arg}
@@ -24,8 +24,7 @@ use Rattle.optimisation.specs.element_words.private.Plan.{WordPlan, room_beside,
 use Rattle.optimisation.specs.element_words.private.Plan.{split_program}
 use Rattle.optimisation.specs.element_words.private.Splitting.{split, split_all}
 use Rattle.optimisation.proofs.element_words_lemmas.PartLemmas.{IsBelow, below_itself, IsArray, found_array}
-use Rattle.optimisation.proofs.element_words_lemmas.PartLemmas.{candidate_is, are_numbered, made}
-use Rattle.optimisation.proofs.element_words_lemmas.PartLemmas.{IsSplitting, no_splitting}
+use Rattle.optimisation.proofs.element_words_lemmas.PartLemmas.{candidate_is, are_numbered, made, IsSplitting}
 use Rattle.optimisation.proofs.element_words_lemmas.PartLemmas.{splitting}
 use Rattle.optimisation.proofs.element_words_lemmas.Known.{before_all, before_result}
 use Rattle.optimisation.proofs.element_words_lemmas.Values.{result_alike}
@@ -86,8 +85,8 @@ module _ (p : StraightProgram) (is_straight : IsStraight p) (parts : Parts)
         held = λ y d part there is.
             let array = is_splitting.arrays y part is in
             let first : given p.declared args y ≡ replicate part.size 0 =
-            given_behind p.declared args y (array_as part.word array.mutable part.size)
-            (omega (arith, few, behind y part is)) array.known in
+            given_behind p.declared args y array.listed (omega (arith, few, behind y part is)) array.known
+            ∙ ap (λ e. replicate (numbers_in e) 0) array.size in
             record {
               count = ap length first ∙ length-replicate part.size 0;
               each = λ i below.
@@ -153,7 +152,8 @@ module _ (p : StraightProgram) (is_straight : IsStraight p) (last : Parts) (belo
       → (length p.parameters ≤ x) × IsArray p.declared x part
   was_candidate x part is =
       let from = candidates (length p.parameters) p.declared in
-      let found = before_all last p.body from (before_result last p.value (narrowed_by_all from p.body) below) x part is in
+      let behind = before_result last p.value (narrowed_by_all from p.body) below in
+      let found = before_all last p.body from behind x part is in
       let was = candidate_is (length p.parameters) p.declared x found.other found.there in
       (was.0, found_array p.declared x part found was.1)
 
@@ -172,7 +172,8 @@ replaced_chosen : (p : StraightProgram) → IsStraight p → (b : Bool)
     → IsReplaced p (split_with (if b then [] else numbered (length p.declared) (room_beside p.declared)
     (used_parts p)) p)
 replaced_chosen p is_straight true =
-    replaced_of p is_straight [] (λ x part is. absurd (none-some part is)) (no_splitting p.declared)
+    replaced_of p is_straight [] (λ x part is. absurd (none-some part is))
+    (splitting p.declared 0 [] (λ x part is. absurd (none-some part is)))
 replaced_chosen p is_straight false =
     let room = room_beside p.declared in
     let all = numbered (length p.declared) room (used_parts p) in
