@@ -1,14 +1,13 @@
 // Statements in which what is known is a number, each put behind what there is. A loop becomes its turns where it may.
 
 ghost use Rattle.std.specs.Prelude.{◌≡◌, IfOk, OnOk};
+ghost use Rattle.branch_removal.specs.Straight as straight;
 ghost use Rattle.branch_removal.specs.Straight.{chain, set, straight_block, straight_tree};
 ghost use Rattle.inline.specs.Flat.{term_tree};
 ghost use Rattle.optimisation.specs.constants.private.Folding.{simple};
 ghost use Rattle.optimisation.specs.constants.private.Known.{forgotten_all, words_of};
-ghost use Rattle.optimisation.specs.constants.private.Simplification.{branch_code, branch_known, knowing, knowing_all};
-ghost use Rattle.optimisation.specs.constants.private.Simplification.{loop_code, loop_known, set_to, simplified};
-ghost use Rattle.optimisation.specs.constants.private.Simplification.{simplified_all};
-ghost use Rattle.optimisation.specs.constants.private.Simplification.{single, turns_code, turns_known};
+ghost use Rattle.optimisation.specs.constants.private.Simplification.{knowing, knowing_all, set_to, simplified};
+ghost use Rattle.optimisation.specs.constants.private.Simplification.{simplified_all, single, turns_code, turns_known};
 
 use crate::constants::choice::copies_of;
 use crate::constants::copies::learn;
@@ -28,11 +27,12 @@ pub struct Pass<'p> {
     pub declared: &'p [FlatVariable],
 }
 
-/// The bounds of a loop, simple.
-#[derive(Drop)]
-struct Bounds {
-    low: Term,
-    high: Term,
+/// The counter of a loop and its bounds.
+#[derive(Clone, Copy)]
+struct Bounds<'b> {
+    counter: u32,
+    low: &'b Term,
+    high: &'b Term,
 }
 
 /// Puts a statement behind a block.
@@ -65,16 +65,6 @@ fn set_simple(
         Some(_) => known.note(variable, None),
     }
     push(code, StraightStatement::Set(within, variable, value))
-}
-
-/// The bounds of a loop, where this is known of the variables.
-fn bounds_of(alloc: Global, known: &Known, low: &Term, high: &Term) -> Result<Bounds, AllocError>
-    ensures low { IfOk result (λ bounds. term_tree bounds.low ≡ simple (words_of known.now) (term_tree low.now)) }
-    ensures high { IfOk result (λ bounds. term_tree bounds.high ≡ simple (words_of known.now) (term_tree high.now)) }
-{
-    let low = simple(alloc, known, low)?;
-    let high = simple(alloc, known, high)?;
-    Ok(Bounds { low, high })
 }
 
 /// A statement. What is known after it is noted.
@@ -114,32 +104,38 @@ fn statement(
             push(code, StraightStatement::Take(*control, *within, condition))
         }
         StraightStatement::Branch(condition, accepted, otherwise) => {
-            let condition = simple(pass.alloc, known, condition)?;
             branch(pass, known, code, condition, accepted, otherwise)
         }
         StraightStatement::Repeat(counter, low, high, body) => {
-            let bounds = bounds_of(pass.alloc, known, low, high)?;
-            repeat(pass, known, code, *counter, bounds, body)
+            let bounds = Bounds {
+                counter: *counter,
+                low,
+                high,
+            };
+            repeat(pass, known, code, bounds, body)
         }
     }
 }
 
-/// A branch, its condition simple: where that is a number, the one arm that it decides for.
+/// A branch: where its condition is a number, the one arm that it decides for.
 #[cycle(simplification)]
 fn branch(
     pass: &Pass<'_>,
     known: &mut Known,
     code: &mut Vec<StraightStatement>,
-    condition: Term,
+    condition: &Term,
     accepted: &[StraightStatement],
     otherwise: &[StraightStatement],
 ) -> Result<(), AllocError>
     ensures code { OnOk result (straight_block code.new.items
-        ≡ chain (straight_block code.old.items) (branch_code pass.now.copies.now pass.now.declared.now
-        (words_of known.old) (term_tree condition) (straight_block accepted.now) (straight_block otherwise.now))) }
-    ensures known { OnOk result (words_of known.new ≡ branch_known pass.now.copies.now pass.now.declared.now
-        (words_of known.old) (term_tree condition) (straight_block accepted.now) (straight_block otherwise.now)) }
+        ≡ chain (straight_block code.old.items) (simplified pass.now.copies.now pass.now.declared.now
+        (words_of known.old) (straight.branch (term_tree condition.now) (straight_block accepted.now)
+        (straight_block otherwise.now)))) }
+    ensures known { OnOk result (words_of known.new ≡ knowing pass.now.copies.now pass.now.declared.now
+        (words_of known.old) (straight.branch (term_tree condition.now) (straight_block accepted.now)
+        (straight_block otherwise.now))) }
 {
+    let condition = simple(pass.alloc, known, condition)?;
     match decision(&condition) {
         Some(true) => statements(pass, known, code, accepted),
         Some(false) => statements(pass, known, code, otherwise),
@@ -151,31 +147,35 @@ fn branch(
     }
 }
 
-/// A loop, its bounds simple: where these are numbers, and it may become its turns, these.
+/// A loop: where its bounds are numbers, and it may become its turns, these.
 #[cycle(simplification)]
 fn repeat(
     pass: &Pass<'_>,
     known: &mut Known,
     code: &mut Vec<StraightStatement>,
-    counter: u32,
-    bounds: Bounds,
+    bounds: Bounds<'_>,
     body: &[StraightStatement],
 ) -> Result<(), AllocError>
     ensures code { OnOk result (straight_block code.new.items
         ≡ chain (straight_block code.old.items)
-        (loop_code pass.now.copies.now pass.now.declared.now (words_of known.old) counter (term_tree bounds.low)
-        (term_tree bounds.high) (straight_block body.now))) }
+        (simplified pass.now.copies.now pass.now.declared.now (words_of known.old)
+        (straight.repeats bounds.entry.counter (term_tree bounds.entry.low.now) (term_tree bounds.entry.high.now)
+        (straight_block body.now)))) }
     ensures known { OnOk result (words_of known.new
-        ≡ loop_known pass.now.copies.now pass.now.declared.now (words_of known.old) counter (term_tree bounds.low)
-        (term_tree bounds.high) (straight_block body.now)) }
+        ≡ knowing pass.now.copies.now pass.now.declared.now (words_of known.old)
+        (straight.repeats bounds.entry.counter (term_tree bounds.entry.low.now) (term_tree bounds.entry.high.now)
+        (straight_block body.now))) }
 {
+    let counter = bounds.counter;
+    let low = simple(pass.alloc, known, bounds.low)?;
+    let high = simple(pass.alloc, known, bounds.high)?;
     let most = copies_of(pass.copies, counter);
-    match numbers_of(most, &bounds.low, &bounds.high) {
+    match numbers_of(most, &low, &high) {
         Some(numbers) => turns(pass, known, code, counter, numbers, body),
         None => {
             known.begin_loop(counter, body);
             let turn = part(pass, known, body)?;
-            push(code, loop_of(counter, bounds.low, bounds.high, turn))
+            push(code, loop_of(counter, low, high, turn))
         }
     }
 }

@@ -115,21 +115,7 @@ abbrev mutual
       chain (simplified copies declared words statement)
       (simplified_all copies declared (knowing copies declared words statement) rest)
 
--- So of a branch on this condition, and of a loop between these bounds, once they are simple.
-
-abbrev pub branch_known : List ℕ → List FlatVariable → Words → TermTree → StraightBlock → StraightBlock → Words
-branch_known copies declared words condition accepted otherwise =
-    decided (decision condition) (knowing_all copies declared words accepted)
-    (knowing_all copies declared words otherwise)
-    (behind (knowing_all copies declared (behind (knowing_all copies declared words accepted) accepted) otherwise)
-    otherwise)
-
-abbrev pub branch_code : List ℕ → List FlatVariable → Words → TermTree → StraightBlock → StraightBlock → StraightBlock
-branch_code copies declared words condition accepted otherwise =
-    decided (decision condition) (simplified_all copies declared words accepted)
-    (simplified_all copies declared words otherwise)
-    (single (branch condition (simplified_all copies declared words accepted)
-    (simplified_all copies declared (behind (knowing_all copies declared words accepted) accepted) otherwise)))
+-- So of the turns of a loop between two numbers.
 
 abbrev pub turns_known : List ℕ → List FlatVariable → Words → ℕ → Numbers → StraightBlock → Words
 turns_known copies declared words x each body =
@@ -139,18 +125,6 @@ abbrev pub turns_code : List ℕ → List FlatVariable → Words → ℕ → Num
 turns_code copies declared words x each body =
     code_of_turns (each.high - each.low) each.low (λ i w. knowing_all copies declared (at_turn x i w) body)
     (λ i w. first (set None x (number i counter_type.kind)) (simplified_all copies declared (at_turn x i w) body)) words
-
-abbrev pub loop_known : List ℕ → List FlatVariable → Words → ℕ → TermTree → TermTree → StraightBlock → Words
-loop_known copies declared words x low high body =
-    unrolled (numbers_of (slice_index copies x) (constant_of low) (constant_of high))
-    (λ each. turns_known copies declared words x each body)
-    (behind (knowing_all copies declared (in_loop words x body) body) body)
-
-abbrev pub loop_code : List ℕ → List FlatVariable → Words → ℕ → TermTree → TermTree → StraightBlock → StraightBlock
-loop_code copies declared words x low high body =
-    unrolled (numbers_of (slice_index copies x) (constant_of low) (constant_of high))
-    (λ each. turns_code copies declared words x each body)
-    (single (repeats x low high (simplified_all copies declared (in_loop words x body) body)))
 
 -- nothing is known where a program begins
 abbrev pub nothing_known : StraightProgram → Words

@@ -17,40 +17,25 @@ pub statement-repeat-requires : goal.statement-repeat-requires
 statement-repeat-requires t c =
     search (rules, body_smaller c.in-Repeat.body c.in-Repeat.is c.deref-in-Repeat.ensures.value)
 
-pub statement-returns-in_ok-condition-in-Branch-clause-code :
-    goal.statement-returns-in_ok-condition-in-Branch-clause-code
-statement-returns-in_ok-condition-in-Branch-clause-code t c =
-    rw (
-      tree_of_branch c.in-Branch.accepted c.in-Branch.otherwise c.in-Branch.is c.deref-in-Branch.ensures.value
-          c.deref-in-Branch-2.ensures.value,
-      ← c.in_ok-condition-in-Branch.ensures,
-    ) c.branch-pass.ensures.code
+pub statement-returns-in-Branch-clause-code : goal.statement-returns-in-Branch-clause-code
+statement-returns-in-Branch-clause-code t c =
+    rw (tree_of_branch c.in-Branch.accepted c.in-Branch.otherwise c.in-Branch.is c.deref-in-Branch.ensures.value
+    c.deref-in-Branch-2.ensures.value)
+    c.branch-pass.ensures.code
 
-pub statement-returns-in_ok-condition-in-Branch-clause-known :
-    goal.statement-returns-in_ok-condition-in-Branch-clause-known
-statement-returns-in_ok-condition-in-Branch-clause-known t c =
-    rw (
-      tree_of_branch c.in-Branch.accepted c.in-Branch.otherwise c.in-Branch.is c.deref-in-Branch.ensures.value
-          c.deref-in-Branch-2.ensures.value,
-      ← c.in_ok-condition-in-Branch.ensures,
-    ) c.branch-pass.ensures.known
+pub statement-returns-in-Branch-clause-known : goal.statement-returns-in-Branch-clause-known
+statement-returns-in-Branch-clause-known t c =
+    rw (tree_of_branch c.in-Branch.accepted c.in-Branch.otherwise c.in-Branch.is c.deref-in-Branch.ensures.value
+    c.deref-in-Branch-2.ensures.value)
+    c.branch-pass.ensures.known
 
-pub statement-returns-in_ok-bounds-in-Repeat-clause-code : goal.statement-returns-in_ok-bounds-in-Repeat-clause-code
-statement-returns-in_ok-bounds-in-Repeat-clause-code t c =
-    rw (
-      tree_of_loop c.in-Repeat.body c.in-Repeat.is c.deref-in-Repeat.ensures.value,
-      ← c.in_ok-bounds-in-Repeat.ensures.low,
-      ← c.in_ok-bounds-in-Repeat.ensures.high,
-    ) c.repeat.ensures.code
+pub statement-returns-in-Repeat-clause-code : goal.statement-returns-in-Repeat-clause-code
+statement-returns-in-Repeat-clause-code t c =
+    rw (tree_of_loop c.in-Repeat.body c.in-Repeat.is c.deref-in-Repeat.ensures.value) c.repeat.ensures.code
 
-pub statement-returns-in_ok-bounds-in-Repeat-clause-known :
-    goal.statement-returns-in_ok-bounds-in-Repeat-clause-known
-statement-returns-in_ok-bounds-in-Repeat-clause-known t c =
-    rw (
-      tree_of_loop c.in-Repeat.body c.in-Repeat.is c.deref-in-Repeat.ensures.value,
-      ← c.in_ok-bounds-in-Repeat.ensures.low,
-      ← c.in_ok-bounds-in-Repeat.ensures.high,
-    ) c.repeat.ensures.known
+pub statement-returns-in-Repeat-clause-known : goal.statement-returns-in-Repeat-clause-known
+statement-returns-in-Repeat-clause-known t c =
+    rw (tree_of_loop c.in-Repeat.body c.in-Repeat.is c.deref-in-Repeat.ensures.value) c.repeat.ensures.known
 
 pub statements-statement-requires : goal.statements-statement-requires
 statements-statement-requires t c =
