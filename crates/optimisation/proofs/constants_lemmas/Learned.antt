@@ -15,12 +15,11 @@ use Rattle.branch_removal.specs.StraightTyping.{AreTyped}
 use Rattle.optimisation.specs.declared.constants.known.Constant.{Constant}
 use Rattle.optimisation.specs.constants.private.Folding.{simple, constant, constant_of, decision}
 use Rattle.optimisation.specs.constants.private.Known.{Words, behind, in_loop, with_word}
-use Rattle.optimisation.specs.constants.private.Simplification.{at_turn, set_to}
+use Rattle.optimisation.specs.constants.private.Simplification.{at_turn, knowing_all, set_to}
 use Rattle.optimisation.proofs.constants_lemmas.CopyLemmas.{read_value, set_by, two_variables}
 use Rattle.optimisation.proofs.constants_lemmas.Held.{counter_limit, IsCounter, counted_fits, fits_after_all}
 use Rattle.optimisation.proofs.constants_lemmas.KnownLemmas.{Fact, Knows, IsFree, IsTrue, word_by, same_truth, Agrees}
 use Rattle.optimisation.proofs.constants_lemmas.KnownLemmas.{Holds}
-use Rattle.optimisation.proofs.constants_lemmas.StatementRules.{AllSimplify}
 use Rattle.optimisation.proofs.constants_lemmas.TermLemmas.{same_value}
 use Rattle.optimisation.proofs.constants_lemmas.TermRules.{constant_value, decided_value}
 use Rattle.optimisation.proofs.constants_lemmas.Unset.{IsUnset, behind_part, left_alone, left_alone_all, within_loop}
@@ -91,13 +90,10 @@ module _ (profile : Profile) (declared : List FlatVariable) where
     fits = counted_fits profile declared x i there below s holds.fits;
   }
 
-  pub arm_begins : {copies : List ℕ} {words next : Words} {accepted code : StraightBlock}
-      → AllSimplify copies declared words accepted code next → (s : StraightState) → AllHolds words s
-      → AllHolds (behind next accepted) s
-  arm_begins all s holds = record {
-    agrees = λ f is. holds.agrees f (behind_part all f is).0;
-    fits = holds.fits;
-  }
+  pub arm_begins : (copies : List ℕ) (words : Words) (accepted : StraightBlock) (s : StraightState) → AllHolds words s
+      → AllHolds (behind (knowing_all copies declared words accepted) accepted) s
+  arm_begins copies words accepted s holds =
+      record { agrees = λ f is. holds.agrees f (behind_part copies declared words accepted f is).0; fits = holds.fits }
 
   pub loop_begins : (words : Words) (x : ℕ) (body : StraightBlock) (s : StraightState) → AllHolds words s
       → AllHolds (in_loop words x body) s

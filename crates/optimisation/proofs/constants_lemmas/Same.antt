@@ -9,22 +9,22 @@ use Rattle.inline.specs.Flat.{TermTree, number, counter_type}
 use Rattle.inline.specs.FlatMeaning.{path_in, turns, path_of_turns}
 use Rattle.inline.specs.FlatTyping.{Types, types_of}
 use Rattle.inline.specs.Path.{Path, decided as decided_mark, bounded}
-use Rattle.branch_removal.specs.Straight.{StraightTree, set, array, put, branch, repeats, StraightBlock, first, chain}
+use Rattle.branch_removal.specs.Straight.{StraightTree, set, array, put, take, branch, repeats, StraightBlock, nothing}
+use Rattle.branch_removal.specs.Straight.{first, chain}
 use Rattle.branch_removal.specs.StraightMeaning.{StraightState, holds as holds_under, with_variable, with_element}
 use Rattle.branch_removal.specs.StraightMeaning.{value_at, counted, after, after_all, path_at, path_along}
 use Rattle.branch_removal.specs.StraightTyping.{types_but, IsFilled, IsSet, IsTyped, AreTyped}
 use Rattle.branch_removal.proofs.Sequences.{after-chain, path-chain, fine_back}
 use Rattle.optimisation.specs.constants.private.Folding.{simple}
 use Rattle.optimisation.specs.constants.private.Known.{Words, behind, in_loop, without}
-use Rattle.optimisation.specs.constants.private.Simplification.{set_to}
+use Rattle.optimisation.specs.constants.private.Simplification.{at_turn, code_of_turns, knowing, knowing_all, set_to}
+use Rattle.optimisation.specs.constants.private.Simplification.{simplified, simplified_all}
 use Rattle.optimisation.proofs.constants_lemmas.Held.{counter_limit, IsCounter, fewer_fit, fits_after}
 use Rattle.optimisation.proofs.constants_lemmas.Held.{fits_after_all}
 use Rattle.optimisation.proofs.constants_lemmas.KnownLemmas.{Agrees, Holds, without_known}
 use Rattle.optimisation.proofs.constants_lemmas.Learned.{AllHolds, arm_begins, decided_here, kept, loop_begins}
 use Rattle.optimisation.proofs.constants_lemmas.Learned.{noted_copy, number_here, turn_end, turn_known, turn_start}
-use Rattle.optimisation.proofs.constants_lemmas.StatementRules.{Simplifies, sets, fills, puts, takes, accepts, declines}
-use Rattle.optimisation.proofs.constants_lemmas.StatementRules.{chooses, unrolls, loops, TurnsSimplify, no_turn, a_turn}
-use Rattle.optimisation.proofs.constants_lemmas.StatementRules.{AllSimplify, ends, goes_on}
+use Rattle.optimisation.proofs.constants_lemmas.StatementRules.{branch_by, loop_by}
 use Rattle.optimisation.proofs.constants_lemmas.TermLemmas.{same_value, still_alike, suited_alike, all_alike}
 use Rattle.optimisation.proofs.constants_lemmas.Unset.{behind_part, within_loop}
 use Rattle.optimisation.proofs.over_lemmas.Values.{IsNoWorse, same_path, both, through, alone, at_index}
@@ -123,20 +123,45 @@ module _ (most : List ℕ) where
         (subst (λ k. LeadsTo s code words (turns (k - a) a turn s) (path_of_turns (k - a) a turn path s)) at_high
         (subst (λ k. LeadsTo s code words (turns (h - k) k turn s) (path_of_turns (h - k) k turn path s)) at_low one))
 
-    module _ {copies : List ℕ} where
+    module _ (copies : List ℕ) where
+      -- so many turns of a loop
+      all_turns_lead : (x : ℕ) (body : StraightBlock) → IsCounter declared x → AreTyped profile declared controls body
+          → ((w : Words) (t : StraightState) → AllHolds profile declared w t
+          → LeadsTo t (simplified_all copies declared w body) (knowing_all copies declared w body) (after_all t body)
+          (path_along t body))
+          → (n i : ℕ) (words : Words) (s : StraightState) → i + n ≤ counter_limit → AllHolds profile declared words s
+          → LeadsTo s (code_of_turns n i (λ j w. knowing_all copies declared (at_turn x j w) body)
+          (λ j w. first (set None x (number j counter_type.kind))
+          (simplified_all copies declared (at_turn x j w) body)) words)
+          (turns n i (λ j w. knowing_all copies declared (at_turn x j w) body) words)
+          (turns n i (λ j t. after_all (counted x j t) body) s)
+          (path_of_turns n i (λ j t. after_all (counted x j t) body) (λ j t. path_along (counted x j t) body) s)
+      all_turns_lead x body there is inside zero i words s below holds =
+          record { same = refl; agrees = holds.agrees; path = same_path most }
+      all_turns_lead x body there is inside (suc n) i words s below holds =
+          let here : i < counter_limit = omega arith in
+          let known = turn_known profile declared words s x i there here holds in
+          let a = inside (at_turn x i words) (counted x i s) known in
+          both_lead (turn_leads x i s a)
+          (all_turns_lead x body there is inside n (i + 1) (knowing_all copies declared (at_turn x i words) body)
+          (after_all (counted x i s) body) (omega arith) (record {
+            agrees = a.agrees;
+            fits = fits_after_all profile declared controls body is (counted x i s) known.fits;
+          }))
+
       mutual
-        leads : {words next : Words} {statement : StraightTree} {code : StraightBlock}
-            → Simplifies copies declared words statement code next → IsTyped profile declared controls statement
+        leads : (words : Words) (statement : StraightTree) → IsTyped profile declared controls statement
             → (s : StraightState) → AllHolds profile declared words s
-            → LeadsTo s code next (after s statement) (path_at s statement)
-        leads (sets {words = words} {within = within} {x = x} {value = value}) is s holds =
+            → LeadsTo s (simplified copies declared words statement) (knowing copies declared words statement)
+            (after s statement) (path_at s statement)
+        leads words (set within x value) is s holds =
             let a = suited_alike most types words s.variables holds is.1.suits in
             record {
               same = rw a.value refl;
               agrees = set_agrees words s holds within x value is.1;
               path = alone most a.path;
             }
-        leads (fills {words = words} {x = x} {size = size} {values = values}) is s holds =
+        leads words (array x size values) is s holds =
             let a = all_alike most (types_but profile declared x) words s.variables
             (holds_but words s holds x size values is) is.word values is.suit in
             record {
@@ -144,8 +169,7 @@ module _ (most : List ℕ) where
               agrees = kept words (without words x) (array x size values) s holds.agrees (without_known words x);
               path = alone most a.path;
             }
-        leads (puts {words = words} {within = within} {place = place} {x = x} {size = size} {index = index} {value =
-            value}) is s holds =
+        leads words (put within place x size index value) is s holds =
             let i = still_alike most types words s.variables holds is.1.index_type in
             let a = suited_alike most types words s.variables holds is.1.suits in
             record {
@@ -154,97 +178,73 @@ module _ (most : List ℕ) where
                   (without_known words x);
               path = alone most (both most i.path (at_index most place size i.value a.path));
             }
-        leads (takes {words = words}) is s holds =
+        leads words (take control within condition) is s holds =
             let a = still_alike most types words s.variables holds is.2.1 in
             record { same = rw a.value refl; agrees = holds.agrees; path = alone most a.path }
-        leads (accepts {words = words} {condition = condition} {accepted = accepted} {otherwise =
-            otherwise} decides one) is s holds =
-            arm_leads s condition accepted otherwise false (decided_here types words s holds is.0 true decides)
-            (all_lead one is.1 s holds)
-        leads (declines {words = words} {condition = condition} {accepted = accepted} {otherwise =
-            otherwise} decides one) is s holds =
-            arm_leads s condition accepted otherwise true (decided_here types words s holds is.0 false decides)
-            (all_lead one is.2 s holds)
-        leads (chooses {words = words} {next = next} {condition = condition} {accepted = accepted} {otherwise =
-            otherwise} {one = one} {other = other} first_arm second_arm) is s holds =
+        leads words (branch condition accepted otherwise) is s holds =
+            let second = behind (knowing_all copies declared words accepted) accepted in
             let chooser = still_alike most types words s.variables holds is.0 in
-            let a = all_lead first_arm is.1 s holds in
-            let b = all_lead second_arm is.2 s (arm_begins profile declared first_arm s holds) in
-            record {
+            let a = all_lead words accepted is.1 s holds in
+            let b = all_lead second otherwise is.2 s (arm_begins profile declared copies words accepted s holds) in
+            branch_by copies declared
+            (λ code next. LeadsTo s code next (after s (branch condition accepted otherwise))
+            (path_at s (branch condition accepted otherwise))) words condition accepted otherwise
+            (λ decides. arm_leads s condition accepted otherwise false
+            (decided_here types words s holds is.0 true decides) a)
+            (λ decides. arm_leads s condition accepted otherwise true
+            (decided_here types words s holds is.0 false decides) (all_lead words otherwise is.2 s holds))
+            (record {
               same = rw (chooser.value, b.same, a.same) refl;
-              agrees = kept words (behind next otherwise) (branch condition accepted otherwise) s holds.agrees
+              agrees = kept words (behind (knowing_all copies declared second otherwise) otherwise)
+                  (branch condition accepted otherwise) s holds.agrees
                   (λ f is.
-                  let second = behind_part second_arm f is in
-                  let front = behind_part first_arm f second.0 in
-                  (front.0, (front.1, second.1)));
-              path = alone most (branch_path most s s accepted otherwise one other chooser a.path b.path);
-            }
-        leads (unrolls {words = words} {x = x} {low = low} {high = high} {body = body} {a = a} {b =
-            b} low_is high_is few all) is s holds =
+                  let later = behind_part copies declared second otherwise f is in
+                  let front = behind_part copies declared words accepted f later.0 in
+                  (front.0, (front.1, later.1)));
+              path = alone most (branch_path most s s accepted otherwise (simplified_all copies declared words accepted)
+                  (simplified_all copies declared second otherwise) chooser a.path b.path);
+            })
+        leads words (repeats x low high body) is s holds =
+            let inside = in_loop words x body in
+            let code = simplified_all copies declared inside body in
+            let from = still_alike most types words s.variables holds is.0 in
+            let to = still_alike most types words s.variables holds is.1 in
+            let low_fits = value_fits types s.variables holds.fits is.0 in
+            let high_fits = value_fits types s.variables holds.fits is.1 in
+            let run = turns_alike (AllHolds profile declared inside) (λ i t. after_all (counted x i t) code)
+            (λ i t. after_all (counted x i t) body) (λ i t. path_along (counted x i t) code)
+            (λ i t. path_along (counted x i t) body) counter_limit
+            (λ i t below known.
+            let one = all_lead inside body is.3 (counted x i t)
+            (turn_start profile declared words x body is.2 i t below known) in
+            (one.same, one.path, turn_end profile declared words x body is.2 i t below known controls is.3))
+            (value_at s high - value_at s low) (value_at s low) s (omega (arith, low_fits, high_fits))
+            (loop_begins profile declared words x body s holds) in
+            loop_by copies declared
+            (λ made next. LeadsTo s made next (after s (repeats x low high body)) (path_at s (repeats x low high body)))
+            words x low high body
+            (λ a b low_is high_is.
             let at_low = number_here types words s holds is.0 a low_is in
             let at_high = number_here types words s holds is.1 b high_is in
             turns_lead s x low high body a.value b.value at_low at_high
-            (all_turns_lead all
-            (omega (
-              arith,
-              at_low,
-              at_high,
-              value_fits types s.variables holds.fits is.0,
-              value_fits types s.variables holds.fits is.1,
-            )) is.2 is.3 s holds)
-        leads (loops {words = words} {after = next} {x = x} {low = low} {high = high} {body = body} {code =
-            code} inner) is s holds =
-            let from = still_alike most types words s.variables holds is.0 in
-            let to = still_alike most types words s.variables holds is.1 in
-            let run = turns_alike (AllHolds profile declared (in_loop words x body))
-            (λ i t. after_all (counted x i t) code) (λ i t. after_all (counted x i t) body)
-            (λ i t. path_along (counted x i t) code) (λ i t. path_along (counted x i t) body) counter_limit
-            (λ i t below known.
-            let one = all_lead inner is.3 (counted x i t)
-            (turn_start profile declared words x body is.2 i t below known) in
-            (one.same, one.path, turn_end profile declared words x body is.2 i t below known controls is.3))
-            (value_at s high - value_at s low) (value_at s low) s
-            (omega (
-              arith,
-              value_fits types s.variables holds.fits is.0,
-              value_fits types s.variables holds.fits is.1,
-            ))
-            (loop_begins profile declared words x body s holds) in
-            record {
+            (all_turns_lead x body is.2 is.3 (λ w t known. all_lead w body is.3 t known) (b.value - a.value) a.value
+            words s (omega (arith, at_low, at_high, low_fits, high_fits)) holds))
+            (record {
               same = rw (from.value, to.value) run.0;
-              agrees = kept words (behind next body) (repeats x low high body) s holds.agrees
-                  (λ f is. within_loop words x body f (behind_part inner f is).0);
+              agrees = kept words (behind (knowing_all copies declared inside body) body) (repeats x low high body) s
+                  holds.agrees (λ f is. within_loop words x body f (behind_part copies declared inside body f is).0);
               path = alone most (loop_path most s s x body code from to run.1);
-            }
+            })
 
-        all_turns_lead : {x n i : ℕ} {body code : StraightBlock} {words next : Words}
-            → TurnsSimplify copies declared x body n i words code next → i + n ≤ counter_limit
-            → IsCounter declared x → AreTyped profile declared controls body
+        pub all_lead : (words : Words) (body : StraightBlock) → AreTyped profile declared controls body
             → (s : StraightState) → AllHolds profile declared words s
-            → LeadsTo s code next (turns n i (λ j t. after_all (counted x j t) body) s)
-            (path_of_turns n i (λ j t. after_all (counted x j t) body) (λ j t. path_along (counted x j t) body) s)
-        all_turns_lead no_turn below there is s holds =
-            record { same = refl; agrees = holds.agrees; path = same_path most }
-        all_turns_lead (a_turn {x = x} {i = i} {body = body} {code = code} {words = words} one others) below there is s
-            holds =
-            let here : i < counter_limit = omega arith in
-            let known = turn_known profile declared words s x i there here holds in
-            let a = all_lead one is (counted x i s) known in
-            both_lead (turn_leads x i s a)
-            (all_turns_lead others (omega arith) there is (after_all (counted x i s) body) (record {
-              agrees = a.agrees;
-              fits = fits_after_all profile declared controls body is (counted x i s) known.fits;
-            }))
-
-        pub all_lead : {words next : Words} {body code : StraightBlock}
-            → AllSimplify copies declared words body code next → AreTyped profile declared controls body
-            → (s : StraightState) → AllHolds profile declared words s
-            → LeadsTo s code next (after_all s body) (path_along s body)
-        all_lead ends is s holds = record { same = refl; agrees = holds.agrees; path = same_path most }
-        all_lead (goes_on {statement = statement} one others) is s holds =
-            let a = leads one is.0 s holds in
+            → LeadsTo s (simplified_all copies declared words body) (knowing_all copies declared words body)
+            (after_all s body) (path_along s body)
+        all_lead words nothing is s holds = record { same = refl; agrees = holds.agrees; path = same_path most }
+        all_lead words (first statement rest) is s holds =
+            let a = leads words statement is.0 s holds in
             both_lead a
-            (all_lead others is.1 (after s statement) (record {
+            (all_lead (knowing copies declared words statement) rest is.1 (after s statement) (record {
               agrees = a.agrees;
               fits = fits_after profile declared controls statement is.0 s holds.fits;
             }))

@@ -1,9 +1,10 @@
 -- Variables that statements leave alone: they hold what they held, and what is still known of them was known before.
-use Rattle.std.proofs.Common.{◌≡◌, ℕ, ◌-◌, ◌==◌, Bool, true, false, if◌then◌else◌, List, [], ◌∷◌}
+use Rattle.std.proofs.Common.{◌≡◌, ℕ, zero, suc, ◌+◌, ◌-◌, ◌==◌, Bool, true, false, if◌then◌else◌, List, [], ◌∷◌}
 use Rattle.std.proofs.Common.{inl, Option, None, Some, refl, ◌∙◌}
 use Rattle.std.proofs.lemmas.Bool.{cond_both}
 use Rattle.inline.specs.declared.flat.FlatVariable.{FlatVariable}
 use Rattle.inline.specs.Flat.{TermTree}
+use Rattle.inline.specs.FlatMeaning.{turns}
 use Rattle.inline.proofs.Face.{turns_keep, with_value-other}
 use Rattle.branch_removal.specs.Straight.{StraightTree, set, array, put, take, branch, repeats}
 use Rattle.branch_removal.specs.Straight.{StraightBlock, nothing, first}
@@ -12,13 +13,11 @@ use Rattle.branch_removal.specs.StraightMeaning.{after, after_all}
 use Rattle.optimisation.specs.constants.private.Folding.{simple}
 use Rattle.optimisation.specs.constants.private.Known.{Words, without, all_short, behind, forgotten, forgotten_all}
 use Rattle.optimisation.specs.constants.private.Known.{in_loop}
-use Rattle.optimisation.specs.constants.private.Simplification.{set_to}
+use Rattle.optimisation.specs.constants.private.Simplification.{at_turn, knowing, knowing_all, set_to}
 use Rattle.optimisation.proofs.constants_lemmas.CopyLemmas.{set_by}
 use Rattle.optimisation.proofs.constants_lemmas.KnownLemmas.{Fact, Knows, IsAbout, IsFree, known_beside}
 use Rattle.optimisation.proofs.constants_lemmas.KnownLemmas.{without_known, short_same}
-use Rattle.optimisation.proofs.constants_lemmas.StatementRules.{Simplifies, sets, fills, puts, takes, accepts, declines}
-use Rattle.optimisation.proofs.constants_lemmas.StatementRules.{chooses, unrolls, loops, TurnsSimplify, no_turn, a_turn}
-use Rattle.optimisation.proofs.constants_lemmas.StatementRules.{AllSimplify, ends, goes_on}
+use Rattle.optimisation.proofs.constants_lemmas.StatementRules.{branch_by, loop_by}
 
 abbrev mutual
   -- a statement does not set what a fact is about
@@ -74,47 +73,51 @@ within_loop words x body f is =
     let here = without_known (all_short words) x f found.0 in
     (short_same words f here.0, (here.1, found.1))
 
-module _ {copies : List ℕ} {declared : List FlatVariable} where
+-- nothing is learned of what is not set
+module _ (copies : List ℕ) (declared : List FlatVariable) (f : Fact) where
+  -- in so many turns of a loop
+  unlearned_turns : (x : ℕ) (body : StraightBlock) → IsFree x f
+      → ((w : Words) → Knows (knowing_all copies declared w body) f → Knows w f) → (n i : ℕ) (words : Words)
+      → Knows (turns n i (λ j w. knowing_all copies declared (at_turn x j w) body) words) f → Knows words f
+  unlearned_turns x body free inside zero i words is = is
+  unlearned_turns x body free inside (suc n) i words is =
+      known_beside words x _ f free (inside (at_turn x i words)
+      (unlearned_turns x body free inside n (i + 1) (knowing_all copies declared (at_turn x i words) body) is))
+
   mutual
-    -- nothing is learned of what is not set
-    unlearned : {words after : Words} {statement : StraightTree} {code : StraightBlock}
-        → Simplifies copies declared words statement code after → (f : Fact) → IsUnset f statement → Knows after f
-        → Knows words f
-    unlearned (sets {words = words} {within = within} {x = x} {value = value}) f unset is =
-        known_before declared words within x (simple words value) f unset is
-    unlearned (fills {words = words} {x = x}) f unset is = (without_known words x f is).0
-    unlearned (puts {words = words} {x = x}) f unset is = (without_known words x f is).0
-    unlearned takes f unset is = is
-    unlearned (accepts decides one) f unset is = unlearned_all one f unset.0 is
-    unlearned (declines decides other) f unset is = unlearned_all other f unset.1 is
-    unlearned (chooses {after = after} {next = next} {accepted = accepted} {otherwise = otherwise} one other) f unset
-        is =
-        unlearned_all one f unset.0 (remembered_all after accepted f (unlearned_all other f unset.1
-        (remembered_all next otherwise f is).0)).0
-    unlearned (unrolls low_is high_is few all) f unset is = unlearned_turns all f unset is
-    unlearned (loops {words = words} {after = after} {x = x} {body = body} inner) f unset is =
-        (within_loop words x body f (unlearned_all inner f unset.1 (remembered_all after body f is).0)).0
+    unlearned : (words : Words) (statement : StraightTree) → IsUnset f statement
+        → Knows (knowing copies declared words statement) f → Knows words f
+    unlearned words (set within x value) unset = known_before declared words within x (simple words value) f unset
+    unlearned words (array x size values) unset = λ is. (without_known words x f is).0
+    unlearned words (put within place x size index value) unset = λ is. (without_known words x f is).0
+    unlearned words (take control within condition) unset = λ is. is
+    unlearned words (branch condition accepted otherwise) unset =
+        let second = behind (knowing_all copies declared words accepted) accepted in
+        branch_by copies declared (λ code after. Knows after f → Knows words f) words condition accepted otherwise
+        (λ decides. unlearned_all words accepted unset.0) (λ decides. unlearned_all words otherwise unset.1)
+        (λ is. unlearned_all words accepted unset.0
+        (remembered_all (knowing_all copies declared words accepted) accepted f (unlearned_all second otherwise unset.1
+        (remembered_all (knowing_all copies declared second otherwise) otherwise f is).0)).0)
+    unlearned words (repeats x low high body) unset =
+        let inside = in_loop words x body in
+        loop_by copies declared (λ code after. Knows after f → Knows words f) words x low high body
+        (λ a b low_is high_is. unlearned_turns x body unset.0 (λ w. unlearned_all w body unset.1)
+        (b.value - a.value) a.value words)
+        (λ is. (within_loop words x body f (unlearned_all inside body unset.1
+        (remembered_all (knowing_all copies declared inside body) body f is).0)).0)
 
-    unlearned_turns : {x n i : ℕ} {body code : StraightBlock} {words after : Words}
-        → TurnsSimplify copies declared x body n i words code after → (f : Fact) → IsFree x f × AreUnset f body
-        → Knows after f → Knows words f
-    unlearned_turns no_turn f unset is = is
-    unlearned_turns (a_turn {x = x} {i = i} {words = words} one others) f unset is =
-        known_beside words x _ f unset.0 (unlearned_all one f unset.1 (unlearned_turns others f unset is))
+    unlearned_all : (words : Words) (body : StraightBlock) → AreUnset f body
+        → Knows (knowing_all copies declared words body) f → Knows words f
+    unlearned_all words nothing unset is = is
+    unlearned_all words (first statement rest) unset is =
+        unlearned words statement unset.0 (unlearned_all (knowing copies declared words statement) rest unset.1 is)
 
-    unlearned_all : {words after : Words} {body code : StraightBlock}
-        → AllSimplify copies declared words body code after → (f : Fact) → AreUnset f body → Knows after f
-        → Knows words f
-    unlearned_all ends f unset is = is
-    unlearned_all (goes_on one others) f unset is =
-        unlearned one f unset.0 (unlearned_all others f unset.1 is)
-
-  -- what is known behind an arm or a turn
-  pub behind_part : {words after : Words} {body code : StraightBlock}
-      → AllSimplify copies declared words body code after → (f : Fact) → Knows (behind after body) f
-      → Knows words f × AreUnset f body
-  behind_part {after = after} {body = body} all f is =
-      let found = remembered_all after body f is in (unlearned_all all f found.1 found.0, found.1)
+-- what is known behind an arm or a turn
+pub behind_part : (copies : List ℕ) (declared : List FlatVariable) (words : Words) (body : StraightBlock) (f : Fact)
+    → Knows (behind (knowing_all copies declared words body) body) f → Knows words f × AreUnset f body
+behind_part copies declared words body f is =
+    let found = remembered_all (knowing_all copies declared words body) body f is in
+    (unlearned_all copies declared f words body found.1 found.0, found.1)
 
 -- Runs.
 

@@ -18,17 +18,12 @@ use Rattle.optimisation.proofs.constants_lemmas.KnownLemmas.{nothing_first, Hold
 use Rattle.optimisation.proofs.constants_lemmas.Held.{fits_after_all}
 use Rattle.optimisation.proofs.constants_lemmas.TermLemmas.{result_alike}
 use Rattle.optimisation.proofs.constants_lemmas.Same.{LeadsTo, all_lead}
-use Rattle.optimisation.proofs.constants_lemmas.StatementRules.{AllSimplify, all_simplify}
 use Rattle.optimisation.proofs.over_lemmas.Values.{IsNoWorse, both, IsResultAlike}
 use Rattle.optimisation.proofs.over_lemmas.Whole.{is_replaced}
 
 module _ (copies : List ℕ) (p : StraightProgram) where
   abbrev last_words : Words
   last_words = knowing_all copies p.declared (nothing_known p) p.body
-
-  body_simplifies : AllSimplify copies p.declared (nothing_known p) p.body
-      (simplified_all copies p.declared (nothing_known p) p.body) last_words
-  body_simplifies = all_simplify copies p.declared (nothing_known p) p.body
 
   module _ (typed : IsTypedStraight p) where
     module _ (args : List Arg) (within : AreWithin p.parameters args) where
@@ -43,7 +38,9 @@ module _ (copies : List ℕ) (p : StraightProgram) where
 
       leads : LeadsTo p.turns (start p args) (simplified_all copies p.declared (nothing_known p) p.body) last_words
           (after_all (start p args) p.body) (path_along (start p args) p.body)
-      leads = all_lead p.turns p.profile p.declared p.controls body_simplifies typed.body (start p args) first_holds
+      leads =
+          all_lead p.turns p.profile p.declared p.controls copies (nothing_known p) p.body typed.body (start p args)
+          first_holds
 
       last_holds : Holds types last_words (end_of p args)
       last_holds = record {
