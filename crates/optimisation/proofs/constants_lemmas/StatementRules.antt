@@ -1,5 +1,5 @@
--- What becomes of a branch and of a loop, and what is known after them, by what decides it: what holds of each that they
--- may become holds of what they become.
+-- What becomes of a branch and of a loop, and what is known after them, by what decides it: what holds of each that
+-- they may become holds of what they become.
 use Rattle.std.proofs.Common.{◌≡◌, ℕ, ◌-◌, Bool, true, false, List, Option, None, Some, slice_index, nat_le, refl}
 use Rattle.std.proofs.lemmas.Bool.{cond_both}
 use Rattle.inline.specs.declared.flat.FlatVariable.{FlatVariable}
@@ -10,7 +10,8 @@ use Rattle.optimisation.specs.declared.constants.terms.Numbers.{Numbers}
 use Rattle.optimisation.specs.constants.private.Folding.{simple, constant_of, decision, numbers_of}
 use Rattle.optimisation.specs.constants.private.Known.{Words, behind, in_loop}
 use Rattle.optimisation.specs.constants.private.Simplification.{decided, knowing, knowing_all, simplified}
-use Rattle.optimisation.specs.constants.private.Simplification.{simplified_all, single, turns_code, turns_known, unrolled}
+use Rattle.optimisation.specs.constants.private.Simplification.{simplified_all, single, turns_code, turns_known}
+use Rattle.optimisation.specs.constants.private.Simplification.{unrolled}
 
 module _ (copies : List ℕ) (declared : List FlatVariable) (P : StraightBlock → Words → Type 0) (words : Words) where
   abbrev made : Words → StraightBlock → StraightBlock

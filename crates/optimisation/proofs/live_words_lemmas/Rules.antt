@@ -1,20 +1,17 @@
--- Where sharing fits before some code, it fits behind it.
-use Rattle.std.proofs.Common.{◌≡◌, ℕ, ◌==◌, ◌&&◌, not, Bool, true, false, if◌then◌else◌, [], Option}
+-- What fits before a word is set and where a loop is closed, and what is left out.
+use Rattle.std.proofs.Common.{◌≡◌, ℕ, ◌==◌, ◌&&◌, not, true, false, Option}
 use Rattle.std.proofs.Common.{None, Some, refl}
 use Rattle.std.proofs.lemmas.Bool.{and_parts, eqb-true, not-true}
 use Rattle.inline.specs.Flat.{TermTree}
-use Rattle.branch_removal.specs.Straight.{StraightTree, set, array, put, take, branch, repeats, StraightBlock, nothing}
-use Rattle.branch_removal.specs.Straight.{first, chain}
+use Rattle.branch_removal.specs.Straight.{StraightTree, StraightBlock, nothing}
+use Rattle.branch_removal.specs.Straight.{chain}
 use Rattle.branch_removal.specs.Quiet.{is_quiet}
-use Rattle.optimisation.specs.live_words.private.Held.{Table, Held, share, is_live, is_free, anew, living, setting}
-use Rattle.optimisation.specs.live_words.private.Held.{counting, joined, covers}
-use Rattle.optimisation.specs.live_words.private.Terms.{reading, is_dead}
-use Rattle.optimisation.specs.live_words.private.Gathering.{at_head}
-use Rattle.optimisation.specs.live_words.private.Sharing.{setting_within, before_put, closed, before_bounds, before}
-use Rattle.optimisation.specs.live_words.private.Sharing.{before_all, in_front}
-use Rattle.optimisation.proofs.live_words_lemmas.HeldLemmas.{Grows, grows_on, grows_holding, grows_joined}
-use Rattle.optimisation.proofs.live_words_lemmas.TermLemmas.{grows_reading, grows_reading_all}
-use Rattle.optimisation.proofs.live_words_lemmas.Grown.{grows_head}
+use Rattle.optimisation.specs.live_words.private.Held.{Table, Held, share, is_live, is_free, setting}
+use Rattle.optimisation.specs.live_words.private.Held.{counting, covers}
+use Rattle.optimisation.specs.live_words.private.Terms.{is_dead}
+use Rattle.optimisation.specs.live_words.private.Sharing.{setting_within, closed}
+use Rattle.optimisation.specs.live_words.private.Sharing.{in_front}
+use Rattle.optimisation.proofs.live_words_lemmas.HeldLemmas.{grows_holding}
 
 pub front_chain : (o : Option StraightTree) (rest : StraightBlock)
     → chain (in_front o nothing) rest ≡ in_front o rest
@@ -22,10 +19,10 @@ front_chain None rest = refl
 front_chain (Some statement) rest = refl
 
 module _ (table : Table) where
-  set_fits : (held : Held) (x : ℕ) → (setting table held x).fits ≡ true → held.fits ≡ true
+  pub set_fits : (held : Held) (x : ℕ) → (setting table held x).fits ≡ true → held.fits ≡ true
   set_fits held x f = (and_parts held.fits (is_free held.holders (share table x) x) f).0
 
-  within_fits : (within : Option ℕ) (held : Held) (x : ℕ) → (setting_within table held within x).fits ≡ true
+  pub within_fits : (within : Option ℕ) (held : Held) (x : ℕ) → (setting_within table held within x).fits ≡ true
       → held.fits ≡ true
   within_fits None held x f = set_fits held x f
   within_fits (Some control) held x f = (grows_holding held (share table x) x).fits f
@@ -37,20 +34,6 @@ module _ (table : Table) where
       let outer = and_parts (held.fits && not (is_live table held x)) (is_quiet value) dead in
       let inner = and_parts held.fits (not (is_live table held x)) outer.0 in
       (not-true (is_live table held x) inner.1, outer.1)
-
-  set_before : (held : Held) (within : Option ℕ) (x : ℕ) (value : TermTree) (b : Bool)
-      → (if b then held else reading table [] (setting_within table held within x) value).fits ≡ true
-      → held.fits ≡ true
-  set_before held within x value true f = f
-  set_before held within x value false f =
-      within_fits within held x ((grows_reading table [] (setting_within table held within x) value).fits f)
-
-  grows_put : (held : Held) (x : ℕ) (index value : TermTree)
-      → Grows (living table held x) (before_put table held x index value)
-  grows_put held x index value = grows_on (grows_reading table [] _ value) (grows_reading table [] _ index)
-
-  grows_bounds : (held : Held) (low high : TermTree) → Grows held (before_bounds table low high held)
-  grows_bounds held low high = grows_on (grows_reading table [] held high) (grows_reading table [] _ low)
 
   -- what fits where a loop is closed
   pub record IsClosed (x : ℕ) (head turn : Held) : Type 0 where
@@ -70,30 +53,3 @@ module _ (table : Table) where
         free = outer.0;
         covered = outer.1;
       }
-
-  mutual
-    pub fits_before : (held : Held) (statement : StraightTree) → (before table held statement).fits ≡ true
-        → held.fits ≡ true
-    fits_before held (set within x value) f = set_before held within x value (is_dead table held x value) f
-    fits_before held (array x size values) f =
-        set_fits held x ((grows_reading_all table [] (setting table held x) values).fits f)
-    fits_before held (put within place x size index value) f =
-        (grows_holding held (share table x) x).fits ((grows_put held x index value).fits f)
-    fits_before held (take control within condition) f = (grows_reading table [] held condition).fits f
-    fits_before held (branch condition accepted otherwise) f =
-        let second = before_all table held otherwise in
-        let one = before_all table (anew second held.holders) accepted in
-        let both = joined one 0 second.holders in
-        fits_before_all held otherwise (fits_before_all (anew second held.holders) accepted
-        ((grows_joined one 0 second.holders).fits ((grows_reading table [] both condition).fits f)))
-    fits_before held (repeats x low high body) f =
-        let head = at_head table held x body in
-        let turn = before_all table head body in
-        let parts = is_closed x head turn ((grows_bounds (closed table x head turn) low high).fits f) in
-        (grows_head table held x body).fits (fits_before_all head body parts.turn_fits)
-
-    pub fits_before_all : (held : Held) (body : StraightBlock) → (before_all table held body).fits ≡ true
-        → held.fits ≡ true
-    fits_before_all held nothing f = f
-    fits_before_all held (first statement rest) f =
-        fits_before_all held rest (fits_before (before_all table held rest) statement f)

@@ -6,7 +6,8 @@ use Rattle.inline.specs.Flat.{TermTree, variable, prefix, binary, rotate, conver
 use Rattle.inline.specs.FlatMeaning.{Values}
 use Rattle.branch_removal.specs.Straight.{StraightTree, set, array, put, take, branch, repeats, StraightBlock, nothing}
 use Rattle.branch_removal.specs.Straight.{first}
-use Rattle.branch_removal.specs.StraightMeaning.{StraightState, holds, with_variable, value_at, counted}
+use Rattle.branch_removal.specs.StraightMeaning.{StraightState, holds, with_variable, value_at, counted, after}
+use Rattle.branch_removal.specs.StraightMeaning.{after_all}
 use Rattle.optimisation.specs.live_words.private.Held.{Table, Holders, Held, share, is_live, anew, fitting}
 use Rattle.optimisation.specs.live_words.private.Held.{living, setting, counting, joined}
 use Rattle.optimisation.specs.live_words.private.Terms.{reading, reading_all, renamed, is_dead}
@@ -17,7 +18,7 @@ use Rattle.optimisation.proofs.live_words_lemmas.HeldLemmas.{Grows, grows_holdin
 use Rattle.optimisation.proofs.live_words_lemmas.HeldLemmas.{joined_holds, covers_holds, AreAlike, alike_before}
 use Rattle.optimisation.proofs.live_words_lemmas.HeldLemmas.{set_alike, under_alike, dead_alike, alike_living}
 use Rattle.optimisation.proofs.live_words_lemmas.Rules.{front_chain, dead_parts, IsClosed, is_closed}
-use Rattle.optimisation.proofs.live_words_lemmas.Rules.{fits_before, fits_before_all}
+use Rattle.optimisation.proofs.live_words_lemmas.Rules.{set_fits, within_fits}
 use Rattle.optimisation.proofs.live_words_lemmas.Grown.{grows_head}
 use Rattle.optimisation.proofs.over_lemmas.Values.{same_path, both, alone, at_index, IsAlike, AreAllAlike}
 use Rattle.optimisation.proofs.over_lemmas.Values.{prefix_alike, binary_alike, rotate_alike, convert_alike}
@@ -126,21 +127,26 @@ module _ (table : Table) where
     set_follows : (within : Option ℕ) (held : Held) (x : ℕ) (value : TermTree) {s u : StraightState} (b : Bool)
         → is_dead table held x value ≡ b
         → AreReady (if b then held else reading table [] (setting_within table held within x) value) s u
-        → FollowsAt (Alike held.holders) most s u (set within x value)
+        → (held.fits ≡ true)
+        × FollowsAt (Alike held.holders) most s u (set within x value)
         (in_front (if b then None else Some (set within (share table x) (renamed table value))) nothing)
-    set_follows within held x value {s} true dead ready =
-        record {
-          beside = dead_beside held x (value_at s value ∷ []) (holds s within) (dead_parts table held x value dead).0
-              ready.beside;
-          path = record { fine = λ fine. tt };
-        }
+    set_follows within held x value {s} true dead ready = (
+      ready.fits,
+      record {
+        beside = dead_beside held x (value_at s value ∷ []) (holds s within) (dead_parts table held x value dead).0
+            ready.beside;
+        path = record { fine = λ fine. tt };
+      },
+    )
     set_follows within held x value {s} {u} false dead ready =
-        let one = reads (setting_within table held within x) value ready in
-        record {
-          beside = within_both within held x (value_at s value ∷ []) (value_at u (renamed table value) ∷ []) one.1
-              (ap (λ v. v ∷ []) one.0.value);
-          path = alone most one.0.path;
-        }
+        let one = reads (setting_within table held within x) value ready in (
+          within_fits table within held x one.1.fits,
+          record {
+            beside = within_both within held x (value_at s value ∷ []) (value_at u (renamed table value) ∷ []) one.1
+                (ap (λ v. v ∷ []) one.0.value);
+            path = alone most one.0.path;
+          },
+        )
 
     -- where a turn begins
     turn_begins : (x : ℕ) (head turn : Held) → IsClosed table x head turn → (i : ℕ) (s u : StraightState)
@@ -169,63 +175,79 @@ module _ (table : Table) where
         })
 
     mutual
+      -- what fits before a statement fits behind it, and it is followed
       follows : (held : Held) (statement : StraightTree) {s u : StraightState}
           → AreReady (before table held statement) s u
-          → FollowsAt (Alike held.holders) most s u statement (in_front (shared table held statement) nothing)
+          → (held.fits ≡ true)
+          × FollowsAt (Alike held.holders) most s u statement (in_front (shared table held statement) nothing)
       follows held (set within x value) ready =
           set_follows within held x value (is_dead table held x value) refl ready
       follows held (array x size values) ready =
-          let all = reads_all (setting table held x) values ready in
-          record { beside = set_both held x _ _ all.1 (all.0.filled size); path = alone most all.0.path }
+          let all = reads_all (setting table held x) values ready in (
+            set_fits table held x all.1.fits,
+            record { beside = set_both held x _ _ all.1 (all.0.filled size); path = alone most all.0.path },
+          )
       follows held (put within place x size index value) {s} {u} ready =
           let one = living table held x in
           let i = reads (reading table [] one value) index ready in
           let v = reads one value i.1 in
-          let same = alike_living table held x s.variables u.variables v.1.fits v.1.beside.variables in
-          record {
-            beside = under_both within held x (slice_set (s.variables x) (value_at s index) (value_at s value)) _ v.1
-                (rw (← same, i.0.value, v.0.value) refl);
-            path = alone most (both most i.0.path (at_index most place size i.0.value v.0.path));
-          }
+          let same = alike_living table held x s.variables u.variables v.1.fits v.1.beside.variables in (
+            (grows_holding held (share table x) x).fits v.1.fits,
+            record {
+              beside = under_both within held x (slice_set (s.variables x) (value_at s index) (value_at s value)) _ v.1
+                  (rw (← same, i.0.value, v.0.value) refl);
+              path = alone most (both most i.0.path (at_index most place size i.0.value v.0.path));
+            },
+          )
       follows held (take control within condition) ready =
-          let one = reads held condition ready in
-          record {
-            beside = taken_beside (Alike held.holders) control within one.1.beside one.0.value;
-            path = alone most one.0.path;
-          }
+          let one = reads held condition ready in (
+            one.1.fits,
+            record {
+              beside = taken_beside (Alike held.holders) control within one.1.beside one.0.value;
+              path = alone most one.0.path;
+            },
+          )
       follows held (branch condition accepted otherwise) ready =
           let second = before_all table held otherwise in
           let one = before_all table (anew second held.holders) accepted in
           let chooser = reads (joined one 0 second.holders) condition ready in
           let at_one = ready_before (grows_joined one 0 second.holders) chooser.1 in
-          let fits = fits_before_all table (anew second held.holders) accepted at_one.fits in
-          branch_follows (Alike held.holders) most chooser.0 (all_follow (anew second held.holders) accepted at_one)
-          (all_follow held otherwise (ready_second one second fits chooser.1))
-      follows held (repeats x low high body) ready =
+          let first_arm = all_follow (anew second held.holders) accepted at_one in
+          let second_arm = all_follow held otherwise (ready_second one second first_arm.0 chooser.1) in
+          (second_arm.0, branch_follows (Alike held.holders) most chooser.0 first_arm.1 second_arm.1)
+      follows held (repeats x low high body) {s} {u} ready =
           let head = at_head table held x body in
           let turn = before_all table head body in
           let last = closed table x head turn in
           let from = reads (reading table [] last high) low ready in
           let to = reads last high from.1 in
           let parts = is_closed table x head turn to.1.fits in
-          let fits = fits_before_all table head body parts.turn_fits in
+          let fits = (all_follow head body (turn_begins x head turn parts 0 s u to.1.beside)).0 in
           let run = loop_follows (Alike head.holders) most x to.1.beside from.0 to.0
-          (λ i v w at. all_follow head body (turn_begins x head turn parts i v w at)) in
-          rw parts.own (record {
-            beside = (ready_before (grows_head table held x body) (record {
-              fits = fits;
-              beside = run.beside;
-            })).beside;
-            path = run.path;
-          })
+          (λ i v w at. (all_follow head body (turn_begins x head turn parts i v w at)).1) in (
+            (grows_head table held x body).fits fits,
+            rw parts.own (record {
+              beside = (ready_before (grows_head table held x body) (record {
+                fits = fits;
+                beside = run.beside;
+              })).beside;
+              path = run.path;
+            }),
+          )
 
       pub all_follow : (held : Held) (body : StraightBlock) {s u : StraightState}
           → AreReady (before_all table held body) s u
-          → Follows (Alike held.holders) most s u body (shared_all table held body)
-      all_follow held nothing ready = record { beside = ready.beside; path = same_path most }
-      all_follow held (first statement rest) ready =
+          → (held.fits ≡ true) × Follows (Alike held.holders) most s u body (shared_all table held body)
+      all_follow held nothing ready = (ready.fits, record { beside = ready.beside; path = same_path most })
+      all_follow held (first statement rest) {s} {u} ready =
           let behind = before_all table held rest in
+          let code = in_front (shared table behind statement) nothing in
           let one = follows behind statement ready in
-          rw (← front_chain (shared table behind statement) (shared_all table held rest))
-          (then_follows one
-          (all_follow held rest (record { fits = fits_before table behind statement ready.fits; beside = one.beside })))
+          let others = all_follow held rest {s = after s statement} {u = after_all u code} (record {
+            fits = one.0;
+            beside = one.1.beside;
+          }) in (
+            others.0,
+            rw (← front_chain (shared table behind statement) (shared_all table held rest))
+                (then_follows one.1 others.1),
+          )

@@ -27,7 +27,6 @@ use Rattle.optimisation.specs.live_words.private.Whole.{nothing_live, all_fits}
 use Rattle.optimisation.proofs.live_words_lemmas.HeldLemmas.{Grows, grows_same, grows_on, grows_holding, alike_living}
 use Rattle.optimisation.proofs.live_words_lemmas.HeldLemmas.{alike_first}
 use Rattle.optimisation.proofs.live_words_lemmas.TermLemmas.{grows_reading}
-use Rattle.optimisation.proofs.live_words_lemmas.Rules.{fits_before_all}
 use Rattle.optimisation.proofs.live_words_lemmas.Same.{AreReady, Alike, ready_before, reads, all_follow}
 use Rattle.optimisation.proofs.over_lemmas.Values.{same_path, both, IsResultAlike}
 use Rattle.optimisation.proofs.over_lemmas.Beside.{Follows}
@@ -91,11 +90,9 @@ module _ (table : Table) where
     abbrev code : StraightBlock
     code = shared_all table (at_end table held p) p.body
 
-    end_fits : (at_end table held p).fits ≡ true
-    end_fits = fits_before_all table (at_end table held p) p.body fits
-
     module _ (args : List Arg) where
-      runs : Follows (Alike table (at_end table held p).holders) p.turns (start p args) (start p args) p.body code
+      runs : ((at_end table held p).fits ≡ true)
+          × Follows (Alike table (at_end table held p).holders) p.turns (start p args) (start p args) p.body code
       runs =
           all_follow table p.turns (at_end table held p) p.body (record {
             fits = fits;
@@ -106,7 +103,7 @@ module _ (table : Table) where
           })
 
       last : AreReady table (at_end table held p) (after_all (start p args) p.body) (after_all (start p args) code)
-      last = record { fits = end_fits; beside = runs.beside }
+      last = record { fits = runs.0; beside = runs.1.beside }
 
       result : IsResultAlike p.turns (end_of p args) (end_of (over table held p) args) p.value
           (option_map (renamed table) p.value)
@@ -121,7 +118,7 @@ module _ (table : Table) where
     pub shared_replaced : IsStraight (over table held p) → IsReplaced p (over table held p)
     shared_replaced =
         is_replaced p p.declared code (option_map (renamed table) p.value)
-        (λ args within. (same_outcome args, both p.turns (runs args).path (result args).path))
+        (λ args within. (same_outcome args, both p.turns (runs args).1.path (result args).path))
 
 -- a program whose sharing fits
 pub replaced : (table : Table) (p : StraightProgram) → all_fits (at_start table (nothing_live p 0) p) ≡ true
