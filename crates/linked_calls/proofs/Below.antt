@@ -2,6 +2,9 @@
 pub use Rattle.codegen.proofs.expression_code_lemmas.Arithmetic.{far_address, lower_fits, near_address, parts}
 pub use Rattle.codegen.proofs.expression_code_lemmas.Arithmetic.{upper_fits}
 pub use Rattle.codegen.proofs.expression_code_lemmas.Moves.{register-at, unwritten, written}
+pub use Rattle.codegen.proofs.expression_code_lemmas.OperatorCode.{constant_after, constant_plain}
+pub use Rattle.codegen.proofs.program_logic_lemmas.Computing.{after_append, all_straight, no_access, only_computes}
+pub use Rattle.codegen.proofs.program_logic_lemmas.Computing.{plain_append, registers_after, registers_of}
 pub use Rattle.codegen.proofs.program_logic_lemmas.Face.{
   AreFit,
   AreMet,
@@ -21,6 +24,7 @@ pub use Rattle.codegen.proofs.program_logic_lemmas.Face.{
   found,
   number_or_zero,
   one_within,
+  register_after,
   register_kept,
   rest_fit,
   rest_met,

@@ -27,8 +27,7 @@ use Rattle.linked_calls.proofs.Below.{AreFit, AreMet, after, after_all, are_stra
 use Rattle.linked_calls.proofs.Below.{far_address, is_some-with_number, lower_fits, near_address, number_or_zero, parts}
 use Rattle.linked_calls.proofs.Below.{register-at, register_kept, unwritten, upper_fits, written}
 use Rattle.linked_calls.proofs.Bytes.{number_there}
-use Rattle.linked_calls.proofs.Pieces.{Setting, Runs, silent_runs, straight_runs, then_runs}
-use Rattle.linked_calls.proofs.Within.{IsNone}
+use Rattle.linked_calls.proofs.Pieces.{IsNone, Setting, Runs, silent_runs, straight_runs, then_runs}
 
 -- One register.
 

@@ -1,6 +1,6 @@
 -- Pieces of code, wherever they stand: an exact number of turns, and one list for all states that they may begin in, of
 -- allowed accesses alone. So what follows in a list is known before any state is given, which is equal leakage.
-use Rattle.std.proofs.Common.{◌≡◌, ℕ, ◌+◌, ◌*◌, Bool, true, false, List, [], ◌∷◌, ◌++◌, length, Option, None, subst}
+use Rattle.std.proofs.Common.{◌≡◌, ℕ, ◌+◌, ◌*◌, Bool, true, false, List, [], ◌∷◌, ◌++◌, length, Option, None, subst, sym, ◌∙◌}
 use Rattle.std.proofs.Common.{arith, refl, length-append}
 use Rattle.rv_code.specs.declared.instructions.Instr.{Instr}
 use Rattle.rv_machine.specs.Machine.{Code}
@@ -10,9 +10,13 @@ use Rattle.rv_machine.specs.Machine.{State}
 use Rattle.codegen.specs.program_logic.Turns.{LeadsWithin}
 use Rattle.linked_calls.specs.Does.{AreThere, Data, Does, at}
 use Rattle.linked_calls.proofs.Below.{AreFit, AreMet, Placed, Placed-left, Placed-right, after_all, are_straight}
-use Rattle.linked_calls.proofs.Below.{shown_by}
+use Rattle.linked_calls.proofs.Below.{register_after, shown_by}
 use Rattle.linked_calls.proofs.Below.{LeadsWithin-append, LeadsWithin-weaken}
-use Rattle.linked_calls.proofs.Within.{IsNone, silent_within, still_within}
+use Rattle.linked_calls.proofs.Within.{straight_within}
+
+-- no access
+abbrev pub IsNone : Option Event → Type 0
+IsNone event = event ≡ None
 
 -- the code, and the accesses that are allowed
 pub record Setting : Type 1 where
@@ -42,7 +46,9 @@ module _ (z : Setting) where
     shown = shown_by p is places;
     runs = λ s given. record {
       end = after_all is places s;
-      leads = still_within z.code z.allowed z.silent works sp p is places s plain still placed fit (met s given)
+      leads = straight_within z.code z.allowed works (z.allowed sp) (z.silent sp) (λ x. x ≡ sp)
+          (λ x event here may. subst (λ y. z.allowed y event) (sym here) may)
+          (λ i a c ok here. register_after works i a c 2 ok still ∙ here) p is places s plain placed fit (met s given)
           (stands s given);
       done = done s given;
     };
@@ -57,7 +63,9 @@ module _ (z : Setting) where
     shown = shown_by p is places;
     runs = λ s given. record {
       end = after_all is places s;
-      leads = silent_within z.code z.allowed z.silent works p is places s plain placed fit (met s given);
+      leads = straight_within z.code z.allowed works IsNone refl (λ x. Unit {0})
+          (λ x event here none. subst (λ (e : Option Event). z.allowed x e) (sym none) (z.silent x))
+          (λ i a c ok here. tt) p is places s plain placed fit (met s given) tt;
       done = done s given;
     };
   }
@@ -87,6 +95,14 @@ module _ (z : Setting) where
               done = both s first.end second.end given first.done second.done;
             };
       }
+
+  -- and where the first makes of a state what a function gives
+  pub makes_then : {P P' : Data → Type 0} {f : Data → Data} {R S : Data → Data → Type 0} {m n : ℕ} (xs ys : List Instr)
+      → Runs z m xs P (λ s t. t ≡ f s) → Runs z n ys P' R
+      → ((s : Data) → P s → P' (f s)) → ((s u : Data) → P s → R (f s) u → S s u) → Runs z (m + n) (xs ++ ys) P S
+  makes_then {P' = P'} {R = R} xs ys one two link both =
+      then_runs xs ys one two (λ s t given made. subst P' (sym made) (link s given))
+      (λ s t u given made more. both s u given (subst (λ (x : Data). R x u) made more))
 
   -- asked more, giving less
   pub weaken_runs : {P P' : Data → Type 0} {R R' : Data → Data → Type 0} {n : ℕ} (is : List Instr) → Runs z n is P R

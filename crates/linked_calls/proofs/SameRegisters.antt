@@ -1,8 +1,8 @@
 -- Registers that hold what others hold: by a list, one after another.
 use Rattle.std.specs.Prelude.{not}
-use Rattle.std.proofs.Common.{◌≡◌, ◌≢◌, ℕ, ◌==◌, Bool, true, ◌&&◌, List, [], ◌∷◌, map, All, refl, ap₂, ◌∙◌, arith}
+use Rattle.std.proofs.Common.{◌≡◌, ◌≢◌, ℕ, ◌==◌, Bool, true, ◌&&◌, List, [], ◌∷◌, map, All, refl, ap₂, ◌∙◌, arith, ne_eqb}
 use Rattle.std.proofs.lemmas.Bool.Decides.{nat_tests}
-use Rattle.std.proofs.lemmas.List.Elements.{All-cons, All-nil}
+use Rattle.std.proofs.lemmas.List.Elements.{All-cons, All-head, All-nil, All-tail}
 use Rattle.linked_calls.proofs.Below.{both_left, both_right}
 
 -- two functions agree on each of a list
@@ -15,7 +15,7 @@ abbrev pub IsNone : List ℕ → ℕ → Type 0
 IsNone [] q = Unit {0}
 IsNone (k ∷ ks) q = (q ≢ k) × IsNone ks q
 
-abbrev is_none : List ℕ → ℕ → Bool
+abbrev pub is_none : List ℕ → ℕ → Bool
 is_none [] q = true
 is_none (k ∷ ks) q = not (q == k) && is_none ks q
 
@@ -36,6 +36,11 @@ pub all_differ : (ks : List ℕ) (q : ℕ) → IsNone ks q → All (λ k. q ≢ 
 all_differ [] q none = All-nil (λ k. q ≢ k)
 all_differ (k ∷ ks) q none = All-cons (λ x. q ≢ x) k ks none.0 (all_differ ks q none.1)
 
+pub is_none_of : (ks : List ℕ) (q : ℕ) → All (λ k. q ≢ k) ks → is_none ks q ≡ true
+is_none_of [] q all = refl
+is_none_of (k ∷ ks) q all =
+    rw (ne_eqb q k (All-head (λ x. q ≢ x) k ks all), is_none_of ks q (All-tail (λ x. q ≢ x) k ks all)) refl
+
 -- functions that agree beside some numbers agree on a list without them
 pub same_beside : (ks : List ℕ) (f g : ℕ → ℕ) → ((q : ℕ) → IsNone ks q → f q ≡ g q) → (rs : List ℕ)
     → are_none ks rs ≡ true → AreSame f g rs
@@ -53,6 +58,20 @@ same_then f g h (r ∷ rs) one other = (one.0 ∙ other.0, same_then f g h rs on
 pub still_same : (ks : List ℕ) (f g h : ℕ → ℕ) → ((q : ℕ) → IsNone ks q → f q ≡ g q) → (rs : List ℕ)
     → are_none ks rs ≡ true → AreSame g h rs → AreSame f h rs
 still_same ks f g h beside rs ok same = same_then f g h rs (same_beside ks f g beside rs ok) same
+
+-- as they do where their values on it are the same
+heads : (x y : ℕ) (xs ys : List ℕ) → x ∷ xs ≡ y ∷ ys → x ≡ y
+heads x y xs ys e = cc
+
+tails : (x y : ℕ) (xs ys : List ℕ) → x ∷ xs ≡ y ∷ ys → xs ≡ ys
+tails x y xs ys e = cc
+
+pub same_values : (f g : ℕ → ℕ) (rs : List ℕ) → map f rs ≡ map g rs → AreSame f g rs
+same_values f g [] is = tt
+same_values f g (r ∷ rs) is = (
+  heads (f r) (g r) (map f rs) (map g rs) is,
+  same_values f g rs (tails (f r) (g r) (map f rs) (map g rs) is),
+)
 
 pub values_same : (f g : ℕ → ℕ) (rs : List ℕ) → AreSame f g rs → map f rs ≡ map g rs
 values_same f g [] same = refl
