@@ -32,6 +32,7 @@ pub use Rattle.codegen.proofs.program_logic_lemmas.Face.{
   shown_by,
   stands,
   straight_code_leads,
+  with_result,
 }
 pub use Rattle.hepurita.proofs.DataLemmas.{bytes_within}
 pub use Rattle.hepurita.proofs.ElementLemmas.{is_some-with_numbers, number_there, numbers_at-more}

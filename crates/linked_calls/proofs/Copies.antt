@@ -2,7 +2,7 @@
 -- elements, in which x5 goes through the caller's array up to x7, and x6 through the slot.
 use Rattle.std.specs.Prelude.{◌⊎◌, is_some, unwrap_or}
 use Rattle.std.proofs.Common.{◌≡◌, ◌≢◌, ℕ, suc, ◌+◌, ◌*◌, ◌%◌, ◌^◌, ◌<◌, ◌≤◌, Bool, true, false, List, [], ◌∷◌, ◌++◌}
-use Rattle.std.proofs.Common.{length, map, inl, inr, refl, sym, ap, ap₂, ◌∙◌, subst, arith, append_assoc, length-append}
+use Rattle.std.proofs.Common.{length, map, inl, inr, refl, sym, ap, ap₂, ◌∙◌, subst, arith, append_assoc}
 use Rattle.std.proofs.lemmas.List.{length-map, map-append, map-id}
 use Rattle.codegen.specs.Loaded.{with_numbers, numbers_at}
 use Rattle.codegen.specs.expression_code.TermCode.{load_code, constant_code}
@@ -17,6 +17,7 @@ use Rattle.rv_code.specs.declared.operations.RegisterOperation.TheVariants.{Add}
 use Rattle.rv_machine.specs.Bytes.{ByteMap, number_at, with_number}
 use Rattle.rv_machine.specs.Effects.{sum_of}
 use Rattle.rv_machine.specs.Machine.{Code}
+use Rattle.rv_machine.specs.Registers.{with_register}
 use Rattle.linked_calls.specs.Copies.{ArrayIsHandedBack, ArrayIsTaken, AreApart, CanBeCopied, HasArray, IsCopying}
 use Rattle.linked_calls.specs.Copies.{IsHandedBack, IsTaken, OthersAsBefore, Pointed, place_of, slot_of}
 use Rattle.linked_calls.specs.Does.{Data}
@@ -24,15 +25,16 @@ use Rattle.linked_calls.specs.FunctionCode.{argument_code, argument_offset, arra
 use Rattle.linked_calls.specs.FunctionCode.{until_equal}
 use Rattle.linked_calls.specs.Sections.{element_turns}
 use Rattle.linked_calls.specs.Stretches.{AreData}
-use Rattle.linked_calls.proofs.Below.{number_or_zero, register_kept}
+use Rattle.linked_calls.proofs.Below.{number_or_zero, register_kept, unwritten, with_result}
 use Rattle.linked_calls.proofs.Bytes.{number_beside, number_there, numbers_count, is_some-with_numbers, numbers_more}
 use Rattle.linked_calls.proofs.Bytes.{numbers_then}
 use Rattle.linked_calls.proofs.CopyElements.{Reached, chosen, copied_code, copied_value, copy_fit, copy_leaves}
 use Rattle.linked_calls.proofs.CopyElements.{copy_length, copy_made, copy_met, copy_plain, copy_works, element_even}
 use Rattle.linked_calls.proofs.CopyElements.{element_lies, elements_fit, some_bytes, source, target}
 use Rattle.linked_calls.proofs.Loops.{loop}
-use Rattle.linked_calls.proofs.Parts.{Sets, load_runs, same_number, sum_runs}
-use Rattle.linked_calls.proofs.Pieces.{Runs, Setting, as_code, in_turns, placed, straight_runs, then_runs, weaken_runs}
+use Rattle.linked_calls.proofs.Parts.{load_runs, number_then, same_number}
+use Rattle.linked_calls.proofs.Pieces.{Runs, Setting, as_straight, in_turns, makes_on, makes_then, placed, straight_runs}
+use Rattle.linked_calls.proofs.Pieces.{weaken_runs}
 
 -- What holds of both of two, or of the two in both orders, holds of those that are chosen.
 
@@ -54,7 +56,7 @@ first_is : (inward : Bool) (regs : ℕ → ℕ) → regs 5 ≡ chosen inward (so
 first_is true regs = refl
 first_is false regs = refl
 
-regrouped : (a b c d e : List Instr) → (a ++ (b ++ c)) ++ (d ++ e) ≡ a ++ b ++ c ++ d ++ e
+regrouped : (a b c d e : List Instr) → a ++ (b ++ c) ++ (d ++ e) ≡ a ++ b ++ c ++ d ++ e
 regrouped a b c d e = simp append_assoc
 
 module _ (code : Code) (image : Fields) (slot : Slot) (spot : Pointed) (can : CanBeCopied image slot spot)
@@ -256,98 +258,52 @@ module _ (code : Code) (image : Fields) (slot : Slot) (spot : Pointed) (can : Ca
 
   -- The bounds.
 
-  -- x5 is where the array is, and x6 where the slot is
-  record Located (s t : Data) : Type 0 where
-    pointer : t.regs 5 ≡ spot.pointer
-    slot_at : t.regs 6 ≡ sum_of slot.offset (s.regs 2)
-    others : (q : ℕ) → q ≢ 5 → q ≢ 6 → t.regs q ≡ s.regs q
-    same : t.bytes ≡ s.bytes
+  -- what stands where the pointer to the array is
+  abbrev raw : Data → ℕ
+  raw s = number_or_zero (number_at s.bytes 4 (place_of image spot))
 
-  -- and x7 where the array ends
-  record Bounded (s t : Data) : Type 0 where
-    begins : BeginsCopy t
-    others : (q : ℕ) → q ≢ 5 → q ≢ 6 → q ≢ 7 → t.regs q ≡ s.regs q
-    same : t.bytes ≡ s.bytes
+  -- it in x5, and the slot's place in x6
+  abbrev located : Data → Data
+  located s = with_result 6 (sum_of slot.offset (s.regs 2)) (with_result 5 (raw s) s)
 
-  pointer_runs : Runs z (length (load_code 5 (argument_offset image spot.index)))
-      (load_code 5 (argument_offset image spot.index)) (HasArray image slot spot) (Sets 5 (λ s. spot.pointer))
-  pointer_runs =
-      let offset = argument_offset image spot.index in
-      weaken_runs z {P' = HasArray image slot spot} {R' = Sets 5 (λ s. spot.pointer)} (load_code 5 offset)
-      (load_runs z spot.frame offset (omega arith) can.place_ends 5 (omega arith) (λ e. omega arith)
-      (λ e. omega arith) (inl refl, refl))
-      (λ s has. record { stack = has.stack; there = ap is_some has.argument })
-      (λ s t has sets. record {
-        there = sets.there ∙ ap (λ o. unwrap_or o 0) has.argument;
-        others = sets.others;
-        same = sets.same;
-      })
-
-  located_runs : Runs z
-      (length (load_code 5 (argument_offset image spot.index)) + (length (constant_code 6 slot.offset) + 1))
-      (load_code 5 (argument_offset image spot.index) ++ (constant_code 6 slot.offset ++ Register Add 6 6 2 ∷ []))
-      (HasArray image slot spot) Located
-  located_runs =
-      then_runs z {P = HasArray image slot spot} {P' = λ s. Unit {0}} {S = Located}
-      (load_code 5 (argument_offset image spot.index)) (constant_code 6 slot.offset ++ Register Add 6 6 2 ∷ [])
-      pointer_runs
-      (sum_runs z 6 slot.offset (omega arith) (λ e. omega arith) (omega arith) 2 (omega arith)
-      (λ e. omega arith) (λ e. omega arith))
-      (λ s t has one. tt)
-      (λ s t u has one two. record {
-        pointer = two.others 5 (λ e. omega arith) ∙ one.there;
-        slot_at = two.there ∙ ap (λ x. sum_of slot.offset x) (one.others 2 (λ e. omega arith));
-        others = λ q g h. two.others q h ∙ one.others q g;
-        same = two.same ∙ one.same;
-      })
-
-  bounds_begin : (s u : Data) → HasArray image slot spot s → u.regs 2 ≡ s.regs 2 → u.regs 5 ≡ spot.pointer
-      → u.regs 6 ≡ sum_of slot.offset (s.regs 2) → u.regs 7 ≡ sum_of (array_bytes slot) spot.pointer
-      → u.bytes ≡ s.bytes → BeginsCopy u
-  bounds_begin s u has stack pointer slot_at stop same =
-      let there = λ (x : ℕ) (data_there : AreData x (x + n * k) s.bytes).
-      subst (λ (b : ByteMap). AreData x (x + n * k) b) (sym same) data_there in
-      let array = there spot.pointer has.array_there in
-      let held = there (slot_of slot spot) has.slot_there in
-      record {
-        stack = stack ∙ has.stack;
-        pointer = pointer;
-        slot_at = slot_at ∙ omega arith;
-        stop = stop ∙ omega arith;
-        from_there = both inward (λ x. AreData x (x + n * k) u.bytes) spot.pointer (slot_of slot spot) array held;
-        to_there = both inward (λ x. AreData x (x + n * k) u.bytes) (slot_of slot spot) spot.pointer held array;
-      }
+  -- and where the array ends in x7
+  abbrev bounded : Data → Data
+  bounded s = with_result 7 (sum_of (array_bytes slot) (raw s)) (located s)
 
   bounds_runs : Runs z (length (bounds_code image spot.index slot)) (bounds_code image spot.index slot)
-      (HasArray image slot spot) Bounded
+      (HasArray image slot spot) (λ s t. t ≡ bounded s)
   bounds_runs =
-      let load = load_code 5 (argument_offset image spot.index) in
-      let slots = constant_code 6 slot.offset in
-      let size = constant_code 7 (array_bytes slot) in
-      let first = load ++ (slots ++ Register Add 6 6 2 ∷ []) in
-      let second = size ++ Register Add 7 7 5 ∷ [] in
-      let is = regrouped load slots (Register Add 6 6 2 ∷ []) size (Register Add 7 7 5 ∷ []) in
-      let a = length-append load (slots ++ Register Add 6 6 2 ∷ []) in
-      let b = length-append slots (Register Add 6 6 2 ∷ []) in
-      let c = length-append size (Register Add 7 7 5 ∷ []) in
-      let d = length-append first second in
-      let all : length (first ++ second) ≡ length (bounds_code image spot.index slot) =
-      ap (λ (xs : List Instr). length xs) is in
-      in_turns z (bounds_code image spot.index slot) (omega arith ∙ all)
-      (as_code z (first ++ second) (bounds_code image spot.index slot) is
-      (then_runs z {P = HasArray image slot spot} {P' = λ s. Unit {0}} {S = Bounded} first second located_runs
-      (sum_runs z 7 (array_bytes slot) (omega arith) (λ e. omega arith) (omega arith) 5 (omega arith)
-      (λ e. omega arith) (λ e. omega arith))
-      (λ s t has located. tt)
-      (λ s t u has located sets. record {
-        begins = bounds_begin s u has
-            (sets.others 2 (λ e. omega arith) ∙ located.others 2 (λ e. omega arith) (λ e. omega arith))
-            (sets.others 5 (λ e. omega arith) ∙ located.pointer)
-            (sets.others 6 (λ e. omega arith) ∙ located.slot_at)
-            (sets.there ∙ ap (λ x. sum_of (array_bytes slot) x) located.pointer) (sets.same ∙ located.same);
-        others = λ q g h l. sets.others q l ∙ located.others q g h;
-        same = sets.same ∙ located.same;
-      })))
+      let offset = argument_offset image spot.index in
+      let load = load_code 5 offset in
+      let first = constant_code 6 slot.offset ++ Register Add 6 6 2 ∷ [] in
+      let second = constant_code 7 (array_bytes slot) ++ Register Add 7 7 5 ∷ [] in
+      as_straight z (load ++ first ++ second) (bounds_code image spot.index slot)
+      (regrouped load (constant_code 6 slot.offset) (Register Add 6 6 2 ∷ []) (constant_code 7 (array_bytes slot))
+      (Register Add 7 7 5 ∷ []))
+      (makes_on z {P' = λ s. Unit {0}} {f = located} (load ++ first) second
+      (makes_on z {P' = λ s. Unit {0}} {f = λ s. with_result 5 (raw s) s} load first
+      (load_runs z spot.frame offset (omega arith) can.place_ends
+      (λ s has. record { stack = has.stack; there = ap is_some has.argument })
+      5 (omega arith) (λ e. omega arith) (λ e. omega arith) (inl refl, refl))
+      (number_then z 6 slot.offset (omega arith) (λ e. omega arith) (omega arith) Add 6 2 (omega arith) (omega arith))
+      (λ s has. tt) (λ s u has made. made))
+      (number_then z 7 (array_bytes slot) (omega arith) (λ e. omega arith) (omega arith) Add 7 5 (omega arith)
+      (omega arith))
+      (λ s has. tt) (λ s u has made. made))
+
+  bounds_begin : (s : Data) → HasArray image slot spot s → BeginsCopy (bounded s)
+  bounds_begin s has =
+      let pointer : raw s ≡ spot.pointer = ap number_or_zero has.argument in
+      let array = has.array_there in
+      let held = has.slot_there in
+      record {
+        stack = has.stack;
+        pointer = pointer;
+        slot_at = omega (arith, has.stack);
+        stop = ap (λ x. sum_of (array_bytes slot) x) pointer ∙ omega arith;
+        from_there = both inward (λ x. AreData x (x + n * k) s.bytes) spot.pointer (slot_of slot spot) array held;
+        to_there = both inward (λ x. AreData x (x + n * k) s.bytes) (slot_of slot spot) spot.pointer held array;
+      }
 
   -- The whole.
 
@@ -358,13 +314,15 @@ module _ (code : Code) (image : Fields) (slot : Slot) (spot : Pointed) (can : Ca
   array_runs : Runs z (length (bounds_code image spot.index slot) + element_turns (copied_code inward kind) k)
       (bounds_code image spot.index slot ++ until_equal 5 7 (copied_code inward kind)) (HasArray image slot spot) Copied
   array_runs =
-      then_runs z {P = HasArray image slot spot} {S = Copied} (bounds_code image spot.index slot)
+      makes_then z {P = HasArray image slot spot} {f = bounded} {S = Copied} (bounds_code image spot.index slot)
       (until_equal 5 7 (copied_code inward kind)) bounds_runs
-      (in_turns z (until_equal 5 7 (copied_code inward kind)) (omega arith) copy_runs)
-      (λ s t has bounded. bounded.begins)
-      (λ s t u has bounded copies. record {
-        bytes = copies.bytes ∙ ap (copied k) bounded.same;
-        others = λ q g h l m. copies.others q g h m ∙ bounded.others q g h l;
+      (in_turns z (until_equal 5 7 (copied_code inward kind)) (omega arith) copy_runs) bounds_begin
+      (λ s u has copies. record {
+        bytes = copies.bytes;
+        others = λ q g h l m. copies.others q g h m
+            ∙ unwritten (located s).regs 7 (sum_of (array_bytes slot) (raw s)) q l
+            ∙ unwritten (with_register s.regs 5 (raw s)) 6 (sum_of slot.offset (s.regs 2)) q h
+            ∙ unwritten s.regs 5 (raw s) q g;
       })
 
 pub array_is_taken : ArrayIsTaken

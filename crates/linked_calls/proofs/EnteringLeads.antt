@@ -1,6 +1,6 @@
 -- The code before the body leads from a state in which the function is called to one in which its body is loaded.
 use Rattle.std.specs.Prelude.{is_some}
-use Rattle.std.proofs.Common.{◌≡◌, ℕ, ◌+◌, ◌-◌, ◌*◌, ◌^◌, ◌<◌, ◌≤◌, Bool, true, false, nat_lt, if◌then◌else◌, List, []}
+use Rattle.std.proofs.Common.{◌≡◌, ℕ, ◌+◌, ◌-◌, ◌*◌, ◌^◌, ◌<◌, ◌≤◌, Bool, true, false, nat_lt, if◌then◌else◌, []}
 use Rattle.std.proofs.Common.{◌∷◌, ◌++◌, length, map, Some, inl, inr, ⊎_elim, refl, sym, ap, ◌∙◌, subst, arith}
 use Rattle.std.proofs.lemmas.Bool.{cases_lt, ltb-false, ltb-true}
 use Rattle.codegen.specs.Anywhere.{IsLoaded}
@@ -23,20 +23,19 @@ use Rattle.linked_calls.proofs.Between.{enter_turns, saved_at, untouched_registe
 use Rattle.linked_calls.proofs.Bytes.{SameData, number_there, numbers_above, numbers_below, is_some-with_numbers}
 use Rattle.linked_calls.proofs.Bytes.{zero_byte}
 use Rattle.linked_calls.proofs.EnterTurns.{arguments_turns, enter_turns_are}
-use Rattle.linked_calls.proofs.Entering.{Entered, entered_bytes, entry_runs, saved_bytes}
+use Rattle.linked_calls.proofs.Entering.{entered, entered_bytes, entry_runs, stored_registers}
 use Rattle.linked_calls.proofs.KnownArguments.{all_known, zero_allowed}
 use Rattle.linked_calls.proofs.LoadedArguments.{all_taken_is}
 use Rattle.linked_calls.proofs.Parts.{same_number}
 use Rattle.linked_calls.proofs.Passed.{StandAsPassed, all_ready, still_passed}
-use Rattle.linked_calls.proofs.Pieces.{Runs, Setting, in_turns, promised_runs, then_runs, weaken_runs}
+use Rattle.linked_calls.proofs.Pieces.{Runs, Setting, in_turns, makes_then, promised_runs, then_runs}
 use Rattle.linked_calls.proofs.Rooms.{IsOutside, RoomNumbers, place_inside, place_stacked, room_numbers}
 use Rattle.linked_calls.proofs.SameRegisters.{AreSame, same_beside, still_same}
-use Rattle.linked_calls.proofs.SavedRegisters.{stored_are_saved, saved_same, saved_one}
+use Rattle.linked_calls.proofs.SavedRegisters.{stored_are_saved, saved_first, saved_one, saved_same, saved_then}
 use Rattle.linked_calls.proofs.Standing.{enter_placed}
 use Rattle.linked_calls.proofs.Zeros.{frame_is_zeroed}
 use Rattle.rv_machine.specs.Bytes.{ByteMap, number_at, zeros}
 use Rattle.rv_machine.specs.Machine.{State, Code}
-use Rattle.rv_machine.specs.Registers.{register}
 
 module _ (image : Fields) (code : Code) (site : Site) (is : IsImage image) (is_site : IsSite image code site)
     (numbers : RoomNumbers image site) where
@@ -63,39 +62,22 @@ module _ (image : Fields) (code : Code) (site : Site) (is : IsImage image) (is_s
 
   -- What the entry stores.
 
-  abbrev saved_values : Data → List ℕ
-  saved_values d = map (λ r. register d.regs r) saved_registers
-
-  abbrev argument_values : Data → List ℕ
-  argument_values d = map (λ r. register d.regs r) argument_registers
-
   abbrev stored : Data → ByteMap
   stored d = entered_bytes above d
 
   stored_outside : (d : Data) (x : ℕ) → IsOutside above (above + 80) x → stored d x ≡ d.bytes x
-  stored_outside d x (inl low) =
-      numbers_below (saved_bytes above d) 4 (above + 48) (argument_values d) x (omega arith)
-      ∙ numbers_below d.bytes 4 above (saved_values d) x low
-  stored_outside d x (inr high) =
-      numbers_above (saved_bytes above d) 4 (above + 48) (argument_values d) x (omega arith)
-      ∙ numbers_above d.bytes 4 above (saved_values d) x (omega arith)
+  stored_outside d x (inl low) = numbers_below d.bytes 4 above (map d.regs stored_registers) x low
+  stored_outside d x (inr high) = numbers_above d.bytes 4 above (map d.regs stored_registers) x high
 
-  stored_saved : (d : Data) → ((r : ℕ) → d.regs r < 2 ^ 32) → AreSaved (stored d) d.regs above saved_registers
-  stored_saved d words =
-      saved_same (saved_bytes above d) (stored d) d.regs above saved_registers
-      (λ x low high. numbers_below (saved_bytes above d) 4 (above + 48) (argument_values d) x (omega arith))
-      (stored_are_saved d.bytes d.regs above saved_registers words)
+  stored_saved : (d : Data) → ((r : ℕ) → d.regs r < 2 ^ 32) → AreSaved (stored d) d.regs above stored_registers
+  stored_saved d words = stored_are_saved d.bytes d.regs above stored_registers words
 
   above_there : (d : Data) → Called d → AreData above (above + 80) d.bytes
   above_there d called x low high = called.there x (omega arith) (omega arith)
 
   stored_data : (d : Data) → Called d → SameData d.bytes (stored d)
   stored_data d called x =
-      let there = above_there d called in
-      let saved = is_some-with_numbers d.bytes 4 above (saved_values d) (λ y low high. there y low (omega arith)) in
-      is_some-with_numbers (saved_bytes above d) 4 (above + 48) (argument_values d)
-      (λ y low high. saved y ∙ there y (omega arith) (omega arith)) x
-      ∙ saved x
+      is_some-with_numbers d.bytes 4 above (map d.regs stored_registers) (above_there d called) x
 
   -- Arguments, as they stand then.
 
@@ -106,7 +88,7 @@ module _ (image : Fields) (code : Code) (site : Site) (is : IsImage image) (is_s
       let place : frame + argument_offset image i ≡ above + 48 + 4 * i = omega arith in
       ap (λ x. number_at (stored d) 4 x) place
       ∙ saved_one (stored d) d.regs (above + 48) 10 8 i (ltb-true i 8 h)
-      (stored_are_saved (saved_bytes above d) d.regs (above + 48) argument_registers called.words)
+      (saved_then (stored d) d.regs above saved_registers argument_registers (stored_saved d called.words))
   raw_by d called i false h few =
       let a = site.stack + 4 * (i - 8) in
       let place : frame + argument_offset image i ≡ a = place_stacked image site numbers i (ltb-false i 8 h) in
@@ -129,12 +111,10 @@ module _ (image : Fields) (code : Code) (site : Site) (is : IsImage image) (is_s
 
   -- The entry and the frame.
 
-  entry_part : Runs z 21 entry_code Called (Entered above (entered_bytes above))
+  entry_part : Runs z 21 entry_code Called (λ d t. t ≡ entered above d)
   entry_part =
-      weaken_runs z {P' = Called} entry_code
-      (entry_runs z above (omega arith) (omega arith) (λ x low high. inl ((omega arith, omega arith), low)))
-      (λ d called. record { stack = omega arith; there = above_there d called })
-      (λ d t called entered. entered)
+      entry_runs z above (omega arith) (omega arith) (λ x low high. inl ((omega arith, omega arith), low))
+      (λ d called. (omega (arith, called.stack), above_there d called))
 
   frame_part : Runs z (frame_turns room) (frame_code room) (HasFrame frame room) (IsZeroFrame frame room)
   frame_part =
@@ -148,29 +128,21 @@ module _ (image : Fields) (code : Code) (site : Site) (is : IsImage image) (is_s
     zeros : (x : ℕ) → frame ≤ x → x < above → t.bytes x ≡ Some 0
     outside : (x : ℕ) → IsOutside frame above x → t.bytes x ≡ stored d x
 
-  frame_begins : (d t : Data) → Called d → Entered above (entered_bytes above) d t → HasFrame frame room t
-  frame_begins d t called entered =
-      record {
-        stack = entered.stack;
-        there = λ x low high.
-            ap (λ (b : ByteMap). is_some (b x)) entered.bytes
-            ∙ stored_data d called x
-            ∙ called.there x low (omega arith);
-      }
+  frame_begins : (d : Data) → Called d → HasFrame frame room (entered above d)
+  frame_begins d called =
+      record { stack = refl; there = λ x low high. stored_data d called x ∙ called.there x low (omega arith) }
 
-  framed : (d t u : Data) → Called d → Entered above (entered_bytes above) d t → IsZeroFrame frame room t u
-      → IsFramed d u
-  framed d t u called entered zeroed = record {
+  framed : (d u : Data) → Called d → IsZeroFrame frame room (entered above d) u → IsFramed d u
+  framed d u called zeroed = record {
     stack = zeroed.stack;
-    untouched = still_same (2 ∷ 5 ∷ []) u.regs t.regs d.regs (λ q none. zeroed.others q none.0 none.1.0)
-        untouched_registers refl
-        (same_beside (2 ∷ []) t.regs d.regs (λ q none. entered.others q none.0) untouched_registers refl);
+    untouched = same_beside (2 ∷ 5 ∷ []) u.regs (entered above d).regs (λ q none. zeroed.others q none.0 none.1.0)
+        untouched_registers refl;
     zeros = zeroed.zeroed.inside;
-    outside = λ x outside. zeroed.zeroed.outside x outside ∙ ap (λ (b : ByteMap). b x) entered.bytes;
+    outside = zeroed.zeroed.outside;
   }
 
   framed_part : Runs z (21 + frame_turns room) (entry_code ++ frame_code room) Called IsFramed
-  framed_part = then_runs z entry_code (frame_code room) entry_part frame_part frame_begins framed
+  framed_part = makes_then z {f = entered above} entry_code (frame_code room) entry_part frame_part frame_begins framed
 
   -- The arguments.
 
@@ -231,7 +203,7 @@ module _ (image : Fields) (code : Code) (site : Site) (is : IsImage image) (is_s
       untouched = still_same taken_registers u.regs t.regs d.regs takes.others untouched_registers refl
           frames.untouched;
       saved = saved_same (stored d) u.bytes d.regs above saved_registers (λ x low high. taken_outside x (inr low))
-          (stored_saved d called.words);
+          (saved_first (stored d) d.regs above saved_registers argument_registers (stored_saved d called.words));
       ready = all_ready image site (at_call d) u.bytes taken_passed 0 image.slots (omega arith) is_site.arrays
           called.arguments;
       outside = taken_passed.outside;

@@ -1,6 +1,6 @@
 -- How many turns the sections behind the body make.
 use Rattle.std.specs.List.{sum_by}
-use Rattle.std.proofs.Common.{◌≡◌, ℕ, ◌+◌, List, [], ◌∷◌, ◌++◌, length, refl, ap, ap₂, ◌∙◌, arith, length-append}
+use Rattle.std.proofs.Common.{◌≡◌, ℕ, ◌+◌, List, [], ◌∷◌, ◌++◌, length, refl, ap, ap₂, ◌∙◌, arith}
 use Rattle.std.proofs.lemmas.List.Sums.{sum_by-cons, sum_by-append, sum-map}
 use Rattle.codegen.specs.expression_code.TermCode.{constant_code}
 use Rattle.codegen.specs.image_fields.Fields.{Fields}
@@ -30,7 +30,8 @@ outputs_turns image i (slot ∷ slots) = output_turns image i slot slot.param.fo
 
 -- the registers restored and cleared, and the room wiped
 abbrev pub last_turns : Fields → ℕ
-last_turns image = length (constant_code 5 (frame_room image)) + block_turns (room_of image) + 29
+last_turns image =
+    length (constant_code 5 (frame_room image) ++ Register Add 5 5 2 ∷ []) + block_turns (room_of image) + 28
 
 module _ (image : Fields) where
   abbrev turns_of : List Section → ℕ
@@ -51,9 +52,7 @@ module _ (image : Fields) where
   lasts = FrameTop ∷ RestoredRegisters ∷ CallersStack ∷ WipedRoom ∷ ClearedRegisters ∷ Return ∷ []
 
   last_turns_are : turns_of lasts ≡ last_turns image
-  last_turns_are =
-      let e = length-append (constant_code 5 (frame_room image)) (Register Add 5 5 2 ∷ []) in
-      omega arith
+  last_turns_are = omega arith
 
   pub leave_turns_are : leave_turns image ≡ length (result_code image.returned) +
       (outputs_turns image 0 image.slots + last_turns image)

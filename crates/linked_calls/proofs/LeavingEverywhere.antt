@@ -2,17 +2,18 @@
 -- instruction, which goes back.
 use Rattle.std.specs.Prelude.{unwrap_or, is_some, IfSome}
 use Rattle.std.specs.Option.{option_map}
-use Rattle.std.proofs.Common.{◌≡◌, ℕ, suc, ◌+◌, ◌-◌, ◌*◌, ◌<◌, ◌≤◌, List, [], ◌∷◌, ◌++◌, length, Option}
+use Rattle.std.proofs.Common.{◌≡◌, ◌≢◌, ℕ, suc, ◌+◌, ◌-◌, ◌*◌, ◌<◌, ◌≤◌, ◌==◌, List, [], ◌∷◌, ◌++◌, length, Option}
 use Rattle.std.proofs.Common.{All, Some, None, inl, refl, sym, ap, ◌∙◌, subst, arith, length-append, append_assoc}
 use Rattle.codegen.specs.Loaded.{word_in, arrays_in, results_in}
 use Rattle.codegen.specs.expression_code.TermCode.{constant_code}
 use Rattle.codegen.specs.image_fields.Fields.{Fields, IsImage, IsResultSlot, result_end, slots_end}
 use Rattle.codegen.specs.declared.image_fields.slot.ResultSlot.{ResultSlot}
 use Rattle.rv_code.specs.declared.instructions.Instr.{Instr}
-use Rattle.rv_code.specs.declared.instructions.Instr.TheVariants.{Immediate, JumpRegister}
-use Rattle.rv_code.specs.declared.operations.ImmediateOperation.TheVariants.{Addi}
+use Rattle.rv_code.specs.declared.instructions.Instr.TheVariants.{JumpRegister, Register}
+use Rattle.rv_code.specs.declared.operations.RegisterOperation.TheVariants.{Add}
 use Rattle.rv_machine.specs.Bytes.{ByteMap}
 use Rattle.rv_machine.specs.Machine.{State, Code, IsAt}
+use Rattle.rv_machine.specs.Registers.{with_register}
 use Rattle.rv_machine.specs.declared.observation.Event.{Event}
 use Rattle.rv_machine.specs.declared.observation.Event.TheVariants as event
 use Rattle.codegen.specs.program_logic.Turns.{LeadsWithin}
@@ -27,13 +28,13 @@ use Rattle.linked_calls.specs.Words.{HasResult, IsReturned, IsLoadOf}
 use Rattle.linked_calls.specs.Stretches.{AreData, AreZeroed}
 use Rattle.linked_calls.proofs.AllArguments.{AreKnown, Begins, call_setting, taken_registers}
 use Rattle.linked_calls.proofs.AllResults.{all_handed_apart, all_handed_are, results_runs}
-use Rattle.linked_calls.proofs.Below.{Placed-left, Placed-right}
+use Rattle.linked_calls.proofs.Below.{Placed-left, Placed-right, unwritten}
 use Rattle.linked_calls.proofs.Between.{AreReady, AreSaved, CanLeave, Leaves, LeavesEverywhere, leave_at, leave_turns}
 use Rattle.linked_calls.proofs.Between.{saved_at, untouched_registers}
 use Rattle.linked_calls.proofs.GoingBack.{goes_back}
 use Rattle.linked_calls.proofs.KnownArguments.{all_known, small_access, zero_allowed}
 use Rattle.linked_calls.proofs.LeaveTurns.{outputs_turns, leave_turns_are}
-use Rattle.linked_calls.proofs.Parts.{Sets, sets_runs}
+use Rattle.linked_calls.proofs.Parts.{computes_runs}
 use Rattle.linked_calls.proofs.Pieces.{Runs, Setting, as_code, promised_runs, then_runs, weaken_runs}
 use Rattle.linked_calls.proofs.Restoring.{lasts_run}
 use Rattle.linked_calls.proofs.Rooms.{RoomNumbers, room_numbers}
@@ -90,15 +91,27 @@ module _ (image : Fields) (code : Code) (site : Site) (is : IsImage image) (at_s
       inl ((omega arith, omega arith), load.2)
   load_allowed offset inside sp (Some e) load = absurd load
 
+  -- it is in a0, and nothing else has changed
+  record HasReturned (returned : Option ResultSlot) (s t : Data) : Type 0 where
+    result : t.regs 10 ≡ result_of s.bytes returned
+    others : (q : ℕ) → q ≢ 10 → t.regs q ≡ s.regs q
+    same : t.bytes ≡ s.bytes
+
   result_runs : (returned : Option ResultSlot) (low : ℕ)
       → IfSome returned (λ (slot : ResultSlot). IsResultSlot low slot)
       → IfSome returned (λ (slot : ResultSlot). result_end slot ≤ image.frame_bytes)
-      → Runs z (length (result_code returned)) (result_code returned) Starts
-      (Sets 10 (λ s. result_of s.bytes returned))
+      → Runs z (length (result_code returned)) (result_code returned) Starts (HasReturned returned)
   result_runs None low slot inside =
-      sets_runs z 10 (Immediate Addi 10 0 0 ∷ []) [] refl tt (λ s begins. tt) (λ s begins. refl) (λ s. refl)
+      weaken_runs z {P' = Starts} (result_code None)
+      (computes_runs z (λ q. q == 10) (result_code None) (λ regs. with_register regs 10 0) refl (λ regs. refl))
+      (λ s begins. begins)
+      (λ s t begins made. record {
+        result = ap (λ (d : Data). d.regs 10) made;
+        others = λ q h. ap (λ (d : Data). d.regs q) made ∙ unwritten s.regs 10 0 q h;
+        same = ap (λ (d : Data). d.bytes) made;
+      })
   result_runs (Some slot) low is_slot inside =
-      weaken_runs z {P' = Starts} {R' = Sets 10 (λ s. result_of s.bytes (Some slot))} (result_code (Some slot))
+      weaken_runs z {P' = Starts} {R' = HasReturned (Some slot)} (result_code (Some slot))
       (promised_runs z (result_code (Some slot)) {Before = HasResult slot base} {After = IsReturned slot base}
       (load_allowed slot.offset inside)
       (λ p there. result_is_handed_back z.code p slot base there (omega arith) (omega arith)))
@@ -106,7 +119,11 @@ module _ (image : Fields) (code : Code) (site : Site) (is : IsImage image) (at_s
         stack = begins.stack;
         slot_there = λ x l h. begins.there x (omega arith) (omega arith);
       })
-      (λ s t begins returned. record { there = returned.result; others = returned.others; same = returned.bytes })
+      (λ s t begins returned. record {
+        result = returned.result;
+        others = returned.others;
+        same = returned.bytes;
+      })
 
   -- And the arrays.
 
@@ -135,7 +152,7 @@ module _ (image : Fields) (code : Code) (site : Site) (is : IsImage image) (at_s
         ready = subst (λ (b : ByteMap). AreReady image site b 0 image.slots) (sym sets.same) begins.ready;
       })
       (λ s t u begins sets takes. record {
-        result = (same_beside taken_registers u.regs t.regs takes.others (10 ∷ []) refl).0 ∙ sets.there;
+        result = (same_beside taken_registers u.regs t.regs takes.others (10 ∷ []) refl).0 ∙ sets.result;
         bytes = takes.bytes ∙ ap left_bytes sets.same;
         others = λ q none. takes.others q none.1 ∙ sets.others q none.0;
       })
@@ -154,7 +171,8 @@ module _ (image : Fields) (code : Code) (site : Site) (is : IsImage image) (at_s
   abbrev front_turns : ℕ
   front_turns =
       length (result_code image.returned) + outputs_turns image 0 image.slots +
-      (length (constant_code 5 (frame_room image)) + 1 + 12 + 1 + block_turns (frame_room image + 80) + 14)
+      (length (constant_code 5 (frame_room image) ++ Register Add 5 5 2 ∷ []) + 12 + 1 +
+      block_turns (frame_room image + 80) + 14)
 
   front_runs : Runs z front_turns (front image) Starts Front
   front_runs =

@@ -1,21 +1,23 @@
--- The pieces that are emitted for words of the room, for numbers and for lists of registers.
+-- The pieces that are emitted for words of the room, for numbers and for lists of registers. What they make of a state is
+-- a function of it.
 use Rattle.std.specs.Prelude.{is_some, unwrap_or, not}
 use Rattle.std.proofs.Common.{◌≡◌, ◌≢◌, ℕ, ◌+◌, ◌*◌, ◌%◌, ◌^◌, ◌<◌, ◌≤◌, ◌==◌, Bool, true, false, ◌&&◌, cond, nat_lt}
 use Rattle.std.proofs.Common.{List, [], ◌∷◌, ◌++◌, length, map, Option, Some, None, refl, sym, ap, ap₂, ◌∙◌, arith}
 use Rattle.std.proofs.Common.{eq-eqb, ne_eqb, if◌then◌else◌}
+use Rattle.std.proofs.Math.Path.{fun_ext}
 use Rattle.std.proofs.lemmas.Bool.{eqb-false, false≢true, lt-ltb, ltb-true}
+use Rattle.std.proofs.lemmas.Bool.Decides.{nat_tests}
 use Rattle.rv_code.specs.declared.instructions.Instr.{Instr}
-use Rattle.rv_code.specs.declared.instructions.Instr.TheVariants.{Upper, Immediate, Register, Load, Store}
+use Rattle.rv_code.specs.declared.instructions.Instr.TheVariants.{Upper, Register, Load, Store}
 use Rattle.rv_code.specs.declared.operations.UpperOperation.TheVariants.{Lui}
+use Rattle.rv_code.specs.declared.operations.RegisterOperation.{RegisterOperation}
 use Rattle.rv_code.specs.declared.operations.RegisterOperation.TheVariants.{Add}
-use Rattle.rv_code.specs.declared.operations.ImmediateOperation.TheVariants.{Addi}
 use Rattle.rv_code.specs.declared.operations.LoadOperation.TheVariants.{Lw}
 use Rattle.rv_code.specs.declared.operations.StoreOperation.TheVariants.{Sw}
 use Rattle.rv_machine.specs.declared.observation.Event.TheVariants as event
-use Rattle.rv_machine.specs.declared.memory.Size.{Size}
 use Rattle.rv_machine.specs.declared.memory.Size.TheVariants.{Word}
 use Rattle.rv_machine.specs.Bytes.{number_at, with_number}
-use Rattle.rv_machine.specs.Effects.{sum_of, sign_extended}
+use Rattle.rv_machine.specs.Effects.{sum_of, sign_extended, register_value}
 use Rattle.rv_machine.specs.Registers.{register, with_register}
 use Rattle.codegen.specs.Loaded.{with_numbers}
 use Rattle.codegen.specs.program_logic.StraightCode.{IsMet}
@@ -23,50 +25,50 @@ use Rattle.codegen.specs.expression_code.TermCode.{upper_part, lower_part, load_
 use Rattle.linked_calls.specs.Does.{Data}
 use Rattle.linked_calls.specs.FunctionCode.{stores_code, loads_code}
 use Rattle.linked_calls.specs.Stretches.{AreData}
-use Rattle.linked_calls.proofs.Below.{AreFit, AreMet, after, after_all, are_straight, both_left, both_right}
-use Rattle.linked_calls.proofs.Below.{far_address, is_some-with_number, lower_fits, near_address, number_or_zero, parts}
-use Rattle.linked_calls.proofs.Below.{register-at, register_kept, unwritten, upper_fits, written}
+use Rattle.linked_calls.proofs.Below.{AreFit, AreMet, after, after_all, after_append, all_straight, are_straight}
+use Rattle.linked_calls.proofs.Below.{both_left, both_right, constant_after, constant_plain, far_address}
+use Rattle.linked_calls.proofs.Below.{is_some-with_number, lower_fits, near_address, no_access, number_or_zero}
+use Rattle.linked_calls.proofs.Below.{only_computes, plain_append, register-at, register_kept, registers_after}
+use Rattle.linked_calls.proofs.Below.{registers_of, unwritten, upper_fits, with_result, written}
 use Rattle.linked_calls.proofs.Bytes.{number_there}
-use Rattle.linked_calls.proofs.Pieces.{IsNone, Setting, Runs, silent_runs, straight_runs, then_runs}
+use Rattle.linked_calls.proofs.Pieces.{IsNone, Setting, Runs, silent_runs, straight_runs}
 
--- One register.
+-- a state with other registers
+abbrev pub having : (ℕ → ℕ) → Data → Data
+having regs s = record { regs = regs; bytes = s.bytes }
 
--- it was written, with a value that the beginning decides, and no byte
-pub record Sets (r : ℕ) (value : Data → ℕ) (s t : Data) : Type 0 where
-  pub there : t.regs r ≡ value s
-  pub others : (q : ℕ) → q ≢ r → t.regs q ≡ s.regs q
-  pub same : t.bytes ≡ s.bytes
+-- Code that only computes, with what it makes of the registers.
+pub computes_runs : (z : Setting) {P : Data → Type 0} (works : ℕ → Bool) (is : List Instr)
+    (made : (ℕ → ℕ) → ℕ → ℕ) → only_computes works is ≡ true
+    → ((regs : ℕ → ℕ) → registers_after is regs ≡ made regs)
+    → Runs z (length is) is P (λ s t. t ≡ having (made s.regs) s)
+computes_runs z works is made plain same =
+    let access = no_access works IsNone is plain in
+    silent_runs z works is [] (all_straight works is plain) access.0 (λ s given. access.1 s)
+    (λ s given. registers_of works is s plain ∙ ap (λ (regs : ℕ → ℕ). having regs s) (same s.regs))
 
--- by straight-line code without accesses
-pub sets_runs : (z : Setting) {P : Data → Type 0} {value : Data → ℕ} (r : ℕ) (is : List Instr) (places : List ℕ)
-    → are_straight (λ q. q == r) is ≡ true → AreFit IsNone is places
-    → ((s : Data) → P s → AreMet is places s)
-    → ((s : Data) → P s → (after_all is places s).regs r ≡ value s)
-    → ((s : Data) → (after_all is places s).bytes ≡ s.bytes)
-    → Runs z (length is) is P (Sets r value)
-sets_runs z r is places plain fit met there same =
-    silent_runs z (λ q. q == r) is places plain fit met
-    (λ s given. record {
-      there = there s given;
-      others = λ q h. register_kept (λ x. x == r) is places s q plain (ne_eqb q r h);
-      same = same s;
-    })
+pub overwritten : (regs : ℕ → ℕ) (r u v : ℕ) → with_register (with_register regs r u) r v ≡ with_register regs r v
+overwritten regs r u v = fun_ext (λ q. grind (arith, nat_tests))
 
--- and with loads, where x2 is there and another register is written
-loads_one : (z : Setting) {P : Data → Type 0} {value : Data → ℕ} (sp r : ℕ) (is : List Instr) (places : List ℕ)
-    → r ≢ 2 → are_straight (λ q. q == r) is ≡ true → AreFit (z.allowed sp) is places
-    → ((s : Data) → P s → s.regs 2 ≡ sp)
-    → ((s : Data) → P s → AreMet is places s)
-    → ((s : Data) → P s → (after_all is places s).regs r ≡ value s)
-    → ((s : Data) → (after_all is places s).bytes ≡ s.bytes)
-    → Runs z (length is) is P (Sets r value)
-loads_one z sp r is places other plain fit stands met there same =
-    straight_runs z sp (λ q. q == r) is places plain (ne_eqb 2 r (λ e. other (sym e))) fit stands met
-    (λ s given. record {
-      there = there s given;
-      others = λ q h. register_kept (λ x. x == r) is places s q plain (ne_eqb q r h);
-      same = same s;
-    })
+-- a number in a register, and then an operation into the same
+pub number_then : (z : Setting) {P : Data → Type 0} (r n : ℕ) → r < 32 → r ≢ 0 → n < 2 ^ 32
+    → (operation : RegisterOperation) (a b : ℕ) → a < 32 → b < 32
+    → Runs z (length (constant_code r n ++ Register operation r a b ∷ []))
+    (constant_code r n ++ Register operation r a b ∷ []) P
+    (λ s t. t ≡ with_result r (register_value operation (register (with_register s.regs r n) a)
+    (register (with_register s.regs r n) b)) s)
+number_then z r n few nonzero below operation a b a_few b_few =
+    let works = λ (q : ℕ). q == r in
+    let number = constant_code r n in
+    let computes = Register operation r a b ∷ [] in
+    let value = λ (regs : ℕ → ℕ). register_value operation (register (with_register regs r n) a)
+    (register (with_register regs r n) b) in
+    computes_runs z works (number ++ computes) (λ regs. with_register regs r (value regs))
+    (plain_append works number computes (constant_plain works r n (eq-eqb r r refl) few)
+    (simp (eq-eqb r r refl, lt-ltb r 32 few, lt-ltb a 32 a_few, lt-ltb b 32 b_few)))
+    (λ regs. after_append number computes regs
+    ∙ ap (registers_after computes) (constant_after r n nonzero below regs)
+    ∙ overwritten regs r n (value regs))
 
 -- one of two codes, by whether a number fits an immediate
 by_near : (z : Setting) {P : Data → Type 0} {R : Data → Data → Type 0} (n : ℕ) (near far : List Instr)
@@ -94,7 +96,13 @@ raised regs r offset =
     let one = with_register regs r (upper_part offset * 2 ^ 12) in
     with_register one r (sum_of (register one r) (register one 2))
 
-module _ (z : Setting) (base offset : ℕ) (even : (base + offset) % 4 ≡ 0) (below : base + offset < 2 ^ 32) where
+raised_over : (regs : ℕ → ℕ) (r offset v : ℕ) → with_register (raised regs r offset) r v ≡ with_register regs r v
+raised_over regs r offset v =
+    let one = with_register regs r (upper_part offset * 2 ^ 12) in
+    overwritten one r (sum_of (register one r) (register one 2)) v ∙ overwritten regs r (upper_part offset * 2 ^ 12) v
+
+module _ (z : Setting) (base offset : ℕ) (even : (base + offset) % 4 ≡ 0) (below : base + offset < 2 ^ 32)
+    {P : Data → Type 0} (has : (s : Data) → P s → HasWord base offset s) where
   near_met : offset < 2048 → (s : Data) → HasWord base offset s → IsMet 4 2 offset (base + offset) s
   near_met near s has = record {
     address = ap (λ x. sum_of x (sign_extended 12 offset)) has.stack ∙ near_address base offset near below;
@@ -102,7 +110,7 @@ module _ (z : Setting) (base offset : ℕ) (even : (base + offset) % 4 ≡ 0) (b
   }
 
   far_met : (r : ℕ) → r ≢ 0 → r ≢ 2 → (s : Data) → HasWord base offset s
-      → IsMet 4 r (lower_part offset) (base + offset) (record { regs = raised s.regs r offset; bytes = s.bytes })
+      → IsMet 4 r (lower_part offset) (base + offset) (having (raised s.regs r offset) s)
   far_met r nonzero other s has =
       let u = upper_part offset * 2 ^ 12 in
       let one = with_register s.regs r u in
@@ -118,25 +126,28 @@ module _ (z : Setting) (base offset : ℕ) (even : (base + offset) % 4 ≡ 0) (b
 
   -- into a register
   pub load_runs : (r : ℕ) → r < 32 → r ≢ 0 → r ≢ 2 → z.allowed base (Some (event.Load (base + offset) Word))
-      → Runs z (length (load_code r offset)) (load_code r offset) (HasWord base offset)
-      (Sets r (λ s. unwrap_or (number_at s.bytes 4 (base + offset)) 0))
+      → Runs z (length (load_code r offset)) (load_code r offset) P
+      (λ s t. t ≡ with_result r (number_or_zero (number_at s.bytes 4 (base + offset))) s)
   load_runs r few nonzero other allowed =
+      let near = Load Lw r 2 offset ∷ [] in
       let far = Upper Lui r (upper_part offset) ∷ Register Add r r 2 ∷ Load Lw r r (lower_part offset) ∷ [] in
-      by_near z offset (Load Lw r 2 offset ∷ []) far
-      (λ near. loads_one z base r (Load Lw r 2 offset ∷ []) ((base + offset) ∷ []) other
-      (simp (eq-eqb r r refl, lt-ltb r 32 few, lt-ltb offset 4096 (omega arith)))
-      (record { even = even; allowed = allowed }, tt) (λ s has. has.stack) (λ s has. (near_met near s has, tt))
-      (λ s has. written s.regs r _ nonzero ∙ same_number (number_at s.bytes 4 (base + offset))) (λ s. refl))
-      (loads_one z base r far ((base + offset) ∷ []) other
+      let still = ne_eqb 2 r (λ e. other (sym e)) in
+      by_near z offset near far
+      (λ small. straight_runs z base (λ q. q == r) near ((base + offset) ∷ [])
+      (simp (eq-eqb r r refl, lt-ltb r 32 few, lt-ltb offset 4096 (omega arith))) still
+      (record { even = even; allowed = allowed }, tt) (λ s given. (has s given).stack)
+      (λ s given. (near_met small s (has s given), tt)) (λ s given. refl))
+      (straight_runs z base (λ q. q == r) far ((base + offset) ∷ [])
       (simp (
         eq-eqb r r refl,
         lt-ltb r 32 few,
         lt-ltb (upper_part offset) 1048576 (upper_fits offset),
         lt-ltb (lower_part offset) 4096 (lower_fits offset),
-      ))
-      (record { even = even; allowed = allowed }, tt) (λ s has. has.stack) (λ s has. (far_met r nonzero other s has, tt))
-      (λ s has. written (raised s.regs r offset) r _ nonzero ∙ same_number (number_at s.bytes 4 (base + offset)))
-      (λ s. refl))
+      )) still
+      (record { even = even; allowed = allowed }, tt) (λ s given. (has s given).stack)
+      (λ s given. (far_met r nonzero other s (has s given), tt))
+      (λ s given. ap (λ (regs : ℕ → ℕ). having regs s)
+      (raised_over s.regs r offset (number_or_zero (number_at s.bytes 4 (base + offset))))))
 
   -- x5 was put there, and x28 may have changed
   pub record Puts (s t : Data) : Type 0 where
@@ -144,162 +155,101 @@ module _ (z : Setting) (base offset : ℕ) (even : (base + offset) % 4 ≡ 0) (b
     pub others : (q : ℕ) → q ≢ 28 → t.regs q ≡ s.regs q
 
   pub store_runs : z.allowed base (Some (event.Store (base + offset) Word))
-      → Runs z (length (store_code 5 offset)) (store_code 5 offset) (HasWord base offset) Puts
+      → Runs z (length (store_code 5 offset)) (store_code 5 offset) P Puts
   store_runs allowed =
+      let near = Store Sw 5 2 offset ∷ [] in
       let far = Upper Lui 28 (upper_part offset) ∷ Register Add 28 28 2 ∷ Store Sw 5 28 (lower_part offset) ∷ [] in
       let plain : are_straight (λ q. q == 28) far ≡ true = simp (
         lt-ltb (upper_part offset) 1048576 (upper_fits offset),
         lt-ltb (lower_part offset) 4096 (lower_fits offset),
       ) in
-      by_near z offset (Store Sw 5 2 offset ∷ []) far
-      (λ near. straight_runs z base (λ q. q == 28) (Store Sw 5 2 offset ∷ []) ((base + offset) ∷ [])
+      by_near z offset near far
+      (λ small. straight_runs z base (λ q. q == 28) near ((base + offset) ∷ [])
       (simp (lt-ltb offset 4096 (omega arith))) refl (record { even = even; allowed = allowed }, tt)
-      (λ s has. has.stack) (λ s has. (near_met near s has, tt)) (λ s has. record { written = refl; others = λ q h. refl }))
+      (λ s given. (has s given).stack) (λ s given. (near_met small s (has s given), tt))
+      (λ s given. record { written = refl; others = λ q h. refl }))
       (straight_runs z base (λ q. q == 28) far ((base + offset) ∷ []) plain refl
-      (record { even = even; allowed = allowed }, tt) (λ s has. has.stack)
-      (λ s has. (far_met 28 (λ e. omega arith) (λ e. omega arith) s has, tt))
-      (λ s has. record {
+      (record { even = even; allowed = allowed }, tt) (λ s given. (has s given).stack)
+      (λ s given. (far_met 28 (λ e. omega arith) (λ e. omega arith) s (has s given), tt))
+      (λ s given. record {
         written = refl;
         others = λ q h. register_kept (λ x. x == 28) far ((base + offset) ∷ []) s q plain (ne_eqb q 28 h);
       }))
 
--- Numbers.
-
-module _ (z : Setting) (r n : ℕ) (few : r < 32) (nonzero : r ≢ 0) (below : n < 2 ^ 32) where
-  -- a number into a register
-  pub constant_runs : {P : Data → Type 0} → Runs z (length (constant_code r n)) (constant_code r n) P (Sets r (λ s. n))
-  constant_runs =
-      let far = Upper Lui r (upper_part n) ∷ Immediate Addi r r (lower_part n) ∷ [] in
-      by_near z n (Immediate Addi r 0 n ∷ []) far
-      (λ near. sets_runs z r (Immediate Addi r 0 n ∷ []) []
-      (simp (eq-eqb r r refl, lt-ltb r 32 few, lt-ltb n 4096 (omega arith))) tt (λ s given. tt)
-      (λ s given. written s.regs r _ nonzero ∙ near_address 0 n near (omega arith) ∙ omega arith)
-      (λ s. refl))
-      (sets_runs z r far []
-      (simp (
-        eq-eqb r r refl,
-        lt-ltb r 32 few,
-        lt-ltb (upper_part n) 1048576 (upper_fits n),
-        lt-ltb (lower_part n) 4096 (lower_fits n),
-      )) tt (λ s given. tt)
-      (λ s given.
-      let one = with_register s.regs r (upper_part n * 2 ^ 12) in
-      written one r _ nonzero
-      ∙ ap (λ x. sum_of x (sign_extended 12 (lower_part n))) (register-at one r nonzero
-      ∙ written s.regs r (upper_part n * 2 ^ 12) nonzero)
-      ∙ parts n below)
-      (λ s. refl))
-
-  -- a number and another register into a register
-  pub sum_runs : {P : Data → Type 0} (o : ℕ) → o < 32 → o ≢ 0 → o ≢ r
-      → Runs z (length (constant_code r n) + 1) (constant_code r n ++ Register Add r r o ∷ []) P
-      (Sets r (λ s. sum_of n (s.regs o)))
-  sum_runs o small nonzero' apart =
-      then_runs z {P' = λ s. Unit {0}} {R' = Sets r (λ s. sum_of (register s.regs r) (register s.regs o))}
-      (constant_code r n) (Register Add r r o ∷ []) constant_runs
-      (sets_runs z r (Register Add r r o ∷ []) [] (simp (eq-eqb r r refl, lt-ltb r 32 few, lt-ltb o 32 small)) tt
-      (λ s given. tt) (λ s given. written s.regs r _ nonzero) (λ s. refl))
-      (λ s t given one. tt)
-      (λ s t u given one two. record {
-        there = two.there ∙ ap₂ sum_of (register-at t.regs r nonzero ∙ one.there)
-            (register-at t.regs o nonzero' ∙ one.others o apart);
-        others = λ q h. two.others q h ∙ one.others q h;
-        same = two.same ∙ one.same;
-      })
-
 -- Lists of registers, in words one after another.
 
--- loads and stores of so many bytes at every place of a stretch, where x2 is there
-abbrev pub MayLoad : Setting → ℕ → ℕ → Size → ℕ → ℕ → Type 0
-MayLoad z sp n size low high = (x : ℕ) → low ≤ x → x + n ≤ high → z.allowed sp (Some (event.Load x size))
+-- loads and stores of words at every place of a stretch, where x2 is there
+abbrev pub MayLoad : Setting → ℕ → ℕ → ℕ → Type 0
+MayLoad z sp low high = (x : ℕ) → low ≤ x → x + 4 ≤ high → z.allowed sp (Some (event.Load x Word))
 
-abbrev pub MayStore : Setting → ℕ → ℕ → Size → ℕ → ℕ → Type 0
-MayStore z sp n size low high = (x : ℕ) → low ≤ x → x + n ≤ high → z.allowed sp (Some (event.Store x size))
+abbrev pub MayStore : Setting → ℕ → ℕ → ℕ → Type 0
+MayStore z sp low high = (x : ℕ) → low ≤ x → x + 4 ≤ high → z.allowed sp (Some (event.Store x Word))
 
 -- the words' addresses
 abbrev pub words_at : ℕ → List ℕ → List ℕ
 words_at a [] = []
 words_at a (r ∷ rs) = a ∷ words_at (a + 4) rs
 
-abbrev pub are_registers : List ℕ → Bool
+abbrev are_registers : List ℕ → Bool
 are_registers [] = true
 are_registers (r ∷ rs) = nat_lt r 32 && are_registers rs
 
--- a base register is so far below an address, from which on there is room for so many words
-pub record BeginsStores (base offset a n : ℕ) (s : Data) : Type 0 where
-  pub root : register s.regs base + offset ≡ a
-  pub there : AreData a (a + 4 * n) s.bytes
+-- From x2 on.
 
-pub record Stores (a : ℕ) (rs : List ℕ) (s t : Data) : Type 0 where
-  pub regs : t.regs ≡ s.regs
-  pub bytes : t.bytes ≡ with_numbers s.bytes 4 a (map (λ r. register s.regs r) rs)
+stores_plain : (offset : ℕ) (rs : List ℕ) → are_registers rs ≡ true → offset + 4 * length rs ≤ 2048
+    → are_straight (λ q. false) (stores_code 2 offset rs) ≡ true
+stores_plain offset [] registers near = refl
+stores_plain offset (r ∷ rs) registers near =
+    rw (both_left (nat_lt r 32) (are_registers rs) registers, lt-ltb offset 4096 (omega arith))
+    (stores_plain (offset + 4) rs (both_right (nat_lt r 32) (are_registers rs) registers) (omega arith))
 
-module _ (z : Setting) (base : ℕ) (few : base < 32) where
-  stores_plain : (offset : ℕ) (rs : List ℕ) → are_registers rs ≡ true → offset + 4 * length rs ≤ 2048
-      → are_straight (λ q. false) (stores_code base offset rs) ≡ true
-  stores_plain offset [] registers near = refl
-  stores_plain offset (r ∷ rs) registers near =
-      rw (
-        both_left (nat_lt r 32) (are_registers rs) registers,
-        lt-ltb base 32 few,
-        lt-ltb offset 4096 (omega arith),
-      )
-      (stores_plain (offset + 4) rs (both_right (nat_lt r 32) (are_registers rs) registers) (omega arith))
+stores_fit : (z : Setting) (sp offset a : ℕ) (rs : List ℕ) → a % 4 ≡ 0 → MayStore z sp a (a + 4 * length rs)
+    → AreFit (z.allowed sp) (stores_code 2 offset rs) (words_at a rs)
+stores_fit z sp offset a [] even may = tt
+stores_fit z sp offset a (r ∷ rs) even may = (
+  record { even = even; allowed = may a (omega arith) (omega arith) },
+  stores_fit z sp (offset + 4) (a + 4) rs (omega arith) (λ x low high. may x (omega arith) (omega arith)),
+)
 
-  stores_fit : (sp offset a : ℕ) (rs : List ℕ) → a % 4 ≡ 0 → MayStore z sp 4 Word a (a + 4 * length rs)
-      → AreFit (z.allowed sp) (stores_code base offset rs) (words_at a rs)
-  stores_fit sp offset a [] even may = tt
-  stores_fit sp offset a (r ∷ rs) even may = (
-    record { even = even; allowed = may a (omega arith) (omega arith) },
-    stores_fit sp (offset + 4) (a + 4) rs (omega arith)
-        (λ x low high. may x (omega arith) (omega arith)),
-  )
+stores_met : (offset a : ℕ) (rs : List ℕ) (d : Data) → offset + 4 * length rs ≤ 2048 → a + 4 * length rs ≤ 2 ^ 32
+    → d.regs 2 + offset ≡ a → AreData a (a + 4 * length rs) d.bytes → AreMet (stores_code 2 offset rs) (words_at a rs) d
+stores_met offset a [] d near below root there = tt
+stores_met offset a (r ∷ rs) d near below root there =
+    let here = number_there d.bytes 4 a (λ x low high. there x low (omega arith)) in (
+      record { address = near_address (d.regs 2) offset (omega arith) (omega arith) ∙ root; data_there = here },
+      stores_met (offset + 4) (a + 4) rs (after (Store Sw r 2 offset) a d) (omega arith) (omega arith) (omega arith)
+          (λ x low high. is_some-with_number d.bytes 4 a (register d.regs r) x here
+          ∙ there x (omega arith) (omega arith)),
+    )
 
-  stores_met : (offset a : ℕ) (rs : List ℕ) (d : Data) → offset + 4 * length rs ≤ 2048 → a + 4 * length rs ≤ 2 ^ 32
-      → BeginsStores base offset a (length rs) d → AreMet (stores_code base offset rs) (words_at a rs) d
-  stores_met offset a [] d near below begins = tt
-  stores_met offset a (r ∷ rs) d near below begins =
-      let here = number_there d.bytes 4 a (λ x low high. begins.there x low (omega arith)) in (
-        record {
-          address = near_address (register d.regs base) offset (omega arith) (omega arith)
-              ∙ begins.root;
-          data_there = here;
-        },
-        stores_met (offset + 4) (a + 4) rs (after (Store Sw r base offset) a d) (omega arith)
-            (omega arith) (record {
-              root = omega arith;
-              there = λ x low high. is_some-with_number d.bytes 4 a (register d.regs r) x here
-                  ∙ begins.there x (omega arith) (omega arith);
-            }),
-      )
+-- the state with what registers hold in words from an address on
+abbrev pub stored : ℕ → List ℕ → Data → Data
+stored a rs s = record { regs = s.regs; bytes = with_numbers s.bytes 4 a (map (λ r. register s.regs r) rs) }
 
-  stored : (offset a : ℕ) (rs : List ℕ) (d : Data)
-      → after_all (stores_code base offset rs) (words_at a rs) d
-      ≡ record { regs = d.regs; bytes = with_numbers d.bytes 4 a (map (λ r. register d.regs r) rs) }
-  stored offset a [] d = refl
-  stored offset a (r ∷ rs) d = stored (offset + 4) (a + 4) rs (after (Store Sw r base offset) a d)
+stores_made : (offset a : ℕ) (rs : List ℕ) (d : Data)
+    → after_all (stores_code 2 offset rs) (words_at a rs) d ≡ stored a rs d
+stores_made offset a [] d = refl
+stores_made offset a (r ∷ rs) d = stores_made (offset + 4) (a + 4) rs (after (Store Sw r 2 offset) a d)
 
-  pub stores_runs : (sp offset a : ℕ) (rs : List ℕ) → are_registers rs ≡ true → a % 4 ≡ 0
-      → offset + 4 * length rs ≤ 2048 → a + 4 * length rs ≤ 2 ^ 32 → MayStore z sp 4 Word a (a + 4 * length rs)
-      → ((s : Data) → BeginsStores base offset a (length rs) s → s.regs 2 ≡ sp)
-      → Runs z (length (stores_code base offset rs)) (stores_code base offset rs)
-      (BeginsStores base offset a (length rs)) (Stores a rs)
-  stores_runs sp offset a rs registers even near below may stands =
-      straight_runs z sp (λ q. false) (stores_code base offset rs) (words_at a rs)
-      (stores_plain offset rs registers near) refl (stores_fit sp offset a rs even may) stands
-      (λ s begins. stores_met offset a rs s near below begins)
-      (λ s begins. record {
-        regs = ap (λ (d : Data). d.regs) (stored offset a rs s);
-        bytes = ap (λ (d : Data). d.bytes) (stored offset a rs s);
-      })
+pub stores_runs : (z : Setting) {P : Data → Type 0} (a : ℕ) (rs : List ℕ) → are_registers rs ≡ true → a % 4 ≡ 0
+    → 4 * length rs ≤ 2048 → a + 4 * length rs ≤ 2 ^ 32 → MayStore z a a (a + 4 * length rs)
+    → ((s : Data) → P s → (s.regs 2 ≡ a) × AreData a (a + 4 * length rs) s.bytes)
+    → Runs z (length (stores_code 2 0 rs)) (stores_code 2 0 rs) P (λ s t. t ≡ stored a rs s)
+stores_runs z a rs registers even near below may begins =
+    straight_runs z a (λ q. false) (stores_code 2 0 rs) (words_at a rs) (stores_plain 0 rs registers (omega arith)) refl
+    (stores_fit z a 0 a rs even may) (λ s given. (begins s given).0)
+    (λ s given.
+    let begin = begins s given in
+    stores_met 0 a rs s (omega arith) below (omega (arith, begin.0)) begin.1)
+    (λ s given. stores_made 0 a rs s)
 
--- from x5 on, which is none of them
+-- From x5 on, which is none of them.
 
 abbrev pub are_others : List ℕ → Bool
 are_others [] = true
 are_others (r ∷ rs) = cond (5 == r) false (are_others rs)
 
-loads_fit : (z : Setting) (sp offset a : ℕ) (rs : List ℕ) → a % 4 ≡ 0 → MayLoad z sp 4 Word a (a + 4 * length rs)
+loads_fit : (z : Setting) (sp offset a : ℕ) (rs : List ℕ) → a % 4 ≡ 0 → MayLoad z sp a (a + 4 * length rs)
     → AreFit (z.allowed sp) (loads_code 5 offset rs) (words_at a rs)
 loads_fit z sp offset a [] even may = tt
 loads_fit z sp offset a (r ∷ rs) even may = (
@@ -328,17 +278,18 @@ loads_met offset a (r ∷ rs) d others root near below there =
           (omega arith) (λ x low high. there x (omega arith) (omega arith)),
     )
 
--- registers but x2 from words; of each it is known what it has then
-pub loads_runs : (z : Setting) {P : Data → Type 0} {R : Data → Data → Type 0} (sp a : ℕ) (rs : List ℕ)
+-- registers but x2 from words
+pub loads_runs : (z : Setting) {P : Data → Type 0} (sp a : ℕ) (rs : List ℕ)
     → are_straight (λ q. not (q == 2)) (loads_code 5 0 rs) ≡ true → are_others rs ≡ true → a % 4 ≡ 0
-    → 4 * length rs ≤ 2048 → a + 4 * length rs ≤ 2 ^ 32 → MayLoad z sp 4 Word a (a + 4 * length rs)
+    → 4 * length rs ≤ 2048 → a + 4 * length rs ≤ 2 ^ 32 → MayLoad z sp a (a + 4 * length rs)
     → ((s : Data) → P s → s.regs 2 ≡ sp)
     → ((s : Data) → P s → (s.regs 5 ≡ a) × AreData a (a + 4 * length rs) s.bytes)
-    → ((s : Data) → P s → R s (after_all (loads_code 5 0 rs) (words_at a rs) s))
-    → Runs z (length (loads_code 5 0 rs)) (loads_code 5 0 rs) P R
-loads_runs z sp a rs plain others even near below may stands begins done =
+    → Runs z (length (loads_code 5 0 rs)) (loads_code 5 0 rs) P
+    (λ s t. t ≡ after_all (loads_code 5 0 rs) (words_at a rs) s)
+loads_runs z sp a rs plain others even near below may stands begins =
     straight_runs z sp (λ q. not (q == 2)) (loads_code 5 0 rs) (words_at a rs) plain refl
     (loads_fit z sp 0 a rs even may) stands
     (λ s given.
     let begin = begins s given in
-    loads_met 0 a rs s others (omega arith) (omega arith) below begin.1) done
+    loads_met 0 a rs s others (omega arith) (omega arith) below begin.1)
+    (λ s given. refl)

@@ -104,6 +104,14 @@ module _ (z : Setting) where
       then_runs xs ys one two (λ s t given made. subst P' (sym made) (link s given))
       (λ s t u given made more. both s u given (subst (λ (x : Data). R x u) made more))
 
+  -- straight code, in as many turns as both have instructions
+  pub makes_on : {P P' : Data → Type 0} {f : Data → Data} {R S : Data → Data → Type 0} (xs ys : List Instr)
+      → Runs z (length xs) xs P (λ s t. t ≡ f s) → Runs z (length ys) ys P' R
+      → ((s : Data) → P s → P' (f s)) → ((s u : Data) → P s → R (f s) u → S s u)
+      → Runs z (length (xs ++ ys)) (xs ++ ys) P S
+  makes_on {P = P} {S = S} xs ys one two link both =
+      subst (λ n. Runs z n (xs ++ ys) P S) (sym (length-append xs ys)) (makes_then xs ys one two link both)
+
   -- asked more, giving less
   pub weaken_runs : {P P' : Data → Type 0} {R R' : Data → Data → Type 0} {n : ℕ} (is : List Instr) → Runs z n is P R
       → ((s : Data) → P' s → P s) → ((s t : Data) → P' s → R s t → R' s t) → Runs z n is P' R'
@@ -125,6 +133,11 @@ module _ (z : Setting) where
   pub as_code : {P : Data → Type 0} {R : Data → Data → Type 0} {n : ℕ} (is js : List Instr) → is ≡ js
       → Runs z n is P R → Runs z n js P R
   as_code {P = P} {R = R} {n = n} is js same one = subst (λ (xs : List Instr). Runs z n xs P R) same one
+
+  -- straight code, otherwise written
+  pub as_straight : {P : Data → Type 0} {R : Data → Data → Type 0} (is js : List Instr) → is ≡ js
+      → Runs z (length is) is P R → Runs z (length js) js P R
+  as_straight {P = P} {R = R} is js same one = subst (λ (xs : List Instr). Runs z (length xs) xs P R) same one
 
 -- Code and its words.
 

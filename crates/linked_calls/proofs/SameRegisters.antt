@@ -60,10 +60,10 @@ pub still_same : (ks : List ℕ) (f g h : ℕ → ℕ) → ((q : ℕ) → IsNone
 still_same ks f g h beside rs ok same = same_then f g h rs (same_beside ks f g beside rs ok) same
 
 -- as they do where their values on it are the same
-heads : (x y : ℕ) (xs ys : List ℕ) → x ∷ xs ≡ y ∷ ys → x ≡ y
+pub heads : (x y : ℕ) (xs ys : List ℕ) → x ∷ xs ≡ y ∷ ys → x ≡ y
 heads x y xs ys e = cc
 
-tails : (x y : ℕ) (xs ys : List ℕ) → x ∷ xs ≡ y ∷ ys → xs ≡ ys
+pub tails : (x y : ℕ) (xs ys : List ℕ) → x ∷ xs ≡ y ∷ ys → xs ≡ ys
 tails x y xs ys e = cc
 
 pub same_values : (f g : ℕ → ℕ) (rs : List ℕ) → map f rs ≡ map g rs → AreSame f g rs

@@ -1,5 +1,5 @@
 -- Registers that were stored into words, one after another.
-use Rattle.std.proofs.Common.{◌≡◌, ℕ, zero, suc, ◌+◌, ◌*◌, ◌%◌, ◌^◌, ◌<◌, ◌≤◌, List, [], ◌∷◌, length, map, Some, ap}
+use Rattle.std.proofs.Common.{◌≡◌, ℕ, zero, suc, ◌+◌, ◌*◌, ◌%◌, ◌^◌, ◌<◌, ◌≤◌, List, [], ◌∷◌, ◌++◌, length, map, Some, ap, subst}
 use Rattle.std.proofs.Common.{◌∙◌, arith}
 use Rattle.codegen.specs.Loaded.{with_numbers}
 use Rattle.linked_calls.proofs.Between.{AreSaved}
@@ -7,13 +7,7 @@ use Rattle.linked_calls.proofs.Bytes.{numbers_below}
 use Rattle.rv_machine.specs.Bytes.{ByteMap, number_at, with_number}
 use Rattle.linked_calls.proofs.Below.{number_at_same, number_at-with_number, number_or_zero}
 use Rattle.linked_calls.proofs.Parts.{words_at}
-use Rattle.linked_calls.proofs.SameRegisters.{AreSame}
-
-heads : (x y : ℕ) (xs ys : List ℕ) → x ∷ xs ≡ y ∷ ys → x ≡ y
-heads x y xs ys e = cc
-
-tails : (x y : ℕ) (xs ys : List ℕ) → x ∷ xs ≡ y ∷ ys → xs ≡ ys
-tails x y xs ys e = cc
+use Rattle.linked_calls.proofs.SameRegisters.{AreSame, heads, tails}
 
 word_whole : (v : ℕ) → v < 2 ^ 32 → v % 256 ^ 4 ≡ v
 word_whole v below = omega arith
@@ -48,6 +42,22 @@ saved_same old new regs a (r ∷ rs) same saved = (
   number_at_same old new 4 a (λ x low high. same x low (omega arith)) ∙ saved.0,
   saved_same old new regs (a + 4) rs (λ x low high. same x (omega arith) (omega arith)) saved.1,
 )
+
+-- those of the first registers, and those of the others behind them
+
+pub saved_first : (bytes : ByteMap) (regs : ℕ → ℕ) (a : ℕ) (rs qs : List ℕ) → AreSaved bytes regs a (rs ++ qs)
+    → AreSaved bytes regs a rs
+saved_first bytes regs a [] qs saved = tt
+saved_first bytes regs a (r ∷ rs) qs saved = (saved.0, saved_first bytes regs (a + 4) rs qs saved.1)
+
+pub saved_then : (bytes : ByteMap) (regs : ℕ → ℕ) (a : ℕ) (rs qs : List ℕ) → AreSaved bytes regs a (rs ++ qs)
+    → AreSaved bytes regs (a + 4 * length rs) qs
+saved_then bytes regs a [] qs saved =
+    let e : a ≡ a + 4 * 0 = omega arith in
+    subst (λ x. AreSaved bytes regs x qs) e saved
+saved_then bytes regs a (r ∷ rs) qs saved =
+    let e : a + 4 + 4 * length rs ≡ a + 4 * suc (length rs) = omega arith in
+    subst (λ x. AreSaved bytes regs x qs) e (saved_then bytes regs (a + 4) rs qs saved.1)
 
 -- so many registers, from one on
 abbrev pub registers_from : ℕ → ℕ → List ℕ

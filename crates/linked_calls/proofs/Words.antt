@@ -1,27 +1,26 @@
 -- The code that takes a word: a load, what it means, and a store; and the code that hands a result back.
-use Rattle.std.specs.Prelude.{is_some, unwrap_or, bit_and}
-use Rattle.std.proofs.Common.{◌≡◌, ◌≢◌, ℕ, ◌+◌, ◌%◌, ◌^◌, ◌<◌, nat_lt, true, List, [], ◌++◌}
-use Rattle.std.proofs.Common.{length, Some, refl, sym, ap, ap₂, ◌∙◌, arith, length-append, append_assoc}
-use Rattle.rv_machine.specs.declared.memory.Size.TheVariants.{Word}
+use Rattle.std.specs.Prelude.{bit_and}
+use Rattle.std.proofs.Common.{◌≡◌, ℕ, ◌+◌, ◌%◌, ◌^◌, ◌==◌, nat_lt, true, ◌++◌, refl, sym, ap, ◌∙◌, arith}
+use Rattle.std.proofs.Math.Path.{fun_ext}
+use Rattle.std.proofs.lemmas.Bool.Decides.{nat_tests}
 use Rattle.std.proofs.lemmas.Nat.{and_mask}
 use Rattle.codegen.specs.expression_code.TermCode.{load_code, store_code}
-use Rattle.linked_calls.specs.FunctionCode.{argument_offset, argument_code, meant_code}
-use Rattle.language.specs.declared.signature.Form.TheVariants.{SingleWord}
+use Rattle.linked_calls.specs.FunctionCode.{argument_offset, meant_code}
 use Rattle.language.specs.declared.signature.Kind.{Kind}
 use Rattle.language.specs.declared.signature.Kind.TheVariants.{Boolean, Uint8, Uint16, Uint32}
-use Rattle.rv_machine.specs.declared.observation.Event.TheVariants as event
 use Rattle.rv_machine.specs.Bytes.{ByteMap, number_at, with_number}
 use Rattle.rv_machine.specs.Effects.{shift_value}
-use Rattle.rv_code.specs.declared.instructions.Instr.{Instr}
+use Rattle.rv_machine.specs.Registers.{with_register}
 use Rattle.rv_code.specs.declared.operations.ShiftOperation.TheVariants.{Slli, Srli}
 use Rattle.word.specs.Operators.{word_of}
 use Rattle.linked_calls.specs.Does.{Data}
 use Rattle.linked_calls.specs.Meant.{meant}
 use Rattle.linked_calls.specs.Words.{HasWordArgument, IsPut, IsPutting, WordIsTaken, HasResult, IsReturned, IsLoadOf}
 use Rattle.linked_calls.specs.Words.{ResultIsHandedBack}
+use Rattle.linked_calls.proofs.Below.{number_or_zero, only_computes, registers_after, unwritten, with_result}
 use Rattle.linked_calls.proofs.Bytes.{number_there, same_truth, with_number_cut}
-use Rattle.linked_calls.proofs.Parts.{HasWord, Sets, load_runs, sets_runs, store_runs}
-use Rattle.linked_calls.proofs.Pieces.{Runs, Setting, as_code, in_turns, placed, then_runs, weaken_runs}
+use Rattle.linked_calls.proofs.Parts.{computes_runs, load_runs, overwritten, same_number, store_runs}
+use Rattle.linked_calls.proofs.Pieces.{Setting, makes_on, placed, weaken_runs}
 
 -- What a word is made by the code of its kind: the number that is put as a word is the same.
 
@@ -41,104 +40,61 @@ same_put Uint8 bytes a raw = ap (λ v. with_number bytes 4 a v) (and_mask raw 8)
 same_put Uint16 bytes a raw = ap (λ v. with_number bytes 4 a v) (half_is raw)
 same_put Uint32 bytes a raw = sym (with_number_cut bytes 4 a raw)
 
-meant_runs : (z : Setting) (kind : Kind)
-    → Runs z (length (meant_code 5 kind)) (meant_code 5 kind) (λ s. Unit {0}) (Sets 5 (λ s. cut kind (s.regs 5)))
-meant_runs z Boolean = sets_runs z 5 (meant_code 5 Boolean) [] refl tt (λ s given. tt) (λ s given. refl) (λ s. refl)
-meant_runs z kind = sets_runs z 5 (meant_code 5 kind) [] refl tt (λ s given. tt) (λ s given. refl) (λ s. refl)
+meant_plain : (kind : Kind) → only_computes (λ q. q == 5) (meant_code 5 kind) ≡ true
+meant_plain Boolean = refl
+meant_plain kind = refl
 
-module _ (z : Setting) (kind : Kind) (frame offset target : ℕ) where
-  -- both words are there
-  record HasBoth (s : Data) : Type 0 where
-    stack : s.regs 2 ≡ frame
-    there : is_some (number_at s.bytes 4 (frame + offset)) ≡ true
-    slot_there : is_some (number_at s.bytes 4 (frame + target)) ≡ true
-
-  -- what a number means is put, and only x5 and x28 may have changed
-  record PutsMeant (raw : Data → ℕ) (s t : Data) : Type 0 where
-    bytes : t.bytes ≡ with_number s.bytes 4 (frame + target) (meant kind (raw s))
-    others : (q : ℕ) → q ≢ 5 → q ≢ 28 → t.regs q ≡ s.regs q
-
-  abbrev put_code : List Instr
-  put_code = meant_code 5 kind ++ store_code 5 target
-
-  -- what x5 means
-  put_runs : (frame + target) % 4 ≡ 0 → frame + target < 2 ^ 32
-      → z.allowed frame (Some (event.Store (frame + target) Word))
-      → Runs z (length (meant_code 5 kind) + length (store_code 5 target)) put_code (HasWord frame target)
-      (PutsMeant (λ s. s.regs 5))
-  put_runs even below allowed =
-      then_runs z {P = HasWord frame target} {S = PutsMeant (λ s. s.regs 5)} (meant_code 5 kind) (store_code 5 target)
-      (weaken_runs z {P' = HasWord frame target} {R' = Sets 5 (λ s. cut kind (s.regs 5))} (meant_code 5 kind)
-      (meant_runs z kind) (λ s has. tt) (λ s t has sets. sets))
-      (store_runs z frame target even below allowed)
-      (λ s t has sets. record {
-        stack = sets.others 2 (λ e. omega arith) ∙ has.stack;
-        there = ap (λ (b : ByteMap). is_some (number_at b 4 (frame + target))) sets.same ∙ has.there;
-      })
-      (λ s t u has sets puts. record {
-        bytes = puts.written ∙ ap₂ (λ (b : ByteMap) v. with_number b 4 (frame + target) v) sets.same sets.there
-            ∙ same_put kind s.bytes (frame + target) (s.regs 5);
-        others = λ q h k. puts.others q k ∙ sets.others q h;
-      })
-
-  -- what the word at the offset means
-  word_runs : (frame + offset) % 4 ≡ 0 → frame + offset < 2 ^ 32
-      → z.allowed frame (Some (event.Load (frame + offset) Word))
-      → (frame + target) % 4 ≡ 0 → frame + target < 2 ^ 32
-      → z.allowed frame (Some (event.Store (frame + target) Word))
-      → Runs z (length (load_code 5 offset) + (length (meant_code 5 kind) + length (store_code 5 target)))
-      (load_code 5 offset ++ put_code) HasBoth
-      (PutsMeant (λ s. unwrap_or (number_at s.bytes 4 (frame + offset)) 0))
-  word_runs even below allowed slot_even slot_below slot_allowed =
-      then_runs z {P = HasBoth} {S = PutsMeant (λ s. unwrap_or (number_at s.bytes 4 (frame + offset)) 0)}
-      (load_code 5 offset) put_code
-      (weaken_runs z {P' = HasBoth} {R' = Sets 5 (λ s. unwrap_or (number_at s.bytes 4 (frame + offset)) 0)}
-      (load_code 5 offset)
-      (load_runs z frame offset even below 5 (omega arith) (λ e. omega arith) (λ e. omega arith) allowed)
-      (λ s has. record { stack = has.stack; there = has.there }) (λ s t has sets. sets))
-      (put_runs slot_even slot_below slot_allowed)
-      (λ s t has sets. record {
-        stack = sets.others 2 (λ e. omega arith) ∙ has.stack;
-        there = ap (λ (b : ByteMap). is_some (number_at b 4 (frame + target))) sets.same ∙ has.slot_there;
-      })
-      (λ s t u has sets puts. record {
-        bytes = puts.bytes ∙ ap₂ (λ (b : ByteMap) v. with_number b 4 (frame + target) (meant kind v)) sets.same
-            sets.there;
-        others = λ q h k. puts.others q h k ∙ sets.others q h;
-      })
+meant_made : (kind : Kind) (regs : ℕ → ℕ)
+    → registers_after (meant_code 5 kind) regs ≡ with_register regs 5 (cut kind (regs 5))
+meant_made Uint16 regs = overwritten regs 5 (shift_value Slli (regs 5) 16) (cut Uint16 (regs 5))
+meant_made Uint32 regs = fun_ext (λ q. grind (arith, nat_tests))
+meant_made kind regs = refl
 
 pub word_is_taken : WordIsTaken
 word_is_taken code start image slot frame i there can =
     let kind = slot.param.kind in
     let offset = argument_offset image i in
-    let z : Setting = record {
-      code = code;
-      allowed = IsPutting (frame + offset) (frame + slot.offset);
-      silent = λ sp. tt;
-    } in
-    let is = argument_code image i slot SingleWord in
-    let a = length-append (load_code 5 offset ++ meant_code 5 kind) (store_code 5 slot.offset) in
-    let b = length-append (load_code 5 offset) (meant_code 5 kind) in
-    weaken_runs z {P' = HasWordArgument image slot frame i} {R' = IsPut image slot frame i} is
-    (in_turns z is (omega arith)
-    (as_code z (load_code 5 offset ++ put_code z kind frame offset slot.offset) is
-    (sym (append_assoc (load_code 5 offset) (meant_code 5 kind) (store_code 5 slot.offset)))
-    (word_runs z kind frame offset slot.offset (omega arith) can.place_ends (refl, refl, omega arith)
-    can.slot_aligned can.slot_ends (refl, refl, omega arith))))
-    (λ s has. record {
-      stack = has.stack;
-      there = number_there s.bytes 4 (frame + offset) has.argument_there;
-      slot_there = number_there s.bytes 4 (frame + slot.offset) has.slot_there;
+    let place = frame + offset in
+    let target = frame + slot.offset in
+    let load = load_code 5 offset in
+    let means = meant_code 5 kind in
+    let put = store_code 5 slot.offset in
+    let raw = λ (s : Data). number_or_zero (number_at s.bytes 4 place) in
+    let z : Setting = record { code = code; allowed = IsPutting place target; silent = λ sp. tt } in
+    makes_on z {P = HasWordArgument image slot frame i} {P' = HasWordArgument image slot frame i}
+    {f = λ s. with_result 5 (cut kind (raw s)) s} {S = IsPut image slot frame i} (load ++ means) put
+    (makes_on z {P' = λ s. Unit {0}} {f = λ s. with_result 5 (raw s) s} load means
+    (load_runs z frame offset (omega arith) can.place_ends
+    (λ s has. record { stack = has.stack; there = number_there s.bytes 4 place has.argument_there })
+    5 (omega arith) (λ e. omega arith) (λ e. omega arith) (refl, refl, omega arith))
+    (computes_runs z (λ q. q == 5) means (λ regs. with_register regs 5 (cut kind (regs 5))) (meant_plain kind)
+    (meant_made kind))
+    (λ s has. tt)
+    (λ s u has made. made ∙ ap (λ (regs : ℕ → ℕ). record { regs = regs; bytes = s.bytes })
+    (overwritten s.regs 5 (raw s) (cut kind (raw s)))))
+    (store_runs z frame slot.offset can.slot_aligned can.slot_ends
+    (λ s has. record { stack = has.stack; there = number_there s.bytes 4 target has.slot_there })
+    (refl, refl, omega arith))
+    (λ s has. record { stack = has.stack; argument_there = has.argument_there; slot_there = has.slot_there })
+    (λ s u has puts. record {
+      bytes = puts.written ∙ same_put kind s.bytes target (raw s)
+          ∙ ap (λ v. with_number s.bytes 4 target (meant kind v)) (same_number (number_at s.bytes 4 place));
+      others = λ q h k. puts.others q k ∙ unwritten s.regs 5 (cut kind (raw s)) q h;
     })
-    (λ s t has puts. record { bytes = puts.bytes; others = puts.others })
-    start (placed code start is there)
+    start (placed code start (load ++ means ++ put) there)
 
 pub result_is_handed_back : ResultIsHandedBack
 result_is_handed_back code start slot frame there even below =
     let z : Setting = record { code = code; allowed = IsLoadOf (frame + slot.offset); silent = λ sp. tt } in
-    weaken_runs z {P' = HasResult slot frame} {R' = IsReturned slot frame} (load_code 10 slot.offset)
-    (load_runs z frame slot.offset even below 10 (omega arith) (λ e. omega arith) (λ e. omega arith)
-    (refl, refl, omega arith))
+    weaken_runs z {R' = IsReturned slot frame} (load_code 10 slot.offset)
+    (load_runs z frame slot.offset even below {P = HasResult slot frame}
     (λ s has. record { stack = has.stack; there = number_there s.bytes 4 (frame + slot.offset) has.slot_there })
-    (λ s t has sets. record { result = sets.there; others = sets.others; bytes = sets.same })
+    10 (omega arith) (λ e. omega arith) (λ e. omega arith) (refl, refl, omega arith))
+    (λ s has. has)
+    (λ s t has made. record {
+      result = ap (λ (d : Data). d.regs 10) made ∙ same_number (number_at s.bytes 4 (frame + slot.offset));
+      others = λ q h. ap (λ (d : Data). d.regs q) made
+          ∙ unwritten s.regs 10 (number_or_zero (number_at s.bytes 4 (frame + slot.offset))) q h;
+      bytes = ap (λ (d : Data). d.bytes) made;
+    })
     start (placed code start (load_code 10 slot.offset) there)

@@ -1,8 +1,7 @@
 -- The code that zeroes a frame, and the code that wipes a room: loops over blocks of four words, downward over the
 -- frame, and upward over all the room.
-use Rattle.std.specs.Prelude.{is_some}
 use Rattle.std.proofs.Common.{◌≡◌, ◌≢◌, ℕ, suc, ◌+◌, ◌-◌, ◌*◌, ◌/◌, ◌%◌, ◌^◌, ◌<◌, ◌≤◌, ◌==◌, Bool, true, false, List}
-use Rattle.std.proofs.Common.{[], ◌∷◌, ◌++◌, length, refl, sym, ap, ap₂, ◌∙◌, subst, arith, append_assoc, if◌then◌else◌}
+use Rattle.std.proofs.Common.{[], ◌∷◌, ◌++◌, length, refl, sym, ap, ◌∙◌, subst, arith, append_assoc, length-append, if◌then◌else◌}
 use Rattle.std.proofs.lemmas.Bool.{eqb-false, eqb-true}
 use Rattle.codegen.specs.expression_code.TermCode.{constant_code}
 use Rattle.codegen.specs.Loaded.{with_numbers}
@@ -12,6 +11,7 @@ use Rattle.rv_code.specs.declared.operations.RegisterOperation.TheVariants.{Sub}
 use Rattle.rv_machine.specs.Bytes.{ByteMap}
 use Rattle.rv_machine.specs.Effects.{difference_of, sum_of}
 use Rattle.rv_machine.specs.Machine.{Code}
+use Rattle.rv_machine.specs.Registers.{with_register}
 use Rattle.linked_calls.specs.Does.{AreThere, Data, Does}
 use Rattle.linked_calls.specs.FunctionCode.{added, until_equal, wipe_code, zeros_code}
 use Rattle.linked_calls.specs.Sections.{block_turns}
@@ -19,8 +19,9 @@ use Rattle.linked_calls.specs.Stretches.{AreData, AreZeroed}
 use Rattle.linked_calls.specs.Zeros.{FrameIsZeroed, HasFrame, HasRoom, IsStoreIn, IsWiped, IsZeroFrame, RoomIsWiped}
 use Rattle.linked_calls.proofs.Bytes.{no_zeros, is_some-with_numbers, zeroed_words, zeros_down, zeros_of, zeros_up}
 use Rattle.linked_calls.proofs.Loops.{loop}
-use Rattle.linked_calls.proofs.Parts.{BeginsStores, Sets, Stores, constant_runs, sets_runs, stores_runs}
-use Rattle.linked_calls.proofs.Pieces.{Runs, Setting, as_code, in_turns, no_code, placed, then_runs, weaken_runs}
+use Rattle.linked_calls.proofs.Below.{unwritten, with_result}
+use Rattle.linked_calls.proofs.Parts.{computes_runs, number_then, stored, stores_runs}
+use Rattle.linked_calls.proofs.Pieces.{Runs, Setting, as_code, in_turns, makes_then, no_code, placed, weaken_runs}
 
 abbrev down_code : List Instr
 down_code = added 2 (4096 - 16) ∷ zeros_code
@@ -43,12 +44,10 @@ module _ (code : Code) (bottom room : ℕ) (even : bottom % 16 ≡ 0) (whole : r
   abbrev top : ℕ
   top = bottom + room
 
-  -- One block: its words were zeroed, and x2 moved on.
+  -- One block: its words are zeroed, and x2 moves on.
 
-  record Block (a next : ℕ) (s t : Data) : Type 0 where
-    stack : t.regs 2 ≡ next
-    bytes : t.bytes ≡ with_numbers s.bytes 4 a (zeros_of 4)
-    others : (q : ℕ) → q ≢ 2 → t.regs q ≡ s.regs q
+  abbrev block : ℕ → ℕ → Data → Data
+  block a next s = record { regs = with_register s.regs 2 next; bytes = with_numbers s.bytes 4 a (zeros_of 4) }
 
   -- x2 is there, and the block is data
   record HasBlock (x a : ℕ) (s : Data) : Type 0 where
@@ -56,48 +55,40 @@ module _ (code : Code) (bottom room : ℕ) (even : bottom % 16 ≡ 0) (whole : r
     there : AreData a (a + 16) s.bytes
 
   zeros_run : (a : ℕ) → a % 16 ≡ 0 → bottom ≤ a → a + 16 ≤ top
-      → Runs z 4 zeros_code (BeginsStores 2 0 a 4) (Stores a (0 ∷ 0 ∷ 0 ∷ 0 ∷ []))
+      → Runs z 4 zeros_code (HasBlock a a) (λ s t. t ≡ stored a (0 ∷ 0 ∷ 0 ∷ 0 ∷ []) s)
   zeros_run a aligned from to =
-      stores_runs z 2 (omega arith) a 0 a (0 ∷ 0 ∷ 0 ∷ 0 ∷ []) refl (omega arith) (omega arith)
-      (omega arith) (λ x low high. ((omega arith, omega arith), low)) (λ s begins. omega arith)
+      stores_runs z a (0 ∷ 0 ∷ 0 ∷ 0 ∷ []) refl (omega arith) (omega arith) (omega arith)
+      (λ x low high. ((omega arith, omega arith), low)) (λ s has. (has.stack, has.there))
 
-  block_down : (a : ℕ) → a % 16 ≡ 0 → bottom ≤ a → a + 16 ≤ top
-      → Runs z 5 down_code (HasBlock (a + 16) a) (Block a a)
-  block_down a aligned from to =
-      then_runs z {P = HasBlock (a + 16) a} {R = Sets 2 (λ s. sum_of (s.regs 2) 4294967280)} {S = Block a a}
+  block_down : (x a : ℕ) → x ≡ a + 16 → a % 16 ≡ 0 → bottom ≤ a → a + 16 ≤ top
+      → Runs z 5 down_code (HasBlock x a) (λ s t. t ≡ block a a s)
+  block_down x a next aligned from to =
+      makes_then z {P = HasBlock x a} {f = λ s. with_result 2 (sum_of (s.regs 2) 4294967280) s}
       (added 2 (4096 - 16) ∷ []) zeros_code
-      (sets_runs z 2 (added 2 (4096 - 16) ∷ []) [] refl tt (λ s has. tt) (λ s has. refl) (λ s. refl))
+      (computes_runs z (λ q. q == 2) (added 2 (4096 - 16) ∷ [])
+      (λ regs. with_register regs 2 (sum_of (regs 2) 4294967280)) refl (λ regs. refl))
       (zeros_run a aligned from to)
-      (λ s t has sets. record {
-        root = omega arith;
-        there = subst (λ (b : ByteMap). AreData a (a + 16) b) (sym sets.same) has.there;
-      })
-      (λ s t u has sets stores.
-      let kept = ap (λ (regs : ℕ → ℕ). regs 2) stores.regs in
-      record {
-        stack = kept ∙ omega arith;
-        bytes = stores.bytes ∙ ap (λ (b : ByteMap). with_numbers b 4 a (zeros_of 4)) sets.same;
-        others = λ q h. ap (λ (regs : ℕ → ℕ). regs q) stores.regs ∙ sets.others q h;
-      })
+      (λ s has. record { stack = omega (arith, has.stack); there = has.there })
+      (λ s u has made.
+      let moved : sum_of (s.regs 2) 4294967280 ≡ a = omega (arith, has.stack) in
+      made ∙ ap (λ y. block a y s) moved)
 
-  block_up : (a : ℕ) → a % 16 ≡ 0 → bottom ≤ a → a + 16 ≤ top → Runs z 5 up_code (HasBlock a a) (Block a (a + 16))
-  block_up a aligned from to =
-      then_runs z {P = HasBlock a a} {R' = Sets 2 (λ s. sum_of (s.regs 2) 16)} {S = Block a (a + 16)} zeros_code
-      (added 2 16 ∷ [])
-      (weaken_runs z {P' = HasBlock a a} {R' = Stores a (0 ∷ 0 ∷ 0 ∷ 0 ∷ [])} zeros_code (zeros_run a aligned from to)
-      (λ s has. record { root = omega arith; there = has.there })
-      (λ s t has stores. stores))
-      (sets_runs z {P = λ s. Unit {0}} 2 (added 2 16 ∷ []) [] refl tt (λ s given. tt) (λ s given. refl) (λ s. refl))
-      (λ s t has stores. tt)
-      (λ s t u has stores sets.
-      let kept = ap (λ (regs : ℕ → ℕ). regs 2) stores.regs in
-      record {
-        stack = omega arith;
-        bytes = sets.same ∙ stores.bytes;
-        others = λ q h. sets.others q h ∙ ap (λ (regs : ℕ → ℕ). regs q) stores.regs;
-      })
+  block_up : (a next : ℕ) → a + 16 ≡ next → a % 16 ≡ 0 → bottom ≤ a → a + 16 ≤ top
+      → Runs z 5 up_code (HasBlock a a) (λ s t. t ≡ block a next s)
+  block_up a next is aligned from to =
+      makes_then z {P = HasBlock a a} {P' = λ s. Unit {0}} {f = stored a (0 ∷ 0 ∷ 0 ∷ 0 ∷ [])} zeros_code
+      (added 2 16 ∷ []) (zeros_run a aligned from to)
+      (computes_runs z (λ q. q == 2) (added 2 16 ∷ []) (λ regs. with_register regs 2 (sum_of (regs 2) 16)) refl
+      (λ regs. refl))
+      (λ s has. tt)
+      (λ s u has made.
+      let moved : sum_of (s.regs 2) 16 ≡ next = omega (arith, has.stack) in
+      made ∙ ap (λ y. block a y s) moved)
 
   -- Blocks.
+
+  abbrev blocks : ℕ
+  blocks = room / 16
 
   -- x2 has come to an address, x5 is where it stops, and a stretch is zeros
   record Zeroing (x stop low high : ℕ) (s d : Data) : Type 0 where
@@ -107,28 +98,58 @@ module _ (code : Code) (bottom room : ℕ) (even : bottom % 16 ≡ 0) (whole : r
     zeroed : AreZeroed low high s.bytes d.bytes
     others : (q : ℕ) → q ≢ 2 → d.regs q ≡ s.regs q
 
-  has_block : (x stop low high a : ℕ) (s d : Data) → bottom ≤ a → a + 16 ≤ top → Zeroing x stop low high s d
-      → HasBlock x a d
-  has_block x stop low high a s d from to held =
-      record { stack = held.stack; there = λ y l h. held.there y (omega arith) (omega arith) }
+  -- x2 is where the first begins, and x5 where it stops
+  record BeginsBlocks (x stop : ℕ) (s : Data) : Type 0 where
+    stack : s.regs 2 ≡ x
+    last : s.regs 5 ≡ stop
+    there : AreData bottom top s.bytes
 
-  one_more : (x stop low high a next low' high' : ℕ) (s d t : Data) → bottom ≤ a → a + 16 ≤ top → Block a next d t
-      → Zeroing x stop low high s d
-      → (AreZeroed a (a + 16) d.bytes t.bytes → AreZeroed low' high' s.bytes t.bytes)
-      → Zeroing next stop low' high' s t
-  one_more x stop low high a next low' high' s d t from to block held joined = record {
-    stack = block.stack;
-    last = block.others 5 (λ e. omega arith) ∙ held.last;
-    there = λ y l h. ap (λ (b : ByteMap). is_some (b y)) block.bytes
-        ∙ is_some-with_numbers d.bytes 4 a (zeros_of 4) (has_block x stop low high a s d from to held).there y
-        ∙ held.there y l h;
-    zeroed = joined (subst (λ (b : ByteMap). AreZeroed a (a + 16) d.bytes b) (sym block.bytes)
-        (zeroed_words d.bytes a 4));
-    others = λ q h. block.others q h ∙ held.others q h;
-  }
+  -- Each by a body: where x2 is before it, where it lies, and what is zeros then.
+  module _ (body : List Instr) (five : length body ≡ 5) (stop : ℕ) (x a low high : ℕ → ℕ)
+      (inside : (i : ℕ) → i < blocks → (bottom ≤ a i) × (a i + 16 ≤ top))
+      (block_runs : (i : ℕ) → i < blocks
+      → Runs z 5 body (HasBlock (x i) (a i)) (λ s t. t ≡ block (a i) (x (suc i)) s))
+      (joined : (i : ℕ) (one two three : ByteMap) → i < blocks → AreZeroed (low i) (high i) one two
+      → AreZeroed (a i) (a i + 16) two three → AreZeroed (low (suc i)) (high (suc i)) one three)
+      (apart : (i : ℕ) → i < blocks → x i ≢ stop) (ends : x blocks ≡ stop) (none : high 0 ≤ low 0) where
+    abbrev Zeroed : ℕ → Data → Data → Type 0
+    Zeroed i = Zeroing (x i) stop (low i) (high i)
 
-  abbrev blocks : ℕ
-  blocks = room / 16
+    here : (i : ℕ) → i < blocks → (s d : Data) → Zeroed i s d → AreData (a i) (a i + 16) d.bytes
+    here i few s d held y l h =
+        let lies = inside i few in
+        held.there y (omega (arith, lies.0)) (omega (arith, lies.1))
+
+    one_more : (i : ℕ) → i < blocks → (s d : Data) → Zeroed i s d → Zeroed (suc i) s (block (a i) (x (suc i)) d)
+    one_more i few s d held = record {
+      stack = refl;
+      last = held.last;
+      there = λ y l h. is_some-with_numbers d.bytes 4 (a i) (zeros_of 4) (here i few s d held) y ∙ held.there y l h;
+      zeroed = joined i s.bytes d.bytes (with_numbers d.bytes 4 (a i) (zeros_of 4)) few held.zeroed
+          (zeroed_words d.bytes (a i) 4);
+      others = λ q h. unwritten d.regs 2 (x (suc i)) q h ∙ held.others q h;
+    }
+
+    blocks_run : Runs z (block_turns room) (until_equal 2 5 body) (BeginsBlocks (x 0) stop) (Zeroed blocks)
+    blocks_run =
+        in_turns z (until_equal 2 5 body) (omega arith)
+        (loop z 2 5 (omega arith, omega arith) body (omega arith) (omega arith) blocks Zeroed
+        (λ i few.
+        weaken_runs z body (block_runs i few)
+        (λ d given. record { stack = given.1.stack; there = here i few given.0 d given.1 })
+        (λ d t given made s held.
+        subst (λ (u : Data). Zeroed (suc i) s u) (sym made) (one_more i few s d held)))
+        (λ i s d few held same. apart i few (sym held.stack ∙ same ∙ held.last))
+        (λ s d held. held.stack ∙ ends ∙ sym held.last)
+        (omega arith)
+        (λ s begins. record {
+          stack = begins.stack;
+          last = begins.last;
+          there = begins.there;
+          zeroed = no_zeros (low 0) (high 0) s.bytes none;
+          others = λ q h. refl;
+        })
+        (λ s t begins held. held))
 
   -- where x2 is after so many
   abbrev down_at : ℕ → ℕ
@@ -137,121 +158,56 @@ module _ (code : Code) (bottom room : ℕ) (even : bottom % 16 ≡ 0) (whole : r
   abbrev up_at : ℕ → ℕ
   up_at i = bottom + 16 * i
 
-  turns : blocks * 6 ≡ block_turns room
-  turns = omega arith
-
-  -- x2 is the top, and x5 the bottom
-  record BeginsDown (s : Data) : Type 0 where
-    stack : s.regs 2 ≡ top
-    last : s.regs 5 ≡ bottom
-    there : AreData bottom top s.bytes
-
-  record EndsDown (s t : Data) : Type 0 where
-    stack : t.regs 2 ≡ bottom
-    zeroed : AreZeroed bottom top s.bytes t.bytes
-    others : (q : ℕ) → q ≢ 2 → t.regs q ≡ s.regs q
-
-  down_runs : Runs z (block_turns room) (until_equal 2 5 down_code) BeginsDown EndsDown
+  down_runs : Runs z (block_turns room) (until_equal 2 5 down_code) (BeginsBlocks (down_at 0) bottom)
+      (Zeroing (down_at blocks) bottom (down_at blocks) top)
   down_runs =
-      in_turns z (until_equal 2 5 down_code) turns
-      (loop z 2 5 (omega arith, omega arith) down_code (omega arith) (omega arith) blocks
-      (λ i. Zeroing (down_at i) bottom (down_at i) top)
-      (λ i few.
-      let a = down_at (suc i) in
-      let from : bottom ≤ a = omega arith in
-      let next : a + 16 ≡ down_at i = omega arith in
-      let to : a + 16 ≤ top = omega arith in
-      weaken_runs z down_code (block_down a (omega arith) from to)
-      (λ d given. subst (λ x. HasBlock x a d) (sym next)
-      (has_block (down_at i) bottom (down_at i) top a given.0 d from to given.1))
-      (λ d t given block s held.
-      one_more (down_at i) bottom (down_at i) top a a a top s d t from to block held
-      (λ zeroed. zeros_down a (down_at i) top s.bytes d.bytes t.bytes (omega arith) (omega arith) held.zeroed
-      (subst (λ x. AreZeroed a x d.bytes t.bytes) next zeroed))))
-      (λ i s d few held same. omega arith)
-      (λ s d held. omega arith)
-      (omega arith)
-      (λ s begins. record {
-        stack = begins.stack ∙ omega arith;
-        last = begins.last;
-        there = begins.there;
-        zeroed = no_zeros (down_at 0) top s.bytes (omega arith);
-        others = λ q h. refl;
-      })
-      (λ s t begins held.
-      let end : down_at blocks ≡ bottom = omega arith in
-      record {
-        stack = omega arith;
-        zeroed = subst (λ x. AreZeroed x top s.bytes t.bytes) end held.zeroed;
-        others = held.others;
-      }))
+      blocks_run down_code refl bottom down_at (λ i. down_at (suc i)) down_at (λ i. top)
+      (λ i few. (omega arith, omega arith))
+      (λ i few. block_down (down_at i) (down_at (suc i)) (omega arith) (omega arith) (omega arith) (omega arith))
+      (λ i one two three few zeroed more.
+      let next : down_at (suc i) + 16 ≡ down_at i = omega arith in
+      zeros_down (down_at (suc i)) (down_at i) top one two three (omega arith) (omega arith) zeroed
+      (subst (λ y. AreZeroed (down_at (suc i)) y two three) next more))
+      (λ i few same. omega arith) (omega arith) (omega arith)
 
   up_runs : Runs z (block_turns room) (until_equal 2 5 up_code) (HasRoom bottom room) (IsWiped bottom room)
   up_runs =
-      in_turns z (until_equal 2 5 up_code) turns
-      (loop z 2 5 (omega arith, omega arith) up_code (omega arith) (omega arith) blocks
-      (λ i. Zeroing (up_at i) top bottom (up_at i))
-      (λ i few.
-      let a = up_at i in
-      let to : a + 16 ≤ top = omega arith in
-      let next : a + 16 ≡ up_at (suc i) = omega arith in
-      weaken_runs z up_code (block_up a (omega arith) (omega arith) to)
-      (λ d given. has_block a top bottom a a given.0 d (omega arith) to given.1)
-      (λ d t given block s held.
-      subst (λ x. Zeroing x top bottom x s t) next
-      (one_more a top bottom a a (a + 16) bottom (a + 16) s d t (omega arith) to block held
-      (zeros_up bottom a (a + 16) s.bytes d.bytes t.bytes (omega arith) (omega arith) held.zeroed))))
-      (λ i s d few held same. omega arith)
-      (λ s d held. omega arith)
-      (omega arith)
-      (λ s has. record {
-        stack = has.stack ∙ omega arith;
-        last = has.top;
-        there = has.there;
-        zeroed = no_zeros bottom (up_at 0) s.bytes (omega arith);
-        others = λ q h. refl;
-      })
-      (λ s t has held.
       let end : up_at blocks ≡ top = omega arith in
-      record {
-        stack = omega arith;
-        zeroed = subst (λ x. AreZeroed bottom x s.bytes t.bytes) end held.zeroed;
+      weaken_runs z (until_equal 2 5 up_code)
+      (blocks_run up_code refl top up_at up_at (λ i. bottom) up_at (λ i few. (omega arith, omega arith))
+      (λ i few. block_up (up_at i) (up_at (suc i)) (omega arith) (omega arith) (omega arith) (omega arith))
+      (λ i one two three few zeroed more.
+      let next : up_at i + 16 ≡ up_at (suc i) = omega arith in
+      zeros_up bottom (up_at i) (up_at (suc i)) one two three (omega arith) (omega arith) zeroed
+      (subst (λ y. AreZeroed (up_at i) y two three) next more))
+      (λ i few same. omega arith) end (omega arith))
+      (λ s has. record { stack = has.stack ∙ omega arith; last = has.top; there = has.there })
+      (λ s t has held. record {
+        stack = held.stack ∙ end;
+        zeroed = subst (λ y. AreZeroed bottom y s.bytes t.bytes) end held.zeroed;
         others = held.others;
-      }))
-
-  -- The frame.
-
-  -- x5 is the number of bytes, and then the bottom
-  based_runs : Runs z (length (constant_code 5 room) + 1) (constant_code 5 room ++ Register Sub 5 2 5 ∷ [])
-      (HasFrame bottom room) (Sets 5 (λ s. difference_of (s.regs 2) room))
-  based_runs =
-      then_runs z {R' = Sets 5 (λ s. difference_of (s.regs 2) (s.regs 5))} (constant_code 5 room)
-      (Register Sub 5 2 5 ∷ []) (constant_runs z 5 room (omega arith) (λ e. omega arith) (omega arith))
-      (sets_runs z {P = λ s. Unit {0}} 5 (Register Sub 5 2 5 ∷ []) [] refl tt (λ s given. tt) (λ s given. refl)
-      (λ s. refl))
-      (λ s t has one. tt)
-      (λ s t u has one two. record {
-        there = two.there ∙ ap₂ difference_of (one.others 2 (λ e. omega arith)) one.there;
-        others = λ q h. two.others q h ∙ one.others q h;
-        same = two.same ∙ one.same;
       })
+
+  -- The frame: x5 is the number of bytes, and then the bottom.
 
   frame_runs : Runs z (length (constant_code 5 room) + 1 + block_turns room)
       ((constant_code 5 room ++ Register Sub 5 2 5 ∷ []) ++ until_equal 2 5 down_code) (HasFrame bottom room)
       (IsZeroFrame bottom room)
   frame_runs =
-      then_runs z {P = HasFrame bottom room} {S = IsZeroFrame bottom room}
-      (constant_code 5 room ++ Register Sub 5 2 5 ∷ []) (until_equal 2 5 down_code) based_runs down_runs
-      (λ s t has sets. record {
-        stack = sets.others 2 (λ e. omega arith) ∙ has.stack;
-        last = omega arith;
-        there = subst (λ (b : ByteMap). AreData bottom top b) (sym sets.same) has.there;
-      })
-      (λ s t u has sets ends. record {
-        stack = ends.stack;
-        zeroed = subst (λ (b : ByteMap). AreZeroed bottom top b u.bytes) sets.same ends.zeroed;
-        others = λ q h k. ends.others q h ∙ sets.others q k;
-      })
+      let base = constant_code 5 room ++ Register Sub 5 2 5 ∷ [] in
+      let end : down_at blocks ≡ bottom = omega arith in
+      in_turns z (base ++ until_equal 2 5 down_code)
+      (ap (λ n. n + block_turns room) (length-append (constant_code 5 room) (Register Sub 5 2 5 ∷ [])))
+      (makes_then z {P = HasFrame bottom room} {f = λ s. with_result 5 (difference_of (s.regs 2) room) s}
+      {S = IsZeroFrame bottom room} base (until_equal 2 5 down_code)
+      (number_then z 5 room (omega arith) (λ e. omega arith) (omega arith) Sub 2 5 (omega arith) (omega arith))
+      down_runs
+      (λ s has. record { stack = has.stack ∙ omega arith; last = omega (arith, has.stack); there = has.there })
+      (λ s u has held. record {
+        stack = held.stack ∙ end;
+        zeroed = subst (λ y. AreZeroed y top s.bytes u.bytes) end held.zeroed;
+        others = λ q h k. held.others q h ∙ unwritten s.regs 5 (difference_of (s.regs 2) room) q k;
+      }))
 
 pub frame_is_zeroed : FrameIsZeroed
 frame_is_zeroed code start bottom room there even whole below = by (room == 0) refl there
