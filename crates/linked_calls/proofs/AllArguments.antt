@@ -22,14 +22,14 @@ use Rattle.linked_calls.specs.Meant.{meant}
 use Rattle.linked_calls.specs.Sections.{argument_turns}
 use Rattle.linked_calls.specs.Stretches.{AreData}
 use Rattle.linked_calls.specs.Words.{CanBePut, HasWordArgument, IsPut, IsPutting}
-use Rattle.linked_calls.proofs.Below.{is_some-with_number, with_number_above, with_number_below}
+use Rattle.linked_calls.proofs.Below.{is_some-with_number, with_number_outside}
 use Rattle.linked_calls.proofs.Between.{AreReady, IsReady, saved_at}
-use Rattle.linked_calls.proofs.Bytes.{SameData, number_there, numbers_above, numbers_below, numbers_count}
+use Rattle.linked_calls.proofs.Bytes.{IsOutside, SameData, number_there, numbers_count, numbers_outside}
 use Rattle.linked_calls.proofs.Bytes.{is_some-with_numbers}
 use Rattle.linked_calls.proofs.Copies.{array_is_taken}
 use Rattle.linked_calls.proofs.EnterTurns.{arguments_turns}
 use Rattle.linked_calls.proofs.Pieces.{Runs, Setting, no_code, promised_runs, then_runs, weaken_runs}
-use Rattle.linked_calls.proofs.Rooms.{IsOutside, RoomNumbers}
+use Rattle.linked_calls.proofs.Rooms.{RoomNumbers}
 use Rattle.linked_calls.proofs.SameRegisters.{IsNone, same_beside}
 use Rattle.linked_calls.proofs.Staying.{stay_ready}
 use Rattle.linked_calls.proofs.Words.{word_is_taken}
@@ -63,12 +63,10 @@ put_bytes slot (Array words) = element_bytes slot.param.kind * length words
 put_outside : (frame : ℕ) (bytes : ByteMap) (slot : Slot) (arg : Arg) (x : ℕ)
     → IsOutside (frame + slot.offset) (frame + slot.offset + put_bytes slot arg) x
     → with_argument frame bytes slot arg x ≡ bytes x
-put_outside frame bytes slot (Word word) x (inl low) = with_number_below bytes 4 (frame + slot.offset) word x low
-put_outside frame bytes slot (Word word) x (inr high) = with_number_above bytes 4 (frame + slot.offset) word x high
-put_outside frame bytes slot (Array words) x (inl low) =
-    numbers_below bytes (element_bytes slot.param.kind) (frame + slot.offset) words x low
-put_outside frame bytes slot (Array words) x (inr high) =
-    numbers_above bytes (element_bytes slot.param.kind) (frame + slot.offset) words x high
+put_outside frame bytes slot (Word word) x outside =
+    with_number_outside bytes 4 (frame + slot.offset) word x outside
+put_outside frame bytes slot (Array words) x outside =
+    numbers_outside bytes (element_bytes slot.param.kind) (frame + slot.offset) words x outside
 
 put_data : (frame : ℕ) (bytes : ByteMap) (slot : Slot) (arg : Arg)
     → AreData (frame + slot.offset) (frame + slot.offset + put_bytes slot arg) bytes

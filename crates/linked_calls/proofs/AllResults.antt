@@ -16,7 +16,7 @@ use Rattle.linked_calls.specs.FunctionCode.{array_bytes, copy_out_code, results_
 use Rattle.linked_calls.specs.Stretches.{AreData}
 use Rattle.linked_calls.proofs.AllArguments.{AreKnown, Begins, IsKnown, Takes, call_setting, spot_at, still_base}
 use Rattle.linked_calls.proofs.Between.{AreReady, IsReady}
-use Rattle.linked_calls.proofs.Bytes.{SameData, numbers_above, numbers_below, numbers_count, is_some-with_numbers}
+use Rattle.linked_calls.proofs.Bytes.{IsOutside, SameData, numbers_count, numbers_outside, is_some-with_numbers}
 use Rattle.linked_calls.proofs.Bytes.{numbers_same}
 use Rattle.linked_calls.proofs.Copies.{array_is_handed_back}
 use Rattle.linked_calls.proofs.LeaveTurns.{output_turns, outputs_turns}
@@ -80,13 +80,12 @@ module _ (image : Fields) (code : Code) (site : Site) (numbers : RoomNumbers ima
   array_apart : (bytes : ByteMap) (i : ℕ) (slot : Slot) (x : ℕ)
       → IsBesides (site.pointers i) (array_bytes slot) base end → base ≤ x → x < end
       → with_numbers bytes (element_bytes slot.param.kind) (site.pointers i) (outcome_at bytes slot) x ≡ bytes x
-  array_apart bytes i slot x (inl below) low up =
+  array_apart bytes i slot x beside low up =
       let n = element_bytes slot.param.kind in
-      numbers_above bytes n (site.pointers i) (outcome_at bytes slot) x
-      (subst (λ k. site.pointers i + n * k ≤ x) (sym (outcome_count bytes slot)) (omega arith))
-  array_apart bytes i slot x (inr above) low up =
-      numbers_below bytes (element_bytes slot.param.kind) (site.pointers i) (outcome_at bytes slot) x
-      (omega arith)
+      let a = site.pointers i in
+      numbers_outside bytes n a (outcome_at bytes slot) x
+      (subst (λ k. IsOutside a (a + n * k) x) (sym (outcome_count bytes slot))
+      (elim beside [ inl below ↦ inr (omega arith) | inr above ↦ inl (omega arith) ]))
 
   handed_apart : (bytes : ByteMap) (i : ℕ) (slot : Slot) (form : Form) (x : ℕ) → IsKnown image site i slot form
       → base ≤ x → x < end → handed bytes i slot form x ≡ bytes x

@@ -34,20 +34,22 @@ pub use Rattle.codegen.proofs.program_logic_lemmas.Face.{
   straight_code_leads,
   with_result,
 }
+pub use Rattle.codegen.proofs.Numbers.{zero_byte}
 pub use Rattle.hepurita.proofs.DataLemmas.{bytes_within}
 pub use Rattle.hepurita.proofs.ElementLemmas.{is_some-with_numbers, number_there, numbers_at-more}
 pub use Rattle.rv_machine.proofs.Face.{
   branch_leads,
   branch_passes,
+  is_inside,
+  is_outside,
   is_some-with_number,
   jump_done,
   number_at-with_number,
   number_at_same,
+  place,
   turn_of,
-  with_byte_other,
-  with_byte_same,
   with_number-suc,
   with_number-zero,
-  with_number_above,
-  with_number_below,
+  with_number_inside,
+  with_number_outside,
 }

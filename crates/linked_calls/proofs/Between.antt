@@ -1,7 +1,7 @@
 -- What the code before the body hands to it, and what the code behind it takes over: the two halves of a call, so
 -- that they can be proved apart from each other and from the body.
-use Rattle.std.specs.Prelude.{◌⊎◌, sum}
-use Rattle.std.proofs.Common.{◌≡◌, ℕ, suc, ◌+◌, ◌-◌, ◌*◌, ◌%◌, ◌^◌, ◌<◌, ◌≤◌, List, [], ◌∷◌, length, map, Some}
+use Rattle.std.specs.Prelude.{sum}
+use Rattle.std.proofs.Common.{◌≡◌, ℕ, suc, ◌+◌, ◌-◌, ◌*◌, ◌%◌, ◌^◌, ◌<◌, List, [], ◌∷◌, length, map, Some}
 use Rattle.std.proofs.Common.{None}
 use Rattle.codegen.specs.Anywhere.{IsLoaded, body_words}
 use Rattle.codegen.specs.Loaded.{results_in}
@@ -16,6 +16,7 @@ use Rattle.linked_calls.specs.Convention.{saved_registers}
 use Rattle.linked_calls.specs.FunctionCode.{enter_code, function_words, frame_room, argument_offset, array_bytes}
 use Rattle.linked_calls.specs.Sections.{enter_sections, leave_sections, section_turns}
 use Rattle.linked_calls.specs.Stretches.{AreData}
+use Rattle.linked_calls.proofs.Bytes.{IsOutside}
 use Rattle.linked_calls.proofs.SameRegisters.{AreSame}
 use Rattle.rv_machine.specs.Bytes.{ByteMap, number_at}
 use Rattle.rv_machine.specs.Machine.{State, Code, Turn, goes_on, observed, moved_to}
@@ -65,7 +66,7 @@ AreReady image site bytes i (slot ∷ slots) = IsReady image site bytes i slot s
 
 -- an address before the room of the call or behind it
 abbrev pub IsOutsideRoom : Fields → Site → ℕ → Type 0
-IsOutsideRoom image site x = (x < room_base image site) ⊎ (site.stack ≤ x)
+IsOutsideRoom image site x = IsOutside (room_base image site) site.stack x
 
 -- Before the body.
 

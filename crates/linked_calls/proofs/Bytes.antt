@@ -1,36 +1,34 @@
 -- Bytes: data that stays data, numbers put one after another, and stretches of zeros.
 use Rattle.std.specs.Prelude.{◌⊎◌, is_some, unwrap_or, not}
-use Rattle.std.proofs.Common.{◌≡◌, ◌≢◌, ℕ, zero, suc, ◌+◌, ◌*◌, ◌/◌, ◌%◌, ◌^◌, ◌<◌, ◌≤◌, true, ◌&&◌, ◌==◌, cond, nat_le}
-use Rattle.std.proofs.Common.{nat_lt, List, [], ◌∷◌, ◌++◌, length, Some, None, inl, inr, ⊎_elim, refl, sym, ap, ap₂}
-use Rattle.std.proofs.Common.{add-one, ◌∙◌, subst, arith}
+use Rattle.std.proofs.Common.{◌≡◌, ℕ, zero, suc, ◌+◌, ◌*◌, ◌/◌, ◌%◌, ◌^◌, ◌<◌, ◌≤◌, ◌==◌}
+use Rattle.std.proofs.Common.{nat_lt, List, [], ◌∷◌, ◌++◌, length, Some, inl, inr, ⊎_elim, refl, sym, ap, ap₂}
+use Rattle.std.proofs.Common.{add-one, ◌∙◌, subst, arith, eq-eqb, ne_eqb}
 use Rattle.std.proofs.Math.Arith.{mod-mul}
 use Rattle.std.proofs.Math.Nat.{pow-suc}
 use Rattle.std.proofs.lemmas.Bool.{cases_eq, cases_lt}
 use Rattle.std.proofs.lemmas.Bool.Decides.{nat_tests}
-use Rattle.rv_machine.specs.Bytes.{ByteMap, number_at, with_byte, with_number, zeros}
+use Rattle.rv_machine.specs.Bytes.{ByteMap, number_at, with_byte, with_number}
 use Rattle.linked_calls.proofs.Below.{numbers_at-more, number_at_same, with_number-zero, with_number-suc}
-use Rattle.linked_calls.proofs.Below.{with_number_below, with_number_above, with_byte_same, with_byte_other}
-pub use Rattle.linked_calls.proofs.Below.{is_some-with_numbers, number_there}
+use Rattle.linked_calls.proofs.Below.{is_inside, is_outside, place, with_number_inside, with_number_outside}
+pub use Rattle.linked_calls.proofs.Below.{is_some-with_numbers, number_there, zero_byte}
 pub use Rattle.linked_calls.specs.Stretches.{AreData, AreZeroed}
 use Rattle.codegen.specs.Loaded.{with_numbers, numbers_at}
 use Rattle.word.specs.Operators.{word_of}
 
+-- an address before a stretch or behind it
+abbrev pub IsOutside : ℕ → ℕ → ℕ → Type 0
+IsOutside low high x = (x < low) ⊎ (high ≤ x)
+
 -- a store of equal numbers where two maps agree
 pub with_number_agree : (one other : ByteMap) (n a v x : ℕ) → one x ≡ other x
     → with_number one n a v x ≡ with_number other n a v x
-with_number_agree one other zero a v x same =
-    ap (λ (m : ByteMap). m x) (with_number-zero one a v) ∙ same
-    ∙ sym (ap (λ (m : ByteMap). m x) (with_number-zero other a v))
-with_number_agree one other (suc n) a v x same =
-    ap (λ (m : ByteMap). m x) (with_number-suc one n a v)
-    ∙ ⊎_elim
-    (λ (e : x ≡ a). with_byte_same (with_number one n (a + 1) (v / 256)) a (v % 256) x e
-    ∙ sym (with_byte_same (with_number other n (a + 1) (v / 256)) a (v % 256) x e))
-    (λ (e : x ≢ a). with_byte_other (with_number one n (a + 1) (v / 256)) a (v % 256) x e
-    ∙ with_number_agree one other n (a + 1) (v / 256) x same
-    ∙ sym (with_byte_other (with_number other n (a + 1) (v / 256)) a (v % 256) x e))
-    (cases_eq x a)
-    ∙ sym (ap (λ (m : ByteMap). m x) (with_number-suc other n a v))
+with_number_agree one other n a v x same = elim (place a n x) [
+  | is_inside is from to ↦
+      let put = with_number_inside n a v x from to in
+      put.1 one ∙ sym (put.1 other)
+  | is_outside is out ↦
+      with_number_outside one n a v x out ∙ same ∙ sym (with_number_outside other n a v x out)
+]
 
 pow-pos : (n : ℕ) → 0 < 256 ^ n
 pow-pos zero = omega arith
@@ -67,19 +65,14 @@ same_truth v =
 
 -- Numbers put one after another.
 
-pub numbers_below : (bytes : ByteMap) (size at : ℕ) (vs : List ℕ) (x : ℕ) → x < at
+pub numbers_outside : (bytes : ByteMap) (size at : ℕ) (vs : List ℕ) (x : ℕ) → IsOutside at (at + size * length vs) x
     → with_numbers bytes size at vs x ≡ bytes x
-numbers_below bytes size at [] x below = refl
-numbers_below bytes size at (v ∷ vs) x below =
-    numbers_below (with_number bytes size at v) size (at + size) vs x (omega arith)
-    ∙ with_number_below bytes size at v x below
-
-pub numbers_above : (bytes : ByteMap) (size at : ℕ) (vs : List ℕ) (x : ℕ) → at + size * length vs ≤ x
-    → with_numbers bytes size at vs x ≡ bytes x
-numbers_above bytes size at [] x above = refl
-numbers_above bytes size at (v ∷ vs) x above =
-    numbers_above (with_number bytes size at v) size (at + size) vs x (omega arith)
-    ∙ with_number_above bytes size at v x (omega arith)
+numbers_outside bytes size at [] x out = refl
+numbers_outside bytes size at (v ∷ vs) x out =
+    numbers_outside (with_number bytes size at v) size (at + size) vs x
+    (elim out [ inl below ↦ inl (omega arith) | inr above ↦ inr (omega arith) ])
+    ∙ with_number_outside bytes size at v x
+    (elim out [ inl below ↦ inl below | inr above ↦ inr (omega arith) ])
 
 pub numbers_agree : (one other : ByteMap) (size at : ℕ) (vs : List ℕ) (x : ℕ) → one x ≡ other x
     → with_numbers one size at vs x ≡ with_numbers other size at vs x
@@ -104,12 +97,10 @@ numbers_same old new n a (suc k) same =
 -- a number beside those that are put is read as before
 pub number_beside : (bytes : ByteMap) (n at : ℕ) (vs : List ℕ) (m a : ℕ) → (a + m ≤ at) ⊎ (at + n * length vs ≤ a)
     → number_at (with_numbers bytes n at vs) m a ≡ number_at bytes m a
-number_beside bytes n at vs m a (inl before) =
+number_beside bytes n at vs m a apart =
     number_at_same bytes (with_numbers bytes n at vs) m a
-    (λ x low high. numbers_below bytes n at vs x (omega arith))
-number_beside bytes n at vs m a (inr behind) =
-    number_at_same bytes (with_numbers bytes n at vs) m a
-    (λ x low high. numbers_above bytes n at vs x (omega arith))
+    (λ x low high. numbers_outside bytes n at vs x
+    (elim apart [ inl before ↦ inl (omega arith) | inr behind ↦ inr (omega arith) ]))
 
 -- one more is read, and one more is put
 pub numbers_more : (bytes : ByteMap) (n a k : ℕ)
@@ -138,36 +129,24 @@ no_zeros low high bytes none = record {
   outside = λ x where'. refl;
 }
 
-within_zeros : (base n a : ℕ) → base ≤ a → a < base + n → (nat_le base a && nat_lt a (base + n)) ≡ true
-within_zeros base n a low high = grind (arith, nat_tests)
-
-pub zero_byte : (base n a : ℕ) → base ≤ a → a < base + n → zeros base n a ≡ Some 0
-zero_byte base n a low high = ap (λ b. cond b (Some 0) None) (within_zeros base n a low high)
-
 pub zero_inside : (bytes : ByteMap) (n a x : ℕ) → a ≤ x → x < a + n → with_number bytes n a 0 x ≡ Some 0
+unfolding with_number
 zero_inside bytes zero a x low high = absurd (omega arith)
-zero_inside bytes (suc n) a x low high =
-    ap (λ (m : ByteMap). m x) (with_number-suc bytes n a 0)
-    ∙ ⊎_elim
-    (λ (e : x ≡ a). with_byte_same (with_number bytes n (a + 1) 0) a 0 x e)
-    (λ (e : x ≢ a). with_byte_other (with_number bytes n (a + 1) 0) a 0 x e
-    ∙ zero_inside bytes n (a + 1) x (omega arith) (omega arith))
-    (cases_eq x a)
-
-zero_outside : (bytes : ByteMap) (n a x : ℕ) → (x < a) ⊎ (a + n ≤ x) → with_number bytes n a 0 x ≡ bytes x
-zero_outside bytes n a x (inl below) = with_number_below bytes n a 0 x below
-zero_outside bytes n a x (inr above) = with_number_above bytes n a 0 x above
+zero_inside bytes (suc n) a x low high = elim (cases_eq x a) [
+  | inl e ↦ rw (eq-eqb x a e) refl
+  | inr other ↦ rw (ne_eqb x a other) (zero_inside bytes n (a + 1) x (omega arith) (omega arith))
+]
 
 pub zero_number : (bytes : ByteMap) (n a : ℕ) → AreZeroed a (a + n) bytes (with_number bytes n a 0)
-zero_number bytes n a = record { inside = zero_inside bytes n a; outside = zero_outside bytes n a }
+zero_number bytes n a = record { inside = zero_inside bytes n a; outside = λ x out. with_number_outside bytes n a 0 x out }
 
-below_too : (low mid x : ℕ) (high : ℕ) → low ≤ mid → mid ≤ high → (x < low) ⊎ (high ≤ x) → (x < low) ⊎ (mid ≤ x)
-below_too low mid x high a b (inl l) = inl l
-below_too low mid x high a b (inr h) = inr (omega arith)
+below_too : (low mid high x : ℕ) → mid ≤ high → IsOutside low high x → IsOutside low mid x
+below_too low mid high x b (inl l) = inl l
+below_too low mid high x b (inr h) = inr (omega arith)
 
-above_too : (low mid x : ℕ) (high : ℕ) → low ≤ mid → mid ≤ high → (x < low) ⊎ (high ≤ x) → (x < mid) ⊎ (high ≤ x)
-above_too low mid x high a b (inl l) = inl (omega arith)
-above_too low mid x high a b (inr h) = inr h
+above_too : (low mid high x : ℕ) → low ≤ mid → IsOutside low high x → IsOutside mid high x
+above_too low mid high x a (inl l) = inl (omega arith)
+above_too low mid high x a (inr h) = inr h
 
 -- the upper stretch, and then the lower one
 pub zeros_down : (low mid high : ℕ) (one two three : ByteMap) → low ≤ mid → mid ≤ high → AreZeroed mid high one two
@@ -175,7 +154,7 @@ pub zeros_down : (low mid high : ℕ) (one two three : ByteMap) → low ≤ mid 
 zeros_down low mid high one two three a b up down = record {
   inside = λ x l h. ⊎_elim (λ (e : x < mid). down.inside x l e) (λ (e : mid ≤ x). down.outside x (inr e)
       ∙ up.inside x e h) (cases_lt x mid);
-  outside = λ x w. down.outside x (below_too low mid x high a b w) ∙ up.outside x (above_too low mid x high a b w);
+  outside = λ x w. down.outside x (below_too low mid high x b w) ∙ up.outside x (above_too low mid high x a w);
 }
 
 -- the lower one, and then the upper one
@@ -184,7 +163,7 @@ pub zeros_up : (low mid high : ℕ) (one two three : ByteMap) → low ≤ mid �
 zeros_up low mid high one two three a b down up = record {
   inside = λ x l h. ⊎_elim (λ (e : x < mid). up.outside x (inl e) ∙ down.inside x l e)
       (λ (e : mid ≤ x). up.inside x e h) (cases_lt x mid);
-  outside = λ x w. up.outside x (above_too low mid x high a b w) ∙ down.outside x (below_too low mid x high a b w);
+  outside = λ x w. up.outside x (above_too low mid high x a w) ∙ down.outside x (below_too low mid high x b w);
 }
 
 -- so many zeros

@@ -20,7 +20,7 @@ use Rattle.linked_calls.proofs.AllArguments.{arguments_runs, call_setting, still
 use Rattle.linked_calls.proofs.Below.{found, number_at_same}
 use Rattle.linked_calls.proofs.Between.{AreReady, AreSaved, EnteringLeads, IsEntered, IsOutsideRoom, body_at}
 use Rattle.linked_calls.proofs.Between.{enter_turns, saved_at, untouched_registers}
-use Rattle.linked_calls.proofs.Bytes.{SameData, number_there, numbers_above, numbers_below, is_some-with_numbers}
+use Rattle.linked_calls.proofs.Bytes.{IsOutside, SameData, number_there, numbers_outside, is_some-with_numbers}
 use Rattle.linked_calls.proofs.Bytes.{zero_byte}
 use Rattle.linked_calls.proofs.EnterTurns.{arguments_turns, enter_turns_are}
 use Rattle.linked_calls.proofs.Entering.{entered, entered_bytes, entry_runs, stored_registers}
@@ -29,7 +29,7 @@ use Rattle.linked_calls.proofs.LoadedArguments.{all_taken_is}
 use Rattle.linked_calls.proofs.Parts.{same_number}
 use Rattle.linked_calls.proofs.Passed.{StandAsPassed, all_ready, still_passed}
 use Rattle.linked_calls.proofs.Pieces.{Runs, Setting, in_turns, makes_then, promised_runs, then_runs}
-use Rattle.linked_calls.proofs.Rooms.{IsOutside, RoomNumbers, place_inside, place_stacked, room_numbers}
+use Rattle.linked_calls.proofs.Rooms.{RoomNumbers, place_inside, place_stacked, room_numbers}
 use Rattle.linked_calls.proofs.SameRegisters.{AreSame, same_beside, still_same}
 use Rattle.linked_calls.proofs.SavedRegisters.{stored_are_saved, saved_first, saved_one, saved_same, saved_then}
 use Rattle.linked_calls.proofs.Standing.{enter_placed}
@@ -66,8 +66,7 @@ module _ (image : Fields) (code : Code) (site : Site) (is : IsImage image) (is_s
   stored d = entered_bytes above d
 
   stored_outside : (d : Data) (x : ℕ) → IsOutside above (above + 80) x → stored d x ≡ d.bytes x
-  stored_outside d x (inl low) = numbers_below d.bytes 4 above (map d.regs stored_registers) x low
-  stored_outside d x (inr high) = numbers_above d.bytes 4 above (map d.regs stored_registers) x high
+  stored_outside d x outside = numbers_outside d.bytes 4 above (map d.regs stored_registers) x outside
 
   stored_saved : (d : Data) → ((r : ℕ) → d.regs r < 2 ^ 32) → AreSaved (stored d) d.regs above stored_registers
   stored_saved d words = stored_are_saved d.bytes d.regs above stored_registers words

@@ -9,7 +9,8 @@ use Rattle.linked_calls.specs.Calls.{Site, room_base, IsReadable, LiesWell, LieW
 use Rattle.linked_calls.specs.Calls.{IsPointedTo, IsPassed, ArePassed}
 use Rattle.linked_calls.specs.FunctionCode.{argument_offset, array_bytes}
 use Rattle.linked_calls.proofs.Between.{AreReady, IsOutsideRoom, IsReady, ReadyArray, saved_at}
-use Rattle.linked_calls.proofs.Rooms.{IsOutside, RoomNumbers, outside_frame}
+use Rattle.linked_calls.proofs.Rooms.{RoomNumbers, outside_frame}
+use Rattle.linked_calls.proofs.Bytes.{IsOutside}
 use Rattle.rv_machine.specs.Bytes.{ByteMap, number_at}
 use Rattle.rv_machine.specs.Machine.{State}
 use Rattle.linked_calls.proofs.Below.{number_at_same}

@@ -1,9 +1,9 @@
 -- Registers that were stored into words, one after another.
-use Rattle.std.proofs.Common.{◌≡◌, ℕ, zero, suc, ◌+◌, ◌*◌, ◌%◌, ◌^◌, ◌<◌, ◌≤◌, List, [], ◌∷◌, ◌++◌, length, map, Some, ap, subst}
+use Rattle.std.proofs.Common.{◌≡◌, ℕ, zero, suc, ◌+◌, ◌*◌, ◌%◌, ◌^◌, ◌<◌, ◌≤◌, List, [], ◌∷◌, ◌++◌, length, map, Some, ap, subst, inl}
 use Rattle.std.proofs.Common.{◌∙◌, arith}
 use Rattle.codegen.specs.Loaded.{with_numbers}
 use Rattle.linked_calls.proofs.Between.{AreSaved}
-use Rattle.linked_calls.proofs.Bytes.{numbers_below}
+use Rattle.linked_calls.proofs.Bytes.{numbers_outside}
 use Rattle.rv_machine.specs.Bytes.{ByteMap, number_at, with_number}
 use Rattle.linked_calls.proofs.Below.{number_at_same, number_at-with_number, number_or_zero}
 use Rattle.linked_calls.proofs.Parts.{words_at}
@@ -19,7 +19,7 @@ stored_are_saved bytes regs a [] words = tt
 stored_are_saved bytes regs a (r ∷ rs) words =
     let one = with_number bytes 4 a (regs r) in (
       number_at_same one (with_numbers one 4 (a + 4) (map regs rs)) 4 a
-          (λ x low high. numbers_below one 4 (a + 4) (map regs rs) x high)
+          (λ x low high. numbers_outside one 4 (a + 4) (map regs rs) x (inl high))
           ∙ number_at-with_number bytes 4 a (regs r) ∙ ap Some (word_whole (regs r) (words r)),
       stored_are_saved one regs (a + 4) rs words,
     )
