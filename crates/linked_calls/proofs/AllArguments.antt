@@ -4,25 +4,13 @@ use Rattle.std.specs.Prelude.{is_some}
 use Rattle.std.proofs.Common.{◌≡◌, ℕ, ◌+◌, ◌*◌, ◌≤◌, List, [], ◌∷◌, length, map, Option, inl, inr, refl}
 use Rattle.std.proofs.Common.{sym, ap, ◌∙◌, subst, arith}
 use Rattle.std.proofs.lemmas.List.{length-map}
-use Rattle.codegen.specs.Loaded.{with_argument, word_in}
-use Rattle.codegen.specs.image_fields.Fields.{Fields}
-use Rattle.codegen.specs.declared.image_fields.slot.Slot.{Slot}
-use Rattle.language.specs.Size.{element_bytes}
-use Rattle.language.specs.declared.signature.Form.{Form}
-use Rattle.language.specs.declared.signature.Form.TheVariants.{SingleWord, FixedArray, MutableArray}
-use Rattle.language.specs.declared.values.Arg.{Arg}
-use Rattle.language.specs.declared.values.Arg.TheVariants.{Word, Array}
-use Rattle.linked_calls.specs.Called.{IsOfCall}
-use Rattle.linked_calls.specs.Calls.{Site, IsBesides, room_base, arguments_end}
-use Rattle.linked_calls.specs.Copies.{CanBeCopied, HasArray, IsCopying, IsTaken, Pointed, elements_at, place_of}
-use Rattle.linked_calls.specs.Copies.{slot_of}
-use Rattle.linked_calls.specs.Does.{Data}
-use Rattle.linked_calls.specs.FunctionCode.{argument_code, argument_offset, arguments_code, array_bytes, frame_room}
-use Rattle.linked_calls.specs.Meant.{meant}
-use Rattle.linked_calls.specs.Sections.{argument_turns}
-use Rattle.linked_calls.specs.Stretches.{AreData}
-use Rattle.linked_calls.specs.Words.{CanBePut, HasWordArgument, IsPut, IsPutting}
-use Rattle.linked_calls.proofs.Below.{is_some-with_number, with_number_outside}
+use Rattle.linked_calls.proofs.Below.{AreData, Arg, argument_code, argument_offset, argument_turns, arguments_code}
+use Rattle.linked_calls.proofs.Below.{arguments_end, Array, array_bytes, ByteMap, CanBeCopied, CanBePut, Code, Data}
+use Rattle.linked_calls.proofs.Below.{element_bytes, elements_at, Event, Fields, FixedArray, Form, frame_room}
+use Rattle.linked_calls.proofs.Below.{HasArray, HasWordArgument, is_some-with_number, IsBesides, IsCopying, IsOfCall}
+use Rattle.linked_calls.proofs.Below.{IsPut, IsPutting, IsTaken, meant, MutableArray, place_of, Pointed, room_base}
+use Rattle.linked_calls.proofs.Below.{SingleWord, Site, Slot, slot_of, with_argument, with_number_outside, word_in}
+use Rattle.language.specs.declared.values.Arg.TheVariants.{Word}
 use Rattle.linked_calls.proofs.Between.{AreReady, IsReady, saved_at}
 use Rattle.linked_calls.proofs.Bytes.{IsOutside, SameData, number_there, numbers_count, numbers_outside}
 use Rattle.linked_calls.proofs.Bytes.{is_some-with_numbers}
@@ -33,9 +21,6 @@ use Rattle.linked_calls.proofs.Rooms.{RoomNumbers}
 use Rattle.linked_calls.proofs.SameRegisters.{IsNone, same_beside}
 use Rattle.linked_calls.proofs.Staying.{stay_ready}
 use Rattle.linked_calls.proofs.Words.{word_is_taken}
-use Rattle.rv_machine.specs.Bytes.{ByteMap}
-use Rattle.rv_machine.specs.Machine.{Code}
-use Rattle.rv_machine.specs.declared.observation.Event.{Event}
 
 -- the setting of a call: its code, and the accesses that it may make
 abbrev pub call_setting : Fields → Code → Site → Setting

@@ -3,17 +3,10 @@
 use Rattle.std.specs.Prelude.{is_some}
 use Rattle.std.proofs.Common.{◌≡◌, ℕ, ◌+◌, ◌*◌, ◌<◌, ◌≤◌, List, [], ◌∷◌, ◌++◌, length, inl, inr, refl, sym, ap, ap₂}
 use Rattle.std.proofs.Common.{◌∙◌, subst, arith}
-use Rattle.codegen.specs.Loaded.{with_numbers, array_in, arrays_in}
-use Rattle.codegen.specs.image_fields.Fields.{Fields}
-use Rattle.codegen.specs.declared.image_fields.slot.Slot.{Slot}
-use Rattle.language.specs.Size.{element_bytes}
-use Rattle.language.specs.declared.signature.Form.{Form}
-use Rattle.language.specs.declared.signature.Form.TheVariants.{SingleWord, FixedArray, MutableArray}
-use Rattle.linked_calls.specs.Called.{with_array, with_arrays, arrays_behind}
-use Rattle.linked_calls.specs.Calls.{Site, IsBesides, room_base, arguments_end}
-use Rattle.linked_calls.specs.Copies.{HasArray, IsHandedBack, elements_at}
-use Rattle.linked_calls.specs.FunctionCode.{array_bytes, copy_out_code, results_code}
-use Rattle.linked_calls.specs.Stretches.{AreData}
+use Rattle.linked_calls.proofs.Below.{AreData, arguments_end, array_bytes, array_in, arrays_behind, arrays_in}
+use Rattle.linked_calls.proofs.Below.{ByteMap, Code, copy_out_code, element_bytes, elements_at, Fields, FixedArray}
+use Rattle.linked_calls.proofs.Below.{Form, HasArray, IsBesides, IsHandedBack, MutableArray, results_code, room_base}
+use Rattle.linked_calls.proofs.Below.{SingleWord, Site, Slot, with_array, with_arrays, with_numbers}
 use Rattle.linked_calls.proofs.AllArguments.{AreKnown, Begins, IsKnown, Takes, call_setting, spot_at, still_base}
 use Rattle.linked_calls.proofs.Between.{AreReady, IsReady}
 use Rattle.linked_calls.proofs.Bytes.{IsOutside, SameData, numbers_count, numbers_outside, is_some-with_numbers}
@@ -23,8 +16,6 @@ use Rattle.linked_calls.proofs.LeaveTurns.{output_turns, outputs_turns}
 use Rattle.linked_calls.proofs.Pieces.{Runs, Setting, no_code, promised_runs, then_runs, weaken_runs}
 use Rattle.linked_calls.proofs.Rooms.{RoomNumbers}
 use Rattle.linked_calls.proofs.Staying.{stay_ready}
-use Rattle.rv_machine.specs.Bytes.{ByteMap}
-use Rattle.rv_machine.specs.Machine.{Code}
 
 module _ (image : Fields) (code : Code) (site : Site) (numbers : RoomNumbers image site) where
   abbrev z : Setting

@@ -1,55 +1,94 @@
--- What these proofs take from the proofs of the crates below, in one place.
+-- What these proofs take from the layers below and from the specs, in one place.
+pub use Rattle.codegen.proofs.Numbers.{zero_byte}
 pub use Rattle.codegen.proofs.expression_code_lemmas.Arithmetic.{far_address, lower_fits, near_address, parts}
 pub use Rattle.codegen.proofs.expression_code_lemmas.Arithmetic.{upper_fits}
 pub use Rattle.codegen.proofs.expression_code_lemmas.Moves.{register-at, unwritten, written}
 pub use Rattle.codegen.proofs.expression_code_lemmas.OperatorCode.{constant_after, constant_plain}
 pub use Rattle.codegen.proofs.program_logic_lemmas.Computing.{after_append, all_straight, no_access, only_computes}
 pub use Rattle.codegen.proofs.program_logic_lemmas.Computing.{plain_append, registers_after, registers_of}
-pub use Rattle.codegen.proofs.program_logic_lemmas.Face.{
-  AreFit,
-  AreMet,
-  LeadsWithin-append,
-  LeadsWithin-weaken,
-  Placed,
-  Placed-left,
-  Placed-right,
-  after,
-  after_all,
-  are_straight,
-  both_left,
-  both_right,
-  both_within,
-  first_fit,
-  first_met,
-  found,
-  number_or_zero,
-  one_within,
-  register_after,
-  register_kept,
-  rest_fit,
-  rest_met,
-  shown_allowed,
-  shown_by,
-  stands,
-  straight_code_leads,
-  with_result,
-}
-pub use Rattle.codegen.proofs.Numbers.{zero_byte}
+pub use Rattle.codegen.proofs.program_logic_lemmas.Face.{after, after_all, are_straight, AreFit, AreMet, both_left}
+pub use Rattle.codegen.proofs.program_logic_lemmas.Face.{both_right, both_within, first_fit, first_met, found}
+pub use Rattle.codegen.proofs.program_logic_lemmas.Face.{LeadsWithin-append, LeadsWithin-weaken, number_or_zero}
+pub use Rattle.codegen.proofs.program_logic_lemmas.Face.{one_within, Placed, Placed-left, Placed-right}
+pub use Rattle.codegen.proofs.program_logic_lemmas.Face.{register_after, register_kept, rest_fit, rest_met}
+pub use Rattle.codegen.proofs.program_logic_lemmas.Face.{shown_allowed, shown_by, stands, straight_code_leads}
+pub use Rattle.codegen.proofs.program_logic_lemmas.Face.{with_result}
+pub use Rattle.codegen.specs.Anywhere.{body_words, IsLoaded, Stand}
+pub use Rattle.codegen.specs.Bases.{IsInside}
+pub use Rattle.codegen.specs.Loaded.{array_in, arrays_in, numbers_at, params_of, results_in, with_argument}
+pub use Rattle.codegen.specs.Loaded.{with_arguments, with_numbers, word_in}
+pub use Rattle.codegen.specs.declared.image_fields.slot.ResultSlot.{ResultSlot}
+pub use Rattle.codegen.specs.declared.image_fields.slot.Slot.{Slot}
+pub use Rattle.codegen.specs.expression_code.TermCode.{constant_code, load_code, lower_part, store_code, upper_part}
+pub use Rattle.codegen.specs.image_fields.Fields.{Fields, IsImage}
+pub use Rattle.codegen.specs.program_logic.StraightCode.{IsFit, IsMet}
+pub use Rattle.codegen.specs.program_logic.Turns.{LeadsWithin, stays_within}
 pub use Rattle.hepurita.proofs.DataLemmas.{bytes_within}
 pub use Rattle.hepurita.proofs.ElementLemmas.{is_some-with_numbers, number_there, numbers_at-more}
-pub use Rattle.rv_machine.proofs.Face.{
-  branch_leads,
-  branch_passes,
-  is_inside,
-  is_outside,
-  is_some-with_number,
-  jump_done,
-  number_at-with_number,
-  number_at_same,
-  place,
-  turn_of,
-  with_number-suc,
-  with_number-zero,
-  with_number_inside,
-  with_number_outside,
-}
+pub use Rattle.hepurita.specs.Linked.{IsLinked, RunsLinked}
+pub use Rattle.language.specs.Limits.{most_elements}
+pub use Rattle.language.specs.Results.{Results}
+pub use Rattle.language.specs.Size.{array_words, element_bytes}
+pub use Rattle.language.specs.Tree.{ProcedureTree, ProgramTree}
+pub use Rattle.language.specs.declared.signature.Form.{Form}
+pub use Rattle.language.specs.declared.signature.Form.TheVariants.{FixedArray, MutableArray, SingleWord}
+pub use Rattle.language.specs.declared.signature.Kind.{Kind}
+pub use Rattle.language.specs.declared.signature.Kind.TheVariants.{Boolean, Uint16, Uint32, Uint8}
+pub use Rattle.language.specs.declared.signature.Label.TheVariants.{Secret}
+pub use Rattle.language.specs.declared.values.Arg.{Arg}
+pub use Rattle.language.specs.declared.values.Arg.TheVariants.{Array}
+pub use Rattle.linked_calls.specs.Called.{arrays_behind, IsLeft, IsOfCall, kept_registers, with_array, with_arrays}
+pub use Rattle.linked_calls.specs.Calls.{argument_of, arguments_end, arguments_from, arguments_of, IsBesides}
+pub use Rattle.linked_calls.specs.Calls.{IsCalled, IsReadable, IsSite, LiesWell, LieWell, raw_argument, room_base}
+pub use Rattle.linked_calls.specs.Calls.{Site}
+pub use Rattle.linked_calls.specs.Cleared.{AreCleared, IsSilent, RegistersAreCleared}
+pub use Rattle.linked_calls.specs.Convention.{argument_registers, saved_registers, scratch_registers, stack_register}
+pub use Rattle.linked_calls.specs.Copies.{AreApart, ArrayIsHandedBack, ArrayIsTaken, CanBeCopied, elements_at}
+pub use Rattle.linked_calls.specs.Copies.{HasArray, IsCopying, IsHandedBack, IsTaken, OthersAsBefore, place_of}
+pub use Rattle.linked_calls.specs.Copies.{Pointed, slot_of}
+pub use Rattle.linked_calls.specs.Does.{AreThere, at, Data, Does}
+pub use Rattle.linked_calls.specs.FunctionCode.{added, argument_code, argument_offset, arguments_code, array_bytes}
+pub use Rattle.linked_calls.specs.FunctionCode.{bounds_code, clear_registers_code, copied_in_code, copied_out_code}
+pub use Rattle.linked_calls.specs.FunctionCode.{copy_out_code, enter_code, entry_code, frame_code, frame_room}
+pub use Rattle.linked_calls.specs.FunctionCode.{leave_code, loads_code, meant_code, restore_code}
+unfoldable pub use Rattle.linked_calls.specs.FunctionCode.{function_words}
+pub use Rattle.linked_calls.specs.FunctionCode.{result_code, results_code, room_of, stores_code, until_equal}
+pub use Rattle.linked_calls.specs.FunctionCode.{wipe_code, zeros_code}
+pub use Rattle.linked_calls.specs.Meant.{meant}
+pub use Rattle.linked_calls.specs.Sections.{argument_sections, argument_turns, around_turns, array_section}
+pub use Rattle.linked_calls.specs.Sections.{array_sections, array_turns, block_turns, code_of, element_turns}
+pub use Rattle.linked_calls.specs.Sections.{enter_sections, frame_sections, leave_sections, section_turns}
+pub use Rattle.linked_calls.specs.Stretches.{AreData, AreZeroed, LiesIn}
+pub use Rattle.linked_calls.specs.Words.{CanBePut, HasResult, HasWordArgument, IsLoadOf, IsPut, IsPutting, IsReturned}
+pub use Rattle.linked_calls.specs.Words.{ResultIsHandedBack, WordIsTaken}
+pub use Rattle.linked_calls.specs.Zeros.{frame_turns, FrameIsZeroed, HasFrame, HasRoom, IsStoreIn, IsWiped}
+pub use Rattle.linked_calls.specs.Zeros.{IsZeroFrame, RoomIsWiped}
+pub use Rattle.linked_calls.specs.declared.section.Section.{Section}
+pub use Rattle.linked_calls.specs.declared.section.Section.TheVariants.{ArgumentIn, CallersStack, ClearedFrame}
+pub use Rattle.linked_calls.specs.declared.section.Section.TheVariants.{ClearedRegisters, FrameBase, FrameTop}
+pub use Rattle.linked_calls.specs.declared.section.Section.TheVariants.{RestoredRegisters, ResultOut, Return}
+pub use Rattle.linked_calls.specs.declared.section.Section.TheVariants.{WipedRoom}
+pub use Rattle.rv_code.specs.declared.instructions.Instr.{Instr}
+pub use Rattle.rv_code.specs.declared.instructions.Instr.TheVariants.{Branch, JumpRegister, Register}
+pub use Rattle.rv_code.specs.declared.operations.BranchTest.TheVariants.{Bne}
+pub use Rattle.rv_code.specs.declared.operations.LoadOperation.TheVariants.{Lw}
+pub use Rattle.rv_code.specs.declared.operations.RegisterOperation.{RegisterOperation}
+pub use Rattle.rv_code.specs.declared.operations.RegisterOperation.TheVariants.{Add, Sub}
+pub use Rattle.rv_code.specs.declared.operations.ShiftOperation.TheVariants.{Slli, Srli}
+pub use Rattle.rv_code.specs.declared.operations.StoreOperation.TheVariants.{Sw}
+pub use Rattle.rv_code.specs.declared.operations.UpperOperation.TheVariants.{Lui}
+pub use Rattle.rv_machine.proofs.Face.{branch_leads, branch_passes, is_inside, is_outside, is_some-with_number}
+pub use Rattle.rv_machine.proofs.Face.{jump_done, number_at-with_number, number_at_same, place, turn_of}
+pub use Rattle.rv_machine.proofs.Face.{with_number-suc, with_number-zero, with_number_inside, with_number_outside}
+pub use Rattle.rv_machine.specs.Bytes.{ByteMap, number_at, with_byte, zeros}
+unfoldable pub use Rattle.rv_machine.specs.Bytes.{with_number}
+pub use Rattle.rv_machine.specs.Effects.{branch_target, difference_of, holds, register_target, register_value}
+pub use Rattle.rv_machine.specs.Effects.{shift_value, sign_extended, sum_of}
+pub use Rattle.rv_machine.specs.Machine.{Code, goes_on, IsAt, next, observed, State, Turn}
+unfoldable pub use Rattle.rv_machine.specs.Machine.{moved_to, with_link}
+pub use Rattle.rv_machine.specs.Registers.{register, with_register}
+pub use Rattle.rv_machine.specs.Sizes.{byte_count}
+pub use Rattle.rv_machine.specs.declared.memory.Size.{Size}
+pub use Rattle.rv_machine.specs.declared.observation.Event.{Event}
+pub use Rattle.rv_machine.specs.declared.observation.Observation.{Observation}
+pub use Rattle.word.specs.declared.profile.Profile.TheVariants.{P1}

@@ -3,24 +3,14 @@
 use Rattle.std.specs.Prelude.{sum}
 use Rattle.std.proofs.Common.{◌≡◌, ℕ, suc, ◌+◌, ◌-◌, ◌*◌, ◌%◌, ◌^◌, ◌<◌, List, [], ◌∷◌, length, map, Some}
 use Rattle.std.proofs.Common.{None}
-use Rattle.codegen.specs.Anywhere.{IsLoaded, body_words}
-use Rattle.codegen.specs.Loaded.{results_in}
-use Rattle.codegen.specs.image_fields.Fields.{Fields, IsImage}
-use Rattle.codegen.specs.declared.image_fields.slot.Slot.{Slot}
-use Rattle.language.specs.declared.signature.Form.{Form}
-use Rattle.language.specs.declared.signature.Form.TheVariants.{SingleWord, FixedArray, MutableArray}
-use Rattle.codegen.specs.program_logic.Turns.{LeadsWithin}
-use Rattle.linked_calls.specs.Called.{IsOfCall, IsLeft}
-use Rattle.linked_calls.specs.Calls.{Site, IsSite, IsCalled, room_base, arguments_end, arguments_of}
-use Rattle.linked_calls.specs.Convention.{saved_registers}
-use Rattle.linked_calls.specs.FunctionCode.{enter_code, function_words, frame_room, argument_offset, array_bytes}
-use Rattle.linked_calls.specs.Sections.{enter_sections, leave_sections, section_turns}
-use Rattle.linked_calls.specs.Stretches.{AreData}
+use Rattle.linked_calls.proofs.Below.{AreData, argument_offset, arguments_end, arguments_of, array_bytes, body_words}
+use Rattle.linked_calls.proofs.Below.{ByteMap, Code, enter_code, enter_sections, Fields, FixedArray, Form, frame_room}
+use Rattle.linked_calls.proofs.Below.{function_words, goes_on, IsCalled, IsImage, IsLeft, IsLoaded, IsOfCall, IsSite}
+use Rattle.linked_calls.proofs.Below.{LeadsWithin, leave_sections, moved_to, MutableArray, number_at, Observation}
+use Rattle.linked_calls.proofs.Below.{observed, results_in, room_base, saved_registers, section_turns, SingleWord}
+use Rattle.linked_calls.proofs.Below.{Site, Slot, State, Turn}
 use Rattle.linked_calls.proofs.Bytes.{IsOutside}
 use Rattle.linked_calls.proofs.SameRegisters.{AreSame}
-use Rattle.rv_machine.specs.Bytes.{ByteMap, number_at}
-use Rattle.rv_machine.specs.Machine.{State, Code, Turn, goes_on, observed, moved_to}
-use Rattle.rv_machine.specs.declared.observation.Observation.{Observation}
 
 -- where the body begins, and the code behind it
 abbrev pub body_at : Fields → Site → ℕ

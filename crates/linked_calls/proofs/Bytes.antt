@@ -7,12 +7,11 @@ use Rattle.std.proofs.Math.Arith.{mod-mul}
 use Rattle.std.proofs.Math.Nat.{pow-suc}
 use Rattle.std.proofs.lemmas.Bool.{cases_eq, cases_lt}
 use Rattle.std.proofs.lemmas.Bool.Decides.{nat_tests}
-use Rattle.rv_machine.specs.Bytes.{ByteMap, number_at, with_byte, with_number}
-use Rattle.linked_calls.proofs.Below.{numbers_at-more, number_at_same, with_number-zero, with_number-suc}
-use Rattle.linked_calls.proofs.Below.{is_inside, is_outside, place, with_number_inside, with_number_outside}
+use Rattle.linked_calls.proofs.Below.{ByteMap, is_inside, is_outside, number_at, number_at_same, numbers_at}
+use Rattle.linked_calls.proofs.Below.{numbers_at-more, place, with_byte, with_number, with_number-suc}
+use Rattle.linked_calls.proofs.Below.{with_number-zero, with_number_inside, with_number_outside, with_numbers}
 pub use Rattle.linked_calls.proofs.Below.{is_some-with_numbers, number_there, zero_byte}
 pub use Rattle.linked_calls.specs.Stretches.{AreData, AreZeroed}
-use Rattle.codegen.specs.Loaded.{with_numbers, numbers_at}
 use Rattle.word.specs.Operators.{word_of}
 
 -- an address before a stretch or behind it

@@ -5,20 +5,13 @@ use Rattle.std.proofs.Common.{inr, ⊎_elim, refl, sym, ap, ◌∙◌, subst, ar
 use Rattle.std.proofs.lemmas.Bool.{cases_lt}
 use Rattle.std.proofs.lemmas.List.{map-append}
 use Rattle.std.proofs.lemmas.List.Sums.{sum_by-append}
+use Rattle.linked_calls.proofs.Below.{AreData, Arg, arguments_end, arguments_of, around_turns, both_within, Code}
+use Rattle.linked_calls.proofs.Below.{enter_sections, Event, Fields, IsCalled, IsInside, IsLeft, IsLinked, IsOfCall}
+use Rattle.linked_calls.proofs.Below.{IsSite, LeadsWithin-append, leave_sections, Observation, ProcedureTree}
+use Rattle.linked_calls.proofs.Below.{ProgramTree, Results, results_in, room_base, RunsLinked, saved_registers}
+use Rattle.linked_calls.proofs.Below.{section_turns, Site, State}
 use Rattle.codegen.specs.Anywhere.{IsPlaced, IsBeside, BodyRun}
-use Rattle.codegen.specs.Bases.{IsInside}
-use Rattle.codegen.specs.Loaded.{results_in}
-use Rattle.hepurita.specs.Linked.{IsLinked, RunsLinked}
-use Rattle.codegen.specs.image_fields.Fields.{Fields}
-use Rattle.language.specs.Results.{Results}
-use Rattle.language.specs.Tree.{ProcedureTree, ProgramTree}
-use Rattle.language.specs.declared.values.Arg.{Arg}
 use Rattle.linked_calls.specs.Callable.{Returns, IsCallable, CallsAreLinked}
-use Rattle.linked_calls.specs.Called.{IsOfCall, IsLeft}
-use Rattle.linked_calls.specs.Calls.{Site, IsSite, IsCalled, room_base, arguments_end, arguments_of}
-use Rattle.linked_calls.specs.Convention.{saved_registers}
-use Rattle.linked_calls.specs.Sections.{enter_sections, leave_sections, section_turns, around_turns}
-use Rattle.linked_calls.specs.Stretches.{AreData}
 use Rattle.linked_calls.proofs.Between.{IsOutsideRoom, body_at, saved_at, enter_turns, leave_turns, Enters}
 use Rattle.linked_calls.proofs.Between.{EntersFrom, EnteringLeads, CanLeave, Leaves, LeavesFrom, LeavesEverywhere}
 use Rattle.linked_calls.proofs.Between.{untouched_registers}
@@ -29,11 +22,7 @@ use Rattle.linked_calls.proofs.SavedRegisters.{saved_same}
 use Rattle.linked_calls.proofs.Standing.{body_stands}
 use Rattle.linked_calls.proofs.Staying.{arrays_agree, stay_ready}
 use Rattle.linked_calls.proofs.WithinParameters.{arguments_within}
-use Rattle.linked_calls.proofs.Below.{LeadsWithin-append, both_within}
-use Rattle.rv_machine.specs.Machine.{State, Code}
-use Rattle.rv_machine.specs.declared.observation.Event.{Event}
 use Rattle.rv_machine.specs.declared.observation.Event.TheVariants.{Load, Store}
-use Rattle.rv_machine.specs.declared.observation.Observation.{Observation}
 
 -- Places.
 

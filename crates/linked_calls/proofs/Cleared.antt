@@ -1,10 +1,8 @@
 -- The code that clears registers, one after another.
 use Rattle.std.specs.Prelude.{not}
 use Rattle.std.proofs.Common.{ℕ, Bool, [], refl, ap}
-use Rattle.linked_calls.specs.Cleared.{IsSilent, AreCleared, RegistersAreCleared}
-use Rattle.linked_calls.specs.Convention.{scratch_registers}
-use Rattle.linked_calls.specs.FunctionCode.{clear_registers_code}
-use Rattle.linked_calls.proofs.Below.{after_all, register_kept}
+use Rattle.linked_calls.proofs.Below.{after_all, AreCleared, clear_registers_code, IsSilent, register_kept}
+use Rattle.linked_calls.proofs.Below.{RegistersAreCleared, scratch_registers}
 use Rattle.linked_calls.proofs.Pieces.{Setting, placed, silent_runs}
 use Rattle.linked_calls.proofs.SameRegisters.{all_same, is_none, is_none_of, same_values}
 

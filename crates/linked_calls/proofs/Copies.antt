@@ -4,28 +4,13 @@ use Rattle.std.specs.Prelude.{◌⊎◌, is_some, unwrap_or}
 use Rattle.std.proofs.Common.{◌≡◌, ◌≢◌, ℕ, suc, ◌+◌, ◌*◌, ◌%◌, ◌^◌, ◌<◌, ◌≤◌, Bool, true, false, List, [], ◌∷◌, ◌++◌}
 use Rattle.std.proofs.Common.{length, map, inl, inr, refl, sym, ap, ap₂, ◌∙◌, subst, arith, append_assoc}
 use Rattle.std.proofs.lemmas.List.{length-map, map-append, map-id}
-use Rattle.codegen.specs.Loaded.{with_numbers, numbers_at}
-use Rattle.codegen.specs.expression_code.TermCode.{load_code, constant_code}
-use Rattle.codegen.specs.image_fields.Fields.{Fields}
-use Rattle.codegen.specs.declared.image_fields.slot.Slot.{Slot}
-use Rattle.language.specs.Size.{element_bytes}
-use Rattle.language.specs.declared.signature.Form.TheVariants.{FixedArray, MutableArray}
-use Rattle.language.specs.declared.signature.Kind.{Kind}
-use Rattle.rv_code.specs.declared.instructions.Instr.{Instr}
-use Rattle.rv_code.specs.declared.instructions.Instr.TheVariants.{Register}
-use Rattle.rv_code.specs.declared.operations.RegisterOperation.TheVariants.{Add}
-use Rattle.rv_machine.specs.Bytes.{ByteMap, number_at, with_number}
-use Rattle.rv_machine.specs.Effects.{sum_of}
-use Rattle.rv_machine.specs.Machine.{Code}
-use Rattle.rv_machine.specs.Registers.{with_register}
-use Rattle.linked_calls.specs.Copies.{ArrayIsHandedBack, ArrayIsTaken, AreApart, CanBeCopied, HasArray, IsCopying}
-use Rattle.linked_calls.specs.Copies.{IsHandedBack, IsTaken, OthersAsBefore, Pointed, place_of, slot_of}
-use Rattle.linked_calls.specs.Does.{Data}
-use Rattle.linked_calls.specs.FunctionCode.{argument_code, argument_offset, array_bytes, bounds_code, copy_out_code}
-use Rattle.linked_calls.specs.FunctionCode.{until_equal}
-use Rattle.linked_calls.specs.Sections.{element_turns}
-use Rattle.linked_calls.specs.Stretches.{AreData}
-use Rattle.linked_calls.proofs.Below.{number_or_zero, register_kept, unwritten, with_result}
+use Rattle.linked_calls.proofs.Below.{Add, AreApart, AreData, argument_code, argument_offset, array_bytes}
+use Rattle.linked_calls.proofs.Below.{ArrayIsHandedBack, ArrayIsTaken, bounds_code, ByteMap, CanBeCopied, Code}
+use Rattle.linked_calls.proofs.Below.{constant_code, copy_out_code, Data, element_bytes, element_turns, Fields}
+use Rattle.linked_calls.proofs.Below.{FixedArray, HasArray, Instr, IsCopying, IsHandedBack, IsTaken, Kind, load_code}
+use Rattle.linked_calls.proofs.Below.{MutableArray, number_at, number_or_zero, numbers_at, OthersAsBefore, place_of}
+use Rattle.linked_calls.proofs.Below.{Pointed, Register, register_kept, Slot, slot_of, sum_of, until_equal, unwritten}
+use Rattle.linked_calls.proofs.Below.{with_number, with_numbers, with_register, with_result}
 use Rattle.linked_calls.proofs.Bytes.{number_beside, number_there, numbers_count, is_some-with_numbers, numbers_more}
 use Rattle.linked_calls.proofs.Bytes.{numbers_then}
 use Rattle.linked_calls.proofs.CopyElements.{Reached, chosen, copied_code, copied_value, copy_fit, copy_leaves}

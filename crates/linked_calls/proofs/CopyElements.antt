@@ -3,22 +3,11 @@
 use Rattle.std.specs.Prelude.{is_some}
 use Rattle.std.proofs.Common.{◌≡◌, ◌≢◌, ℕ, ◌+◌, ◌*◌, ◌%◌, ◌^◌, ◌<◌, ◌≤◌, ◌==◌, ◌||◌, Bool, true, false, List, [], ◌∷◌}
 use Rattle.std.proofs.Common.{length, Option, refl, sym, ap, arith, ne_eqb}
-use Rattle.codegen.specs.program_logic.StraightCode.{IsFit}
-use Rattle.language.specs.Size.{element_bytes}
-use Rattle.language.specs.declared.signature.Kind.{Kind}
-use Rattle.language.specs.declared.signature.Kind.TheVariants.{Boolean, Uint8, Uint16, Uint32}
-use Rattle.rv_code.specs.declared.instructions.Instr.{Instr}
-use Rattle.rv_machine.specs.declared.observation.Event.{Event}
+use Rattle.linked_calls.proofs.Below.{after_all, are_straight, AreFit, AreMet, Boolean, copied_in_code}
+use Rattle.linked_calls.proofs.Below.{copied_out_code, Data, element_bytes, Event, Instr, IsFit, Kind, LiesIn, meant}
+use Rattle.linked_calls.proofs.Below.{number_at, number_or_zero, Size, sum_of, Uint16, Uint32, Uint8, with_number}
 use Rattle.rv_machine.specs.declared.observation.Event.TheVariants as event
-use Rattle.rv_machine.specs.declared.memory.Size.{Size}
 use Rattle.rv_machine.specs.declared.memory.Size.TheVariants.{Byte, Half, Word}
-use Rattle.rv_machine.specs.Bytes.{number_at, with_number}
-use Rattle.rv_machine.specs.Effects.{sum_of}
-use Rattle.linked_calls.specs.Does.{Data}
-use Rattle.linked_calls.specs.FunctionCode.{copied_in_code, copied_out_code}
-use Rattle.linked_calls.specs.Meant.{meant}
-use Rattle.linked_calls.specs.Stretches.{LiesIn}
-use Rattle.linked_calls.proofs.Below.{AreFit, AreMet, after_all, are_straight, number_or_zero}
 use Rattle.linked_calls.proofs.Bytes.{same_truth, with_number_cut}
 
 -- The two ways.

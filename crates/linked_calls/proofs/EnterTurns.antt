@@ -3,18 +3,11 @@ use Rattle.std.specs.List.{sum_by}
 use Rattle.std.proofs.Common.{◌≡◌, ℕ, ◌+◌, ◌==◌, Bool, true, false, if◌then◌else◌, List, [], ◌∷◌, ◌++◌, length}
 use Rattle.std.proofs.Common.{refl, ap, ap₂, ◌∙◌, arith, length-append}
 use Rattle.std.proofs.lemmas.List.Sums.{sum_by-cons, sum_by-append, sum-map}
-use Rattle.codegen.specs.expression_code.TermCode.{constant_code}
-use Rattle.codegen.specs.image_fields.Fields.{Fields}
-use Rattle.codegen.specs.declared.image_fields.slot.Slot.{Slot}
-use Rattle.linked_calls.specs.FunctionCode.{frame_room}
-use Rattle.linked_calls.specs.Sections.{frame_sections, argument_sections, section_turns, block_turns, argument_turns}
-use Rattle.linked_calls.specs.Zeros.{frame_turns}
-use Rattle.linked_calls.specs.declared.section.Section.{Section}
+use Rattle.linked_calls.proofs.Below.{argument_sections, argument_turns, ArgumentIn, block_turns, ClearedFrame}
+use Rattle.linked_calls.proofs.Below.{constant_code, Fields, frame_room, frame_sections, frame_turns, FrameBase}
+use Rattle.linked_calls.proofs.Below.{Register, Section, section_turns, Slot, Sub}
 use Rattle.linked_calls.specs.declared.section.Section.TheVariants.{RoomAboveFrame, SavedRegisters, ArgumentRegisters}
-use Rattle.linked_calls.specs.declared.section.Section.TheVariants.{FrameBase, ClearedFrame, ArgumentIn}
 use Rattle.linked_calls.proofs.Between.{enter_turns}
-use Rattle.rv_code.specs.declared.instructions.Instr.TheVariants.{Register}
-use Rattle.rv_code.specs.declared.operations.RegisterOperation.TheVariants.{Sub}
 
 abbrev turns_of : Fields → List Section → ℕ
 turns_of image sections = sum_by (section_turns image) sections

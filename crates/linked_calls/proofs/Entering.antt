@@ -1,16 +1,9 @@
 -- The entry: room above the frame, and the caller's registers and the arguments in it.
 use Rattle.std.proofs.Common.{◌≡◌, ℕ, ◌+◌, ◌-◌, ◌%◌, ◌^◌, ◌<◌, ◌==◌, List, [], ◌∷◌, ◌++◌, map, refl, ap, ◌∙◌, arith}
-use Rattle.codegen.specs.Loaded.{with_numbers}
-use Rattle.linked_calls.specs.Convention.{saved_registers, argument_registers}
-use Rattle.linked_calls.specs.Does.{Data}
-use Rattle.linked_calls.specs.FunctionCode.{added, entry_code, stores_code}
-use Rattle.linked_calls.specs.Stretches.{AreData}
-use Rattle.linked_calls.proofs.Below.{with_result}
+use Rattle.linked_calls.proofs.Below.{added, AreData, argument_registers, ByteMap, Data, entry_code, saved_registers}
+use Rattle.linked_calls.proofs.Below.{stores_code, sum_of, with_numbers, with_register, with_result}
 use Rattle.linked_calls.proofs.Parts.{MayStore, computes_runs, stored, stores_runs}
 use Rattle.linked_calls.proofs.Pieces.{Runs, Setting, makes_then}
-use Rattle.rv_machine.specs.Bytes.{ByteMap}
-use Rattle.rv_machine.specs.Effects.{sum_of}
-use Rattle.rv_machine.specs.Registers.{with_register}
 
 -- s0 to s11 and a0 to a7, in the order in which they stand in the room
 abbrev pub stored_registers : List ℕ

@@ -3,21 +3,13 @@ use Rattle.std.specs.Prelude.{is_some}
 use Rattle.std.proofs.Common.{◌≡◌, ℕ, ◌+◌, ◌-◌, ◌*◌, ◌^◌, ◌<◌, ◌≤◌, Bool, true, false, nat_lt, if◌then◌else◌, []}
 use Rattle.std.proofs.Common.{◌∷◌, ◌++◌, length, map, Some, inl, inr, ⊎_elim, refl, sym, ap, ◌∙◌, subst, arith}
 use Rattle.std.proofs.lemmas.Bool.{cases_lt, ltb-false, ltb-true}
-use Rattle.codegen.specs.Anywhere.{IsLoaded}
-use Rattle.codegen.specs.Loaded.{word_in}
-use Rattle.codegen.specs.image_fields.Fields.{Fields, IsImage}
-use Rattle.codegen.specs.program_logic.Turns.{LeadsWithin}
-use Rattle.linked_calls.specs.Calls.{Site, IsSite, IsCalled, room_base, arguments_end, arguments_of}
-use Rattle.linked_calls.specs.Convention.{saved_registers, argument_registers}
-use Rattle.linked_calls.specs.Called.{IsOfCall}
-use Rattle.linked_calls.specs.Does.{Data, at}
-use Rattle.linked_calls.specs.FunctionCode.{frame_room, entry_code, frame_code, arguments_code, enter_code}
-use Rattle.linked_calls.specs.FunctionCode.{argument_offset}
-use Rattle.linked_calls.specs.Stretches.{AreData}
-use Rattle.linked_calls.specs.Zeros.{HasFrame, IsZeroFrame, frame_turns}
+use Rattle.linked_calls.proofs.Below.{AreData, argument_offset, argument_registers, arguments_code, arguments_end}
+use Rattle.linked_calls.proofs.Below.{arguments_of, at, ByteMap, Code, Data, enter_code, entry_code, Fields, found}
+use Rattle.linked_calls.proofs.Below.{frame_code, frame_room, frame_turns, HasFrame, IsCalled, IsImage, IsLoaded}
+use Rattle.linked_calls.proofs.Below.{IsOfCall, IsSite, IsZeroFrame, LeadsWithin, number_at, number_at_same}
+use Rattle.linked_calls.proofs.Below.{room_base, saved_registers, Site, State, word_in, zeros}
 use Rattle.linked_calls.proofs.AllArguments.{AreKnown, Begins, Takes, all_taken, all_taken_data, all_taken_outside}
 use Rattle.linked_calls.proofs.AllArguments.{arguments_runs, call_setting, still_base, taken_registers}
-use Rattle.linked_calls.proofs.Below.{found, number_at_same}
 use Rattle.linked_calls.proofs.Between.{AreReady, AreSaved, EnteringLeads, IsEntered, IsOutsideRoom, body_at}
 use Rattle.linked_calls.proofs.Between.{enter_turns, saved_at, untouched_registers}
 use Rattle.linked_calls.proofs.Bytes.{IsOutside, SameData, number_there, numbers_outside, is_some-with_numbers}
@@ -34,8 +26,6 @@ use Rattle.linked_calls.proofs.SameRegisters.{AreSame, same_beside, still_same}
 use Rattle.linked_calls.proofs.SavedRegisters.{stored_are_saved, saved_first, saved_one, saved_same, saved_then}
 use Rattle.linked_calls.proofs.Standing.{enter_placed}
 use Rattle.linked_calls.proofs.Zeros.{frame_is_zeroed}
-use Rattle.rv_machine.specs.Bytes.{ByteMap, number_at, zeros}
-use Rattle.rv_machine.specs.Machine.{State, Code}
 
 module _ (image : Fields) (code : Code) (site : Site) (is : IsImage image) (is_site : IsSite image code site)
     (numbers : RoomNumbers image site) where

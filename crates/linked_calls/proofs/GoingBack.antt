@@ -1,10 +1,9 @@
 -- The last instruction of a function, which goes back to the caller.
 use Rattle.std.proofs.Common.{◌≡◌, ℕ, ◌+◌, ◌%◌, ◌^◌, ◌<◌, Bool, true, false, cond, nat_eq, None, refl, ap, ◌∙◌, arith}
 use Rattle.std.proofs.Math.Path.{fun_ext}
-use Rattle.rv_code.specs.declared.instructions.Instr.TheVariants.{JumpRegister}
-use Rattle.rv_machine.specs.Effects.{sum_of, sign_extended, register_target}
-use Rattle.rv_machine.specs.Machine.{State, Code, IsAt, Turn, goes_on, observed, next, with_link, moved_to}
-use Rattle.linked_calls.proofs.Below.{jump_done, near_address, turn_of}
+use Rattle.linked_calls.proofs.Below.{Code, goes_on, IsAt, jump_done, JumpRegister, moved_to, near_address, next}
+use Rattle.linked_calls.proofs.Below.{observed, register_target, sign_extended, State, sum_of, Turn, turn_of}
+use Rattle.linked_calls.proofs.Below.{with_link}
 
 either : (b : Bool) (v x : ℕ) → cond b x (cond b v x) ≡ x
 either true v x = refl

@@ -4,29 +4,17 @@ use Rattle.std.specs.List.{AllByRecursion}
 use Rattle.std.proofs.Common.{◌≡◌, ℕ, ◌+◌, ◌*◌, ◌%◌, ◌<◌, ◌≤◌, nat_le, true, ◌&&◌, List, [], ◌∷◌, length, Option, Some}
 use Rattle.std.proofs.Common.{None, inl, inr, arith, subst, sym}
 use Rattle.std.proofs.lemmas.Bool.Decides.{nat_tests}
-use Rattle.codegen.specs.image_fields.Fields.{Fields, IsImage, AreSlots, is_length, slot_bytes, slot_end}
-use Rattle.codegen.specs.declared.image_fields.slot.Slot.{Slot}
-use Rattle.language.specs.Limits.{most_elements}
-use Rattle.language.specs.Size.{element_bytes, array_words}
-use Rattle.language.specs.declared.signature.Form.{Form}
-use Rattle.language.specs.declared.signature.Form.TheVariants.{SingleWord, FixedArray, MutableArray}
-use Rattle.language.specs.declared.signature.Kind.{Kind}
-use Rattle.language.specs.declared.signature.Kind.TheVariants.{Boolean}
-use Rattle.linked_calls.specs.Called.{IsOfCall, ReadsArray, ReadsAnArray, WritesArray, WritesAnArray}
-use Rattle.linked_calls.specs.Calls.{Site, IsBesides, IsReadable, LiesWell, LieWell, room_base, arguments_end}
-use Rattle.linked_calls.specs.Copies.{AreApart, CanBeCopied, IsCopying}
-use Rattle.linked_calls.specs.FunctionCode.{argument_offset, array_bytes}
-use Rattle.linked_calls.specs.Stretches.{LiesIn}
-use Rattle.linked_calls.specs.Words.{IsPutting}
-use Rattle.linked_calls.specs.Zeros.{IsStoreIn}
+use Rattle.linked_calls.proofs.Below.{AreApart, argument_offset, arguments_end, array_bytes, array_words, Boolean}
+use Rattle.linked_calls.proofs.Below.{byte_count, bytes_within, CanBeCopied, element_bytes, Event, Fields, FixedArray}
+use Rattle.linked_calls.proofs.Below.{Form, IsBesides, IsCopying, IsImage, IsOfCall, IsPutting, IsReadable, IsStoreIn}
+use Rattle.linked_calls.proofs.Below.{Kind, LiesIn, LiesWell, LieWell, most_elements, MutableArray, room_base}
+use Rattle.linked_calls.proofs.Below.{SingleWord, Site, Size, Slot}
+use Rattle.codegen.specs.image_fields.Fields.{AreSlots, is_length, slot_bytes, slot_end}
+use Rattle.linked_calls.specs.Called.{ReadsArray, ReadsAnArray, WritesArray, WritesAnArray}
 use Rattle.linked_calls.proofs.AllArguments.{AreKnown, IsKnown, KnownArray, KnownWord, spot_at}
-use Rattle.linked_calls.proofs.Below.{bytes_within}
 use Rattle.linked_calls.proofs.CopyElements.{elements_fit, some_bytes}
 use Rattle.linked_calls.proofs.Rooms.{RoomNumbers, place_inside}
-use Rattle.rv_machine.specs.Sizes.{byte_count}
-use Rattle.rv_machine.specs.declared.memory.Size.{Size}
 use Rattle.rv_machine.specs.declared.memory.Size.TheVariants as sizes
-use Rattle.rv_machine.specs.declared.observation.Event.{Event}
 use Rattle.rv_machine.specs.declared.observation.Event.TheVariants as event
 
 -- Slots.

@@ -2,19 +2,10 @@
 use Rattle.std.specs.List.{sum_by}
 use Rattle.std.proofs.Common.{◌≡◌, ℕ, ◌+◌, List, [], ◌∷◌, ◌++◌, length, refl, ap, ap₂, ◌∙◌, arith}
 use Rattle.std.proofs.lemmas.List.Sums.{sum_by-cons, sum_by-append, sum-map}
-use Rattle.codegen.specs.expression_code.TermCode.{constant_code}
-use Rattle.codegen.specs.image_fields.Fields.{Fields}
-use Rattle.codegen.specs.declared.image_fields.slot.Slot.{Slot}
-use Rattle.language.specs.declared.signature.Form.{Form}
-use Rattle.language.specs.declared.signature.Form.TheVariants.{SingleWord, FixedArray, MutableArray}
-use Rattle.rv_code.specs.declared.instructions.Instr.TheVariants.{Register}
-use Rattle.rv_code.specs.declared.operations.RegisterOperation.TheVariants.{Add}
-use Rattle.linked_calls.specs.FunctionCode.{frame_room, room_of, result_code}
-use Rattle.linked_calls.specs.Sections.{array_section, array_sections, leave_sections, section_turns, array_turns}
-use Rattle.linked_calls.specs.Sections.{block_turns}
-use Rattle.linked_calls.specs.declared.section.Section.{Section}
-use Rattle.linked_calls.specs.declared.section.Section.TheVariants.{ResultOut, FrameTop, RestoredRegisters}
-use Rattle.linked_calls.specs.declared.section.Section.TheVariants.{CallersStack, WipedRoom, ClearedRegisters, Return}
+use Rattle.linked_calls.proofs.Below.{Add, array_section, array_sections, array_turns, block_turns, CallersStack}
+use Rattle.linked_calls.proofs.Below.{ClearedRegisters, constant_code, Fields, FixedArray, Form, frame_room, FrameTop}
+use Rattle.linked_calls.proofs.Below.{leave_sections, MutableArray, Register, RestoredRegisters, result_code}
+use Rattle.linked_calls.proofs.Below.{ResultOut, Return, room_of, Section, section_turns, SingleWord, Slot, WipedRoom}
 use Rattle.linked_calls.proofs.Between.{leave_turns}
 
 -- of an array that is handed back

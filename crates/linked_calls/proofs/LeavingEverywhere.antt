@@ -4,31 +4,17 @@ use Rattle.std.specs.Prelude.{unwrap_or, is_some, IfSome}
 use Rattle.std.specs.Option.{option_map}
 use Rattle.std.proofs.Common.{◌≡◌, ◌≢◌, ℕ, suc, ◌+◌, ◌-◌, ◌*◌, ◌<◌, ◌≤◌, ◌==◌, List, [], ◌∷◌, ◌++◌, length, Option}
 use Rattle.std.proofs.Common.{All, Some, None, inl, refl, sym, ap, ◌∙◌, subst, arith, length-append, append_assoc}
-use Rattle.codegen.specs.Loaded.{word_in, arrays_in, results_in}
-use Rattle.codegen.specs.expression_code.TermCode.{constant_code}
-use Rattle.codegen.specs.image_fields.Fields.{Fields, IsImage, IsResultSlot, result_end, slots_end}
-use Rattle.codegen.specs.declared.image_fields.slot.ResultSlot.{ResultSlot}
-use Rattle.rv_code.specs.declared.instructions.Instr.{Instr}
-use Rattle.rv_code.specs.declared.instructions.Instr.TheVariants.{JumpRegister, Register}
-use Rattle.rv_code.specs.declared.operations.RegisterOperation.TheVariants.{Add}
-use Rattle.rv_machine.specs.Bytes.{ByteMap}
-use Rattle.rv_machine.specs.Machine.{State, Code, IsAt}
-use Rattle.rv_machine.specs.Registers.{with_register}
-use Rattle.rv_machine.specs.declared.observation.Event.{Event}
+use Rattle.linked_calls.proofs.Below.{Add, AreData, AreZeroed, arguments_end, arrays_in, at, block_turns, ByteMap}
+use Rattle.linked_calls.proofs.Below.{clear_registers_code, Code, constant_code, Data, Event, Fields, frame_room}
+use Rattle.linked_calls.proofs.Below.{function_words, HasResult, Instr, IsAt, IsImage, IsLeft, IsLoadOf, IsOfCall}
+use Rattle.linked_calls.proofs.Below.{IsReturned, IsSite, JumpRegister, kept_registers, LeadsWithin, Placed-left}
+use Rattle.linked_calls.proofs.Below.{Placed-right, Register, restore_code, result_code, results_code, results_in}
+use Rattle.linked_calls.proofs.Below.{ResultSlot, room_base, saved_registers, scratch_registers, Site, State}
+use Rattle.linked_calls.proofs.Below.{unwritten, wipe_code, with_arrays, with_register, word_in}
+use Rattle.codegen.specs.image_fields.Fields.{IsResultSlot, result_end, slots_end}
 use Rattle.rv_machine.specs.declared.observation.Event.TheVariants as event
-use Rattle.codegen.specs.program_logic.Turns.{LeadsWithin}
-use Rattle.linked_calls.specs.Called.{IsOfCall, IsLeft, with_arrays, kept_registers}
-use Rattle.linked_calls.specs.Does.{Data, at}
-use Rattle.linked_calls.specs.Calls.{Site, IsSite, room_base, arguments_end}
-use Rattle.linked_calls.specs.Convention.{saved_registers, scratch_registers}
-use Rattle.linked_calls.specs.FunctionCode.{function_words, frame_room, result_code}
-use Rattle.linked_calls.specs.FunctionCode.{results_code, restore_code, wipe_code, clear_registers_code}
-use Rattle.linked_calls.specs.Sections.{block_turns}
-use Rattle.linked_calls.specs.Words.{HasResult, IsReturned, IsLoadOf}
-use Rattle.linked_calls.specs.Stretches.{AreData, AreZeroed}
 use Rattle.linked_calls.proofs.AllArguments.{AreKnown, Begins, call_setting, taken_registers}
 use Rattle.linked_calls.proofs.AllResults.{all_handed_apart, all_handed_are, results_runs}
-use Rattle.linked_calls.proofs.Below.{Placed-left, Placed-right, unwritten}
 use Rattle.linked_calls.proofs.Between.{AreReady, AreSaved, CanLeave, Leaves, LeavesEverywhere, leave_at, leave_turns}
 use Rattle.linked_calls.proofs.Between.{saved_at, untouched_registers}
 use Rattle.linked_calls.proofs.GoingBack.{goes_back}

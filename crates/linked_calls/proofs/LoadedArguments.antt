@@ -1,22 +1,14 @@
 -- The slots that taking the arguments fills hold what loading puts there.
 use Rattle.std.specs.Prelude.{unwrap_or}
 use Rattle.std.proofs.Common.{◌≡◌, ℕ, ◌+◌, ◌<◌, List, [], ◌∷◌, length, map, ap, ◌∙◌, arith}
-use Rattle.codegen.specs.Loaded.{with_argument, with_arguments}
-use Rattle.codegen.specs.image_fields.Fields.{Fields}
-use Rattle.codegen.specs.declared.image_fields.slot.Slot.{Slot}
-use Rattle.language.specs.Size.{element_bytes}
-use Rattle.language.specs.declared.signature.Form.{Form}
-use Rattle.language.specs.declared.signature.Form.TheVariants.{SingleWord, FixedArray, MutableArray}
-use Rattle.language.specs.declared.values.Arg.{Arg}
-use Rattle.language.specs.declared.values.Arg.TheVariants.{Word, Array}
-use Rattle.linked_calls.specs.Calls.{Site, IsReadable, LiesWell, LieWell, room_base, argument_of, arguments_from}
-use Rattle.linked_calls.specs.Meant.{meant}
+use Rattle.linked_calls.proofs.Below.{Arg, argument_of, arguments_from, Array, ByteMap, element_bytes, Fields}
+use Rattle.linked_calls.proofs.Below.{FixedArray, Form, IsReadable, LiesWell, LieWell, meant, MutableArray, room_base}
+use Rattle.linked_calls.proofs.Below.{SingleWord, Site, Slot, State, with_argument, with_arguments}
+use Rattle.language.specs.declared.values.Arg.TheVariants.{Word}
 use Rattle.linked_calls.proofs.AllArguments.{AreKnown, all_taken, argument_in, taken, taken_outside}
 use Rattle.linked_calls.proofs.Bytes.{with_number_agree, numbers_agree, numbers_same}
 use Rattle.linked_calls.proofs.Passed.{StandAsPassed, still_passed, array_outside}
 use Rattle.linked_calls.proofs.Rooms.{RoomNumbers}
-use Rattle.rv_machine.specs.Bytes.{ByteMap}
-use Rattle.rv_machine.specs.Machine.{State}
 
 -- where two maps hold the same, they do so with an argument put into both
 put_agree : (frame : ℕ) (one other : ByteMap) (slot : Slot) (arg : Arg) (x : ℕ) → one x ≡ other x

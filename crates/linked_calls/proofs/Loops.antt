@@ -3,19 +3,10 @@ use Rattle.std.specs.Prelude.{not}
 use Rattle.std.proofs.Common.{◌≡◌, ◌≢◌, ℕ, zero, suc, ◌+◌, ◌-◌, ◌*◌, ◌%◌, ◌^◌, ◌<◌, ◌≤◌, true, false, List, [], ◌∷◌}
 use Rattle.std.proofs.Common.{◌++◌, length, None, refl, ap, ◌∙◌, subst, arith, eq-eqb, ne_eqb, length-append}
 use Rattle.std.proofs.lemmas.Bool.Decides.{nat_tests}
-use Rattle.rv_code.specs.declared.instructions.Instr.{Instr}
-use Rattle.rv_code.specs.declared.instructions.Instr.TheVariants.{Branch}
-use Rattle.rv_code.specs.declared.operations.BranchTest.TheVariants.{Bne}
-use Rattle.rv_machine.specs.declared.observation.Observation.{Observation}
-use Rattle.rv_machine.specs.Effects.{holds, branch_target, sign_extended}
-use Rattle.rv_machine.specs.Machine.{moved_to}
-use Rattle.rv_machine.specs.Registers.{register}
-use Rattle.codegen.specs.program_logic.Turns.{LeadsWithin}
-use Rattle.linked_calls.specs.Does.{Data, at}
-use Rattle.linked_calls.specs.FunctionCode.{until_equal}
-use Rattle.linked_calls.proofs.Below.{Placed, Placed-left, Placed-right, branch_leads, branch_passes, stands}
+use Rattle.linked_calls.proofs.Below.{at, Bne, Branch, branch_leads, branch_passes, branch_target, Data, holds, Instr}
+use Rattle.linked_calls.proofs.Below.{LeadsWithin, LeadsWithin-append, moved_to, Observation, one_within, Placed}
+use Rattle.linked_calls.proofs.Below.{Placed-left, Placed-right, register, sign_extended, stands, until_equal}
 use Rattle.linked_calls.proofs.Pieces.{Setting, Runs, in_turns, leads_as, weaken_runs}
-use Rattle.linked_calls.proofs.Below.{LeadsWithin-append, one_within}
 
 -- a branch back over so many instructions
 back : (p count : ℕ) → 0 < count → count < 1024 → p + 4 * count < 2 ^ 32

@@ -7,29 +7,17 @@ use Rattle.std.proofs.Common.{eq-eqb, ne_eqb, if◌then◌else◌}
 use Rattle.std.proofs.Math.Path.{fun_ext}
 use Rattle.std.proofs.lemmas.Bool.{eqb-false, false≢true, lt-ltb, ltb-true}
 use Rattle.std.proofs.lemmas.Bool.Decides.{nat_tests}
-use Rattle.rv_code.specs.declared.instructions.Instr.{Instr}
-use Rattle.rv_code.specs.declared.instructions.Instr.TheVariants.{Upper, Register, Load, Store}
-use Rattle.rv_code.specs.declared.operations.UpperOperation.TheVariants.{Lui}
-use Rattle.rv_code.specs.declared.operations.RegisterOperation.{RegisterOperation}
-use Rattle.rv_code.specs.declared.operations.RegisterOperation.TheVariants.{Add}
-use Rattle.rv_code.specs.declared.operations.LoadOperation.TheVariants.{Lw}
-use Rattle.rv_code.specs.declared.operations.StoreOperation.TheVariants.{Sw}
+use Rattle.linked_calls.proofs.Below.{Add, after, after_all, after_append, all_straight, are_straight, AreData}
+use Rattle.linked_calls.proofs.Below.{AreFit, AreMet, both_left, both_right, constant_after, constant_code}
+use Rattle.linked_calls.proofs.Below.{constant_plain, Data, far_address, Instr, is_some-with_number, IsMet, load_code}
+use Rattle.linked_calls.proofs.Below.{loads_code, lower_fits, lower_part, Lui, Lw, near_address, no_access, number_at}
+use Rattle.linked_calls.proofs.Below.{number_or_zero, only_computes, plain_append, Register, register, register-at}
+use Rattle.linked_calls.proofs.Below.{register_kept, register_value, RegisterOperation, registers_after, registers_of}
+use Rattle.linked_calls.proofs.Below.{sign_extended, store_code, stores_code, sum_of, Sw, unwritten, upper_fits}
+use Rattle.linked_calls.proofs.Below.{upper_part, with_number, with_numbers, with_register, with_result, written}
+use Rattle.rv_code.specs.declared.instructions.Instr.TheVariants.{Upper, Load, Store}
 use Rattle.rv_machine.specs.declared.observation.Event.TheVariants as event
 use Rattle.rv_machine.specs.declared.memory.Size.TheVariants.{Word}
-use Rattle.rv_machine.specs.Bytes.{number_at, with_number}
-use Rattle.rv_machine.specs.Effects.{sum_of, sign_extended, register_value}
-use Rattle.rv_machine.specs.Registers.{register, with_register}
-use Rattle.codegen.specs.Loaded.{with_numbers}
-use Rattle.codegen.specs.program_logic.StraightCode.{IsMet}
-use Rattle.codegen.specs.expression_code.TermCode.{upper_part, lower_part, load_code, store_code, constant_code}
-use Rattle.linked_calls.specs.Does.{Data}
-use Rattle.linked_calls.specs.FunctionCode.{stores_code, loads_code}
-use Rattle.linked_calls.specs.Stretches.{AreData}
-use Rattle.linked_calls.proofs.Below.{AreFit, AreMet, after, after_all, after_append, all_straight, are_straight}
-use Rattle.linked_calls.proofs.Below.{both_left, both_right, constant_after, constant_plain, far_address}
-use Rattle.linked_calls.proofs.Below.{is_some-with_number, lower_fits, near_address, no_access, number_or_zero}
-use Rattle.linked_calls.proofs.Below.{only_computes, plain_append, register-at, register_kept, registers_after}
-use Rattle.linked_calls.proofs.Below.{registers_of, unwritten, upper_fits, with_result, written}
 use Rattle.linked_calls.proofs.Bytes.{number_there}
 use Rattle.linked_calls.proofs.Pieces.{IsNone, Setting, Runs, silent_runs, straight_runs}
 

@@ -1,19 +1,13 @@
 -- Arguments that still stand in memory as the caller passed them, while the room of the call is written.
 use Rattle.std.specs.Prelude.{◌⊎◌, is_some}
 use Rattle.std.proofs.Common.{◌≡◌, ℕ, ◌+◌, ◌<◌, ◌≤◌, List, [], ◌∷◌, length, Some, inl, inr, ap, ◌∙◌, arith}
-use Rattle.codegen.specs.image_fields.Fields.{Fields}
-use Rattle.codegen.specs.declared.image_fields.slot.Slot.{Slot}
-use Rattle.language.specs.declared.signature.Form.{Form}
-use Rattle.language.specs.declared.signature.Form.TheVariants.{SingleWord, FixedArray, MutableArray}
-use Rattle.linked_calls.specs.Calls.{Site, room_base, IsReadable, LiesWell, LieWell, raw_argument}
+use Rattle.linked_calls.proofs.Below.{argument_offset, array_bytes, ByteMap, Fields, FixedArray, Form, IsReadable}
+use Rattle.linked_calls.proofs.Below.{LiesWell, LieWell, MutableArray, number_at, number_at_same, raw_argument}
+use Rattle.linked_calls.proofs.Below.{room_base, SingleWord, Site, Slot, State}
 use Rattle.linked_calls.specs.Calls.{IsPointedTo, IsPassed, ArePassed}
-use Rattle.linked_calls.specs.FunctionCode.{argument_offset, array_bytes}
 use Rattle.linked_calls.proofs.Between.{AreReady, IsOutsideRoom, IsReady, ReadyArray, saved_at}
 use Rattle.linked_calls.proofs.Rooms.{RoomNumbers, outside_frame}
 use Rattle.linked_calls.proofs.Bytes.{IsOutside}
-use Rattle.rv_machine.specs.Bytes.{ByteMap, number_at}
-use Rattle.rv_machine.specs.Machine.{State}
-use Rattle.linked_calls.proofs.Below.{number_at_same}
 
 -- an array lies outside the room
 pub array_outside : (image : Fields) (site : Site) (i : ℕ) (slot : Slot) → IsReadable image site i slot

@@ -2,16 +2,9 @@
 -- allowed accesses alone. So what follows in a list is known before any state is given, which is equal leakage.
 use Rattle.std.proofs.Common.{◌≡◌, ℕ, ◌+◌, ◌*◌, Bool, true, false, List, [], ◌∷◌, ◌++◌, length, Option, None, subst, sym, ◌∙◌}
 use Rattle.std.proofs.Common.{arith, refl, length-append}
-use Rattle.rv_code.specs.declared.instructions.Instr.{Instr}
-use Rattle.rv_machine.specs.Machine.{Code}
-use Rattle.rv_machine.specs.declared.observation.Event.{Event}
-use Rattle.rv_machine.specs.declared.observation.Observation.{Observation}
-use Rattle.rv_machine.specs.Machine.{State}
-use Rattle.codegen.specs.program_logic.Turns.{LeadsWithin}
-use Rattle.linked_calls.specs.Does.{AreThere, Data, Does, at}
-use Rattle.linked_calls.proofs.Below.{AreFit, AreMet, Placed, Placed-left, Placed-right, after_all, are_straight}
-use Rattle.linked_calls.proofs.Below.{register_after, shown_by}
-use Rattle.linked_calls.proofs.Below.{LeadsWithin-append, LeadsWithin-weaken}
+use Rattle.linked_calls.proofs.Below.{after_all, are_straight, AreFit, AreMet, AreThere, at, Code, Data, Does, Event}
+use Rattle.linked_calls.proofs.Below.{Instr, LeadsWithin, LeadsWithin-append, LeadsWithin-weaken, Observation, Placed}
+use Rattle.linked_calls.proofs.Below.{Placed-left, Placed-right, register_after, shown_by, State}
 use Rattle.linked_calls.proofs.Within.{straight_within}
 
 -- no access

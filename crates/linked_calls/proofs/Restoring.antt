@@ -1,22 +1,10 @@
 -- The last of a call: the caller's registers restored, all the room wiped, and the other registers cleared.
 use Rattle.std.proofs.Common.{◌≡◌, ℕ, ◌+◌, ◌%◌, ◌^◌, ◌<◌, ◌==◌, List, [], ◌∷◌, ◌++◌, length, All, Option, refl, sym}
 use Rattle.std.proofs.Common.{◌∙◌, subst, arith, append_assoc}
-use Rattle.rv_code.specs.declared.instructions.Instr.{Instr}
-use Rattle.codegen.specs.expression_code.TermCode.{constant_code}
-use Rattle.rv_code.specs.declared.instructions.Instr.TheVariants.{Register}
-use Rattle.rv_code.specs.declared.operations.RegisterOperation.TheVariants.{Add}
-use Rattle.rv_machine.specs.declared.observation.Event.{Event}
-use Rattle.rv_machine.specs.Bytes.{ByteMap}
-use Rattle.rv_machine.specs.Effects.{sum_of}
-use Rattle.rv_machine.specs.Registers.{with_register}
-use Rattle.linked_calls.specs.Cleared.{AreCleared}
-use Rattle.linked_calls.specs.Convention.{saved_registers, scratch_registers}
-use Rattle.linked_calls.specs.Does.{Data}
-use Rattle.linked_calls.specs.FunctionCode.{loads_code, restore_code, wipe_code, clear_registers_code, added}
-use Rattle.linked_calls.specs.Sections.{block_turns}
-use Rattle.linked_calls.specs.Stretches.{AreData, AreZeroed}
-use Rattle.linked_calls.specs.Zeros.{IsStoreIn, HasRoom, IsWiped}
-use Rattle.linked_calls.proofs.Below.{after_all, with_result}
+use Rattle.linked_calls.proofs.Below.{Add, added, after_all, AreCleared, AreData, AreZeroed, block_turns, ByteMap}
+use Rattle.linked_calls.proofs.Below.{clear_registers_code, constant_code, Data, Event, HasRoom, Instr, IsStoreIn}
+use Rattle.linked_calls.proofs.Below.{IsWiped, loads_code, Register, restore_code, saved_registers, scratch_registers}
+use Rattle.linked_calls.proofs.Below.{sum_of, wipe_code, with_register, with_result}
 use Rattle.linked_calls.proofs.Between.{AreSaved}
 use Rattle.linked_calls.proofs.Cleared.{registers_are_cleared}
 use Rattle.linked_calls.proofs.Parts.{MayLoad, computes_runs, loads_runs, number_then, words_at}

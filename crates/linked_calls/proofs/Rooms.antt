@@ -1,11 +1,9 @@
 -- The room of a call: where its frame, the saved registers and the arguments lie in it, in numbers.
 use Rattle.std.proofs.Common.{◌≡◌, ℕ, ◌+◌, ◌-◌, ◌*◌, ◌%◌, ◌^◌, ◌<◌, ◌≤◌, length, inl, inr, arith}
-use Rattle.codegen.specs.image_fields.Fields.{Fields}
-use Rattle.linked_calls.specs.Calls.{Site, IsSite, room_base, arguments_end}
-use Rattle.linked_calls.specs.FunctionCode.{frame_room, argument_offset}
+use Rattle.linked_calls.proofs.Below.{argument_offset, arguments_end, Code, Fields, frame_room, IsSite, room_base}
+use Rattle.linked_calls.proofs.Below.{Site}
 use Rattle.linked_calls.proofs.Between.{IsOutsideRoom, saved_at}
 use Rattle.linked_calls.proofs.Bytes.{IsOutside}
-use Rattle.rv_machine.specs.Machine.{Code}
 
 pub record RoomNumbers (image : Fields) (site : Site) : Type 0 where
   pub ends : room_base image site + (frame_room image + 80) ≡ site.stack

@@ -1,11 +1,10 @@
 -- Registers that were stored into words, one after another.
 use Rattle.std.proofs.Common.{◌≡◌, ℕ, zero, suc, ◌+◌, ◌*◌, ◌%◌, ◌^◌, ◌<◌, ◌≤◌, List, [], ◌∷◌, ◌++◌, length, map, Some, ap, subst, inl}
 use Rattle.std.proofs.Common.{◌∙◌, arith}
-use Rattle.codegen.specs.Loaded.{with_numbers}
+use Rattle.linked_calls.proofs.Below.{ByteMap, number_at, number_at-with_number, number_at_same, number_or_zero}
+use Rattle.linked_calls.proofs.Below.{with_number, with_numbers}
 use Rattle.linked_calls.proofs.Between.{AreSaved}
 use Rattle.linked_calls.proofs.Bytes.{numbers_outside}
-use Rattle.rv_machine.specs.Bytes.{ByteMap, number_at, with_number}
-use Rattle.linked_calls.proofs.Below.{number_at_same, number_at-with_number, number_or_zero}
 use Rattle.linked_calls.proofs.Parts.{words_at}
 use Rattle.linked_calls.proofs.SameRegisters.{AreSame, heads, tails}
 

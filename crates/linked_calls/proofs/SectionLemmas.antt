@@ -2,25 +2,14 @@
 use Rattle.std.proofs.Common.{◌≡◌, ℕ, ◌+◌, ◌-◌, ◌==◌, Bool, true, false, List, [], ◌∷◌, ◌++◌, map, refl, ap, ◌∙◌}
 use Rattle.std.proofs.Common.{ap₂, if◌then◌else◌}
 use Rattle.std.proofs.lemmas.List.{append_assoc, append-nil}
-use Rattle.codegen.specs.Anywhere.{body_words}
-use Rattle.codegen.specs.expression_code.TermCode.{constant_code}
-use Rattle.linked_calls.specs.Convention.{stack_register}
-use Rattle.linked_calls.specs.FunctionCode.{frame_room, arguments_code, enter_code, results_code, leave_code}
-use Rattle.linked_calls.specs.FunctionCode.{copy_out_code, function_words, until_equal, added, zeros_code}
-use Rattle.linked_calls.specs.Sections.{frame_sections, argument_sections, enter_sections, array_section}
-use Rattle.linked_calls.specs.Sections.{array_sections, leave_sections, code_of}
-use Rattle.linked_calls.specs.declared.section.Section.{Section}
-use Rattle.linked_calls.specs.declared.section.Section.TheVariants.{FrameBase, ClearedFrame, FrameTop}
-use Rattle.linked_calls.specs.declared.section.Section.TheVariants.{RestoredRegisters, CallersStack, WipedRoom}
-use Rattle.linked_calls.specs.declared.section.Section.TheVariants.{ClearedRegisters, Return}
-use Rattle.codegen.specs.image_fields.Fields.{Fields}
-use Rattle.codegen.specs.declared.image_fields.slot.Slot.{Slot}
-use Rattle.language.specs.declared.signature.Form.{Form}
-use Rattle.language.specs.declared.signature.Form.TheVariants.{MutableArray}
+use Rattle.linked_calls.proofs.Below.{added, argument_sections, arguments_code, array_section, array_sections}
+use Rattle.linked_calls.proofs.Below.{body_words, CallersStack, ClearedFrame, ClearedRegisters, code_of}
+use Rattle.linked_calls.proofs.Below.{constant_code, copy_out_code, enter_code, enter_sections, Fields, Form}
+use Rattle.linked_calls.proofs.Below.{frame_room, frame_sections, FrameBase, FrameTop, function_words, Instr}
+use Rattle.linked_calls.proofs.Below.{leave_code, leave_sections, MutableArray, Register, RestoredRegisters}
+use Rattle.linked_calls.proofs.Below.{results_code, Return, Section, Slot, stack_register, Sub, until_equal}
+use Rattle.linked_calls.proofs.Below.{WipedRoom, zeros_code}
 use Rattle.rv_code.specs.Words.{word_of}
-use Rattle.rv_code.specs.declared.instructions.Instr.{Instr}
-use Rattle.rv_code.specs.declared.instructions.Instr.TheVariants.{Register}
-use Rattle.rv_code.specs.declared.operations.RegisterOperation.TheVariants.{Sub}
 
 code_of_both : (image : Fields) (one other : List Section)
     → code_of image (one ++ other) ≡ code_of image one ++ code_of image other

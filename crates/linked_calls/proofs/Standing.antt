@@ -3,15 +3,11 @@
 use Rattle.std.proofs.Common.{◌≡◌, ℕ, suc, ◌+◌, ◌*◌, List, [], ◌∷◌, ◌++◌, length, map, refl, ap, ap₂, ◌∙◌, subst}
 use Rattle.std.proofs.Common.{arith, length-append}
 use Rattle.std.proofs.lemmas.List.{length-map}
-use Rattle.codegen.specs.Anywhere.{Stand, body_words}
-use Rattle.codegen.specs.image_fields.Fields.{Fields}
-use Rattle.linked_calls.specs.Calls.{Site, IsSite}
-use Rattle.linked_calls.specs.FunctionCode.{enter_code, leave_code, function_words}
+use Rattle.linked_calls.proofs.Below.{body_words, Code, enter_code, Fields, function_words, IsSite, leave_code}
+use Rattle.linked_calls.proofs.Below.{Placed, Site, Stand}
 use Rattle.linked_calls.proofs.Between.{body_at, leave_at}
-use Rattle.linked_calls.proofs.Below.{Placed}
 use Rattle.linked_calls.proofs.Pieces.{placed}
 use Rattle.rv_code.specs.Words.{word_of}
-use Rattle.rv_machine.specs.Machine.{Code}
 
 -- Words, one list after another.
 

@@ -1,18 +1,11 @@
 -- What stays as it was while the room of a call is written: pointers, arrays, and bytes outside the room.
 use Rattle.std.proofs.Common.{◌≡◌, ℕ, ◌+◌, ◌≤◌, ◌<◌, List, [], ◌∷◌, length, ◌∙◌, arith}
-use Rattle.codegen.specs.image_fields.Fields.{Fields}
-use Rattle.codegen.specs.declared.image_fields.slot.Slot.{Slot}
-use Rattle.language.specs.Size.{element_bytes}
-use Rattle.language.specs.declared.signature.Form.{Form}
-use Rattle.language.specs.declared.signature.Form.TheVariants.{SingleWord, FixedArray, MutableArray}
-use Rattle.linked_calls.specs.Called.{with_array, arrays_behind, with_arrays}
-use Rattle.linked_calls.specs.Calls.{Site, room_base, arguments_end}
-use Rattle.linked_calls.specs.FunctionCode.{argument_offset}
-use Rattle.linked_calls.proofs.Below.{number_at_same}
+use Rattle.linked_calls.proofs.Below.{argument_offset, arguments_end, arrays_behind, ByteMap, element_bytes, Fields}
+use Rattle.linked_calls.proofs.Below.{FixedArray, Form, MutableArray, number_at_same, room_base, SingleWord, Site}
+use Rattle.linked_calls.proofs.Below.{Slot, with_array, with_arrays}
 use Rattle.linked_calls.proofs.Between.{AreReady, IsReady, ReadyArray, saved_at}
 use Rattle.linked_calls.proofs.Bytes.{SameData, numbers_agree}
 use Rattle.linked_calls.proofs.Rooms.{RoomNumbers, place_inside}
-use Rattle.rv_machine.specs.Bytes.{ByteMap}
 
 -- Arrays that are ready stay so where nothing above the frame changes, and what is data stays data.
 module _ (image : Fields) (site : Site) (numbers : RoomNumbers image site) (old new : ByteMap)

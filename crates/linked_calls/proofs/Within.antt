@@ -2,16 +2,11 @@
 use Rattle.std.proofs.Common.{◌≡◌, ℕ, suc, ◌+◌, ◌*◌, Bool, true, List, [], ◌∷◌, length, Option}
 use Rattle.std.proofs.Common.{None, refl, subst, arith}
 use Rattle.std.proofs.lemmas.List.Elements.{All-head}
+use Rattle.linked_calls.proofs.Below.{after, after_all, are_straight, AreFit, AreMet, at, both_left, both_right, Code}
+use Rattle.linked_calls.proofs.Below.{Data, Event, first_fit, first_met, Instr, LeadsWithin, LeadsWithin-append}
+use Rattle.linked_calls.proofs.Below.{Observation, one_within, Placed, rest_fit, rest_met, shown_allowed, shown_by}
+use Rattle.linked_calls.proofs.Below.{stays_within, straight_code_leads}
 use Rattle.codegen.specs.program_logic.StraightCode.{fit_and, met_and, is_straight, next_of, left_by, event_of}
-use Rattle.rv_code.specs.declared.instructions.Instr.{Instr}
-use Rattle.rv_machine.specs.Machine.{Code}
-use Rattle.rv_machine.specs.declared.observation.Event.{Event}
-use Rattle.rv_machine.specs.declared.observation.Observation.{Observation}
-use Rattle.codegen.specs.program_logic.Turns.{LeadsWithin, stays_within}
-use Rattle.linked_calls.specs.Does.{Data, at}
-use Rattle.linked_calls.proofs.Below.{AreFit, AreMet, Placed, after, after_all, are_straight, both_left, both_right}
-use Rattle.linked_calls.proofs.Below.{LeadsWithin-append, first_fit, first_met, one_within, rest_fit, rest_met}
-use Rattle.linked_calls.proofs.Below.{shown_allowed, shown_by, straight_code_leads}
 
 -- The code's own accesses are allowed wherever x2 is, of which something holds that no instruction changes.
 module _ (code : Code) (Allowed : ℕ → Option Event → Type 0) (works : ℕ → Bool) (Allows : Option Event → Type 0)

@@ -3,19 +3,10 @@ use Rattle.std.specs.Prelude.{not, slice_index_or}
 use Rattle.std.proofs.Common.{ℕ, ◌+◌, ◌≤◌, ◌==◌, Bool, true, false, List, [], ◌∷◌, map, All, ◌∙◌, arith}
 use Rattle.std.proofs.lemmas.List.{length-map}
 use Rattle.std.proofs.lemmas.List.Elements.{All-map}
+use Rattle.linked_calls.proofs.Below.{argument_of, arguments_from, arguments_of, Boolean, element_bytes, Fields, Form}
+use Rattle.linked_calls.proofs.Below.{Kind, meant, numbers_at, params_of, raw_argument, SingleWord, Site, Slot, State}
 use Rattle.language.specs.arguments.Within.{greatest_of, words_of, HasShape, AreWithin}
-use Rattle.codegen.specs.Loaded.{params_of, numbers_at}
-use Rattle.codegen.specs.image_fields.Fields.{Fields}
-use Rattle.codegen.specs.declared.image_fields.slot.Slot.{Slot}
-use Rattle.language.specs.Size.{element_bytes}
-use Rattle.language.specs.declared.signature.Form.{Form}
-use Rattle.language.specs.declared.signature.Form.TheVariants.{SingleWord}
-use Rattle.language.specs.declared.signature.Kind.{Kind}
-use Rattle.language.specs.declared.signature.Kind.TheVariants.{Boolean}
-use Rattle.linked_calls.specs.Calls.{Site, raw_argument, argument_of, arguments_from, arguments_of}
-use Rattle.linked_calls.specs.Meant.{meant}
 use Rattle.linked_calls.proofs.Bytes.{numbers_count}
-use Rattle.rv_machine.specs.Machine.{State}
 use Rattle.word.specs.Operators.{word_of}
 
 truth_small : (b : Bool) → word_of b ≤ 1

@@ -4,20 +4,12 @@ use Rattle.std.proofs.Common.{◌≡◌, ℕ, ◌+◌, ◌%◌, ◌^◌, ◌==�
 use Rattle.std.proofs.Math.Path.{fun_ext}
 use Rattle.std.proofs.lemmas.Bool.Decides.{nat_tests}
 use Rattle.std.proofs.lemmas.Nat.{and_mask}
-use Rattle.codegen.specs.expression_code.TermCode.{load_code, store_code}
-use Rattle.linked_calls.specs.FunctionCode.{argument_offset, meant_code}
-use Rattle.language.specs.declared.signature.Kind.{Kind}
-use Rattle.language.specs.declared.signature.Kind.TheVariants.{Boolean, Uint8, Uint16, Uint32}
-use Rattle.rv_machine.specs.Bytes.{ByteMap, number_at, with_number}
-use Rattle.rv_machine.specs.Effects.{shift_value}
-use Rattle.rv_machine.specs.Registers.{with_register}
-use Rattle.rv_code.specs.declared.operations.ShiftOperation.TheVariants.{Slli, Srli}
+use Rattle.linked_calls.proofs.Below.{argument_offset, Boolean, ByteMap, Data, HasResult, HasWordArgument, IsLoadOf}
+use Rattle.linked_calls.proofs.Below.{IsPut, IsPutting, IsReturned, Kind, load_code, meant, meant_code, number_at}
+use Rattle.linked_calls.proofs.Below.{number_or_zero, only_computes, registers_after, ResultIsHandedBack, shift_value}
+use Rattle.linked_calls.proofs.Below.{Slli, Srli, store_code, Uint16, Uint32, Uint8, unwritten, with_number}
+use Rattle.linked_calls.proofs.Below.{with_register, with_result, WordIsTaken}
 use Rattle.word.specs.Operators.{word_of}
-use Rattle.linked_calls.specs.Does.{Data}
-use Rattle.linked_calls.specs.Meant.{meant}
-use Rattle.linked_calls.specs.Words.{HasWordArgument, IsPut, IsPutting, WordIsTaken, HasResult, IsReturned, IsLoadOf}
-use Rattle.linked_calls.specs.Words.{ResultIsHandedBack}
-use Rattle.linked_calls.proofs.Below.{number_or_zero, only_computes, registers_after, unwritten, with_result}
 use Rattle.linked_calls.proofs.Bytes.{number_there, same_truth, with_number_cut}
 use Rattle.linked_calls.proofs.Parts.{computes_runs, load_runs, overwritten, same_number, store_runs}
 use Rattle.linked_calls.proofs.Pieces.{Setting, makes_on, placed, weaken_runs}

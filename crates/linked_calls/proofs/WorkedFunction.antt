@@ -1,13 +1,7 @@
 -- The function that adds one to its argument, as it is worked out by hand: 72 words, and 98 turns around the 4 of its
 -- body.
 use Rattle.std.proofs.Common.{◌≡◌, [], ◌∷◌, length, Some, refl}
-use Rattle.linked_calls.specs.FunctionCode.{function_words, room_of}
-use Rattle.linked_calls.specs.Sections.{around_turns}
-use Rattle.codegen.specs.image_fields.Fields.{Fields}
-use Rattle.language.specs.declared.signature.Form.TheVariants.{SingleWord}
-use Rattle.language.specs.declared.signature.Kind.TheVariants.{Uint32}
-use Rattle.language.specs.declared.signature.Label.TheVariants.{Secret}
-use Rattle.word.specs.declared.profile.Profile.TheVariants.{P1}
+use Rattle.linked_calls.proofs.Below.{around_turns, Fields, function_words, P1, room_of, Secret, SingleWord, Uint32}
 
 abbrev add_one : Fields
 add_one = record {

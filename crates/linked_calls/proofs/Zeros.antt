@@ -3,23 +3,12 @@
 use Rattle.std.proofs.Common.{◌≡◌, ◌≢◌, ℕ, suc, ◌+◌, ◌-◌, ◌*◌, ◌/◌, ◌%◌, ◌^◌, ◌<◌, ◌≤◌, ◌==◌, Bool, true, false, List}
 use Rattle.std.proofs.Common.{[], ◌∷◌, ◌++◌, length, refl, sym, ap, ◌∙◌, subst, arith, append_assoc, length-append, if◌then◌else◌}
 use Rattle.std.proofs.lemmas.Bool.{eqb-false, eqb-true}
-use Rattle.codegen.specs.expression_code.TermCode.{constant_code}
-use Rattle.codegen.specs.Loaded.{with_numbers}
-use Rattle.rv_code.specs.declared.instructions.Instr.{Instr}
-use Rattle.rv_code.specs.declared.instructions.Instr.TheVariants.{Register}
-use Rattle.rv_code.specs.declared.operations.RegisterOperation.TheVariants.{Sub}
-use Rattle.rv_machine.specs.Bytes.{ByteMap}
-use Rattle.rv_machine.specs.Effects.{difference_of, sum_of}
-use Rattle.rv_machine.specs.Machine.{Code}
-use Rattle.rv_machine.specs.Registers.{with_register}
-use Rattle.linked_calls.specs.Does.{AreThere, Data, Does}
-use Rattle.linked_calls.specs.FunctionCode.{added, until_equal, wipe_code, zeros_code}
-use Rattle.linked_calls.specs.Sections.{block_turns}
-use Rattle.linked_calls.specs.Stretches.{AreData, AreZeroed}
-use Rattle.linked_calls.specs.Zeros.{FrameIsZeroed, HasFrame, HasRoom, IsStoreIn, IsWiped, IsZeroFrame, RoomIsWiped}
+use Rattle.linked_calls.proofs.Below.{added, AreData, AreThere, AreZeroed, block_turns, ByteMap, Code, constant_code}
+use Rattle.linked_calls.proofs.Below.{Data, difference_of, Does, FrameIsZeroed, HasFrame, HasRoom, Instr, IsStoreIn}
+use Rattle.linked_calls.proofs.Below.{IsWiped, IsZeroFrame, Register, RoomIsWiped, Sub, sum_of, until_equal}
+use Rattle.linked_calls.proofs.Below.{unwritten, wipe_code, with_numbers, with_register, with_result, zeros_code}
 use Rattle.linked_calls.proofs.Bytes.{no_zeros, is_some-with_numbers, zeroed_words, zeros_down, zeros_of, zeros_up}
 use Rattle.linked_calls.proofs.Loops.{loop}
-use Rattle.linked_calls.proofs.Below.{unwritten, with_result}
 use Rattle.linked_calls.proofs.Parts.{computes_runs, number_then, stored, stores_runs}
 use Rattle.linked_calls.proofs.Pieces.{Runs, Setting, as_code, in_turns, makes_then, no_code, placed, weaken_runs}
 
