@@ -1,26 +1,28 @@
 -- All arguments, taken one after another: each is read from where it was at the call, since only the frame is
 -- written.
 use Rattle.std.specs.Prelude.{is_some}
-use Rattle.std.proofs.Common.{◌≡◌, ℕ, ◌+◌, ◌*◌, ◌≤◌, List, [], ◌∷◌, length, map, Option, inl, inr, refl}
+use Rattle.std.proofs.Common.{◌≡◌, ℕ, ◌+◌, ◌*◌, ◌≤◌, List, [], ◌∷◌, length, map, Some, inl, inr, refl, true}
 use Rattle.std.proofs.Common.{sym, ap, ◌∙◌, subst, arith}
 use Rattle.std.proofs.lemmas.List.{length-map}
 use Rattle.linked_calls.proofs.Below.{AreData, Arg, argument_code, argument_offset, argument_turns, arguments_code}
 use Rattle.linked_calls.proofs.Below.{arguments_end, Array, array_bytes, ByteMap, CanBeCopied, CanBePut, Code, Data}
-use Rattle.linked_calls.proofs.Below.{element_bytes, elements_at, Event, Fields, FixedArray, Form, frame_room}
-use Rattle.linked_calls.proofs.Below.{HasArray, HasWordArgument, is_some-with_number, IsBesides, IsCopying, IsOfCall}
-use Rattle.linked_calls.proofs.Below.{IsPut, IsPutting, IsTaken, meant, MutableArray, place_of, Pointed, room_base}
-use Rattle.linked_calls.proofs.Below.{SingleWord, Site, Slot, slot_of, with_argument, with_number_outside, word_in}
+use Rattle.linked_calls.proofs.Below.{element_bytes, elements_at, Fields, FixedArray, Form, frame_room, HasArray}
+use Rattle.linked_calls.proofs.Below.{is_some-with_number, IsBesides, IsOfCall, IsOnStack, LiesIn, meant}
+use Rattle.linked_calls.proofs.Below.{MutableArray, Pointed, ReadsAnArray, room_base, SingleWord, Site, Size, Slot}
+use Rattle.linked_calls.proofs.Below.{with_argument, with_number_outside, word_in, WritesAnArray}
 use Rattle.language.specs.declared.values.Arg.TheVariants.{Word}
+use Rattle.rv_machine.specs.declared.memory.Size.TheVariants as sizes
+use Rattle.rv_machine.specs.declared.observation.Event.TheVariants as event
 use Rattle.linked_calls.proofs.Between.{AreReady, IsReady, saved_at}
 use Rattle.linked_calls.proofs.Bytes.{IsOutside, SameData, number_there, numbers_count, numbers_outside}
 use Rattle.linked_calls.proofs.Bytes.{is_some-with_numbers}
-use Rattle.linked_calls.proofs.Copies.{array_is_taken}
+use Rattle.linked_calls.proofs.Copies.{array_runs as copies_run}
 use Rattle.linked_calls.proofs.EnterTurns.{arguments_turns}
-use Rattle.linked_calls.proofs.Pieces.{Runs, Setting, no_code, promised_runs, then_runs, weaken_runs}
+use Rattle.linked_calls.proofs.Pieces.{Runs, Setting, no_code, then_runs, weaken_runs}
 use Rattle.linked_calls.proofs.Rooms.{RoomNumbers}
 use Rattle.linked_calls.proofs.SameRegisters.{IsNone, same_beside}
 use Rattle.linked_calls.proofs.Staying.{stay_ready}
-use Rattle.linked_calls.proofs.Words.{word_is_taken}
+use Rattle.linked_calls.proofs.Words.{word_runs}
 
 -- the setting of a call: its code, and the accesses that it may make
 abbrev pub call_setting : Fields → Code → Site → Setting
@@ -70,29 +72,22 @@ module _ (image : Fields) (site : Site) where
 
   pub record KnownWord (i : ℕ) (slot : Slot) : Type 0 where
     pub can : CanBePut image slot (room_base image site) i
-    pub may : (sp : ℕ) (event : Option Event)
-        → IsPutting (room_base image site + argument_offset image i) (room_base image site + slot.offset) sp event
-        → IsOfCall image site sp event
     pub place_inside : room_base image site + argument_offset image i + 4 ≤ arguments_end image site
     pub inside : slot.offset + 4 ≤ frame_room image
 
   -- an array
   pub record KnownArray (i : ℕ) (slot : Slot) : Type 0 where
     pub can : CanBeCopied image slot (spot_at i)
-    pub may_take : (sp : ℕ) (event : Option Event)
-        → IsCopying (room_base image site) (place_of image (spot_at i)) (array_bytes slot) (site.pointers i)
-        (slot_of slot (spot_at i)) sp event
-        → IsOfCall image site sp event
+    pub reads : (a : ℕ) (size : Size) → LiesIn (site.pointers i) (site.pointers i + array_bytes slot) a size
+        → ReadsAnArray site 0 image.slots a size
     pub place_inside : room_base image site + argument_offset image i + 4 ≤ arguments_end image site
     pub inside : slot.offset + array_bytes slot ≤ frame_room image
 
   -- and one that is handed back
   pub record KnownOutput (i : ℕ) (slot : Slot) : Type 0 where
     pub known : KnownArray i slot
-    pub may_hand : (sp : ℕ) (event : Option Event)
-        → IsCopying (room_base image site) (place_of image (spot_at i)) (array_bytes slot) (slot_of slot (spot_at i))
-        (site.pointers i) sp event
-        → IsOfCall image site sp event
+    pub writes : (a : ℕ) (size : Size) → LiesIn (site.pointers i) (site.pointers i + array_bytes slot) a size
+        → WritesAnArray site 0 image.slots a size
     pub beside : IsBesides (site.pointers i) (array_bytes slot) (room_base image site) (arguments_end image site)
 
   abbrev pub IsKnown : ℕ → Slot → Form → Type 0
@@ -186,25 +181,47 @@ module _ (image : Fields) (site : Site) where
     room : saved_at image site ≤ arguments_end image site
     room = omega arith
 
-    array_runs : (i : ℕ) (slot : Slot) → KnownArray i slot
-        → Runs z (argument_turns image i slot FixedArray) (argument_code image i slot FixedArray)
-        (Begins (λ bytes. IsReady image site bytes i slot FixedArray)) (Takes (λ s. taken s.bytes i slot FixedArray))
-    array_runs i slot known =
+    -- accesses of the stack, where x2 is the room's base
+    pub on_stack : (a n : ℕ) → room_base image site ≤ a → a + n ≤ site.stack → (b : ℕ) (size : Size) → LiesIn a (a + n) b size
+        → IsOnStack (room_base image site) site.stack (room_base image site) b size
+    on_stack a n from to b size lies = ((omega arith, omega arith), omega arith)
+
+    pub place_allowed : (i : ℕ) → room_base image site + argument_offset image i + 4 ≤ arguments_end image site
+        → IsOfCall image site (room_base image site)
+        (Some (event.Load (room_base image site + argument_offset image i) sizes.Word))
+    place_allowed i inside = inl ((omega arith, omega arith), omega arith)
+
+    pub slot_within : (slot : Slot) (n : ℕ) → slot.offset + n ≤ frame_room image
+        → room_base image site + slot.offset + n ≤ site.stack
+    slot_within slot n inside = omega arith
+
+    -- what stands in memory where an array is copied
+    pub array_begins : (i : ℕ) (slot : Slot) → KnownArray i slot → (s : Data)
+        → Begins (λ bytes. IsReady image site bytes i slot FixedArray) s → HasArray image slot (spot_at i) s
+    array_begins i slot known s begins =
         let under = room in
-        weaken_runs z {P' = Begins (λ bytes. IsReady image site bytes i slot FixedArray)}
-        {R' = Takes (λ s. taken s.bytes i slot FixedArray)} (argument_code image i slot FixedArray)
-        (promised_runs z (argument_code image i slot FixedArray) {Before = HasArray image slot (spot_at i)}
-        {After = IsTaken slot (spot_at i)} known.may_take
-        (λ p there. array_is_taken z.code p image slot (spot_at i) there known.can))
-        (λ s begins. record {
+        record {
           stack = begins.stack;
           argument = begins.ready.pointer;
           array_there = begins.ready.array;
           slot_there = λ x l h. begins.there x (omega arith) (omega arith);
-        })
-        (λ s t begins taken. record {
-          bytes = taken.bytes;
-          others = λ q none. taken.others q none.0 none.1.0 none.1.1.0 none.1.1.1.0;
+        }
+
+    array_runs : (i : ℕ) (slot : Slot) → KnownArray i slot
+        → Runs z (argument_turns image i slot FixedArray) (argument_code image i slot FixedArray)
+        (Begins (λ bytes. IsReady image site bytes i slot FixedArray)) (Takes (λ s. taken s.bytes i slot FixedArray))
+    array_runs i slot known =
+        let at = room_base image site + slot.offset in
+        weaken_runs z {P' = Begins (λ bytes. IsReady image site bytes i slot FixedArray)}
+        {R' = Takes (λ s. taken s.bytes i slot FixedArray)} (argument_code image i slot FixedArray)
+        (copies_run image slot (spot_at i) known.can true z (place_allowed i known.place_inside)
+        (λ a size lies. inr (known.reads a size lies))
+        (λ a size lies. inl (on_stack at (array_bytes slot) (omega arith)
+        (slot_within slot (array_bytes slot) known.inside) a size lies)))
+        (array_begins i slot known)
+        (λ s t begins copied. record {
+          bytes = copied.bytes;
+          others = λ q none. copied.others q none.0 none.1.0 none.1.1.0 none.1.1.1.0;
         })
 
     argument_runs : (i : ℕ) (slot : Slot) (form : Form) → IsKnown i slot form
@@ -212,12 +229,11 @@ module _ (image : Fields) (site : Site) where
         (Begins (λ bytes. IsReady image site bytes i slot form)) (Takes (λ s. taken s.bytes i slot form))
     argument_runs i slot SingleWord known =
         let under = room in
+        let ends = slot_within slot 4 known.inside in
         weaken_runs z {P' = Begins (λ bytes. IsReady image site bytes i slot SingleWord)}
         {R' = Takes (λ s. taken s.bytes i slot SingleWord)} (argument_code image i slot SingleWord)
-        (promised_runs z (argument_code image i slot SingleWord)
-        {Before = HasWordArgument image slot (room_base image site) i}
-        {After = IsPut image slot (room_base image site) i} known.may
-        (λ p there. word_is_taken z.code p image slot (room_base image site) i there known.can))
+        (word_runs z image slot (room_base image site) i known.can (place_allowed i known.place_inside)
+        (inl ((omega arith, omega arith), omega arith)))
         (λ s begins. record {
           stack = begins.stack;
           argument_there = λ x l h. begins.there x (omega arith) (omega arith);

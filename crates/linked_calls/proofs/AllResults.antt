@@ -5,15 +5,16 @@ use Rattle.std.proofs.Common.{◌≡◌, ℕ, ◌+◌, ◌*◌, ◌<◌, ◌≤�
 use Rattle.std.proofs.Common.{◌∙◌, subst, arith}
 use Rattle.linked_calls.proofs.Below.{AreData, arguments_end, array_bytes, array_in, arrays_behind, arrays_in}
 use Rattle.linked_calls.proofs.Below.{ByteMap, Code, copy_out_code, element_bytes, elements_at, Fields, FixedArray}
-use Rattle.linked_calls.proofs.Below.{Form, HasArray, IsBesides, IsHandedBack, MutableArray, results_code, room_base}
-use Rattle.linked_calls.proofs.Below.{SingleWord, Site, Slot, with_array, with_arrays, with_numbers}
-use Rattle.linked_calls.proofs.AllArguments.{AreKnown, Begins, IsKnown, Takes, call_setting, spot_at, still_base}
+use Rattle.linked_calls.proofs.Below.{Form, IsBesides, IsOnStack, MutableArray, results_code, room_base, SingleWord}
+use Rattle.linked_calls.proofs.Below.{Site, Size, Slot, with_array, with_arrays, with_numbers}
+use Rattle.linked_calls.proofs.AllArguments.{AreKnown, Begins, IsKnown, Takes, array_begins, call_setting, on_stack}
+use Rattle.linked_calls.proofs.AllArguments.{place_allowed, slot_within, spot_at, still_base}
 use Rattle.linked_calls.proofs.Between.{AreReady, IsReady}
 use Rattle.linked_calls.proofs.Bytes.{IsOutside, SameData, numbers_count, numbers_outside, is_some-with_numbers}
 use Rattle.linked_calls.proofs.Bytes.{numbers_same}
-use Rattle.linked_calls.proofs.Copies.{array_is_handed_back}
+use Rattle.linked_calls.proofs.Copies.{handed_runs as handed_by}
 use Rattle.linked_calls.proofs.LeaveTurns.{output_turns, outputs_turns}
-use Rattle.linked_calls.proofs.Pieces.{Runs, Setting, no_code, promised_runs, then_runs, weaken_runs}
+use Rattle.linked_calls.proofs.Pieces.{Runs, Setting, no_code, then_runs, weaken_runs}
 use Rattle.linked_calls.proofs.Rooms.{RoomNumbers}
 use Rattle.linked_calls.proofs.Staying.{stay_ready}
 
@@ -42,21 +43,21 @@ module _ (image : Fields) (code : Code) (site : Site) (numbers : RoomNumbers ima
   all_handed bytes i [] = bytes
   all_handed bytes i (slot ∷ slots) = all_handed (handed bytes i slot slot.param.form) (i + 1) slots
 
+  -- what lies in the room lies in the room and the arguments
+  longer : (a : ℕ) (size : Size) → IsOnStack base site.stack base a size → IsOnStack base end base a size
+  longer a size lies = ((lies.0.0, omega (arith, lies.0.1)), lies.1)
+
   output_runs : (i : ℕ) (slot : Slot) (form : Form) → IsKnown image site i slot form
       → Runs z (output_turns image i slot form) (copy_out_code image i slot form)
       (Begins image site (λ bytes. IsReady image site bytes i slot form)) (Takes (λ s. handed s.bytes i slot form))
   output_runs i slot MutableArray known =
       weaken_runs z {P' = Begins image site (λ bytes. IsReady image site bytes i slot MutableArray)}
       {R' = Takes (λ s. handed s.bytes i slot MutableArray)} (copy_out_code image i slot MutableArray)
-      (promised_runs z (copy_out_code image i slot MutableArray) {Before = HasArray image slot (spot_at image site i)}
-      {After = IsHandedBack slot (spot_at image site i)} known.may_hand
-      (λ p there. array_is_handed_back z.code p image slot (spot_at image site i) there known.known.can))
-      (λ s begins. record {
-        stack = begins.stack;
-        argument = begins.ready.pointer;
-        array_there = begins.ready.array;
-        slot_there = λ x l h. begins.there x (omega arith) (omega arith);
-      })
+      (handed_by image slot (spot_at image site i) known.known.can z (place_allowed image site code numbers i known.known.place_inside)
+      (λ a size lies. inl (longer a size (on_stack image site code numbers (base + slot.offset) (array_bytes slot) (omega arith)
+      (slot_within image site code numbers slot (array_bytes slot) known.known.inside) a size lies)))
+      (λ a size lies. inr (known.writes a size lies)))
+      (array_begins image site code numbers i slot known.known)
       (λ s t begins back. record {
         bytes = back.bytes;
         others = λ q none. back.others q none.0 none.1.0 none.1.1.0 none.1.1.1.0;

@@ -37,7 +37,8 @@ pub use Rattle.language.specs.declared.signature.Kind.TheVariants.{Boolean, Uint
 pub use Rattle.language.specs.declared.signature.Label.TheVariants.{Secret}
 pub use Rattle.language.specs.declared.values.Arg.{Arg}
 pub use Rattle.language.specs.declared.values.Arg.TheVariants.{Array}
-pub use Rattle.linked_calls.specs.Called.{arrays_behind, IsLeft, IsOfCall, kept_registers, with_array, with_arrays}
+pub use Rattle.linked_calls.specs.Called.{arrays_behind, IsLeft, IsOfCall, IsOnStack, kept_registers, ReadsAnArray}
+pub use Rattle.linked_calls.specs.Called.{ReadsArray, with_array, with_arrays, WritesAnArray, WritesArray}
 pub use Rattle.linked_calls.specs.Calls.{argument_of, arguments_end, arguments_from, arguments_of, IsBesides}
 pub use Rattle.linked_calls.specs.Calls.{IsCalled, IsReadable, IsSite, LiesWell, LieWell, raw_argument, room_base}
 pub use Rattle.linked_calls.specs.Calls.{Site}

@@ -2,11 +2,11 @@
 -- elements, in which x5 goes through the caller's array up to x7, and x6 through the slot.
 use Rattle.std.specs.Prelude.{◌⊎◌, is_some, unwrap_or}
 use Rattle.std.proofs.Common.{◌≡◌, ◌≢◌, ℕ, suc, ◌+◌, ◌*◌, ◌%◌, ◌^◌, ◌<◌, ◌≤◌, Bool, true, false, List, [], ◌∷◌, ◌++◌}
-use Rattle.std.proofs.Common.{length, map, inl, inr, refl, sym, ap, ap₂, ◌∙◌, subst, arith, append_assoc}
+use Rattle.std.proofs.Common.{length, map, Some, inl, inr, refl, sym, ap, ap₂, ◌∙◌, subst, arith, append_assoc}
 use Rattle.std.proofs.lemmas.List.{length-map, map-append, map-id}
 use Rattle.linked_calls.proofs.Below.{Add, AreApart, AreData, argument_code, argument_offset, array_bytes}
-use Rattle.linked_calls.proofs.Below.{ArrayIsHandedBack, ArrayIsTaken, bounds_code, ByteMap, CanBeCopied, Code}
-use Rattle.linked_calls.proofs.Below.{constant_code, copy_out_code, Data, element_bytes, element_turns, Fields}
+use Rattle.linked_calls.proofs.Below.{array_turns, ArrayIsHandedBack, ArrayIsTaken, bounds_code, ByteMap, CanBeCopied}
+use Rattle.linked_calls.proofs.Below.{Code, constant_code, copy_out_code, Data, element_bytes, element_turns, Fields}
 use Rattle.linked_calls.proofs.Below.{FixedArray, HasArray, Instr, IsCopying, IsHandedBack, IsTaken, Kind, load_code}
 use Rattle.linked_calls.proofs.Below.{MutableArray, number_at, number_or_zero, numbers_at, OthersAsBefore, place_of}
 use Rattle.linked_calls.proofs.Below.{Pointed, Register, register_kept, Slot, slot_of, sum_of, until_equal, unwritten}
@@ -14,12 +14,14 @@ use Rattle.linked_calls.proofs.Below.{with_number, with_numbers, with_register, 
 use Rattle.linked_calls.proofs.Bytes.{number_beside, number_there, numbers_count, is_some-with_numbers, numbers_more}
 use Rattle.linked_calls.proofs.Bytes.{numbers_then}
 use Rattle.linked_calls.proofs.CopyElements.{Reached, chosen, copied_code, copied_value, copy_fit, copy_leaves}
-use Rattle.linked_calls.proofs.CopyElements.{copy_length, copy_made, copy_met, copy_plain, copy_works, element_even}
+use Rattle.linked_calls.proofs.CopyElements.{copy_length, copy_made, copy_met, copy_plain, copy_works, element_even, element_size}
 use Rattle.linked_calls.proofs.CopyElements.{element_lies, elements_fit, some_bytes, source, target}
 use Rattle.linked_calls.proofs.Loops.{loop}
 use Rattle.linked_calls.proofs.Parts.{load_runs, number_then, same_number}
-use Rattle.linked_calls.proofs.Pieces.{Runs, Setting, as_straight, in_turns, makes_on, makes_then, placed, straight_runs}
-use Rattle.linked_calls.proofs.Pieces.{weaken_runs}
+use Rattle.linked_calls.proofs.Pieces.{MayAt, Runs, Setting, as_straight, in_turns, makes_on, makes_then, placed}
+use Rattle.linked_calls.proofs.Pieces.{straight_runs, weaken_runs}
+use Rattle.rv_machine.specs.declared.memory.Size.TheVariants.{Word}
+use Rattle.rv_machine.specs.declared.observation.Event.TheVariants as event
 
 -- What holds of both of two, or of the two in both orders, holds of those that are chosen.
 
@@ -44,8 +46,12 @@ first_is false regs = refl
 regrouped : (a b c d e : List Instr) → a ++ (b ++ c) ++ (d ++ e) ≡ a ++ b ++ c ++ d ++ e
 regrouped a b c d e = simp append_assoc
 
-module _ (code : Code) (image : Fields) (slot : Slot) (spot : Pointed) (can : CanBeCopied image slot spot)
-    (inward : Bool) where
+module _ (image : Fields) (slot : Slot) (spot : Pointed) (can : CanBeCopied image slot spot) (inward : Bool)
+    (z : Setting) (place : z.allowed spot.frame (Some (event.Load (place_of image spot) Word)))
+    (loads : MayAt z spot.frame event.Load (chosen inward spot.pointer (slot_of slot spot))
+    (chosen inward spot.pointer (slot_of slot spot) + array_bytes slot))
+    (stores : MayAt z spot.frame event.Store (chosen inward (slot_of slot spot) spot.pointer)
+    (chosen inward (slot_of slot spot) spot.pointer + array_bytes slot)) where
   abbrev kind : Kind
   kind = slot.param.kind
 
@@ -60,13 +66,6 @@ module _ (code : Code) (image : Fields) (slot : Slot) (spot : Pointed) (can : Ca
 
   abbrev to : ℕ
   to = chosen inward (slot_of slot spot) spot.pointer
-
-  abbrev z : Setting
-  z = record {
-    code = code;
-    allowed = IsCopying spot.frame (place_of image spot) (array_bytes slot) from to;
-    silent = λ sp. tt;
-  }
 
   -- the elements that were copied, of so many
   abbrev copied : ℕ → ByteMap → ByteMap
@@ -178,11 +177,13 @@ module _ (code : Code) (image : Fields) (slot : Slot) (spot : Pointed) (can : Ca
         (copy_fit (z.allowed spot.frame) inward kind a b
         (record {
           even = element_even kind from i from_even;
-          allowed = (inr (element_lies kind from (from + array_bytes slot) a (omega arith) (omega arith)), refl);
+          allowed = loads a (element_size kind)
+              (element_lies kind from (from + array_bytes slot) a (omega arith) (omega arith));
         })
         (record {
           even = element_even kind to i to_even;
-          allowed = (element_lies kind to (to + array_bytes slot) b (omega arith) (omega arith), refl);
+          allowed = stores b (element_size kind)
+              (element_lies kind to (to + array_bytes slot) b (omega arith) (omega arith));
         }))
         (λ d given. given.1.others 2 (λ e. omega arith) (λ e. omega arith) (λ e. omega arith) ∙ given.1.begins.stack)
         (λ d given. copy_met inward kind a b d (source_reached given.0 d given.1) (target_reached given.0 d given.1))
@@ -269,7 +270,7 @@ module _ (code : Code) (image : Fields) (slot : Slot) (spot : Pointed) (can : Ca
       (makes_on z {P' = λ s. Unit {0}} {f = λ s. with_result 5 (raw s) s} load first
       (load_runs z spot.frame offset (omega arith) can.place_ends
       (λ s has. record { stack = has.stack; there = ap is_some has.argument })
-      5 (omega arith) (λ e. omega arith) (λ e. omega arith) (inl refl, refl))
+      5 (omega arith) (λ e. omega arith) (λ e. omega arith) place)
       (number_then z 6 slot.offset (omega arith) (λ e. omega arith) (omega arith) Add 6 2 (omega arith) (omega arith))
       (λ s has. tt) (λ s u has made. made))
       (number_then z 7 (array_bytes slot) (omega arith) (λ e. omega arith) (omega arith) Add 7 5 (omega arith)
@@ -292,11 +293,11 @@ module _ (code : Code) (image : Fields) (slot : Slot) (spot : Pointed) (can : Ca
 
   -- The whole.
 
-  record Copied (s t : Data) : Type 0 where
-    bytes : t.bytes ≡ copied k s.bytes
-    others : OthersAsBefore s t
+  pub record Copied (s t : Data) : Type 0 where
+    pub bytes : t.bytes ≡ copied k s.bytes
+    pub others : OthersAsBefore s t
 
-  array_runs : Runs z (length (bounds_code image spot.index slot) + element_turns (copied_code inward kind) k)
+  pub array_runs : Runs z (length (bounds_code image spot.index slot) + element_turns (copied_code inward kind) k)
       (bounds_code image spot.index slot ++ until_equal 5 7 (copied_code inward kind)) (HasArray image slot spot) Copied
   array_runs =
       makes_then z {P = HasArray image slot spot} {f = bounded} {S = Copied} (bounds_code image spot.index slot)
@@ -310,23 +311,43 @@ module _ (code : Code) (image : Fields) (slot : Slot) (spot : Pointed) (can : Ca
             ∙ unwritten s.regs 5 (raw s) q g;
       })
 
-pub array_is_taken : ArrayIsTaken
-array_is_taken code start image slot spot there can =
-    let is = argument_code image spot.index slot FixedArray in
-    weaken_runs (z code image slot spot can true) {P' = HasArray image slot spot} {R' = IsTaken slot spot} is
-    (array_runs code image slot spot can true) (λ s has. has)
-    (λ s t has copied. record { bytes = copied.bytes; others = copied.others })
-    start (placed code start is there)
-
-pub array_is_handed_back : ArrayIsHandedBack
-array_is_handed_back code start image slot spot there can =
-    let is = copy_out_code image spot.index slot MutableArray in
-    weaken_runs (z code image slot spot can false) {P' = HasArray image slot spot} {R' = IsHandedBack slot spot} is
-    (array_runs code image slot spot can false) (λ s has. has)
+-- from a slot to where the argument points
+pub handed_runs : (image : Fields) (slot : Slot) (spot : Pointed) → CanBeCopied image slot spot → (z : Setting)
+    → z.allowed spot.frame (Some (event.Load (place_of image spot) Word))
+    → MayAt z spot.frame event.Load (slot_of slot spot) (slot_of slot spot + array_bytes slot)
+    → MayAt z spot.frame event.Store spot.pointer (spot.pointer + array_bytes slot)
+    → Runs z (array_turns image spot.index slot) (copy_out_code image spot.index slot MutableArray)
+    (HasArray image slot spot) (IsHandedBack slot spot)
+handed_runs image slot spot can z place loads stores =
+    weaken_runs z {P' = HasArray image slot spot} {R' = IsHandedBack slot spot}
+    (copy_out_code image spot.index slot MutableArray)
+    (array_runs image slot spot can false z place loads stores) (λ s has. has)
     (λ s t has copied. record {
       bytes = copied.bytes
           ∙ ap (λ (vs : List ℕ). with_numbers s.bytes (element_bytes slot.param.kind) spot.pointer vs)
           (map-id (numbers_at s.bytes (element_bytes slot.param.kind) (slot_of slot spot) slot.param.length));
       others = copied.others;
     })
+
+abbrev copying : Code → Fields → Slot → Pointed → ℕ → ℕ → Setting
+copying code image slot spot from to = record {
+  code = code;
+  allowed = IsCopying spot.frame (place_of image spot) (array_bytes slot) from to;
+  silent = λ sp. tt;
+}
+
+pub array_is_taken : ArrayIsTaken
+array_is_taken code start image slot spot there can =
+    let z = copying code image slot spot spot.pointer (slot_of slot spot) in
+    let is = argument_code image spot.index slot FixedArray in
+    weaken_runs z {P' = HasArray image slot spot} {R' = IsTaken slot spot} is
+    (array_runs image slot spot can true z (inl refl, refl) (λ a size lies. (inr lies, refl))
+    (λ a size lies. (lies, refl))) (λ s has. has)
+    (λ s t has copied. record { bytes = copied.bytes; others = copied.others })
     start (placed code start is there)
+
+pub array_is_handed_back : ArrayIsHandedBack
+array_is_handed_back code start image slot spot there can =
+    handed_runs image slot spot can (copying code image slot spot (slot_of slot spot) spot.pointer) (inl refl, refl)
+    (λ a size lies. (inr lies, refl)) (λ a size lies. (lies, refl))
+    start (placed code start (copy_out_code image spot.index slot MutableArray) there)

@@ -16,16 +16,16 @@ use Rattle.linked_calls.proofs.Bytes.{IsOutside, SameData, number_there, numbers
 use Rattle.linked_calls.proofs.Bytes.{zero_byte}
 use Rattle.linked_calls.proofs.EnterTurns.{arguments_turns, enter_turns_are}
 use Rattle.linked_calls.proofs.Entering.{entered, entered_bytes, entry_runs, stored_registers}
-use Rattle.linked_calls.proofs.KnownArguments.{all_known, zero_allowed}
+use Rattle.linked_calls.proofs.KnownArguments.{all_known}
 use Rattle.linked_calls.proofs.LoadedArguments.{all_taken_is}
 use Rattle.linked_calls.proofs.Parts.{same_number}
 use Rattle.linked_calls.proofs.Passed.{StandAsPassed, all_ready, still_passed}
-use Rattle.linked_calls.proofs.Pieces.{Runs, Setting, in_turns, makes_then, promised_runs, then_runs}
+use Rattle.linked_calls.proofs.Pieces.{Runs, Setting, in_turns, makes_then, then_runs}
 use Rattle.linked_calls.proofs.Rooms.{RoomNumbers, place_inside, place_stacked, room_numbers}
 use Rattle.linked_calls.proofs.SameRegisters.{AreSame, same_beside, still_same}
 use Rattle.linked_calls.proofs.SavedRegisters.{stored_are_saved, saved_first, saved_one, saved_same, saved_then}
 use Rattle.linked_calls.proofs.Standing.{enter_placed}
-use Rattle.linked_calls.proofs.Zeros.{frame_is_zeroed}
+use Rattle.linked_calls.proofs.Zeros.{zeroed_runs}
 
 module _ (image : Fields) (code : Code) (site : Site) (is : IsImage image) (is_site : IsSite image code site)
     (numbers : RoomNumbers image site) where
@@ -107,8 +107,8 @@ module _ (image : Fields) (code : Code) (site : Site) (is : IsImage image) (is_s
 
   frame_part : Runs z (frame_turns room) (frame_code room) (HasFrame frame room) (IsZeroFrame frame room)
   frame_part =
-      promised_runs z (frame_code room) (zero_allowed image site frame (frame + room) (omega arith) (omega arith))
-      (λ p there. frame_is_zeroed code p frame room there numbers.even numbers.whole (omega arith))
+      zeroed_runs z frame room numbers.even numbers.whole (omega arith)
+      (λ sp x low high above. inl ((omega arith, omega arith), above))
 
   -- x2 is the frame's base, the frame is zeros, and the room above it holds what the entry has stored
   record IsFramed (d t : Data) : Type 0 where

@@ -1,21 +1,17 @@
 -- What is known of the arguments of a call before any state: their slots lie in the frame, their words in the room or
--- on the stack, and arrays apart from the room; and the accesses to them are the call's.
+-- on the stack, and arrays apart from the room.
 use Rattle.std.specs.List.{AllByRecursion}
-use Rattle.std.proofs.Common.{◌≡◌, ℕ, ◌+◌, ◌*◌, ◌%◌, ◌<◌, ◌≤◌, nat_le, true, ◌&&◌, List, [], ◌∷◌, length, Option, Some}
-use Rattle.std.proofs.Common.{None, inl, inr, arith, subst, sym}
+use Rattle.std.proofs.Common.{◌≡◌, ℕ, ◌+◌, ◌*◌, ◌%◌, ◌<◌, ◌≤◌, nat_le, true, ◌&&◌, List, [], ◌∷◌, length}
+use Rattle.std.proofs.Common.{inl, inr, arith}
 use Rattle.std.proofs.lemmas.Bool.Decides.{nat_tests}
-use Rattle.linked_calls.proofs.Below.{AreApart, argument_offset, arguments_end, array_bytes, array_words, Boolean}
-use Rattle.linked_calls.proofs.Below.{byte_count, bytes_within, CanBeCopied, element_bytes, Event, Fields, FixedArray}
-use Rattle.linked_calls.proofs.Below.{Form, IsBesides, IsCopying, IsImage, IsOfCall, IsPutting, IsReadable, IsStoreIn}
-use Rattle.linked_calls.proofs.Below.{Kind, LiesIn, LiesWell, LieWell, most_elements, MutableArray, room_base}
-use Rattle.linked_calls.proofs.Below.{SingleWord, Site, Size, Slot}
+use Rattle.linked_calls.proofs.Below.{AreApart, arguments_end, array_bytes, array_words, Boolean, bytes_within}
+use Rattle.linked_calls.proofs.Below.{CanBeCopied, element_bytes, Fields, FixedArray, Form, IsBesides, IsImage}
+use Rattle.linked_calls.proofs.Below.{IsReadable, Kind, LiesWell, LieWell, most_elements, MutableArray, ReadsAnArray}
+use Rattle.linked_calls.proofs.Below.{ReadsArray, room_base, SingleWord, Site, Size, Slot, WritesAnArray, WritesArray}
 use Rattle.codegen.specs.image_fields.Fields.{AreSlots, is_length, slot_bytes, slot_end}
-use Rattle.linked_calls.specs.Called.{ReadsArray, ReadsAnArray, WritesArray, WritesAnArray}
 use Rattle.linked_calls.proofs.AllArguments.{AreKnown, IsKnown, KnownArray, KnownWord, spot_at}
 use Rattle.linked_calls.proofs.CopyElements.{elements_fit, some_bytes}
 use Rattle.linked_calls.proofs.Rooms.{RoomNumbers, place_inside}
-use Rattle.rv_machine.specs.declared.memory.Size.TheVariants as sizes
-use Rattle.rv_machine.specs.declared.observation.Event.TheVariants as event
 
 -- Slots.
 
@@ -27,10 +23,6 @@ element_aligned kind a even = omega arith
 some_elements : (n : ℕ) → (nat_le 1 n && nat_le n most_elements) ≡ true → 0 < n
 some_elements n h = grind (arith, nat_tests)
 
-pub small_access : (size : Size) → byte_count size ≤ 4
-small_access sizes.Byte = omega arith
-small_access size = omega arith
-
 beside : (a n low high at : ℕ) → low ≤ at → at + n ≤ high → IsBesides a n low high → AreApart n a at
 beside a n low high at from to (inl before) = inl (omega arith)
 beside a n low high at from to (inr behind) = inr (omega arith)
@@ -39,45 +31,6 @@ both_beside : (a n low mid high : ℕ) → 0 < n → IsBesides a n low mid → I
 both_beside a n low mid high some (inl below) other = inl below
 both_beside a n low mid high some (inr above) (inl below) = absurd (omega arith)
 both_beside a n low mid high some (inr above) (inr beyond) = inr beyond
-
-module _ (image : Fields) (site : Site) where
-  -- Which accesses are the call's: stores of zeros, and those of an argument's word or elements.
-
-  pub zero_allowed : (low high : ℕ) → room_base image site ≤ low → high ≤ site.stack
-      → (sp : ℕ) (o : Option Event) → IsStoreIn low high sp o → IsOfCall image site sp o
-  zero_allowed low high from to sp None is = tt
-  zero_allowed low high from to sp (Some (event.Store a size)) is = inl ((omega arith, omega arith), is.1)
-  zero_allowed low high from to sp (Some e) is = absurd is
-
-  put_allowed : (place slot : ℕ) → room_base image site ≤ place → place + 4 ≤ arguments_end image site
-      → room_base image site ≤ slot → slot + 4 ≤ site.stack
-      → (sp : ℕ) (o : Option Event) → IsPutting place slot sp o → IsOfCall image site sp o
-  put_allowed place slot low up from to sp None is = tt
-  put_allowed place slot low up from to sp (Some (event.Load a size)) is =
-      let small = small_access size in
-      inl ((omega arith, omega arith), is.2)
-  put_allowed place slot low up from to sp (Some (event.Store a size)) is =
-      let small = small_access size in
-      inl ((omega arith, omega arith), is.2)
-  put_allowed place slot low up from to sp (Some e) is = absurd is
-
-  -- where the stack pointer is the room's base
-  abbrev MayAt : (ℕ → Size → Event) → ℕ → ℕ → Type 0
-  MayAt accesses low high =
-      (a : ℕ) (size : Size) → LiesIn low high a size → IsOfCall image site (room_base image site) (Some (accesses a size))
-
-  copy_allowed : (place n from to : ℕ) → room_base image site ≤ place → place + 4 ≤ arguments_end image site
-      → MayAt event.Load from (from + n) → MayAt event.Store to (to + n)
-      → (sp : ℕ) (o : Option Event) → IsCopying (room_base image site) place n from to sp o → IsOfCall image site sp o
-  copy_allowed place n from to low up loads stores sp None is = tt
-  copy_allowed place n from to low up loads stores sp (Some (event.Load a size)) (inl at, base) =
-      let small = small_access size in
-      inl ((omega arith, omega arith), omega arith)
-  copy_allowed place n from to low up loads stores sp (Some (event.Load a size)) (inr lies, base) =
-      subst (λ x. IsOfCall image site x (Some (event.Load a size))) (sym base) (loads a size lies)
-  copy_allowed place n from to low up loads stores sp (Some (event.Store a size)) (lies, base) =
-      subst (λ x. IsOfCall image site x (Some (event.Store a size))) (sym base) (stores a size lies)
-  copy_allowed place n from to low up loads stores sp (Some e) is = absurd is
 
 module _ (image : Fields) (site : Site) (is : IsImage image) (lie_well : LieWell image site 0 image.slots)
     (numbers : RoomNumbers image site) where
@@ -95,8 +48,6 @@ module _ (image : Fields) (site : Site) (is : IsImage image) (lie_well : LieWell
             place_ends = omega arith;
             slot_ends = omega arith;
           };
-          may = put_allowed image site (frame + argument_offset image i) (frame + slot.offset) (omega arith) place
-              (omega arith) (omega arith);
           place_inside = place;
           inside = omega arith;
         }
@@ -129,26 +80,10 @@ module _ (image : Fields) (site : Site) (is : IsImage image) (lie_well : LieWell
           let inside = slot_inside in
           record {
             can = can_copy;
-            may_take = copy_allowed image site (frame + argument_offset image i) (array_bytes slot) (site.pointers i)
-                (frame + slot.offset) (omega arith) place (λ a size lies. inr (reads a size lies))
-                (λ a size lies.
-                inl ((omega arith, omega arith), omega arith));
+            reads = reads;
             place_inside = place;
             inside = omega arith;
           }
-
-      may_hand : ((a : ℕ) (size : Size) → WritesArray site i slot MutableArray a size
-          → WritesAnArray site 0 image.slots a size)
-          → (sp : ℕ) (o : Option Event)
-          → IsCopying frame (frame + argument_offset image i) (array_bytes slot) (frame + slot.offset) (site.pointers i)
-          sp o → IsOfCall image site sp o
-      may_hand writes =
-          let inside = slot_inside in
-          copy_allowed image site (frame + argument_offset image i) (array_bytes slot) (frame + slot.offset)
-          (site.pointers i) (omega arith) (place_inside image site numbers i few)
-          (λ a size lies.
-          inl ((omega arith, omega arith), omega arith))
-          (λ a size lies. inr (writes a size lies))
 
     array_ends : slot.offset + 4 * array_words slot.param.kind slot.param.length ≤ image.frame_bytes
         → slot.offset + array_bytes slot ≤ image.frame_bytes
@@ -169,7 +104,7 @@ module _ (image : Fields) (site : Site) (is : IsImage image) (lie_well : LieWell
         let fit = elements_fit slot.param.kind 0 slot.param.length some in
         record {
           known = array_known some (array_ends ends) lies.readable reads;
-          may_hand = may_hand some (array_ends ends) lies.readable writes;
+          writes = writes;
           beside = both_beside (site.pointers i) (array_bytes slot) frame site.stack (arguments_end image site)
               (omega arith) lies.readable.beside_room lies.beside_arguments;
         }

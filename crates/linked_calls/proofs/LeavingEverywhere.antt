@@ -2,32 +2,31 @@
 -- instruction, which goes back.
 use Rattle.std.specs.Prelude.{unwrap_or, is_some, IfSome}
 use Rattle.std.specs.Option.{option_map}
-use Rattle.std.proofs.Common.{◌≡◌, ◌≢◌, ℕ, suc, ◌+◌, ◌-◌, ◌*◌, ◌<◌, ◌≤◌, ◌==◌, List, [], ◌∷◌, ◌++◌, length, Option}
+use Rattle.std.proofs.Common.{◌≡◌, ℕ, suc, ◌+◌, ◌-◌, ◌*◌, ◌<◌, ◌≤◌, ◌==◌, List, [], ◌∷◌, ◌++◌, length, Option}
 use Rattle.std.proofs.Common.{All, Some, None, inl, refl, sym, ap, ◌∙◌, subst, arith, length-append, append_assoc}
-use Rattle.linked_calls.proofs.Below.{Add, AreData, AreZeroed, arguments_end, arrays_in, at, block_turns, ByteMap}
-use Rattle.linked_calls.proofs.Below.{clear_registers_code, Code, constant_code, Data, Event, Fields, frame_room}
-use Rattle.linked_calls.proofs.Below.{function_words, HasResult, Instr, IsAt, IsImage, IsLeft, IsLoadOf, IsOfCall}
-use Rattle.linked_calls.proofs.Below.{IsReturned, IsSite, JumpRegister, kept_registers, LeadsWithin, Placed-left}
-use Rattle.linked_calls.proofs.Below.{Placed-right, Register, restore_code, result_code, results_code, results_in}
-use Rattle.linked_calls.proofs.Below.{ResultSlot, room_base, saved_registers, scratch_registers, Site, State}
-use Rattle.linked_calls.proofs.Below.{unwritten, wipe_code, with_arrays, with_register, word_in}
+use Rattle.linked_calls.proofs.Below.{Add, AreZeroed, arguments_end, arrays_in, at, block_turns, ByteMap}
+use Rattle.linked_calls.proofs.Below.{clear_registers_code, Code, constant_code, Data, Fields, frame_room}
+use Rattle.linked_calls.proofs.Below.{function_words, Instr, IsAt, IsImage, IsLeft, IsOfCall, IsSite, JumpRegister}
+use Rattle.linked_calls.proofs.Below.{kept_registers, LeadsWithin, number_at, Placed-left, Placed-right, Register}
+use Rattle.linked_calls.proofs.Below.{restore_code, result_code, results_code, results_in, ResultSlot, room_base}
+use Rattle.linked_calls.proofs.Below.{saved_registers, scratch_registers, Site, State, unwritten, wipe_code}
+use Rattle.linked_calls.proofs.Below.{with_arrays, with_register, with_result, word_in}
 use Rattle.codegen.specs.image_fields.Fields.{IsResultSlot, result_end, slots_end}
-use Rattle.rv_machine.specs.declared.observation.Event.TheVariants as event
 use Rattle.linked_calls.proofs.AllArguments.{AreKnown, Begins, call_setting, taken_registers}
 use Rattle.linked_calls.proofs.AllResults.{all_handed_apart, all_handed_are, results_runs}
 use Rattle.linked_calls.proofs.Between.{AreReady, AreSaved, CanLeave, Leaves, LeavesEverywhere, leave_at, leave_turns}
 use Rattle.linked_calls.proofs.Between.{saved_at, untouched_registers}
 use Rattle.linked_calls.proofs.GoingBack.{goes_back}
-use Rattle.linked_calls.proofs.KnownArguments.{all_known, small_access, zero_allowed}
+use Rattle.linked_calls.proofs.KnownArguments.{all_known}
 use Rattle.linked_calls.proofs.LeaveTurns.{outputs_turns, leave_turns_are}
-use Rattle.linked_calls.proofs.Parts.{computes_runs}
-use Rattle.linked_calls.proofs.Pieces.{Runs, Setting, as_code, promised_runs, then_runs, weaken_runs}
+use Rattle.linked_calls.proofs.Parts.{computes_runs, load_runs, same_number}
+use Rattle.linked_calls.proofs.Bytes.{number_there}
+use Rattle.linked_calls.proofs.Pieces.{Runs, Setting, as_code, makes_then, then_runs, weaken_runs}
 use Rattle.linked_calls.proofs.Restoring.{lasts_run}
 use Rattle.linked_calls.proofs.Rooms.{RoomNumbers, room_numbers}
 use Rattle.linked_calls.proofs.SameRegisters.{IsNone, AreSame, all_same, same_beside, same_then}
 use Rattle.linked_calls.proofs.SavedRegisters.{saved_same}
 use Rattle.linked_calls.proofs.Standing.{function_length, leave_placed}
-use Rattle.linked_calls.proofs.Words.{result_is_handed_back}
 
 -- Where the code stands.
 
@@ -69,47 +68,23 @@ module _ (image : Fields) (code : Code) (site : Site) (is : IsImage image) (at_s
   abbrev result_of : ByteMap → Option ResultSlot → ℕ
   result_of bytes returned = unwrap_or (option_map (λ (slot : ResultSlot). word_in base bytes slot.offset) returned) 0
 
-  load_allowed : (offset : ℕ) → offset + 4 ≤ image.frame_bytes → (sp : ℕ) (o : Option Event)
-      → IsLoadOf (base + offset) sp o → IsOfCall image site sp o
-  load_allowed offset inside sp None load = tt
-  load_allowed offset inside sp (Some (event.Load a size)) load =
-      let small = small_access size in
-      inl ((omega arith, omega arith), load.2)
-  load_allowed offset inside sp (Some e) load = absurd load
-
-  -- it is in a0, and nothing else has changed
-  record HasReturned (returned : Option ResultSlot) (s t : Data) : Type 0 where
-    result : t.regs 10 ≡ result_of s.bytes returned
-    others : (q : ℕ) → q ≢ 10 → t.regs q ≡ s.regs q
-    same : t.bytes ≡ s.bytes
-
   result_runs : (returned : Option ResultSlot) (low : ℕ)
       → IfSome returned (λ (slot : ResultSlot). IsResultSlot low slot)
       → IfSome returned (λ (slot : ResultSlot). result_end slot ≤ image.frame_bytes)
-      → Runs z (length (result_code returned)) (result_code returned) Starts (HasReturned returned)
+      → Runs z (length (result_code returned)) (result_code returned) Starts
+      (λ s t. t ≡ with_result 10 (result_of s.bytes returned) s)
   result_runs None low slot inside =
-      weaken_runs z {P' = Starts} (result_code None)
-      (computes_runs z (λ q. q == 10) (result_code None) (λ regs. with_register regs 10 0) refl (λ regs. refl))
-      (λ s begins. begins)
-      (λ s t begins made. record {
-        result = ap (λ (d : Data). d.regs 10) made;
-        others = λ q h. ap (λ (d : Data). d.regs q) made ∙ unwritten s.regs 10 0 q h;
-        same = ap (λ (d : Data). d.bytes) made;
-      })
+      computes_runs z (λ q. q == 10) (result_code None) (λ regs. with_register regs 10 0) refl (λ regs. refl)
   result_runs (Some slot) low is_slot inside =
-      weaken_runs z {P' = Starts} {R' = HasReturned (Some slot)} (result_code (Some slot))
-      (promised_runs z (result_code (Some slot)) {Before = HasResult slot base} {After = IsReturned slot base}
-      (load_allowed slot.offset inside)
-      (λ p there. result_is_handed_back z.code p slot base there (omega arith) (omega arith)))
+      weaken_runs z (result_code (Some slot))
+      (load_runs z base slot.offset (omega arith) (omega arith)
       (λ s begins. record {
         stack = begins.stack;
-        slot_there = λ x l h. begins.there x (omega arith) (omega arith);
+        there = number_there s.bytes 4 (base + slot.offset) (λ x l h. begins.there x (omega arith) (omega arith));
       })
-      (λ s t begins returned. record {
-        result = returned.result;
-        others = returned.others;
-        same = returned.bytes;
-      })
+      10 (omega arith) (λ e. omega arith) (λ e. omega arith) (inl ((omega arith, omega arith), omega arith)))
+      (λ s begins. begins)
+      (λ s t begins made. made ∙ ap (λ v. with_result 10 v s) (same_number (number_at s.bytes 4 (base + slot.offset))))
 
   -- And the arrays.
 
@@ -129,18 +104,17 @@ module _ (image : Fields) (code : Code) (site : Site) (is : IsImage image) (at_s
   handed_runs : Runs z (length (result_code image.returned) + outputs_turns image 0 image.slots)
       (result_code image.returned ++ results_code image 0 image.slots) Starts Handed
   handed_runs =
-      then_runs z {P = Starts} {S = Handed} (result_code image.returned) (results_code image 0 image.slots)
+      makes_then z {P = Starts} {f = λ s. with_result 10 (result_of s.bytes image.returned) s} {S = Handed}
+      (result_code image.returned) (results_code image 0 image.slots)
       (result_runs image.returned (slots_end 0 image.slots) is.returned is.returned_inside)
       (results_runs image code site numbers known)
-      (λ s t begins sets. record {
-        stack = sets.others 2 (λ e. omega arith) ∙ begins.stack;
-        there = subst (λ (b : ByteMap). AreData base end b) (sym sets.same) begins.there;
-        ready = subst (λ (b : ByteMap). AreReady image site b 0 image.slots) (sym sets.same) begins.ready;
-      })
-      (λ s t u begins sets takes. record {
-        result = (same_beside taken_registers u.regs t.regs takes.others (10 ∷ []) refl).0 ∙ sets.result;
-        bytes = takes.bytes ∙ ap left_bytes sets.same;
-        others = λ q none. takes.others q none.1 ∙ sets.others q none.0;
+      (λ s begins. record { stack = begins.stack; there = begins.there; ready = begins.ready })
+      (λ s u begins takes. record {
+        result = (same_beside taken_registers u.regs (with_register s.regs 10 (result_of s.bytes image.returned))
+            takes.others (10 ∷ []) refl).0;
+        bytes = takes.bytes;
+        others = λ q none. takes.others q none.1
+            ∙ unwritten s.regs 10 (result_of s.bytes image.returned) q none.0;
       })
 
   -- All but the last instruction.
@@ -171,7 +145,7 @@ module _ (image : Fields) (code : Code) (site : Site) (is : IsImage image) (at_s
       (then_runs z {P = Starts} {S = Front} first rest handed_runs
       (lasts_run z base room numbers.even numbers.whole (omega arith)
       (λ x low high. inl ((omega arith, omega arith), omega arith))
-      (zero_allowed image site base (base + (room + 80)) (omega arith) (omega arith)))
+      (λ sp x low high above. inl ((omega arith, omega arith), above)))
       (λ s t begins handed. record {
         stack = (same_beside (10 ∷ taken_registers) t.regs s.regs handed.others (2 ∷ []) refl).0 ∙ begins.stack;
         there = λ x low high.

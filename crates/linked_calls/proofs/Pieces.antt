@@ -1,10 +1,10 @@
 -- Pieces of code, wherever they stand: an exact number of turns, and one list for all states that they may begin in, of
 -- allowed accesses alone. So what follows in a list is known before any state is given, which is equal leakage.
-use Rattle.std.proofs.Common.{◌≡◌, ℕ, ◌+◌, ◌*◌, Bool, true, false, List, [], ◌∷◌, ◌++◌, length, Option, None, subst, sym, ◌∙◌}
+use Rattle.std.proofs.Common.{◌≡◌, ℕ, ◌+◌, ◌*◌, Bool, true, false, List, [], ◌∷◌, ◌++◌, length, Option, None, Some, subst, sym, ◌∙◌}
 use Rattle.std.proofs.Common.{arith, refl, length-append}
 use Rattle.linked_calls.proofs.Below.{after_all, are_straight, AreFit, AreMet, AreThere, at, Code, Data, Does, Event}
-use Rattle.linked_calls.proofs.Below.{Instr, LeadsWithin, LeadsWithin-append, LeadsWithin-weaken, Observation, Placed}
-use Rattle.linked_calls.proofs.Below.{Placed-left, Placed-right, register_after, shown_by, State}
+use Rattle.linked_calls.proofs.Below.{Instr, LeadsWithin, LeadsWithin-append, LiesIn, Observation, Placed}
+use Rattle.linked_calls.proofs.Below.{Placed-left, Placed-right, register_after, shown_by, Size, State}
 use Rattle.linked_calls.proofs.Within.{straight_within}
 
 -- no access
@@ -132,27 +132,13 @@ module _ (z : Setting) where
       → Runs z (length is) is P R → Runs z (length js) js P R
   as_straight {P = P} {R = R} is js same one = subst (λ (xs : List Instr). Runs z (length xs) xs P R) same one
 
+-- accesses that lie in a stretch, where x2 is there
+abbrev pub MayAt : Setting → ℕ → (ℕ → Size → Event) → ℕ → ℕ → Type 0
+MayAt z sp accesses low high =
+    (a : ℕ) (size : Size) → LiesIn low high a size → z.allowed sp (Some (accesses a size))
+
 -- Code and its words.
 
 pub placed : (code : Code) (p : ℕ) (is : List Instr) → AreThere code p is → Placed code p is
 placed code p [] h = tt
 placed code p (i ∷ is) h = (h.0, h.1, h.2, placed code (p + 4) is h.3)
-
-are_there : (code : Code) (p : ℕ) (is : List Instr) → Placed code p is → AreThere code p is
-are_there code p [] h = tt
-are_there code p (i ∷ is) h = (h.0, h.1, h.2, are_there code (p + 4) is h.3)
-
--- what is promised of code is so where its accesses are allowed
-pub promised_runs : (z : Setting) {n : ℕ} (is : List Instr) {Allowed : ℕ → Option Event → Type 0}
-    {Before : Data → Type 0} {After : Data → Data → Type 0}
-    → ((sp : ℕ) (event : Option Event) → Allowed sp event → z.allowed sp event)
-    → ((p : ℕ) → AreThere z.code p is → Does z.code p is n Allowed Before After)
-    → Runs z n is Before After
-promised_runs z is may promise p there =
-    let one = promise p (are_there z.code p is there) in
-    record {
-      shown = one.shown;
-      runs = λ s given.
-          let run = one.runs s given in
-          record { end = run.end; leads = LeadsWithin-weaken may run.leads; done = run.done };
-    }

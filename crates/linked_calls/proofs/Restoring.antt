@@ -1,17 +1,17 @@
 -- The last of a call: the caller's registers restored, all the room wiped, and the other registers cleared.
-use Rattle.std.proofs.Common.{◌≡◌, ℕ, ◌+◌, ◌%◌, ◌^◌, ◌<◌, ◌==◌, List, [], ◌∷◌, ◌++◌, length, All, Option, refl, sym}
+use Rattle.std.proofs.Common.{◌≡◌, ℕ, ◌+◌, ◌%◌, ◌^◌, ◌<◌, ◌==◌, List, [], ◌∷◌, ◌++◌, length, All, refl, sym}
 use Rattle.std.proofs.Common.{◌∙◌, subst, arith, append_assoc}
 use Rattle.linked_calls.proofs.Below.{Add, added, after_all, AreCleared, AreData, AreZeroed, block_turns, ByteMap}
-use Rattle.linked_calls.proofs.Below.{clear_registers_code, constant_code, Data, Event, HasRoom, Instr, IsStoreIn}
-use Rattle.linked_calls.proofs.Below.{IsWiped, loads_code, Register, restore_code, saved_registers, scratch_registers}
-use Rattle.linked_calls.proofs.Below.{sum_of, wipe_code, with_register, with_result}
+use Rattle.linked_calls.proofs.Below.{clear_registers_code, constant_code, Data, Instr, IsWiped, loads_code, Register}
+use Rattle.linked_calls.proofs.Below.{restore_code, saved_registers, scratch_registers, sum_of, wipe_code}
+use Rattle.linked_calls.proofs.Below.{with_register, with_result}
 use Rattle.linked_calls.proofs.Between.{AreSaved}
-use Rattle.linked_calls.proofs.Cleared.{registers_are_cleared}
+use Rattle.linked_calls.proofs.Cleared.{clear_runs}
 use Rattle.linked_calls.proofs.Parts.{MayLoad, computes_runs, loads_runs, number_then, words_at}
-use Rattle.linked_calls.proofs.Pieces.{Runs, Setting, as_code, makes_then, promised_runs, then_runs}
+use Rattle.linked_calls.proofs.Pieces.{Runs, Setting, as_code, makes_then, then_runs}
 use Rattle.linked_calls.proofs.SameRegisters.{AreSame, IsNone, all_differ, same_beside, still_same}
 use Rattle.linked_calls.proofs.SavedRegisters.{saved_values}
-use Rattle.linked_calls.proofs.Zeros.{room_is_wiped}
+use Rattle.linked_calls.proofs.Zeros.{MayZero, up_runs}
 
 -- ra, gp, tp and a0
 abbrev pub others_still : List ℕ
@@ -24,7 +24,7 @@ AreBack a s t = (regs : ℕ → ℕ) → AreSaved s.bytes regs a saved_registers
 module _ (z : Setting) (frame room : ℕ) (even : frame % 16 ≡ 0) (whole : room % 16 ≡ 0)
     (below : frame + (room + 80) < 2 ^ 32)
     (may : MayLoad z frame (frame + room) (frame + room + 48))
-    (stores : (sp : ℕ) (event : Option Event) → IsStoreIn frame (frame + (room + 80)) sp event → z.allowed sp event)
+    (stores : MayZero z frame (frame + (room + 80)))
   where
     -- x2 is the base of the room, which is data
     pub record BeginsLast (s : Data) : Type 0 where
@@ -78,8 +78,7 @@ module _ (z : Setting) (frame room : ℕ) (even : frame % 16 ≡ 0) (whole : roo
         (restore_code room ++ wipe_code) BeginsLast (λ s t. IsWiped frame (room + 80) (restored s) t)
     wiped_runs =
         makes_then z {P = BeginsLast} {f = restored} (restore_code room) wipe_code restored_runs
-        (promised_runs z wipe_code {Before = HasRoom frame (room + 80)} {After = IsWiped frame (room + 80)} stores
-        (λ p there. room_is_wiped z.code p frame (room + 80) there even (omega arith) (omega arith) below))
+        (up_runs z frame (room + 80) even (omega arith) (omega arith) below stores)
         (λ s begins. record { stack = begins.stack; top = omega (arith, begins.stack); there = begins.there })
         (λ s u begins wiped. wiped)
 
@@ -97,9 +96,7 @@ module _ (z : Setting) (frame room : ℕ) (even : frame % 16 ≡ 0) (whole : roo
     lasts_run =
         then_runs z {P = BeginsLast} {P' = λ s. Unit {0}} {R' = AreCleared scratch_registers} {S = Lasts}
         (restore_code room ++ wipe_code) (clear_registers_code scratch_registers) wiped_runs
-        (promised_runs z (clear_registers_code scratch_registers)
-        (λ sp event none. subst (λ (e : Option Event). z.allowed sp e) (sym none) (z.silent sp))
-        (λ p there. registers_are_cleared z.code p there))
+        (clear_runs z)
         (λ s t begins wiped. tt)
         (λ s t u begins wiped clears.
         let cleared = λ (q : ℕ) (none : IsNone scratch_registers q). clears.others q (all_differ scratch_registers q none) in

@@ -1,13 +1,16 @@
 -- The code that zeroes a frame, and the code that wipes a room: loops over blocks of four words, downward over the
 -- frame, and upward over all the room.
 use Rattle.std.proofs.Common.{◌≡◌, ◌≢◌, ℕ, suc, ◌+◌, ◌-◌, ◌*◌, ◌/◌, ◌%◌, ◌^◌, ◌<◌, ◌≤◌, ◌==◌, Bool, true, false, List}
-use Rattle.std.proofs.Common.{[], ◌∷◌, ◌++◌, length, refl, sym, ap, ◌∙◌, subst, arith, append_assoc, length-append, if◌then◌else◌}
+use Rattle.std.proofs.Common.{[], ◌∷◌, ◌++◌, length, Some, refl, sym, ap, ◌∙◌, subst, arith, append_assoc, length-append, if◌then◌else◌}
 use Rattle.std.proofs.lemmas.Bool.{eqb-false, eqb-true}
-use Rattle.linked_calls.proofs.Below.{added, AreData, AreThere, AreZeroed, block_turns, ByteMap, Code, constant_code}
-use Rattle.linked_calls.proofs.Below.{Data, difference_of, Does, FrameIsZeroed, HasFrame, HasRoom, Instr, IsStoreIn}
-use Rattle.linked_calls.proofs.Below.{IsWiped, IsZeroFrame, Register, RoomIsWiped, Sub, sum_of, until_equal}
-use Rattle.linked_calls.proofs.Below.{unwritten, wipe_code, with_numbers, with_register, with_result, zeros_code}
+use Rattle.linked_calls.proofs.Below.{added, AreData, AreZeroed, block_turns, ByteMap, Code, constant_code, Data}
+use Rattle.linked_calls.proofs.Below.{difference_of, frame_code, frame_turns, FrameIsZeroed, HasFrame, HasRoom, Instr}
+use Rattle.linked_calls.proofs.Below.{IsStoreIn, IsWiped, IsZeroFrame, Register, RoomIsWiped, Sub, sum_of}
+use Rattle.linked_calls.proofs.Below.{until_equal, unwritten, wipe_code, with_numbers, with_register, with_result}
+use Rattle.linked_calls.proofs.Below.{zeros_code}
 use Rattle.linked_calls.proofs.Bytes.{no_zeros, is_some-with_numbers, zeroed_words, zeros_down, zeros_of, zeros_up}
+use Rattle.rv_machine.specs.declared.memory.Size.TheVariants.{Word}
+use Rattle.rv_machine.specs.declared.observation.Event.TheVariants.{Store}
 use Rattle.linked_calls.proofs.Loops.{loop}
 use Rattle.linked_calls.proofs.Parts.{computes_runs, number_then, stored, stores_runs}
 use Rattle.linked_calls.proofs.Pieces.{Runs, Setting, as_code, in_turns, makes_then, no_code, placed, weaken_runs}
@@ -25,11 +28,12 @@ some_frame room = constant_code 5 room ++ Register Sub 5 2 5 ∷ until_equal 2 5
 abbrev storing : Code → ℕ → ℕ → Setting
 storing code bottom room = record { code = code; allowed = IsStoreIn bottom (bottom + room); silent = λ sp. tt }
 
-module _ (code : Code) (bottom room : ℕ) (even : bottom % 16 ≡ 0) (whole : room % 16 ≡ 0) (positive : 0 < room)
-    (below : bottom + room < 2 ^ 32) where
-  abbrev z : Setting
-  z = storing code bottom room
+-- words are stored in a stretch, not below the stack pointer
+abbrev pub MayZero : Setting → ℕ → ℕ → Type 0
+MayZero z low high = (sp x : ℕ) → low ≤ x → x + 4 ≤ high → sp ≤ x → z.allowed sp (Some (Store x Word))
 
+module _ (z : Setting) (bottom room : ℕ) (even : bottom % 16 ≡ 0) (whole : room % 16 ≡ 0) (positive : 0 < room)
+    (below : bottom + room < 2 ^ 32) (may : MayZero z bottom (bottom + room)) where
   abbrev top : ℕ
   top = bottom + room
 
@@ -47,7 +51,7 @@ module _ (code : Code) (bottom room : ℕ) (even : bottom % 16 ≡ 0) (whole : r
       → Runs z 4 zeros_code (HasBlock a a) (λ s t. t ≡ stored a (0 ∷ 0 ∷ 0 ∷ 0 ∷ []) s)
   zeros_run a aligned from to =
       stores_runs z a (0 ∷ 0 ∷ 0 ∷ 0 ∷ []) refl (omega arith) (omega arith) (omega arith)
-      (λ x low high. ((omega arith, omega arith), low)) (λ s has. (has.stack, has.there))
+      (λ x low high. may a x (omega arith) (omega arith) low) (λ s has. (has.stack, has.there))
 
   block_down : (x a : ℕ) → x ≡ a + 16 → a % 16 ≡ 0 → bottom ≤ a → a + 16 ≤ top
       → Runs z 5 down_code (HasBlock x a) (λ s t. t ≡ block a a s)
@@ -159,7 +163,7 @@ module _ (code : Code) (bottom room : ℕ) (even : bottom % 16 ≡ 0) (whole : r
       (subst (λ y. AreZeroed (down_at (suc i)) y two three) next more))
       (λ i few same. omega arith) (omega arith) (omega arith)
 
-  up_runs : Runs z (block_turns room) (until_equal 2 5 up_code) (HasRoom bottom room) (IsWiped bottom room)
+  pub up_runs : Runs z (block_turns room) (until_equal 2 5 up_code) (HasRoom bottom room) (IsWiped bottom room)
   up_runs =
       let end : up_at blocks ≡ top = omega arith in
       weaken_runs z (until_equal 2 5 up_code)
@@ -198,29 +202,35 @@ module _ (code : Code) (bottom room : ℕ) (even : bottom % 16 ≡ 0) (whole : r
         others = λ q h k. held.others q h ∙ unwritten s.regs 5 (difference_of (s.regs 2) room) q k;
       }))
 
-pub frame_is_zeroed : FrameIsZeroed
-frame_is_zeroed code start bottom room there even whole below = by (room == 0) refl there
+-- the code of a frame, which is none where the frame has no room
+pub zeroed_runs : (z : Setting) (bottom room : ℕ) → bottom % 16 ≡ 0 → room % 16 ≡ 0 → bottom + room < 2 ^ 32
+    → MayZero z bottom (bottom + room)
+    → Runs z (frame_turns room) (frame_code room) (HasFrame bottom room) (IsZeroFrame bottom room)
+zeroed_runs z bottom room even whole below may = by (room == 0) refl
   where
-    by : (b : Bool) → (room == 0) ≡ b → AreThere code start (if b then [] else some_frame room)
-        → Does code start (if b then [] else some_frame room)
-        (if b then 0 else length (constant_code 5 room) + 1 + block_turns room)
-        (IsStoreIn bottom (bottom + room)) (HasFrame bottom room) (IsZeroFrame bottom room)
-    by true none here =
+    by : (b : Bool) → (room == 0) ≡ b
+        → Runs z (if b then 0 else length (constant_code 5 room) + 1 + block_turns room)
+        (if b then [] else some_frame room) (HasFrame bottom room) (IsZeroFrame bottom room)
+    by true none =
         let no_room : room ≡ 0 = eqb-true room 0 none in
-        no_code (storing code bottom room) {P = HasFrame bottom room} {R = IsZeroFrame bottom room}
+        no_code z
         (λ s has. record {
           stack = has.stack ∙ omega arith;
           zeroed = no_zeros bottom (bottom + room) s.bytes (omega arith);
           others = λ q h k. refl;
-        }) start tt
-    by false some here =
+        })
+    by false some =
         let differ = eqb-false room 0 some in
-        let positive : 0 < room = omega arith in
-        as_code (storing code bottom room)
-        ((constant_code 5 room ++ Register Sub 5 2 5 ∷ []) ++ until_equal 2 5 down_code) (some_frame room)
+        as_code z ((constant_code 5 room ++ Register Sub 5 2 5 ∷ []) ++ until_equal 2 5 down_code) (some_frame room)
         (append_assoc (constant_code 5 room) (Register Sub 5 2 5 ∷ []) (until_equal 2 5 down_code))
-        (frame_runs code bottom room even whole positive below) start (placed code start (some_frame room) here)
+        (frame_runs z bottom room even whole (omega arith) below may)
+
+pub frame_is_zeroed : FrameIsZeroed
+frame_is_zeroed code start bottom room there even whole below =
+    zeroed_runs (storing code bottom room) bottom room even whole below (λ sp x low high above. ((low, high), above))
+    start (placed code start (frame_code room) there)
 
 pub room_is_wiped : RoomIsWiped
 room_is_wiped code start bottom room there even whole positive below =
-    up_runs code bottom room even whole positive below start (placed code start wipe_code there)
+    up_runs (storing code bottom room) bottom room even whole positive below
+    (λ sp x low high above. ((low, high), above)) start (placed code start wipe_code there)
