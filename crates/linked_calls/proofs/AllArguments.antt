@@ -17,7 +17,7 @@ use Rattle.linked_calls.proofs.Between.{AreReady, IsReady, saved_at}
 use Rattle.linked_calls.proofs.Bytes.{IsOutside, SameData, number_there, numbers_count, numbers_outside}
 use Rattle.linked_calls.proofs.Bytes.{is_some-with_numbers}
 use Rattle.linked_calls.proofs.Copies.{array_runs as copies_run}
-use Rattle.linked_calls.proofs.EnterTurns.{arguments_turns}
+use Rattle.linked_calls.proofs.SectionTurns.{arguments_turns}
 use Rattle.linked_calls.proofs.Pieces.{Runs, Setting, no_code, then_runs, weaken_runs}
 use Rattle.linked_calls.proofs.Rooms.{RoomNumbers}
 use Rattle.linked_calls.proofs.SameRegisters.{IsNone, same_beside}

@@ -13,7 +13,7 @@ use Rattle.linked_calls.proofs.Between.{AreReady, IsReady}
 use Rattle.linked_calls.proofs.Bytes.{IsOutside, SameData, numbers_count, numbers_outside, is_some-with_numbers}
 use Rattle.linked_calls.proofs.Bytes.{numbers_same}
 use Rattle.linked_calls.proofs.Copies.{handed_runs as handed_by}
-use Rattle.linked_calls.proofs.LeaveTurns.{output_turns, outputs_turns}
+use Rattle.linked_calls.proofs.SectionTurns.{output_turns, outputs_turns}
 use Rattle.linked_calls.proofs.Pieces.{Runs, Setting, no_code, then_runs, weaken_runs}
 use Rattle.linked_calls.proofs.Rooms.{RoomNumbers}
 use Rattle.linked_calls.proofs.Staying.{stay_ready}

@@ -14,7 +14,7 @@ use Rattle.linked_calls.proofs.Between.{AreReady, AreSaved, EnteringLeads, IsEnt
 use Rattle.linked_calls.proofs.Between.{enter_turns, saved_at, untouched_registers}
 use Rattle.linked_calls.proofs.Bytes.{IsOutside, SameData, number_there, numbers_outside, is_some-with_numbers}
 use Rattle.linked_calls.proofs.Bytes.{zero_byte}
-use Rattle.linked_calls.proofs.EnterTurns.{arguments_turns, enter_turns_are}
+use Rattle.linked_calls.proofs.SectionTurns.{arguments_turns, enter_turns_are}
 use Rattle.linked_calls.proofs.Entering.{entered, entered_bytes, entry_runs, stored_registers}
 use Rattle.linked_calls.proofs.KnownArguments.{all_known}
 use Rattle.linked_calls.proofs.LoadedArguments.{all_taken_is}

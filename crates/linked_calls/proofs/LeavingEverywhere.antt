@@ -3,7 +3,8 @@
 use Rattle.std.specs.Prelude.{unwrap_or, is_some, IfSome}
 use Rattle.std.specs.Option.{option_map}
 use Rattle.std.proofs.Common.{◌≡◌, ℕ, suc, ◌+◌, ◌-◌, ◌*◌, ◌<◌, ◌≤◌, ◌==◌, List, [], ◌∷◌, ◌++◌, length, Option}
-use Rattle.std.proofs.Common.{All, Some, None, inl, refl, sym, ap, ◌∙◌, subst, arith, length-append, append_assoc}
+use Rattle.std.proofs.Common.{Some, None, drop, inl, refl, sym, ap, ◌∙◌, subst, arith, length-append, append_assoc}
+use Rattle.std.proofs.lemmas.List.Elements.{All-head}
 use Rattle.linked_calls.proofs.Below.{Add, AreZeroed, arguments_end, arrays_in, at, block_turns, ByteMap}
 use Rattle.linked_calls.proofs.Below.{clear_registers_code, Code, constant_code, Data, Fields, frame_room}
 use Rattle.linked_calls.proofs.Below.{function_words, Instr, IsAt, IsImage, IsLeft, IsOfCall, IsSite, JumpRegister}
@@ -14,17 +15,17 @@ use Rattle.linked_calls.proofs.Below.{with_arrays, with_register, with_result, w
 use Rattle.codegen.specs.image_fields.Fields.{IsResultSlot, result_end, slots_end}
 use Rattle.linked_calls.proofs.AllArguments.{AreKnown, Begins, call_setting, taken_registers}
 use Rattle.linked_calls.proofs.AllResults.{all_handed_apart, all_handed_are, results_runs}
-use Rattle.linked_calls.proofs.Between.{AreReady, AreSaved, CanLeave, Leaves, LeavesEverywhere, leave_at, leave_turns}
+use Rattle.linked_calls.proofs.Between.{AreReady, CanLeave, Leaves, LeavesEverywhere, leave_at, leave_turns}
 use Rattle.linked_calls.proofs.Between.{saved_at, untouched_registers}
 use Rattle.linked_calls.proofs.GoingBack.{goes_back}
 use Rattle.linked_calls.proofs.KnownArguments.{all_known}
-use Rattle.linked_calls.proofs.LeaveTurns.{outputs_turns, leave_turns_are}
+use Rattle.linked_calls.proofs.SectionTurns.{outputs_turns, leave_turns_are}
 use Rattle.linked_calls.proofs.Parts.{computes_runs, load_runs, same_number}
 use Rattle.linked_calls.proofs.Bytes.{number_there}
 use Rattle.linked_calls.proofs.Pieces.{Runs, Setting, as_code, makes_then, then_runs, weaken_runs}
 use Rattle.linked_calls.proofs.Restoring.{lasts_run}
 use Rattle.linked_calls.proofs.Rooms.{RoomNumbers, room_numbers}
-use Rattle.linked_calls.proofs.SameRegisters.{IsNone, AreSame, all_same, same_beside, same_then}
+use Rattle.linked_calls.proofs.SameRegisters.{IsNone, all_same, same_beside, same_then, still_same}
 use Rattle.linked_calls.proofs.SavedRegisters.{saved_same}
 use Rattle.linked_calls.proofs.Standing.{function_length, leave_placed}
 
@@ -119,14 +120,14 @@ module _ (image : Fields) (code : Code) (site : Site) (is : IsImage image) (at_s
 
   -- All but the last instruction.
 
-  record Front (s t : Data) : Type 0 where
-    result : t.regs 10 ≡ result_of s.bytes image.returned
-    kept : AreSame t.regs s.regs untouched_registers
-    stack : t.regs 2 ≡ site.stack
-    saved : (regs : ℕ → ℕ) → AreSaved (left_bytes s.bytes) regs (saved_at image site) saved_registers
-        → AreSame t.regs regs saved_registers
-    cleared : All (λ r. t.regs r ≡ 0) scratch_registers
-    zeroed : AreZeroed base site.stack (left_bytes s.bytes) t.bytes
+  abbrev last_at : ℕ
+  last_at = leave_at image site + 4 * length (front image)
+
+  -- for whatever the caller had in its registers
+  abbrev LeavesAll : Data → Data → Type 0
+  LeavesAll s t =
+      (regs : ℕ → ℕ) → CanLeave image site regs (at (leave_at image site) s)
+      → IsLeft image site regs s.bytes (results_in base image s.bytes) (at last_at t)
 
   abbrev front_turns : ℕ
   front_turns =
@@ -134,7 +135,7 @@ module _ (image : Fields) (code : Code) (site : Site) (is : IsImage image) (at_s
       (length (constant_code 5 (frame_room image) ++ Register Add 5 5 2 ∷ []) + 12 + 1 +
       block_turns (frame_room image + 80) + 14)
 
-  front_runs : Runs z front_turns (front image) Starts Front
+  front_runs : Runs z front_turns (front image) Starts LeavesAll
   front_runs =
       let ends = numbers.ends in
       let room = frame_room image in
@@ -142,7 +143,7 @@ module _ (image : Fields) (code : Code) (site : Site) (is : IsImage image) (at_s
       let rest = restore_code room ++ wipe_code ++ clear_registers_code scratch_registers in
       as_code z (first ++ rest) (front image)
       (grouped first (restore_code room) wipe_code (clear_registers_code scratch_registers))
-      (then_runs z {P = Starts} {S = Front} first rest handed_runs
+      (then_runs z {P = Starts} {S = LeavesAll} first rest handed_runs
       (lasts_run z base room numbers.even numbers.whole (omega arith)
       (λ x low high. inl ((omega arith, omega arith), omega arith))
       (λ sp x low high above. inl ((omega arith, omega arith), above)))
@@ -153,16 +154,20 @@ module _ (image : Fields) (code : Code) (site : Site) (is : IsImage image) (at_s
             ap (λ (b : ByteMap). is_some (b x)) handed.bytes ∙ ap is_some (in_room s.bytes x low under)
             ∙ begins.there x low under;
       })
-      (λ s t u begins handed lasts. record {
+      (λ s t u begins handed lasts regs can.
+      let kept = same_then u.regs t.regs regs untouched_registers
+      (lasts.others_same.0, (lasts.others_same.1.0, (lasts.others_same.1.1.0, tt)))
+      (still_same (10 ∷ taken_registers) t.regs s.regs regs handed.others untouched_registers refl can.untouched) in
+      let saved = lasts.saved regs
+      (saved_same s.bytes t.bytes regs (saved_at image site) saved_registers
+      (λ x low high. ap (λ (b : ByteMap). b x) handed.bytes ∙ in_room s.bytes x (omega arith) (omega arith))
+      can.saved) in
+      record {
         result = lasts.others_same.1.1.1.0 ∙ handed.result;
-        kept = same_then u.regs t.regs s.regs untouched_registers
-            (lasts.others_same.0, (lasts.others_same.1.0, (lasts.others_same.1.1.0, tt)))
-            (same_beside (10 ∷ taken_registers) t.regs s.regs handed.others untouched_registers refl);
-        stack = lasts.stack ∙ ends;
-        saved = λ regs saved. lasts.saved regs
-            (subst (λ (b : ByteMap). AreSaved b regs (base + room) saved_registers) (sym handed.bytes) saved);
+        kept = all_same u.regs regs kept_registers
+            (kept.0, (lasts.stack ∙ ends ∙ sym can.stack, (kept.1.0, (kept.1.1.0, saved))));
         cleared = lasts.cleared;
-        zeroed = subst (λ x. AreZeroed base x (left_bytes s.bytes) u.bytes) ends
+        memory = subst (λ x. AreZeroed base x (left_bytes s.bytes) u.bytes) ends
             (subst (λ (b : ByteMap). AreZeroed base (base + (room + 80)) b u.bytes) handed.bytes lasts.zeroed);
       }))
 
@@ -171,31 +176,8 @@ module _ (image : Fields) (code : Code) (site : Site) (is : IsImage image) (at_s
   abbrev data_of : State → Data
   data_of s = record { regs = s.regs; bytes = s.bytes }
 
-  begins : (regs : ℕ → ℕ) (s : State) → CanLeave image site regs s → Starts (data_of s)
-  begins regs s can = record { stack = can.base; there = can.there; ready = can.ready }
-
-  still_saved : (regs : ℕ → ℕ) (bytes : ByteMap) → AreSaved bytes regs (saved_at image site) saved_registers
-      → AreSaved (left_bytes bytes) regs (saved_at image site) saved_registers
-  still_saved regs bytes saved =
-      saved_same bytes (left_bytes bytes) regs (saved_at image site) saved_registers
-      (λ x low high. in_room bytes x (omega arith) (omega arith)) saved
-
-  left : (regs : ℕ → ℕ) (s : State) (t : Data) → CanLeave image site regs s → Front (data_of s) t
-      → IsLeft image site regs s.bytes (results_in base image s.bytes)
-      (at (leave_at image site + 4 * length (front image)) t)
-  left regs s t can done =
-      let kept = same_then t.regs s.regs regs untouched_registers done.kept can.untouched in
-      let saved = done.saved regs (still_saved regs s.bytes can.saved) in
-      record {
-        result = done.result;
-        kept = all_same t.regs regs kept_registers
-            (kept.0, (done.stack ∙ sym can.stack, (kept.1.0, (kept.1.1.0, saved))));
-        cleared = done.cleared;
-        memory = done.zeroed;
-      }
-
-  last_at : IsAt code (leave_at image site + 4 * length (front image)) (JumpRegister 0 1 0)
-  last_at =
+  last_stands : IsAt code last_at (JumpRegister 0 1 0)
+  last_stands =
       let last = Placed-right code (leave_at image site) (front image) (JumpRegister 0 1 0 ∷ [])
       (leave_placed image code site at_site) in
       record { aligned = last.0; word = last.2; in_range = (omega arith, omega arith, omega arith) }
@@ -213,9 +195,11 @@ module _ (image : Fields) (code : Code) (site : Site) (is : IsImage image) (at_s
       record {
         shown = one.shown;
         runs = λ regs s can.
-            let a = one.runs (data_of s) (begins regs s can) in
-            let there : at (leave_at image site) (data_of s) ≡ s = ap (λ p. at p (data_of s)) (sym can.at_leave) in
-            let last = at (leave_at image site + 4 * length (front image)) a.end in
+            let d = data_of s in
+            let a = one.runs d (record { stack = can.base; there = can.there; ready = can.ready }) in
+            let there : at (leave_at image site) d ≡ s = ap (λ p. at p d) (sym can.at_leave) in
+            let left = a.done regs (subst (λ (x : State). CanLeave image site regs x) (sym there) can) in
+            let last = at last_at a.end in
             record {
               turns = front_turns;
               counted = turns_counted;
@@ -223,9 +207,9 @@ module _ (image : Fields) (code : Code) (site : Site) (is : IsImage image) (at_s
               leads = subst (λ (x : State). LeadsWithin code (IsOfCall image site) front_turns x one.shown last) there
                   a.leads;
               at_last = last_place image site;
-              left = left regs s a.end can a.done;
-              goes_back = λ even. goes_back code last (regs 1) last_at (a.done.kept.0 ∙ can.untouched.0)
-                  (can.words 1) even;
+              left = left;
+              goes_back = λ even. goes_back code last (regs 1) last_stands
+                  (All-head (λ r. a.end.regs r ≡ regs r) 1 (drop 1 kept_registers) left.kept) (can.words 1) even;
             };
       }
 

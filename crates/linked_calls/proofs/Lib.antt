@@ -15,14 +15,13 @@ pub mod Rooms
 pub mod Standing
 pub mod Staying
 pub mod SavedRegisters
-pub mod EnterTurns
+pub mod SectionTurns
 pub mod AllArguments
 pub mod KnownArguments
 pub mod Entering
 pub mod Passed
 pub mod LoadedArguments
 pub mod EnteringLeads
-pub mod LeaveTurns
 pub mod AllResults
 pub mod Restoring
 pub mod GoingBack
