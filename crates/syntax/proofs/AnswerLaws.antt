@@ -4,6 +4,7 @@ use Rattle.std.proofs.Common.{false}
 use Rattle.std.specs.Prelude.{nat_lt}
 use Rattle.language.specs.declared.refusal.Refusal.{Refusal}
 use Rattle.language.specs.declared.rule.Rule.TheVariants.{TextTooLong}
+use Rattle.language.specs.declared.why.Why.TheVariants.{Plain}
 use Rattle.syntax.specs.Lexeme.{Lexeme}
 use Rattle.syntax.specs.Reading.{refused, Answers, Reads, too_long, by_tokens, OneAnswer, IsRefusedAs}
 use Rattle.syntax.specs.Limits.{text_limit}
@@ -29,7 +30,7 @@ pub text-refused : (text : List ℕ) (tokens : List Lexeme) (ending : Ending) (r
     → Lexes text tokens ending → IsRefusedAs (Answers tokens ending) r → IsRefusedAs (Reads text) r
 text-refused text tokens ending r short lexes (inl memory) = inl memory
 text-refused text tokens ending r short lexes (inr w) =
-    inr (w.0, w.1, by_tokens short lexes w.2)
+    inr (w.0, w.1, by_tokens short lexes w.2, w.3)
 
 pub not-long : (n : ℕ) → (text_limit < n → ⊥) → n ≤ text_limit
 not-long n h = go (nat_lt text_limit n) refl
@@ -40,7 +41,7 @@ not-long n h = go (nat_lt text_limit n) refl
 
 -- what the lexer refuses
 pub lexer-refused : (text : List ℕ) (r : Refusal)
-    → (text_limit < length text → (r.rule ≡ TextTooLong) × (r.place ≡ Some origin))
+    → (text_limit < length text → (r.rule ≡ TextTooLong) × (r.place ≡ Some origin) × (r.why ≡ Plain))
     → (length text ≤ text_limit → IsWantOfMemory r.rule r.place) → IsRefusedAs (Reads text) r
 lexer-refused text r long memory = go (nat_lt text_limit (length text)) refl
   where
@@ -51,5 +52,6 @@ lexer-refused text r long memory = go (nat_lt text_limit (length text)) refl
           w.1,
           subst (λ rule. Reads text (refused rule origin)) (sym w.0)
               (too_long (lt-true text_limit (length text) e)),
+          w.2,
         )
     go false e = inl (memory (lt-false text_limit (length text) e))

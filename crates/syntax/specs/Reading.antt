@@ -5,6 +5,7 @@ use Rattle.word.specs.declared.place.Place.{Place}
 use Rattle.language.specs.declared.refusal.Refusal.{Refusal}
 use Rattle.language.specs.declared.rule.Rule.{Rule}
 use Rattle.language.specs.declared.rule.Rule.TheVariants.{UnexpectedToken, Nesting, TextTooLong}
+use Rattle.language.specs.declared.why.Why.TheVariants.{Plain}
 use Rattle.syntax.specs.Grammar.{IsProgram, IsBeginning}
 use Rattle.syntax.specs.Lexeme.{Lexeme}
 use Rattle.syntax.specs.Nesting.{outside, after, after_all, AreWithin}
@@ -58,7 +59,7 @@ OneAnswer = (text : List ℕ) (one two : Answer) → Reads text one → Reads te
 abbrev pub OneProgram : Type 0
 OneProgram = (tokens : List Lexeme) (one two : ProgramTree) → IsProgram tokens one → IsProgram tokens two → one ≡ two
 
--- the refusal says out of memory, and has no place, or it has a place and is an answer
+-- the refusal says out of memory, and has no place, or it has a place and is an answer; rule and place say it all
 abbrev pub IsRefusedAs : (Answer → Type 0) → Refusal → Type 0
 IsRefusedAs P refusal = IsWantOfMemory refusal.rule refusal.place
-    ⊎ ((place : Place) × (refusal.place ≡ Some place) × P (refused refusal.rule place))
+    ⊎ ((place : Place) × (refusal.place ≡ Some place) × P (refused refusal.rule place) × (refusal.why ≡ Plain))

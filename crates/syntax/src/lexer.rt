@@ -5,6 +5,7 @@ ghost use Rattle.syntax.specs.Limits.{text_limit};
 ghost use Rattle.syntax.specs.Tokens.{Lexes, OneList, IsSliceOf, ending};
 ghost use Rattle.word.specs.Places.{origin};
 ghost use Rattle.language.specs.WantOfMemory.{IsWantOfMemory};
+ghost use Rattle.language.specs.declared.why.Why.TheVariants.{Plain};
 
 mod letters;
 mod number;
@@ -42,7 +43,8 @@ pub fn lex(alloc: Global, text: &str) -> Result<Lexed<'_>, Refusal>
 
     // The tokens' texts are cut from the text.
     ensures slices { IfOk result (λ l. All (IsSliceOf text.now) (lexemes l.tokens.items)) }
-    ensures too_long { text_limit < length text.now → IsErrAnd result (λ r. (r.rule ≡ Rule.TextTooLong) × (r.place ≡ Some origin)) }
+    ensures too_long { text_limit < length text.now
+        → IsErrAnd result (λ r. (r.rule ≡ Rule.TextTooLong) × (r.place ≡ Some origin) × (r.why ≡ Plain)) }
     ensures memory { length text.now ≤ text_limit → IfErr result (λ r. IsWantOfMemory r.rule r.place) }
 {
     if text.len() > TEXT_LIMIT {

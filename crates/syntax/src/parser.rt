@@ -8,6 +8,7 @@ ghost use Rattle.syntax.specs.private.ParserViews.{ahead, FaultIs};
 ghost use Rattle.syntax.specs.Reading.{Answers, Reads, IsRefusedAs, OneProgram, OneAnswer, accepted, refused};
 ghost use Rattle.syntax.specs.Tokens.{ending};
 ghost use Rattle.language.specs.Tree.{ProcedureTree, ProgramTree, program_tree};
+ghost use Rattle.language.specs.declared.why.Why.TheVariants.{Plain};
 
 mod declaration;
 mod expression;
@@ -100,7 +101,8 @@ fn parse_tokens<'t, 'a>(
 /// The program of a text, or the first refusal. A place is named for all refusals but running out of
 /// memory. A text that is too long is refused as that whatever memory there is.
 pub fn parse(alloc: Global, text: &str) -> Result<Program<'_>, Refusal>
-    ensures too_long { text_limit < length text.now → IsErrAnd result (λ r. (r.rule ≡ Rule.TextTooLong) × (r.place ≡ Some origin)) }
+    ensures too_long { text_limit < length text.now
+        → IsErrAnd result (λ r. (r.rule ≡ Rule.TextTooLong) × (r.place ≡ Some origin) × (r.why ≡ Plain)) }
     ensures accepted { IfOk result (λ p. Reads text.now (accepted (program_tree p))) }
     ensures refused { IfErr result (IsRefusedAs (Reads text.now)) }
 {

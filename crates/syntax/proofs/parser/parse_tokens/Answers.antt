@@ -21,4 +21,9 @@ returns-in-Err-Refused-clause-refused c =
     let h = subst (λ f. FaultIs f (verdict program (nest c.new.result) ts e)) c.in-Err-Refused.field-0-is
     c.in-Err-Refused.ensures.leads in
     let a = subst (Answers ts e) (ap (λ n. verdict program n ts e) (sym c.new.ensures) ∙ h) (answers ts e) in
-    inr (place, c.at.ensures.place, subst (λ r. Answers ts e (refused r place)) (sym c.at.ensures.rule) a)
+    inr (
+      place,
+      c.at.ensures.place,
+      subst (λ r. Answers ts e (refused r place)) (sym c.at.ensures.rule) a,
+      c.at.ensures.why,
+    )
