@@ -11,8 +11,9 @@ use Rattle.language.specs.Size.{size_violations}
 use Rattle.language.specs.Tree.{ProcedureTree, ProgramTree}
 use Rattle.language.specs.Typing.{violations}
 use Rattle.language.specs.declared.typing.Violation.{Violation}
-use Rattle.hepurita.specs.Built.{IsWellFormed, IsSmall, JudgesProgram, Judges, ill_typed, too_large, out_of_range}
+use Rattle.hepurita.specs.Built.{IsWellFormed, IsSmall, JudgesProgram, ill_typed, too_large, out_of_range}
 use Rattle.hepurita.specs.Built.{too_much_work, unreadable, readable, IsRefusal}
+use Rattle.hepurita.specs.Told.{IsRefusalOf, IsToldOfProgram, of_program, of_reading}
 use Rattle.hepurita.proofs.GrammaticalExports.{HasGrammaticalExport, same_violations}
 use Rattle.word.specs.declared.profile.Profile.{Profile}
 
@@ -74,12 +75,14 @@ module _ (profile : Profile) where
       )
 
   -- a refusal of the text as such
-  pub refusal_of_text : (text : List ℕ) (r : Refusal) → IsRefusedAs (Reads text) r → IsRefusal (Judges profile text) r
+  pub refusal_of_text : (text : List ℕ) (r : Refusal) → IsRefusedAs (Reads text) r → IsRefusalOf profile text r
   refusal_of_text text r (inl memory) = inl memory
-  refusal_of_text text r (inr (place, at, reads)) = inr (place, at, unreadable reads)
+  refusal_of_text text r (inr (place, at, reads, plain)) =
+      inr (place, at, unreadable reads, of_reading (inr (place, at, reads, plain)))
 
   -- a refusal of the program that the text is
   pub refusal_of_program : (text : List ℕ) (program : ProgramTree) (r : Refusal) → Reads text (accepted program)
-      → IsRefusal (JudgesProgram profile program) r → IsRefusal (Judges profile text) r
-  refusal_of_program text program r reads (inl memory) = inl memory
-  refusal_of_program text program r reads (inr (place, at, judges)) = inr (place, at, readable reads judges)
+      → IsRefusal (JudgesProgram profile program) r → IsToldOfProgram profile program r → IsRefusalOf profile text r
+  refusal_of_program text program r reads (inl memory) told = inl memory
+  refusal_of_program text program r reads (inr (place, at, judges)) told =
+      inr (place, at, readable reads judges, of_program reads told)

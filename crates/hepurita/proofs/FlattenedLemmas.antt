@@ -1,15 +1,15 @@
 -- What the last passes find in a text's one body is the judgement on the text.
 use Rattle.std.proofs.Common.{◌≡◌, ℕ, List, length, Result, Ok, Err, ap, ◌∙◌}
-use Rattle.std.specs.Result.{IfOk, OnOk}
+use Rattle.std.specs.Result.{IfOk, IfErr, OnOk}
 use Rattle.intervals.specs.Ranges.{range_violations}
 use Rattle.intervals.specs.Work.{work_violations, IsRefusedByRanges, IsToldByRanges}
 use Rattle.language.specs.Tree.{ProgramTree, program_tree}
 use Rattle.language.specs.declared.refusal.Refusal.{Refusal}
-use Rattle.hepurita.specs.Built.{IsRefusal, Judges, accepts, fine, readable}
+use Rattle.hepurita.specs.Built.{Judges, accepts, fine, readable}
 use Rattle.hepurita.specs.Flattened.{IsFlattened}
-use Rattle.hepurita.specs.Told.{IsToldOfText}
+use Rattle.hepurita.specs.Told.{IsRefusalOf}
 use Rattle.hepurita.specs.declared.flattening.Flattened.{Flattened}
-use Rattle.hepurita.proofs.TellingLemmas.{told_of_program, told_of_ranges}
+use Rattle.hepurita.proofs.TellingLemmas.{told_of_ranges}
 use Rattle.hepurita.proofs.BuiltLemmas.{refusal_of_program, refusal_of_ranges}
 use Rattle.hepurita.proofs.GrammaticalExports.{HasGrammaticalExport, grammatical_export, same_violations}
 use Rattle.word.specs.declared.profile.Profile.{Profile}
@@ -19,6 +19,12 @@ pub ok_beside : {X Y A B : Type 0} (r : Result X Y) (P Q : X → Type 0) → OnO
     → (A → B → (x : X) → P x → Q x) → IfOk r Q
 ok_beside (Ok x) P Q a b p q = q a b x p
 ok_beside (Err y) P Q a b p q = tt
+
+-- two facts of a refusal, together
+pub err_both : {X Y : Type 0} (r : Result X Y) (P Q R : Y → Type 0) → IfErr r P → IfErr r Q
+    → ((y : Y) → P y → Q y → R y) → IfErr r R
+err_both (Ok x) P Q R p q both = tt
+err_both (Err y) P Q R p q both = both y p q
 
 module _ (profile : Profile) (text : List ℕ) (made : Flattened) (is : IsFlattened profile text made) where
   abbrev program : ProgramTree
@@ -34,12 +40,9 @@ module _ (profile : Profile) (text : List ℕ) (made : Flattened) (is : IsFlatte
       readable is.read
       (fine is.small (rw is.body at in_range) (ap (λ vs. length vs) one ∙ (rw is.body at in_time)))
 
-  pub judged_by_ranges : (r : Refusal) → IsRefusedByRanges made.flat r.rule r.place → IsRefusal (Judges profile text) r
-  judged_by_ranges r refused =
+  pub refused_by_ranges : (r : Refusal) → IsRefusedByRanges made.flat r.rule r.place → IsToldByRanges made.flat r
+      → IsRefusalOf profile text r
+  refused_by_ranges r refused told =
       refusal_of_program profile text program r is.read
       (refusal_of_ranges profile program is.before is.export made.flat r plain is.small is.body refused)
-
-  pub told_by_ranges : (r : Refusal) → IsToldByRanges made.flat r → IsToldOfText profile text r
-  told_by_ranges r told =
-      told_of_program profile text program r is.read
       (told_of_ranges profile program made.flat r plain (is.before, is.export, is.small, is.body) told)

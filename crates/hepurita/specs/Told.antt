@@ -1,6 +1,7 @@
--- What a refusal of a program tells: the first violation, as it comes, of the pass that refuses it, with why.
-use Rattle.std.specs.Prelude.{◌≡◌, ℕ, List, length}
-use Rattle.hepurita.specs.Built.{IsSmall, IsWellFormed}
+-- What refuses a text, and what its refusal tells: of a program the first violation, as it comes, of the pass that
+-- refuses it, with why.
+use Rattle.std.specs.Prelude.{◌≡◌, ◌⊎◌, ℕ, List, length, Some}
+use Rattle.hepurita.specs.Built.{IsSmall, IsWellFormed, Judges, refuses}
 use Rattle.inline.specs.Numbering.{flattened}
 use Rattle.intervals.specs.Ranges.{range_violations}
 use Rattle.language.specs.declared.refusal.Refusal.{Refusal}
@@ -8,8 +9,10 @@ use Rattle.language.specs.FirstViolation.{IsToldOf}
 use Rattle.language.specs.Size.{size_violations}
 use Rattle.language.specs.Tree.{ProcedureTree, ProgramTree}
 use Rattle.language.specs.Typing.{violations}
+use Rattle.language.specs.WantOfMemory.{IsWantOfMemory}
 use Rattle.source_laws.specs.source_work.SourceWork.{work_violations}
-use Rattle.syntax.specs.Reading.{Reads, accepted}
+use Rattle.syntax.specs.Reading.{IsRefusedAs, Reads, accepted}
+use Rattle.word.specs.declared.place.Place.{Place}
 use Rattle.word.specs.declared.profile.Profile.{Profile}
 
 pub data IsToldOfProgram (profile : Profile) (program : ProgramTree) (refusal : Refusal) : Type 0 where
@@ -32,7 +35,16 @@ pub data IsToldOfProgram (profile : Profile) (program : ProgramTree) (refusal : 
       → IsToldOf (work_violations before export) refusal
       → IsToldOfProgram profile program refusal
 
--- of a text, where it is a program
-abbrev pub IsToldOfText : Profile → List ℕ → Refusal → Type 0
-IsToldOfText profile text refusal = (program : ProgramTree) → Reads text (accepted program)
-    → IsToldOfProgram profile program refusal
+pub data IsToldOfText (profile : Profile) (text : List ℕ) (refusal : Refusal) : Type 0 where
+  -- it is no program
+  of_reading : IsRefusedAs (Reads text) refusal → IsToldOfText profile text refusal
+  -- it is one
+  of_program : {program : ProgramTree} → Reads text (accepted program) → IsToldOfProgram profile program refusal
+      → IsToldOfText profile text refusal
+
+-- the refusal of the text, for an observer: it is out of memory, which has no place; or it has a place, is the
+-- judgement, and tells why
+abbrev pub IsRefusalOf : Profile → List ℕ → Refusal → Type 0
+IsRefusalOf profile text refusal = IsWantOfMemory refusal.rule refusal.place
+    ⊎ ((place : Place) × (refusal.place ≡ Some place) × Judges profile text (refuses refusal.rule place)
+    × IsToldOfText profile text refusal)

@@ -4,8 +4,8 @@ ghost use Rattle.std.specs.Prelude.{◌≡◌, ℕ, List, IfOk, IfErr};
 ghost use Rattle.language.specs.Tree.{ProcedureTree, ProgramTree};
 ghost use Rattle.word.specs.declared.place.Place.{Place};
 ghost use Rattle.language.specs.declared.rule.Rule.{Rule};
-ghost use Rattle.hepurita.specs.Built.{Judgement, Judges, IsRefusal, IsBuilt, accepts, refuses};
-ghost use Rattle.hepurita.specs.Told.{IsToldOfText};
+ghost use Rattle.hepurita.specs.Built.{Judgement, Judges, IsBuilt, accepts, refuses};
+ghost use Rattle.hepurita.specs.Told.{IsRefusalOf};
 
 use crate::compiling::compile_with;
 use crate::optimised::Optimisation;
@@ -17,8 +17,7 @@ use syntax::one_answer_for_a_text;
 /// The bytes of the plain image of a text that is accepted for an observer of profile 1, or the first refusal.
 pub fn build(alloc: Global, text: &str) -> Result<Vec<u8>, Refusal>
     ensures accepted { IfOk result (λ bytes. IsBuilt Optimisation.Off Profile.P1 text.now bytes.items) }
-    ensures refused { IfErr result (IsRefusal (Judges Profile.P1 text.now)) }
-    ensures told { IfErr result (IsToldOfText Profile.P1 text.now) }
+    ensures refused { IfErr result (IsRefusalOf Profile.P1 text.now) }
 {
     build_as(alloc, text, Profile::P1)
 }
@@ -26,8 +25,7 @@ pub fn build(alloc: Global, text: &str) -> Result<Vec<u8>, Refusal>
 /// The bytes of the plain image of a text that is accepted for an observer of this profile, or the first refusal.
 pub fn build_as(alloc: Global, text: &str, profile: Profile) -> Result<Vec<u8>, Refusal>
     ensures accepted { IfOk result (λ bytes. IsBuilt Optimisation.Off profile text.now bytes.items) }
-    ensures refused { IfErr result (IsRefusal (Judges profile text.now)) }
-    ensures told { IfErr result (IsToldOfText profile text.now) }
+    ensures refused { IfErr result (IsRefusalOf profile text.now) }
 {
     build_with(alloc, text, profile, Optimisation::Off)
 }
@@ -41,8 +39,7 @@ pub fn build_with(
     optimisation: Optimisation,
 ) -> Result<Vec<u8>, Refusal>
     ensures accepted { IfOk result (λ bytes. IsBuilt optimisation profile text.now bytes.items) }
-    ensures refused { IfErr result (IsRefusal (Judges profile text.now)) }
-    ensures told { IfErr result (IsToldOfText profile text.now) }
+    ensures refused { IfErr result (IsRefusalOf profile text.now) }
 {
     let compiled = compile_with(alloc, text, profile, optimisation)?;
     write(alloc, &compiled.code)

@@ -9,11 +9,11 @@ ghost use Rattle.codegen.specs.Followed.{IsGenerated};
 ghost use Rattle.codegen.specs.image_fields.Fields.{IsImage};
 ghost use Rattle.language.specs.Tree.{ProcedureTree, program_tree};
 ghost use Rattle.language.specs.WantOfMemory.{IsWantOfMemory};
-ghost use Rattle.hepurita.specs.Built.{IsCompilation, IsRefusal, Judges};
+ghost use Rattle.hepurita.specs.Built.{IsCompilation};
 ghost use Rattle.hepurita.specs.CodeFor.{IsCodeFor};
 ghost use Rattle.hepurita.specs.Exact.{code_for, first_of, optimised_for};
 ghost use Rattle.hepurita.specs.Flattened.{IsFlattened};
-ghost use Rattle.hepurita.specs.Told.{IsToldOfText};
+ghost use Rattle.hepurita.specs.Told.{IsRefusalOf};
 ghost use Rattle.word.specs.declared.profile.Profile.{Profile};
 
 use crate::flattening::{Flattened, flatten};
@@ -70,9 +70,7 @@ fn code_in(
     ensures compiled { (profile : Profile) (text : List ℕ) (is : IsFlattened profile text flattened.now)
         → IfOk result (IsCompilation optimisation profile text (program_tree flattened.now.program) is.before is.export) }
     ensures refused { (profile : Profile) (text : List ℕ) → IsFlattened profile text flattened.now
-        → IfErr result (IsRefusal (Judges profile text)) }
-    ensures told { (profile : Profile) (text : List ℕ) → IsFlattened profile text flattened.now
-        → IfErr result (IsToldOfText profile text) }
+        → IfErr result (IsRefusalOf profile text) }
 {
     let ranged = flattened.ranged(alloc)?;
     code_of(alloc, &ranged, optimisation)
@@ -100,8 +98,7 @@ pub fn compile_with<'a>(
 ) -> Result<Compiled<'a>, Refusal>
     ensures compiled { IfOk result (λ made. (before : List ProcedureTree) × (export : ProcedureTree)
         × IsCompilation optimisation profile text.now (program_tree made.program) before export made.code) }
-    ensures refused { IfErr result (IsRefusal (Judges profile text.now)) }
-    ensures told { IfErr result (IsToldOfText profile text.now) }
+    ensures refused { IfErr result (IsRefusalOf profile text.now) }
 {
     let flattened = flatten(alloc, text, profile)?;
     let code = code_in(alloc, &flattened, optimisation)?;

@@ -4,9 +4,9 @@ ghost use Rattle.std.specs.Prelude.{◌≡◌, List, ℕ, IfOk, IfErr};
 ghost use Rattle.inline.specs.Numbering.{flattened};
 ghost use Rattle.intervals.specs.Work.{ranged};
 ghost use Rattle.language.specs.Tree.{program_tree};
-ghost use Rattle.hepurita.specs.Built.{Judges, IsRefusal, accepts};
+ghost use Rattle.hepurita.specs.Built.{Judges, accepts};
 ghost use Rattle.hepurita.specs.Flattened.{IsFlattened};
-ghost use Rattle.hepurita.specs.Told.{IsToldOfText};
+ghost use Rattle.hepurita.specs.Told.{IsRefusalOf};
 ghost use Rattle.word.specs.declared.profile.Profile.{Profile};
 
 use crate::judging::flat_of;
@@ -31,9 +31,7 @@ impl<'a> Flattened<'a> {
             → IfOk result (λ counted. (counted ≡ ranged (flattened profile is.before is.export))
             × Judges profile text (accepts (program_tree self.now.program) is.before is.export)) }
         ensures refused { (profile : Profile) (text : List ℕ) → IsFlattened profile text self.now
-            → IfErr result (IsRefusal (Judges profile text)) }
-        ensures told { (profile : Profile) (text : List ℕ) → IsFlattened profile text self.now
-            → IfErr result (IsToldOfText profile text) }
+            → IfErr result (IsRefusalOf profile text) }
     {
         check_ranges(alloc, &self.flat)
     }
@@ -43,8 +41,7 @@ impl<'a> Flattened<'a> {
 /// observer of this profile, with its export as one body; or the first refusal.
 pub fn flatten<'a>(alloc: Global, text: &'a str, profile: Profile) -> Result<Flattened<'a>, Refusal>
     ensures accepted { IfOk result (IsFlattened profile text.now) }
-    ensures refused { IfErr result (IsRefusal (Judges profile text.now)) }
-    ensures told { IfErr result (IsToldOfText profile text.now) }
+    ensures refused { IfErr result (IsRefusalOf profile text.now) }
 {
     let program = parse(alloc, text)?;
     let flat = flat_of(alloc, &program, profile)?;

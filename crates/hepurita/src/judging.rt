@@ -5,7 +5,7 @@ ghost use Rattle.std.specs.Prelude.{◌≡◌, List, map, IfOk, IfErr};
 ghost use Rattle.inline.specs.Numbering.{flattened, param_of};
 ghost use Rattle.language.specs.Tree.{ProcedureTree, program_tree};
 ghost use Rattle.hepurita.specs.Built.{IsSmall, Judges, JudgesProgram, IsRefusal, accepts};
-ghost use Rattle.hepurita.specs.Told.{IsToldOfProgram, IsToldOfText};
+ghost use Rattle.hepurita.specs.Told.{IsRefusalOf, IsToldOfProgram};
 
 use crate::flattening::{Flattened, flatten};
 use inline::{Flat, inline};
@@ -40,8 +40,7 @@ pub struct Accepted<'a> {
 /// `build` names, which tells what was found there.
 pub fn judge<'a>(alloc: Global, text: &'a str) -> Result<Accepted<'a>, Refusal>
     ensures accepted { IfOk result (λ accepted. (before : List ProcedureTree) × (export : ProcedureTree) × Judges Profile.P1 text.now (accepts (program_tree accepted.program) before export) × (accepted.params.items ≡ map param_of export.parameters) × (accepted.returned ≡ export.result)) }
-    ensures refused { IfErr result (IsRefusal (Judges Profile.P1 text.now)) }
-    ensures told { IfErr result (IsToldOfText Profile.P1 text.now) }
+    ensures refused { IfErr result (IsRefusalOf Profile.P1 text.now) }
 {
     judge_as(alloc, text, Profile::P1)
 }
@@ -49,8 +48,7 @@ pub fn judge<'a>(alloc: Global, text: &'a str) -> Result<Accepted<'a>, Refusal>
 /// The same for an observer of this profile: the refusal is the one that `build_as` names.
 pub fn judge_as<'a>(alloc: Global, text: &'a str, profile: Profile) -> Result<Accepted<'a>, Refusal>
     ensures accepted { IfOk result (λ accepted. (before : List ProcedureTree) × (export : ProcedureTree) × Judges profile text.now (accepts (program_tree accepted.program) before export) × (accepted.params.items ≡ map param_of export.parameters) × (accepted.returned ≡ export.result)) }
-    ensures refused { IfErr result (IsRefusal (Judges profile text.now)) }
-    ensures told { IfErr result (IsToldOfText profile text.now) }
+    ensures refused { IfErr result (IsRefusalOf profile text.now) }
 {
     let flattened = flatten(alloc, text, profile)?;
     drop(flattened.ranged(alloc)?);

@@ -1,7 +1,6 @@
 use Rattle.std.proofs.lemmas.Result.{err_from_is_err_and}
 use Rattle.language.specs.Tree.{program_tree}
 use Rattle.hepurita.proofs.BuiltLemmas.{refusal_of_text, refusal_of_program}
-use Rattle.hepurita.proofs.TellingLemmas.{told_of_program, told_of_text}
 use Rattle.hepurita.proofs.flattening.flatten.Goals as goal
 
 pub returns-in_err-program-clause-refused : goal.returns-in_err-program-clause-refused
@@ -14,7 +13,7 @@ pub returns-in_err-flat-clause-refused : goal.returns-in_err-flat-clause-refused
 returns-in_err-flat-clause-refused c =
     let p = err_from_is_err_and c.from_residual-in_err-flat.result c.from_residual-in_err-flat.ensures.1 in
     rw (p.1, p.2) (refusal_of_program c.args.profile c.args.text.now (program_tree c.in_ok-program.program)
-    c.in_err-flat.field-0.0 c.in_ok-program.ensures.accepted c.in_err-flat.ensures.refused)
+    c.in_err-flat.field-0.0 c.in_ok-program.ensures.accepted c.in_err-flat.ensures.refused c.in_err-flat.ensures.told)
 
 pub returns-clause-accepted : goal.returns-clause-accepted
 returns-clause-accepted c =
@@ -26,15 +25,3 @@ returns-clause-accepted c =
       small = made.2;
       body = made.3;
     }
-
-pub returns-in_err-program-clause-told : goal.returns-in_err-program-clause-told
-returns-in_err-program-clause-told c =
-    let p = err_from_is_err_and c.from_residual.result c.from_residual.ensures.1 in
-    rw (p.1, p.2) (told_of_text c.args.profile c.args.text.now c.in_err-program.field-0.0
-    c.in_err-program.ensures.refused)
-
-pub returns-in_err-flat-clause-told : goal.returns-in_err-flat-clause-told
-returns-in_err-flat-clause-told c =
-    let p = err_from_is_err_and c.from_residual-in_err-flat.result c.from_residual-in_err-flat.ensures.1 in
-    rw (p.1, p.2) (told_of_program c.args.profile c.args.text.now (program_tree c.in_ok-program.program)
-    c.in_err-flat.field-0.0 c.in_ok-program.ensures.accepted c.in_err-flat.ensures.told)

@@ -1,7 +1,6 @@
 use Rattle.std.proofs.Common.{ap, ◌∙◌}
-use Rattle.std.proofs.lemmas.Result.{IfErr-weaker}
 use Rattle.intervals.specs.Work.{ranged}
-use Rattle.hepurita.proofs.FlattenedLemmas.{judged_by_ranges, judged_fine, ok_beside, told_by_ranges}
+use Rattle.hepurita.proofs.FlattenedLemmas.{err_both, judged_fine, ok_beside, refused_by_ranges}
 use Rattle.hepurita.proofs.flattening.Flattened.ranged.Goals as goal
 
 pub returns-clause-accepted : goal.returns-clause-accepted
@@ -15,10 +14,5 @@ returns-clause-accepted c = λ profile text is.
 
 pub returns-clause-refused : goal.returns-clause-refused
 returns-clause-refused c = λ profile text is.
-    IfErr-weaker c.check_ranges.result _ _
-    (judged_by_ranges profile text c.args.self.now is) c.check_ranges.ensures.refused
-
-pub returns-clause-told : goal.returns-clause-told
-returns-clause-told c = λ profile text is.
-    IfErr-weaker c.check_ranges.result _ _
-    (told_by_ranges profile text c.args.self.now is) c.check_ranges.ensures.told
+    err_both c.check_ranges.result _ _ _ c.check_ranges.ensures.refused c.check_ranges.ensures.told
+    (refused_by_ranges profile text c.args.self.now is)
