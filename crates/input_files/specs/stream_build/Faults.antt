@@ -3,9 +3,10 @@
 use Rattle.std.specs.Prelude.{◌≡◌, ◌⊎◌, ℕ, ◌<◌, ◌≤◌, List, length, Some, ⊤}
 use Rattle.std.specs.Str.{IsUtf8}
 use Rattle.std.specs.String.{string_bytes}
-use Rattle.hepurita.specs.Built.{Judges, IsRefusal}
+use Rattle.hepurita.specs.Told.{IsRefusalOf}
 use Rattle.language.specs.declared.refusal.Refusal.{Refusal}
 use Rattle.language.specs.declared.rule.Rule.TheVariants.{TextTooLong}
+use Rattle.language.specs.declared.why.Why.TheVariants.{Plain}
 use Rattle.language.specs.WantOfMemory.{IsWantOfMemory}
 use Rattle.syntax.specs.Limits.{text_limit}
 use Rattle.word.specs.Places.{origin}
@@ -22,6 +23,7 @@ IsText bytes = (length bytes ≤ text_limit) × IsUtf8 bytes
 -- the refusal of a text that is too long
 abbrev pub IsTooLong : List ℕ → Refusal → Type 0
 IsTooLong bytes refusal = (text_limit < length bytes) × (refusal.rule ≡ TextTooLong) × (refusal.place ≡ Some origin)
+    × (refusal.why ≡ Plain)
 
 -- why a source's bytes are not had as a text; that a call of it failed, its count of failures says
 abbrev pub NoText : List ℕ → BuildFault Refusal → Type 0
@@ -36,12 +38,12 @@ abbrev pub IsFaultOf : Profile → List ℕ → BuildFault Refusal → Type 0
 IsFaultOf profile bytes Read = ⊤
 IsFaultOf profile bytes NotUtf8 = NoText bytes NotUtf8
 IsFaultOf profile bytes (Refused refusal) = NoText bytes (Refused refusal)
-    ⊎ (IsText bytes × IsRefusal (Judges profile bytes) refusal)
+    ⊎ (IsText bytes × IsRefusalOf profile bytes refusal)
 IsFaultOf profile bytes Write = IsText bytes
 
 -- the same, where a refused text is handed out with its refusal
 abbrev pub IsUnbuilt : Profile → List ℕ → Unbuilt Refusal → Type 0
 IsUnbuilt profile bytes (Unread fault) = NoText bytes fault
 IsUnbuilt profile bytes (NotAccepted refusal text) = (string_bytes text ≡ bytes) × IsText bytes
-    × IsRefusal (Judges profile bytes) refusal
+    × IsRefusalOf profile bytes refusal
 IsUnbuilt profile bytes Unwritten = IsText bytes

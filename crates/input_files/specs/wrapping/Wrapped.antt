@@ -6,7 +6,8 @@ use Rattle.std.specs.List.{flat_map}
 use Rattle.std.specs.Option.{option_map}
 use Rattle.byteorder.specs.Endian.{little_bytes}
 use Rattle.codegen.specs.expression_code.Layout.{slots_from}
-use Rattle.hepurita.specs.Built.{Judges, accepts, IsRefusal}
+use Rattle.hepurita.specs.Built.{Judges, accepts}
+use Rattle.hepurita.specs.Told.{IsRefusalOf}
 use Rattle.image.specs.Reading.{AreBytes, Spells, is_frame_size, is_step_limit, is_word_count, layout_end}
 use Rattle.codegen.specs.image_fields.Fields.{Fields, IsImage, slots_end}
 use Rattle.codegen.specs.declared.image_fields.slot.ResultSlot.{ResultSlot}
@@ -81,7 +82,7 @@ pub record Breaks (text code : List ℕ) (asked : Asked) (rule : CodeRule) : Typ
 
 -- the text's refusal, or the rule that is broken
 abbrev pub IsFaultOf : List ℕ → List ℕ → Asked → WrapFault Refusal → Type 0
-IsFaultOf text code asked (Text refusal) = IsRefusal (Judges asked.profile text) refusal
+IsFaultOf text code asked (Text refusal) = IsRefusalOf asked.profile text refusal
 IsFaultOf text code asked (Code rule) = Breaks text code asked rule
 
 -- out of memory, or a broken rule of which this holds

@@ -12,6 +12,7 @@ returns-then-len-gt-TEXT_LIMIT-clause-fault c =
       no-fewer c.args.bytes.items all 262145 text_limit is (omega arith),
       c.at-too_long.ensures.rule,
       c.at-too_long.ensures.place,
+      c.at-too_long.ensures.why,
     )
 
 pub returns-in-Ok-clause-whole : goal.returns-in-Ok-clause-whole
