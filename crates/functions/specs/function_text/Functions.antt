@@ -6,7 +6,8 @@ use Rattle.functions.specs.declared.function_text.fault.FunctionFault.{FunctionF
 use Rattle.functions.specs.declared.function_text.fault.FunctionFault.TheVariants.{Text, Name}
 use Rattle.functions.specs.declared.function_text.function.Function.{Function}
 use Rattle.functions.specs.declared.function_text.function.NamedParam.{NamedParam}
-use Rattle.hepurita.specs.Built.{IsCompilation, Judges, accepts, IsRefusal}
+use Rattle.hepurita.specs.Built.{IsCompilation, Judges, accepts}
+use Rattle.hepurita.specs.Told.{IsRefusalOf}
 use Rattle.hepurita.specs.declared.optimised.Optimisation.{Optimisation}
 use Rattle.codegen.specs.image_fields.Fields.{Fields}
 use Rattle.language.specs.Signature.{param_of}
@@ -61,7 +62,7 @@ pub record HasTakenName (profile : Profile) (text : List ℕ) (place : Place) : 
 
 -- the text's refusal, or the export's name
 abbrev pub IsFaultOf : Profile → List ℕ → FunctionFault Refusal → Type 0
-IsFaultOf profile text (Text refusal) = IsRefusal (Judges profile text) refusal
+IsFaultOf profile text (Text refusal) = IsRefusalOf profile text refusal
 IsFaultOf profile text (Name place) = HasTakenName profile text place
 
 -- out of memory, or a place of which this holds
