@@ -11,7 +11,7 @@ ghost use Rattle.std.specs.Prelude.{◌≡◌, [], ◌++◌, IfOk, IfErr, IfSome
 ghost use Rattle.std.specs.String.{string_bytes};
 ghost use Rattle.branch_removal.specs.Exact.{straight_of};
 ghost use Rattle.codegen.specs.Exact.{fields_of};
-ghost use Rattle.hepurita.specs.Built.{Judges, IsRefusal};
+ghost use Rattle.hepurita.specs.Told.{IsRefusalOf};
 ghost use Rattle.inline.specs.Numbering.{flattened};
 ghost use Rattle.language.specs.Signature.{exported};
 ghost use Rattle.language.specs.Tree.{program_tree};
@@ -29,7 +29,7 @@ use std::fmt::Write;
 /// What a source costs that is accepted for an observer, as lines, or the first refusal: the one that `build_as` names.
 pub fn source_statistics(alloc: Global, source: &str, profile: Profile) -> Result<String, Refusal>
     ensures said { IfOk result (λ text. SaysCosts profile source.now (string_bytes text)) }
-    ensures refused { IfErr result (IsRefusal (Judges profile source.now)) }
+    ensures refused { IfErr result (IsRefusalOf profile source.now) }
 {
     let flattened = flatten(alloc, source, profile)?;
     let ranged = flattened.ranged(alloc)?;

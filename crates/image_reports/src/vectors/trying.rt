@@ -4,7 +4,7 @@ ghost use Rattle.std.specs.Prelude.{◌≡◌, ℕ, List, map, IfOk, IfErr};
 ghost use Rattle.std.specs.Option.{option_map};
 ghost use Rattle.std.specs.String.{string_bytes};
 ghost use Rattle.codegen.specs.Loaded.{params_of};
-ghost use Rattle.hepurita.specs.Built.{Judges, IsRefusal};
+ghost use Rattle.hepurita.specs.Told.{IsRefusalOf};
 ghost use Rattle.language.specs.Tree.{ProgramTree};
 ghost use Rattle.language.specs.WantOfMemory.{IsWantOfMemory};
 ghost use Rattle.image_reports.specs.vectors.Spelled.{AreSpelled};
@@ -33,7 +33,7 @@ pub struct Report {
 /// The image of a source that is accepted for an observer, or its refusal.
 fn image_of(alloc: Global, source: &str, profile: Profile) -> Result<Image, Refusal>
     ensures image { IfOk result (λ image. (program : ProgramTree) × IsSource profile source.now program image) }
-    ensures refused { IfErr result (IsRefusal (Judges profile source.now)) }
+    ensures refused { IfErr result (IsRefusalOf profile source.now) }
 {
     let compiled = compile_with(alloc, source, profile, Optimisation::Off)?;
     let Compiled { code, .. } = compiled;
@@ -104,7 +104,7 @@ pub fn try_vectors(
     vectors: &[Vector<'_>],
 ) -> Result<Report, Refusal>
     ensures report { IfOk result (λ report. IsReport profile source.now (map named vectors.now) (string_bytes report.text) report.failures) }
-    ensures refused { IfErr result (IsRefusal (Judges profile source.now)) }
+    ensures refused { IfErr result (IsRefusalOf profile source.now) }
 {
     let image = image_of(alloc, source, profile)?;
     try_all(alloc, &image, vectors)
