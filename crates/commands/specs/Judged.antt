@@ -7,7 +7,8 @@ use Rattle.commands.specs.declared.fault.Fault.{Fault}
 use Rattle.commands.specs.declared.fault.Fault.TheVariants.{Text, Explained}
 use Rattle.commands.specs.Unread.{IsOutOfMemory}
 use Rattle.explanations.specs.explained_refusals.Explained.{Explains}
-use Rattle.hepurita.specs.Built.{Judges, IsRefusal, IsBuilt, accepts}
+use Rattle.hepurita.specs.Built.{Judges, IsBuilt, accepts}
+use Rattle.hepurita.specs.Told.{IsRefusalOf}
 use Rattle.hepurita.specs.declared.optimised.Optimisation.{Optimisation}
 use Rattle.language.specs.Tree.{ProcedureTree, ProgramTree}
 use Rattle.language.specs.declared.refusal.Refusal.{Refusal}
@@ -38,7 +39,7 @@ Tells true source refusal fault = IsOutOfMemory fault ⊎ IsExplained source ref
 pub data IsRefusedSo (explain : Bool) (profile : Profile) (files : Contents) (path : List ℕ) : Fault → Type 0 where
   no_text : {fault : Fault} → NoText files path fault → IsRefusedSo explain profile files path fault
   not_accepted : {text : List ℕ} (refusal : Refusal) {fault : Fault} → HoldsText files path text
-      → IsRefusal (Judges profile text) refusal
+      → IsRefusalOf profile text refusal
       → Tells explain text refusal fault → IsRefusedSo explain profile files path fault
 
 -- the same, not explained

@@ -9,7 +9,8 @@ use Rattle.commands.specs.Unread.{IsOutOfMemory}
 use Rattle.commands.specs.Words.{AreSpelled, IsFaultOfWords}
 use Rattle.commands.specs.declared.fault.Fault.{Fault}
 use Rattle.commands.specs.declared.fault.Fault.TheVariants.{Run}
-use Rattle.hepurita.specs.Built.{Judges, IsRefusal, accepts}
+use Rattle.hepurita.specs.Built.{Judges, accepts}
+use Rattle.hepurita.specs.Told.{IsRefusalOf}
 use Rattle.hepurita.specs.Compiled.{Means}
 use Rattle.hepurita.specs.declared.fault.RunFault.{RunFault}
 use Rattle.inline.specs.Numbering.{param_of}
@@ -52,7 +53,7 @@ pub data RefusesMeaning (explain : Bool) (files : Contents) (path : List ℕ) (w
     → Type 0 where
   no_text : {fault : Fault} → NoText files path fault → RefusesMeaning explain files path words fault
   not_accepted : {bytes : List ℕ} (refusal : Refusal) {fault : Fault} → files path ≡ Some bytes → IsText bytes
-      → IsRefusal (Judges P1 bytes) refusal
+      → IsRefusalOf P1 bytes refusal
       → Tells explain bytes refusal fault → RefusesMeaning explain files path words fault
   no_arguments : {program : ProgramTree} {export : ProcedureTree} {fault : RunFault}
       → HoldsProgram files path program export

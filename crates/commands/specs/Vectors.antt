@@ -6,7 +6,7 @@ use Rattle.commands.specs.FileTexts.{HoldsText, NoText, NoWholeText}
 use Rattle.commands.specs.Unread.{IsOutOfMemory}
 use Rattle.commands.specs.declared.fault.Fault.{Fault}
 use Rattle.commands.specs.declared.fault.Fault.TheVariants.{Text, Vectors}
-use Rattle.hepurita.specs.Built.{Judges, IsRefusal}
+use Rattle.hepurita.specs.Told.{IsRefusalOf}
 use Rattle.language.specs.declared.refusal.Refusal.{Refusal}
 use Rattle.image_reports.specs.vectors.Lines.{NamedVector, vectors_in}
 use Rattle.image_reports.specs.vectors.Verdicts.{IsReport}
@@ -44,5 +44,5 @@ pub data RefusesVectors (profile : Profile) (files : Contents) (path list : List
       → RefusesVectors profile files path list (Vectors (Line line))
   not_accepted : {source : List ℕ} {vectors : List NamedVector} {refusal : Refusal}
       → HoldVectors files path list source vectors
-      → IsRefusal (Judges profile source) refusal → RefusesVectors profile files path list (Text refusal)
+      → IsRefusalOf profile source refusal → RefusesVectors profile files path list (Text refusal)
   no_memory : {fault : Fault} → IsOutOfMemory fault → RefusesVectors profile files path list fault

@@ -1,7 +1,7 @@
 use Rattle.std.proofs.Common.{◌≡◌, ℕ, List, take, refl, ap, ◌∙◌, subst, OnOk, OnErr}
 use Rattle.std.proofs.lemmas.Result.{on_ok_weaker}
 use Rattle.std.specs.String.{string_bytes}
-use Rattle.hepurita.specs.Built.{Judges, IsRefusal}
+use Rattle.hepurita.specs.Told.{IsRefusalOf}
 use Rattle.input_files.specs.wrapping.Wrapped.{IsWrapped, Breaks, IsFaultOf}
 use Rattle.commands.specs.Contents.{Contents, Store, Begins, IsWritten, IsCutOff}
 use Rattle.commands.specs.FileTexts.{HoldsText}
@@ -115,8 +115,8 @@ returns-in-Ok-clause-counted g c =
 pub returns-in-Err-Text-clause-refused : goal.returns-in-Err-Text-clause-refused
 returns-in-Err-Text-clause-refused g c = λ tells.
     let refusal = c.in-Err-Text.refusal in
-    let why : IsRefusal (Judges c.args.asked.profile (string_bytes c.in_ok-text.text)) refusal =
-    subst (λ (t : List ℕ). IsRefusal (Judges c.args.asked.profile t) refusal) c.as_str.ensures.value
+    let why : IsRefusalOf c.args.asked.profile (string_bytes c.in_ok-text.text) refusal =
+    subst (λ (t : List ℕ). IsRefusalOf c.args.asked.profile t refusal) c.as_str.ensures.value
     (subst (IsFaultOf c.as_str.result.now c.as_slice.result.now c.args.asked) c.in-Err-Text.field-0-is
     c.in-Err-Text.ensures.fault) in
     refused (not_accepted (judged.not_accepted refusal (c.in_ok-text.ensures.said tells) why refl))

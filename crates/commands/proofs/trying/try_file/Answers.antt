@@ -1,7 +1,7 @@
 use Rattle.std.proofs.Common.{ℕ, List, Err, map, sym, ap, ◌∙◌, subst}
 use Rattle.std.proofs.lemmas.Str.{IsUtf8-string_bytes}
 use Rattle.std.specs.String.{string_bytes}
-use Rattle.hepurita.specs.Built.{Judges, IsRefusal}
+use Rattle.hepurita.specs.Told.{IsRefusalOf}
 use Rattle.image_reports.specs.vectors.Lines.{NamedVector}
 use Rattle.image_reports.specs.vectors.Verdicts.{IsReport}
 use Rattle.image_reports.specs.vectors.Views.{named}
@@ -34,8 +34,8 @@ returns-in_err-report-clause-refused g c = λ tells.
     let refusal = c.in_err-report.field-0.0 in
     let source = string_bytes c.in_ok-source.source in
     let lines = string_bytes c.in_ok-lines.lines in
-    let why : IsRefusal (Judges c.args.profile source) refusal =
-    subst (λ (t : List ℕ). IsRefusal (Judges c.args.profile t) refusal) c.as_str-2.ensures.value
+    let why : IsRefusalOf c.args.profile source refusal =
+    subst (λ (t : List ℕ). IsRefusalOf c.args.profile t refusal) c.as_str-2.ensures.value
     c.in_err-report.ensures.refused in
     handed_on _ _ c.from_residual-in_err-report.ensures.1 (not_accepted
     (both_held (g.F.Files.store c.args.files.now).contents c.args.file.now c.args.list.now source lines
