@@ -1,15 +1,10 @@
 -- By how much covered states shift: where the amounts are seen, by what is known.
 use Rattle.std.specs.Prelude.{◌||◌, not, if◌then◌else◌}
 use Rattle.std.proofs.Common.{◌≡◌, ℕ, zero, suc, ◌%◌, Bool, true, false, List, [], ◌∷◌, ◌++◌, refl, sym, ap₂, ◌∙◌}
-use Rattle.rv_code.specs.declared.instructions.Instr.{Instr}
-use Rattle.rv_code.specs.declared.instructions.Instr.TheVariants.{Register}
-use Rattle.rv_machine.specs.declared.observation.Observation.{Observation}
-use Rattle.rv_machine.specs.declared.stops.Stop.{Stop}
-use Rattle.rv_machine.specs.Machine.{State, Code, IsAt, Ending, goes_on, stops, Turn, pc_misaligned, not_code}
-use Rattle.rv_machine.specs.Machine.{no_instruction, executes}
-use Rattle.rv_machine.specs.Registers.{register}
+use Rattle.certified_runs.specs.Below.{Code, Ending, executes, goes_on, Instr, IsAt, no_instruction, not_code}
+use Rattle.certified_runs.specs.Below.{Observation, pc_misaligned, Profile, Register, register, State, Stop, stops}
+use Rattle.certified_runs.specs.Below.{Turn}
 use Rattle.certified_runs.proofs.Below.{goes_on-determined, goes_on≢stops, turn_of_state}
-use Rattle.word.specs.declared.profile.Profile.{Profile}
 use Rattle.certified_runs.specs.Amounts.{is_shift, amounts_of, ShiftsBy, spent, halts, turns}
 use Rattle.certified_runs.specs.Known.{Known, knows, Covers}
 use Rattle.certified_runs.specs.Certified as certified

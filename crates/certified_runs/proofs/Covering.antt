@@ -4,27 +4,17 @@ use Rattle.std.proofs.Common.{◌≡◌, ℕ, zero, suc, ◌+◌, ◌%◌, Bool,
 use Rattle.std.proofs.Common.{ap, ◌∙◌}
 use Rattle.std.proofs.lemmas.Bool.{and_parts}
 use Rattle.std.proofs.lemmas.Option.{same_Some}
-use Rattle.rv_code.specs.declared.instructions.Instr.{Instr}
-use Rattle.rv_code.specs.declared.instructions.Instr.TheVariants.{Upper, Jump, JumpRegister, Branch, Load, Store}
-use Rattle.rv_code.specs.declared.instructions.Instr.TheVariants.{Immediate, Shift, Register, Multiply, Divide, Fence}
-use Rattle.rv_code.specs.declared.instructions.Instr.TheVariants.{Ecall, Ebreak}
+use Rattle.certified_runs.specs.Below.{address_of, Branch, branch_target, Branches, byte_count, ByteMap, Divide, Ebreak}
+use Rattle.certified_runs.specs.Below.{Ecall, effect_of, Ending, ending_of, Fence, goes_on, holds, Immediate, Instr}
+use Rattle.certified_runs.specs.Below.{joined, Jump, jump_target, JumpRegister, Load, load_size, loaded, loaded_value}
+use Rattle.certified_runs.specs.Below.{moved_to, Multiply, multiply_value, next, number_at, Observation, P1, P2, Passes}
+use Rattle.certified_runs.specs.Below.{product_shown, Profile, Register, register, register_target, Shift, State, Stop}
+use Rattle.certified_runs.specs.Below.{stops, Store, store_size, stored, StoreOperation, Upper, with_link, with_number}
+use Rattle.certified_runs.specs.Below.{with_stored, with_value}
 use Rattle.rv_code.specs.declared.operations.BranchTest.{BranchTest}
 use Rattle.rv_code.specs.declared.operations.LoadOperation.{LoadOperation}
-use Rattle.rv_code.specs.declared.operations.StoreOperation.{StoreOperation}
-use Rattle.rv_machine.specs.declared.effects.Effect.TheVariants.{Branches, Passes}
-use Rattle.rv_machine.specs.declared.observation.Observation.{Observation}
-use Rattle.rv_machine.specs.declared.stops.Stop.{Stop}
-use Rattle.rv_machine.specs.Bytes.{ByteMap, joined, number_at, with_number}
-use Rattle.rv_machine.specs.Effects.{effect_of, multiply_value, holds, load_size, loaded_value, store_size, address_of}
-use Rattle.rv_machine.specs.Effects.{branch_target, jump_target, register_target}
-use Rattle.rv_machine.specs.Machine.{State, Ending, goes_on, stops, loaded, stored, with_value, with_stored, with_link}
-use Rattle.rv_machine.specs.Machine.{moved_to, ending_of, next, product_shown}
-use Rattle.rv_machine.specs.Registers.{register}
-use Rattle.rv_machine.specs.Sizes.{byte_count}
 use Rattle.certified_runs.proofs.Below.{is_inside, is_outside, place, with_number_inside, with_number_outside}
 use Rattle.certified_runs.proofs.Below.{is_some-with_number}
-use Rattle.word.specs.declared.profile.Profile.{Profile}
-use Rattle.word.specs.declared.profile.Profile.TheVariants.{P1, P2}
 use Rattle.certified_runs.specs.Known.{Known, knows, knows_both, knows_bytes, with_register_known, with_bytes_known}
 use Rattle.certified_runs.specs.Known.{Covers}
 use Rattle.certified_runs.specs.Certified.{decides, decides_product, known_after}

@@ -1,11 +1,7 @@
 -- Certified runs in progress: turns that have been made, and how the run ends after them.
 use Rattle.std.proofs.Common.{◌≡◌, ℕ, suc, ◌+◌, ◌-◌, ◌<◌, ◌≤◌, List, [], ◌∷◌, ◌++◌, length, zero-add, suc-add, refl}
 use Rattle.std.proofs.Common.{sym, ap, arith}
-use Rattle.rv_machine.specs.declared.observation.Observation.{Observation}
-use Rattle.rv_machine.specs.declared.stops.Stop.{Stop}
-use Rattle.rv_machine.specs.declared.stops.Stop.TheVariants.{Budget}
-use Rattle.rv_machine.specs.Entries.{entries_of}
-use Rattle.rv_machine.specs.Machine.{Code}
+use Rattle.certified_runs.specs.Below.{Budget, Code, entries_of, Observation, Stop}
 use Rattle.certified_runs.proofs.Below.{entry_count-append}
 use Rattle.certified_runs.specs.Certified.{KnownTurn, leads_on, ends, depends, RunEnding, same, may_differ}
 use Rattle.certified_runs.specs.Certified.{CertifiedRun, spent, halts, cut, turns, KnownEnding, KnownLeads, stays}

@@ -1,12 +1,7 @@
 -- The turn that may differ shows its program counter first, whatever is unknown.
 use Rattle.std.proofs.Common.{◌≡◌, ◌≢◌, ℕ, suc, List, [], ◌∷◌, ◌++◌, None, refl, ap, ◌∙◌, subst}
-use Rattle.rv_machine.specs.declared.observation.Observation.{Observation}
-use Rattle.rv_machine.specs.declared.stops.Stop.{Stop}
-use Rattle.rv_machine.specs.declared.stops.Stop.TheVariants.{RecorderRefused}
-use Rattle.rv_machine.specs.Effects.{effect_of}
-use Rattle.rv_machine.specs.Entries.{Entry, program_counter, events_of, entries_of}
-use Rattle.rv_machine.specs.Leakage.{Runs}
-use Rattle.rv_machine.specs.Machine.{State, Code, Ending, observed, Turn}
+use Rattle.certified_runs.specs.Below.{Code, effect_of, Ending, entries_of, Entry, events_of, Observation, observed}
+use Rattle.certified_runs.specs.Below.{program_counter, RecorderRefused, Runs, State, Stop, Turn}
 use Rattle.certified_runs.proofs.Below.{IsOwn, goes_own, stops_own, effect_own, Runs-determined, entries_of-append}
 use Rattle.certified_runs.proofs.Below.{Runs-more, Runs-stop, run_of_state}
 use Rattle.certified_runs.specs.Known.{Known, Covers}

@@ -3,24 +3,12 @@ use Rattle.std.specs.Prelude.{nat_eq, is_some}
 use Rattle.std.proofs.Common.{◌≡◌, ◌≢◌, ℕ, ◌%◌, ◌≤◌, Bool, true, false, cond, List, [], ◌∷◌, length, Option, Some, None}
 use Rattle.std.proofs.Common.{refl, sym, ◌∙◌, arith}
 use Rattle.std.proofs.lemmas.Option.{same_Some}
-use Rattle.rv_code.specs.declared.instructions.Instr.{Instr}
-use Rattle.rv_code.specs.declared.instructions.Instr.TheVariants.{Store}
-use Rattle.rv_code.specs.declared.operations.StoreOperation.{StoreOperation}
+use Rattle.certified_runs.specs.Below.{address_of, byte_count, ByteMap, Code, Done, effect_of, Ending, ending_of}
+use Rattle.certified_runs.specs.Below.{entries_of, executes, goes_on, Instr, IsAt, number_at, Observation, Profile}
+use Rattle.certified_runs.specs.Below.{RecorderRefused, refused, register, State, Stop, stopped, stops, Store}
+use Rattle.certified_runs.specs.Below.{store_size, stored, StoreOperation, Stores, Turn, went_on, word_of}
 use Rattle.rv_code.proofs.WordLaws.{words_differ}
-use Rattle.rv_code.specs.Words.{word_of}
-use Rattle.rv_machine.specs.declared.effects.Effect.TheVariants.{Stores}
-use Rattle.rv_machine.specs.declared.observation.Observation.{Observation}
-use Rattle.rv_machine.specs.declared.stops.Stop.{Stop}
-use Rattle.rv_machine.specs.declared.stops.Stop.TheVariants.{RecorderRefused}
-use Rattle.rv_machine.specs.Bytes.{ByteMap, number_at}
-use Rattle.rv_machine.specs.Effects.{effect_of, address_of, store_size}
-use Rattle.rv_machine.specs.Entries.{entries_of}
-use Rattle.rv_machine.specs.Leakage.{Done, went_on, stopped, refused}
-use Rattle.rv_machine.specs.Machine.{State, Code, IsAt, Ending, goes_on, stops, stored, ending_of, Turn, executes}
-use Rattle.rv_machine.specs.Registers.{register}
-use Rattle.rv_machine.specs.Sizes.{byte_count}
 use Rattle.certified_runs.proofs.Below.{IsSameTurn, both_go, turn_same, count-few, Turn-determined, turn_stops}
-use Rattle.word.specs.declared.profile.Profile.{Profile}
 use Rattle.certified_runs.specs.Certified as certified
 use Rattle.certified_runs.specs.Certified.{decides, registers_after, bytes_after, KnownTurn, decided, ends}
 use Rattle.certified_runs.specs.Known.{Known}

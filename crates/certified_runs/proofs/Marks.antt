@@ -7,8 +7,7 @@ use Rattle.std.proofs.Math.Path.{fun_ext}
 use Rattle.std.proofs.lemmas.Bool.{cases_eq}
 use Rattle.rv_machine.specs.declared.memory.Size.{Size}
 use Rattle.rv_machine.specs.declared.memory.Size.TheVariants.{Byte, Half, Word}
-use Rattle.rv_machine.specs.Bytes.{ByteMap, joined, number_at, with_number}
-use Rattle.rv_machine.specs.Sizes.{byte_count}
+use Rattle.certified_runs.specs.Below.{byte_count, ByteMap, joined, number_at, with_number}
 use Rattle.certified_runs.proofs.Below.{is_inside, is_outside, place, with_number_outside, is_some-with_number}
 use Rattle.certified_runs.specs.Known.{knows_bytes, with_bytes_known}
 use Rattle.certified_runs.specs.Parts.{known_registers, all_registers, is_known_mark, known_bytes}

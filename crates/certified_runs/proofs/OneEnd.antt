@@ -2,12 +2,8 @@
 use Rattle.std.proofs.Common.{◌≡◌, ℕ, zero, suc, Bool, true, false, List, [], ◌∷◌, refl, sym, ◌∙◌}
 use Rattle.std.proofs.lemmas.Bool.{both_ways}
 use Rattle.std.proofs.lemmas.Option.{same_Some}
-use Rattle.rv_code.specs.declared.instructions.Instr.{Instr}
-use Rattle.rv_code.specs.Words.{word_of}
-use Rattle.rv_machine.specs.declared.observation.Observation.{Observation}
-use Rattle.rv_machine.specs.declared.stops.Stop.TheVariants.{Budget}
-use Rattle.rv_machine.specs.Machine.{Code, IsAt, Ending, goes_on, stops, Turn, pc_misaligned, not_code, no_instruction}
-use Rattle.rv_machine.specs.Machine.{executes}
+use Rattle.certified_runs.specs.Below.{Budget, Code, Ending, executes, goes_on, Instr, IsAt, no_instruction, not_code}
+use Rattle.certified_runs.specs.Below.{Observation, pc_misaligned, stops, Turn, word_of}
 use Rattle.certified_runs.proofs.Below.{Turn-determined, goes_on-determined, goes_on≢stops, turn_of_state}
 use Rattle.certified_runs.specs.Known.{Known}
 use Rattle.certified_runs.specs.Certified.{decides, known_after, KnownEnding, leads_on, ends, depends, KnownTurn}

@@ -1,13 +1,8 @@
 -- Turns and runs of covered states.
 use Rattle.std.proofs.Common.{◌≡◌, ◌≢◌, ℕ, suc, ◌<◌, List, refl, sym, arith}
-use Rattle.rv_code.specs.declared.instructions.Instr.{Instr}
-use Rattle.rv_machine.specs.declared.observation.Observation.{Observation}
-use Rattle.rv_machine.specs.declared.stops.Stop.{Stop}
-use Rattle.rv_machine.specs.declared.stops.Stop.TheVariants.{RecorderRefused}
-use Rattle.rv_machine.specs.Effects.{effect_of}
-use Rattle.rv_machine.specs.Leakage.{Leads, stays, turns, Runs, spent}
-use Rattle.rv_machine.specs.Machine.{State, Code, IsAt, Ending, goes_on, stops, ending_of, Turn, pc_misaligned}
-use Rattle.rv_machine.specs.Machine.{not_code, no_instruction, executes}
+use Rattle.certified_runs.specs.Below.{Code, effect_of, Ending, ending_of, executes, goes_on, Instr, IsAt, Leads}
+use Rattle.certified_runs.specs.Below.{no_instruction, not_code, Observation, pc_misaligned, RecorderRefused, Runs}
+use Rattle.certified_runs.specs.Below.{spent, State, stays, Stop, stops, Turn, turns}
 use Rattle.certified_runs.proofs.Below.{Turn-determined, Runs-determined, turn_stops, Runs-more, Runs-stop}
 use Rattle.certified_runs.specs.Known.{Known, Covers}
 use Rattle.certified_runs.specs.Certified as certified

@@ -1,10 +1,6 @@
 -- How a certified run ends depends on what is known alone.
 use Rattle.std.proofs.Common.{◌≡◌, ℕ, true, List, refl, sym, subst}
-use Rattle.rv_code.specs.declared.instructions.Instr.{Instr}
-use Rattle.rv_code.specs.declared.instructions.Instr.TheVariants.{Load, Store}
-use Rattle.rv_machine.specs.declared.observation.Observation.{Observation}
-use Rattle.rv_machine.specs.Machine.{State, Code, IsAt}
-use Rattle.word.specs.declared.profile.Profile.{Profile}
+use Rattle.certified_runs.specs.Below.{Code, Instr, IsAt, Load, Observation, Profile, State, Store}
 use Rattle.certified_runs.specs.Known.{Known, Covers}
 use Rattle.certified_runs.specs.Certified.{decides, registers_after, bytes_after, known_after, KnownTurn, leads_on}
 use Rattle.certified_runs.specs.Certified.{decided, stopped, undecided, RunEnding, CertifiedRun, spent, halts, cut}

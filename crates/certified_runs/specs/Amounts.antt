@@ -1,13 +1,9 @@
 -- By how much registers are shifted: of an instruction, and of a whole run.
 use Rattle.std.specs.Prelude.{ℕ, zero, suc, ◌%◌, ◌||◌, Bool, true, false, not, List, [], ◌∷◌, ◌++◌, if◌then◌else◌}
-use Rattle.rv_code.specs.declared.instructions.Instr.{Instr}
-use Rattle.rv_code.specs.declared.instructions.Instr.TheVariants.{Register}
+use Rattle.certified_runs.specs.Below.{Code, goes_on, Instr, IsAt, Observation, Register, register, State, Stop, stops}
+use Rattle.certified_runs.specs.Below.{Turn}
 use Rattle.rv_code.specs.declared.operations.RegisterOperation.{RegisterOperation}
 use Rattle.rv_code.specs.declared.operations.RegisterOperation.TheVariants.{Sll, Srl, Sra}
-use Rattle.rv_machine.specs.declared.observation.Observation.{Observation}
-use Rattle.rv_machine.specs.declared.stops.Stop.{Stop}
-use Rattle.rv_machine.specs.Machine.{State, Code, IsAt, goes_on, stops, Turn}
-use Rattle.rv_machine.specs.Registers.{register}
 use Rattle.certified_runs.specs.declared.shifts.Shifts.{Shifts}
 use Rattle.certified_runs.specs.declared.shifts.Shifts.TheVariants.{Hidden, Seen}
 

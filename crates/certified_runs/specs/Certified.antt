@@ -1,18 +1,10 @@
 -- A turn and a run of what is known of a state. What instructions compute, and how turns end, is the machine's own.
 use Rattle.std.specs.Prelude.{◌≡◌, ℕ, Bool, true, false, List, [], ◌∷◌}
 use Rattle.std.proofs.Common.{zero, suc}
-use Rattle.rv_code.specs.declared.instructions.Instr.{Instr}
-use Rattle.rv_code.specs.declared.instructions.Instr.TheVariants.{Upper, Jump, JumpRegister, Branch, Load, Store}
-use Rattle.rv_code.specs.declared.instructions.Instr.TheVariants.{Immediate, Shift, Register, Multiply, Divide, Fence}
-use Rattle.rv_code.specs.declared.instructions.Instr.TheVariants.{Ecall, Ebreak}
-use Rattle.rv_machine.specs.declared.observation.Observation.{Observation}
-use Rattle.rv_machine.specs.declared.stops.Stop.{Stop}
-use Rattle.rv_machine.specs.declared.stops.Stop.TheVariants.{Budget}
-use Rattle.rv_machine.specs.Effects.{load_size, store_size, address_of}
-use Rattle.rv_machine.specs.Machine.{State, Code, IsAt, goes_on, stops, Turn}
-use Rattle.rv_machine.specs.Sizes.{byte_count}
-use Rattle.word.specs.declared.profile.Profile.{Profile}
-use Rattle.word.specs.declared.profile.Profile.TheVariants.{P1, P2}
+use Rattle.certified_runs.specs.Below.{address_of, Branch, Budget, byte_count, Code, Divide, Ebreak, Ecall, Fence}
+use Rattle.certified_runs.specs.Below.{goes_on, Immediate, Instr, IsAt, Jump, JumpRegister, Load, load_size, Multiply}
+use Rattle.certified_runs.specs.Below.{Observation, P1, P2, Profile, Register, Shift, State, Stop, stops, Store}
+use Rattle.certified_runs.specs.Below.{store_size, Turn, Upper}
 use Rattle.certified_runs.specs.Amounts.{decides_amount}
 use Rattle.certified_runs.specs.declared.shifts.Shifts.{Shifts}
 use Rattle.certified_runs.specs.Known.{Known, knows, knows_both, knows_bytes, with_register_known, with_bytes_known}

@@ -1,7 +1,6 @@
 -- How a certified run is answered.
 use Rattle.std.specs.Prelude.{◌+◌, List, length}
-use Rattle.rv_machine.specs.declared.observation.Observation.{Observation}
-use Rattle.rv_machine.specs.Entries.{entries_of}
+use Rattle.certified_runs.specs.Below.{entries_of, Observation}
 use Rattle.certified_runs.specs.Certified.{RunEnding, same, may_differ}
 use Rattle.certified_runs.specs.declared.certifying.CertifiedEnd.{CertifiedEnd}
 use Rattle.certified_runs.specs.declared.certifying.CertifiedEnd.TheVariants.{Same, MayDiffer}

@@ -3,8 +3,7 @@
 -- are seen.
 use Rattle.std.specs.Prelude.{◌≡◌, ℕ, ◌+◌, ◌==◌, ◌&&◌, Bool, true, nat_le, nat_lt, is_some, if◌then◌else◌}
 use Rattle.std.proofs.Common.{zero, suc}
-use Rattle.rv_machine.specs.Machine.{State}
-use Rattle.rv_machine.specs.Registers.{register}
+use Rattle.certified_runs.specs.Below.{register, State}
 use Rattle.certified_runs.specs.declared.shifts.Shifts.{Shifts}
 
 -- a state, of which these registers and the bytes at these addresses are known; what it holds elsewhere does not

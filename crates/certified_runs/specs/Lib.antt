@@ -4,3 +4,4 @@ pub mod End
 pub mod Known
 pub mod Parts
 pub mod private
+pub mod Below

@@ -1,7 +1,6 @@
 -- What is known of the parts of a run: registers by flags, and bytes by the marks of a second memory.
 use Rattle.std.specs.Prelude.{ℕ, ◌==◌, Bool, true, false, List, Option, Some, None, slice_index_or}
-use Rattle.rv_machine.specs.Bytes.{ByteMap}
-use Rattle.rv_machine.specs.Machine.{State}
+use Rattle.certified_runs.specs.Below.{ByteMap, State}
 use Rattle.certified_runs.specs.Known.{Known}
 use Rattle.certified_runs.specs.declared.shifts.Shifts.{Shifts}
 

@@ -1,10 +1,7 @@
 // Certified runs: turns of what is known until one stops, or may depend on what is unknown.
 
 ghost use Rattle.std.specs.Prelude.{◌≡◌, ℕ, ◌<◌, ◌^◌, List, length, is_some};
-ghost use Rattle.rv_machine.specs.Entries.{entries_of};
-ghost use Rattle.rv_machine.specs.Harts.{state_of};
-ghost use Rattle.rv_machine.specs.Regions.{code_of};
-ghost use Rattle.rv_machine.specs.declared.observation.Observation.{Observation};
+ghost use Rattle.certified_runs.specs.Below.{code_of, entries_of, Observation, state_of};
 ghost use Rattle.certified_runs.specs.Certified.{RunEnding, CertifiedRun, KnownLeads};
 ghost use Rattle.certified_runs.specs.End.{end_of};
 ghost use Rattle.certified_runs.specs.Known.{Known};

@@ -1,9 +1,7 @@
 // What an instruction asks of what is known, and what it changes in it.
 
 ghost use Rattle.std.specs.Prelude.{◌≡◌};
-ghost use Rattle.rv_machine.specs.Harts.{regs_of};
-ghost use Rattle.rv_machine.specs.Machine.{State};
-ghost use Rattle.word.specs.declared.profile.Profile.{Profile};
+ghost use Rattle.certified_runs.specs.Below.{Profile, regs_of, State};
 ghost use Rattle.certified_runs.specs.Certified.{decides, decides_product, registers_after, bytes_after};
 ghost use Rattle.certified_runs.specs.Parts.{known_registers, known_bytes, known_of};
 ghost use Rattle.certified_runs.specs.private.Changes.{accessed, StoresData};

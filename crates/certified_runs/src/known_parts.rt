@@ -1,8 +1,7 @@
 // What is known of the state of a run.
 
 ghost use Rattle.std.specs.Prelude.{◌≡◌, ℕ, false, is_some, IsTrue};
-ghost use Rattle.rv_machine.specs.Bytes.{number_at};
-ghost use Rattle.rv_machine.specs.Sizes.{byte_count};
+ghost use Rattle.certified_runs.specs.Below.{byte_count, number_at};
 ghost use Rattle.certified_runs.specs.Known.{knows, knows_both, knows_bytes, with_register_known, with_bytes_known};
 ghost use Rattle.certified_runs.specs.Parts.{known_registers, all_registers, known_bytes};
 ghost use Rattle.certified_runs.specs.private.Changes.{mark_of};

@@ -1,11 +1,7 @@
 // The laws of what is known, which hold of the definitions alone.
 
 ghost use Rattle.std.specs.Prelude.{◌≡◌, ◌≢◌, ℕ, ◌<◌, ◌∷◌, ◌++◌, List};
-ghost use Rattle.rv_machine.specs.declared.observation.Observation.{Observation};
-ghost use Rattle.rv_machine.specs.declared.stops.Stop.{Stop};
-ghost use Rattle.rv_machine.specs.Entries.{Entry, entries_of};
-ghost use Rattle.rv_machine.specs.Leakage.{Leads, Runs};
-ghost use Rattle.rv_machine.specs.Machine.{State, Code, Ending, Turn};
+ghost use Rattle.certified_runs.specs.Below.{Code, Ending, entries_of, Entry, Leads, Observation, Runs, State, Stop, Turn};
 ghost use Rattle.certified_runs.specs.Amounts.{ShiftsBy};
 ghost use Rattle.certified_runs.specs.Certified.{KnownEnding, KnownTurn, RunEnding, CertifiedRun};
 ghost use Rattle.certified_runs.specs.Known.{Known, Covers};

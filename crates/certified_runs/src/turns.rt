@@ -1,13 +1,7 @@
 // One turn of what is known: it is asked what decides it, and then made by the machine.
 
 ghost use Rattle.std.specs.Prelude.{◌≡◌, [], List, length};
-ghost use Rattle.rv_code.specs.declared.instructions.Instr.{Instr};
-ghost use Rattle.rv_machine.specs.declared.observation.Observation.{Observation};
-ghost use Rattle.rv_machine.specs.Entries.{entries_of};
-ghost use Rattle.rv_machine.specs.Harts.{pc_of, state_of};
-ghost use Rattle.rv_machine.specs.Leakage.{followed_by};
-ghost use Rattle.rv_machine.specs.Machine.{Ending, IsAt, Turn};
-ghost use Rattle.rv_machine.specs.Regions.{code_of};
+ghost use Rattle.certified_runs.specs.Below.{code_of, Ending, entries_of, followed_by, Instr, IsAt, Observation, pc_of, state_of, Turn};
 ghost use Rattle.certified_runs.specs.Parts.{known_of};
 ghost use Rattle.certified_runs.specs.private.Turned.{HaveOneExtent, HasTurned};
 

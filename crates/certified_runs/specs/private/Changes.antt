@@ -1,10 +1,6 @@
 -- What the change of an instruction in what is known goes by.
 use Rattle.std.specs.Prelude.{◌≡◌, ◌-◌, ◌^◌, ℕ, Bool, true, false, is_some}
-use Rattle.rv_code.specs.declared.instructions.Instr.{Instr}
-use Rattle.rv_code.specs.declared.instructions.Instr.TheVariants.{Load, Store}
-use Rattle.rv_machine.specs.Bytes.{ByteMap, number_at}
-use Rattle.rv_machine.specs.Effects.{address_of, store_size}
-use Rattle.rv_machine.specs.Sizes.{byte_count}
+use Rattle.certified_runs.specs.Below.{address_of, byte_count, ByteMap, Instr, Load, number_at, Store, store_size}
 
 -- the address that an instruction loads from or stores to, 0 where it does neither
 abbrev pub accessed : Instr → (ℕ → ℕ) → ℕ

@@ -1,9 +1,6 @@
 -- What one turn of the engine comes to.
 use Rattle.std.specs.Prelude.{◌≡◌, ℕ, List, [], ◌∷◌, is_some, length}
-use Rattle.rv_machine.specs.declared.observation.Observation.{Observation}
-use Rattle.rv_machine.specs.Bytes.{ByteMap}
-use Rattle.rv_machine.specs.Entries.{entries_of}
-use Rattle.rv_machine.specs.Machine.{Code}
+use Rattle.certified_runs.specs.Below.{ByteMap, Code, entries_of, Observation}
 use Rattle.certified_runs.specs.Certified.{KnownTurn, leads_on, ends, depends}
 use Rattle.certified_runs.specs.Known.{Known}
 use Rattle.certified_runs.specs.declared.turns.TurnEnd.{TurnEnd}

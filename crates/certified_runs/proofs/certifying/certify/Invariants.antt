@@ -1,7 +1,6 @@
 -- The turns so far lead to what is known now, and have shown so many entries.
 use Rattle.std.proofs.Common.{◌+◌, ◌*◌, ◌≤◌}
-use Rattle.rv_machine.specs.Harts.{state_of}
-use Rattle.rv_machine.specs.Regions.{code_of}
+use Rattle.certified_runs.specs.Below.{code_of, state_of}
 use Rattle.certified_runs.specs.Parts.{known_of}
 use Rattle.certified_runs.specs.private.Turned.{HaveOneExtent}
 use Rattle.certified_runs.proofs.Ends.{HasMade}

@@ -1,7 +1,6 @@
 -- The instruction that stands there decides, and the machine's turn is the turn of what is known.
 use Rattle.std.proofs.Common.{refl, sym, ◌∙◌}
-use Rattle.rv_machine.specs.Harts.{state_of}
-use Rattle.rv_machine.specs.Regions.{code_of}
+use Rattle.certified_runs.specs.Below.{code_of, state_of}
 use Rattle.certified_runs.specs.Certified.{undecided, stopped}
 use Rattle.certified_runs.specs.Parts.{known_of}
 use Rattle.certified_runs.proofs.KnownTurns.{extent_kept, has_led, has_stopped, led_stores}

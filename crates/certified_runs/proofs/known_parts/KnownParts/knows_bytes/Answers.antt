@@ -2,8 +2,7 @@
 use Rattle.std.specs.Prelude.{nat_eq}
 use Rattle.std.proofs.Common.{Some, ap, ◌∙◌}
 use Rattle.std.specs.Option.{option_eq}
-use Rattle.rv_machine.specs.Bytes.{number_at}
-use Rattle.rv_machine.specs.Sizes.{byte_count}
+use Rattle.certified_runs.specs.Below.{byte_count, number_at}
 use Rattle.certified_runs.proofs.Marks.{eq_zero, zero_marks}
 use Rattle.certified_runs.proofs.known_parts.KnownParts.knows_bytes.Goals as goal
 

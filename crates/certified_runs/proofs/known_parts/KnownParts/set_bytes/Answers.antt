@@ -1,7 +1,6 @@
 -- Each byte has the mark.
 use Rattle.std.proofs.Common.{ap, ◌∙◌}
-use Rattle.rv_machine.specs.Bytes.{with_number}
-use Rattle.rv_machine.specs.Sizes.{byte_count}
+use Rattle.certified_runs.specs.Below.{byte_count, with_number}
 use Rattle.certified_runs.specs.Parts.{known_bytes}
 use Rattle.certified_runs.proofs.Marks.{marks_put, store_extent}
 use Rattle.certified_runs.proofs.known_parts.KnownParts.set_bytes.Goals as goal

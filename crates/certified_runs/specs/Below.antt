@@ -1,0 +1,26 @@
+-- What this crate takes from the specs of the crates below, in one place.
+pub use Rattle.word.specs.declared.profile.Profile.{Profile}
+pub use Rattle.word.specs.declared.profile.Profile.TheVariants.{P1, P2}
+unfoldable pub use Rattle.rv_code.specs.Words.{word_of}
+pub use Rattle.rv_code.specs.declared.instructions.Instr.{Instr}
+pub use Rattle.rv_code.specs.declared.instructions.Instr.TheVariants.{Branch, Divide, Ebreak, Ecall, Fence, Immediate}
+pub use Rattle.rv_code.specs.declared.instructions.Instr.TheVariants.{Jump, JumpRegister, Load, Multiply, Register}
+pub use Rattle.rv_code.specs.declared.instructions.Instr.TheVariants.{Shift, Store, Upper}
+pub use Rattle.rv_code.specs.declared.operations.StoreOperation.{StoreOperation}
+pub use Rattle.rv_machine.specs.Bytes.{ByteMap, joined}
+unfoldable pub use Rattle.rv_machine.specs.Bytes.{number_at, with_number}
+pub use Rattle.rv_machine.specs.Effects.{address_of, branch_target, effect_of, holds, jump_target, load_size}
+pub use Rattle.rv_machine.specs.Effects.{loaded_value, multiply_value, register_target, store_size}
+pub use Rattle.rv_machine.specs.Entries.{entries_of, Entry, events_of, program_counter}
+pub use Rattle.rv_machine.specs.Harts.{pc_of, regs_of, state_of}
+pub use Rattle.rv_machine.specs.Leakage.{Done, followed_by, Leads, refused, Runs, spent, stays, stopped, turns, went_on}
+pub use Rattle.rv_machine.specs.Machine.{Code, Ending, executes, goes_on, IsAt, loaded, next, no_instruction, not_code}
+pub use Rattle.rv_machine.specs.Machine.{observed, pc_misaligned, product_shown, State, stops, stored, Turn}
+unfoldable pub use Rattle.rv_machine.specs.Machine.{ending_of, moved_to, with_link, with_stored, with_value}
+pub use Rattle.rv_machine.specs.Regions.{code_of}
+pub use Rattle.rv_machine.specs.Registers.{register}
+pub use Rattle.rv_machine.specs.Sizes.{byte_count}
+pub use Rattle.rv_machine.specs.declared.effects.Effect.TheVariants.{Branches, Passes, Stores}
+pub use Rattle.rv_machine.specs.declared.observation.Observation.{Observation}
+pub use Rattle.rv_machine.specs.declared.stops.Stop.{Stop}
+pub use Rattle.rv_machine.specs.declared.stops.Stop.TheVariants.{Budget, RecorderRefused}
