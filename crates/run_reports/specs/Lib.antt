@@ -1,3 +1,4 @@
 pub mod run_places
 pub mod progress
 pub mod pictures
+pub mod Below

@@ -1,6 +1,6 @@
 -- The page of a grid is the page of what two runs show.
 use Rattle.std.proofs.Common.{◌≡◌, ℕ, max, Bool, List, length, subst, ◌∙◌}
-use Rattle.rv_machine.specs.declared.observation.Observation.{Observation}
+use Rattle.run_reports.specs.Below.{Observation}
 use Rattle.run_reports.specs.pictures.Grid.{IsGrid}
 use Rattle.run_reports.specs.pictures.Marks.{marks_from}
 use Rattle.run_reports.specs.pictures.Page.{page_text}

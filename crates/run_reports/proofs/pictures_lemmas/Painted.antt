@@ -2,10 +2,7 @@
 use Rattle.std.proofs.Common.{◌≡◌, ℕ, ◌+◌, ◌≤◌, ◌<◌, List, [], ◌∷◌, ◌++◌, true, Option, Some, None, is_some, length}
 use Rattle.std.proofs.Common.{append_assoc, append-nil, refl, sym, ap, ◌∙◌, arith}
 use Rattle.std.proofs.lemmas.Option.{none-some}
-use Rattle.rv_machine.specs.declared.observation.Observation.{Observation}
-use Rattle.rv_machine.specs.declared.stops.Stop.TheVariants.{Budget}
-use Rattle.rv_machine.specs.Leakage.{stays, spent, IsShown, followed_by}
-use Rattle.rv_machine.specs.Machine.{State, Code}
+use Rattle.run_reports.specs.Below.{Budget, Code, followed_by, IsShown, Observation, spent, State, stays}
 use Rattle.rv_machine.proofs.RunLaws.{Runs-determined}
 use Rattle.rv_machine.proofs.Shown.{runs_no_turns}
 use Rattle.run_reports.specs.pictures.Grid.{IsGrid}

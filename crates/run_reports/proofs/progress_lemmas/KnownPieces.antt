@@ -3,19 +3,13 @@ use Rattle.std.proofs.Common.{◌≡◌, ℕ, zero, suc, ◌+◌, ◌*◌, ◌�
 use Rattle.std.proofs.Common.{zero-add, inl, inr, ap, arith}
 use Rattle.certified_runs.proofs.KnownTurns.{few_entries}
 use Rattle.certified_runs.proofs.OneEnd.{KnownTurn-determined}
-use Rattle.certified_runs.specs.Certified.{RunEnding, same, may_differ, CertifiedRun, spent, halts, cut, turns}
-use Rattle.certified_runs.specs.Certified.{KnownLeads, stays, leads}
-use Rattle.certified_runs.specs.End.{end_of}
-use Rattle.certified_runs.specs.Known.{Known}
-use Rattle.certified_runs.specs.declared.certifying.CertifiedEnd.{CertifiedEnd}
-use Rattle.certified_runs.specs.declared.certifying.CertifiedEnd.TheVariants.{Same, MayDiffer}
+use Rattle.run_reports.specs.Below.{CertifiedEnd, CertifiedRun, Code, cut, end_of, entries_of, Known, KnownLeads, leads}
+use Rattle.run_reports.specs.Below.{may_differ, MayDiffer, Observation, RunEnding, Same, same}
+use Rattle.certified_runs.specs.Certified.{spent, halts, turns, stays}
 use Rattle.run_reports.specs.progress.Certified.{GoesOnKnown, entries_at, end_behind}
 use Rattle.run_reports.specs.progress.GoingOn.{HasLines}
 use Rattle.run_reports.specs.progress.Lines.{turns_a_line}
 use Rattle.rv_machine.proofs.Face.{count-few, entry_count-append}
-use Rattle.rv_machine.specs.Entries.{entries_of}
-use Rattle.rv_machine.specs.Machine.{Code}
-use Rattle.rv_machine.specs.declared.observation.Observation.{Observation}
 
 -- turns that lead on, and then others
 pub leads_append : {code : Code} {m n : ℕ} {k now later : Known} {seen more : List Observation}

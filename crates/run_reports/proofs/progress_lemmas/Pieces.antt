@@ -1,11 +1,8 @@
 -- A run in pieces: turns that go on, and then a run.
 use Rattle.std.proofs.Common.{◌≡◌, ◌≢◌, ℕ, ◌+◌, ◌≤◌, List, ◌++◌, refl, arith, sym}
 use Rattle.rv_machine.proofs.Face.{Leads-append, Halts-after, no_longer, turn_within_budget}
-use Rattle.rv_machine.specs.Leakage.{Leads, halts, Runs, halted, cut_short, spent}
-use Rattle.rv_machine.specs.Machine.{State, Code}
-use Rattle.rv_machine.specs.declared.observation.Observation.{Observation}
-use Rattle.rv_machine.specs.declared.stops.Stop.{Stop}
-use Rattle.rv_machine.specs.declared.stops.Stop.TheVariants.{Budget, RecorderRefused}
+use Rattle.run_reports.specs.Below.{Budget, Code, cut_short, halted, halts, Leads, Observation, RecorderRefused, Runs}
+use Rattle.run_reports.specs.Below.{spent, State, Stop}
 
 -- a run of turns that stops by the budget has made them all
 pub all_made : {code : Code} {n : ℕ} {s t : State} {seen : List Observation} {stop : Stop}

@@ -7,12 +7,8 @@ use Rattle.run_reports.proofs.progress_lemmas.Told.{all_told}
 use Rattle.run_reports.specs.progress.GoingOn.{BothGoOn, Reaches, HasLines, IsTold}
 use Rattle.run_reports.specs.progress.Lines.{turns_a_line, WentOut}
 use Rattle.rv_machine.proofs.Face.{Leads-append, goes_on-determined, goes_on≢stops}
-use Rattle.rv_machine.specs.Entries.{entries_of, IsFirstDifference}
-use Rattle.rv_machine.specs.Leakage.{Leads, stays, turns}
-use Rattle.rv_machine.specs.Machine.{State, Code}
-use Rattle.rv_machine.specs.Progress.{Makes, rests, advances, finishes, MakesAll, begins, further}
-use Rattle.rv_machine.specs.declared.observation.Observation.{Observation}
-use Rattle.streams.specs.Streams.{Collected}
+use Rattle.run_reports.specs.Below.{advances, begins, Code, Collected, entries_of, finishes, further, IsFirstDifference}
+use Rattle.run_reports.specs.Below.{Leads, Makes, MakesAll, Observation, rests, State, stays, turns}
 
 -- Turns that leave more to be made go on.
 

@@ -2,14 +2,10 @@
 use Rattle.std.proofs.Common.{◌≡◌, ℕ, ◌+◌, ◌*◌, ◌<◌, ◌≤◌, ◌⊎◌, zero, suc, Bool, true, false, List, ◌++◌, length, take}
 use Rattle.std.proofs.Common.{IsTrue, length-append, append_assoc, append-nil, inl, inr, refl, sym, ap, ◌∙◌, arith}
 use Rattle.run_reports.specs.progress.GoingOn.{GoesOn, Reaches, HasLines, IsTold}
-use Rattle.rv_machine.specs.Leakage.{Leads}
-use Rattle.rv_machine.specs.Machine.{State, Code}
-use Rattle.rv_machine.specs.declared.observation.Observation.{Observation}
+use Rattle.run_reports.specs.Below.{Code, Collected, GainsPart, Leads, Observation, one_more, State}
 use Rattle.std.proofs.Math.Seq.{take-append-add}
 use Rattle.std.proofs.lemmas.List.{take-append-le}
-use Rattle.streams.specs.Streams.{GainsPart, Collected}
 use Rattle.run_reports.specs.progress.Lines.{turns_a_line, progress_line, progress_lines, WentOut, AreTold}
-use Rattle.word.specs.Counts.{one_more}
 
 -- a part of some bytes is one of more bytes
 part_of_more : {before after : List ℕ} (piece rest : List ℕ) → GainsPart before after piece

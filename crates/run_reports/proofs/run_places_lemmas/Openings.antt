@@ -3,14 +3,10 @@ use Rattle.std.specs.Prelude.{slice_get}
 use Rattle.std.proofs.Common.{◌≡◌, ◌≢◌, ℕ, zero, suc, ◌%◌, ◌<◌, ◌≤◌, ◌⊎◌, List, [], ◌∷◌, Option, Some, None, length}
 use Rattle.std.proofs.Common.{take, refl, sym, ap, ◌∙◌, inl, inr, arith}
 use Rattle.rv_code.specs.Words.{word_of}
-use Rattle.rv_machine.specs.declared.observation.Observation.{Observation}
-use Rattle.rv_machine.specs.declared.stops.Stop.{Stop}
-use Rattle.rv_machine.specs.declared.stops.Stop.TheVariants.{RecorderRefused}
-use Rattle.rv_machine.specs.Effects.{effect_of}
-use Rattle.rv_machine.specs.Entries.{Entry, program_counter, entries_of, IsFirstDifference}
-use Rattle.rv_machine.specs.Leakage.{stays, turns, halts, Runs, halted, cut_short, spent}
-use Rattle.rv_machine.specs.Machine.{State, Code, word_at, Ending, goes_on, stops, Turn, pc_misaligned, not_code}
-use Rattle.rv_machine.specs.Machine.{no_instruction, executes}
+use Rattle.run_reports.specs.Below.{Code, cut_short, effect_of, Ending, entries_of, Entry, executes, goes_on, halted}
+use Rattle.run_reports.specs.Below.{halts, IsFirstDifference, no_instruction, not_code, Observation, pc_misaligned}
+use Rattle.run_reports.specs.Below.{program_counter, RecorderRefused, Runs, spent, State, stays, Stop, stops, Turn}
+use Rattle.run_reports.specs.Below.{turns, word_at}
 use Rattle.run_reports.proofs.run_places_lemmas.Below.{IsOwn, goes_own, stops_own, effect_own, Runs-determined}
 use Rattle.run_reports.specs.run_places.Places.{Ends, ShowsNext, IsLastBefore, ShowsFewer}
 

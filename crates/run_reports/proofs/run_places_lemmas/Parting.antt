@@ -2,13 +2,9 @@
 use Rattle.std.proofs.Common.{◌≡◌, ℕ, zero, suc, ◌+◌, ◌-◌, ◌<◌, ◌≤◌, List, [], ◌∷◌, ◌++◌, Option, Some, None, length}
 use Rattle.std.proofs.Common.{take, refl, sym, ap, ◌∙◌, inl, inr, arith}
 use Rattle.std.proofs.Math.Seq.{take-append-add}
-use Rattle.rv_machine.specs.declared.observation.Event.{Event}
-use Rattle.rv_machine.specs.declared.observation.Observation.{Observation}
-use Rattle.rv_machine.specs.declared.stops.Stop.{Stop}
-use Rattle.rv_machine.specs.Effects.{effect_of}
-use Rattle.rv_machine.specs.Entries.{Entry, program_counter, events_of, entries_of, IsFirstDifference}
-use Rattle.rv_machine.specs.Machine.{State, Code, Ending, goes_on, stops, here, Turn, pc_misaligned, not_code}
-use Rattle.rv_machine.specs.Machine.{no_instruction, executes}
+use Rattle.run_reports.specs.Below.{Code, effect_of, Ending, entries_of, Entry, Event, events_of, executes, goes_on}
+use Rattle.run_reports.specs.Below.{here, IsFirstDifference, no_instruction, not_code, Observation, pc_misaligned}
+use Rattle.run_reports.specs.Below.{program_counter, State, Stop, stops, Turn}
 use Rattle.run_reports.proofs.run_places_lemmas.Below.{IsOwn, goes_own, stops_own, effect_own, entry_count-append}
 use Rattle.run_reports.proofs.run_places_lemmas.Below.{entries_of-injective, Runs-determined, entries_of-append}
 use Rattle.run_reports.specs.run_places.Places.{Ends, ShowsNext, IsLastBefore}

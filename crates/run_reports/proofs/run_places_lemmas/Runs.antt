@@ -5,17 +5,12 @@ use Rattle.std.proofs.Common.{inl, inr, arith}
 use Rattle.std.specs.Option.{option_map}
 use Rattle.std.specs.Prelude.{slice_get}
 use Rattle.std.proofs.lemmas.Option.{same_Some, slice_get_past, slice_get_within}
-use Rattle.rv_machine.specs.declared.observation.Observation.{Observation}
-use Rattle.rv_machine.specs.declared.stops.Stop.{Stop}
-use Rattle.rv_machine.specs.declared.stops.Stop.TheVariants.{Budget}
-use Rattle.rv_machine.specs.Entries.{Entry, entries_of}
-use Rattle.rv_machine.specs.Leakage.{Leads, stays, turns, halts, Runs, halted, spent}
-use Rattle.rv_machine.specs.Machine.{State, Code, goes_on, stops, Turn}
+use Rattle.run_reports.specs.Below.{Budget, Code, entries_of, Entry, goes_on, halted, halts, Leads, listed, Observation}
+use Rattle.run_reports.specs.Below.{Runs, spent, State, stays, Stop, stops, Turn, Turned, turns}
 use Rattle.run_reports.proofs.run_places_lemmas.Below.{Leads-more, entries_of-append, entry_count-append, Runs-more}
 use Rattle.run_reports.proofs.run_places_lemmas.Below.{turn_stops, some_of, run_of_state, stopped_at, went_to}
 use Rattle.run_reports.specs.run_places.Places.{Ends, ShowsNext, IsLastBefore, ShowsFewer}
 use Rattle.run_reports.specs.run_places.Shown.{entry_or_stop, shown_entry, ShowsAt}
-use Rattle.rv_machine.specs.Turned.{listed, Turned}
 use Rattle.rv_machine.specs.Turned as turned
 use Rattle.run_reports.specs.declared.run_places.shown.Shown.{Shown}
 use Rattle.run_reports.specs.declared.run_places.shown.Shown.TheVariants.{Stopped}

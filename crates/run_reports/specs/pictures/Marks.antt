@@ -2,9 +2,8 @@
 use Rattle.std.specs.Prelude.{ℕ, ◌+◌, ◌==◌, ◌&&◌, ◌||◌, not, Bool, true, false, List, [], ◌∷◌, ◌++◌, Option, Some}
 use Rattle.std.specs.Prelude.{None}
 use Rattle.rv_machine.specs.Sizes.{byte_count}
-use Rattle.rv_machine.specs.declared.observation.Event.{Event}
+use Rattle.run_reports.specs.Below.{Event, Observation}
 use Rattle.rv_machine.specs.declared.observation.Event.TheVariants.{Load, Store, Div, Mul}
-use Rattle.rv_machine.specs.declared.observation.Observation.{Observation}
 use Rattle.run_reports.specs.declared.pictures.cells.Cell.{Cell}
 use Rattle.run_reports.specs.declared.pictures.cells.Mark.{Mark}
 use Rattle.run_reports.specs.declared.pictures.cells.Side.{Side}

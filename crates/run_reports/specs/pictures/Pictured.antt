@@ -1,8 +1,6 @@
 -- Which page is the picture of two runs.
 use Rattle.std.specs.Prelude.{◌≡◌, ℕ, max, Bool, List, length}
-use Rattle.rv_machine.specs.Leakage.{IsShown}
-use Rattle.rv_machine.specs.Machine.{State, Code}
-use Rattle.rv_machine.specs.declared.observation.Observation.{Observation}
+use Rattle.run_reports.specs.Below.{Code, IsShown, Observation, State}
 use Rattle.run_reports.specs.pictures.Grid.{IsGrid}
 use Rattle.run_reports.specs.pictures.Marks.{marks_from}
 use Rattle.run_reports.specs.pictures.Page.{page_text}

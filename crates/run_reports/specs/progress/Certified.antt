@@ -1,11 +1,6 @@
 -- Certified runs that go on after so many turns, and the end of one of which entries were counted before.
 use Rattle.std.specs.Prelude.{ℕ, ◌+◌, ◌<◌, List}
-use Rattle.certified_runs.specs.Certified.{KnownLeads}
-use Rattle.certified_runs.specs.Known.{Known}
-use Rattle.certified_runs.specs.declared.certifying.CertifiedEnd.{CertifiedEnd}
-use Rattle.certified_runs.specs.declared.certifying.CertifiedEnd.TheVariants.{Same, MayDiffer}
-use Rattle.rv_machine.specs.Machine.{Code}
-use Rattle.rv_machine.specs.declared.observation.Observation.{Observation}
+use Rattle.run_reports.specs.Below.{CertifiedEnd, Code, Known, KnownLeads, MayDiffer, Observation, Same}
 
 -- so many turns of what is known are made, of which none stops or depends, and more may be made
 abbrev pub GoesOnKnown : Code → ℕ → Known → ℕ → Type 0

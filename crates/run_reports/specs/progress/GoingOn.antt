@@ -2,10 +2,7 @@
 use Rattle.std.specs.Prelude.{◌≡◌, ℕ, ◌*◌, ◌<◌, ◌⊎◌, List}
 use Rattle.std.proofs.Common.{suc}
 use Rattle.run_reports.specs.progress.Lines.{turns_a_line, AreTold}
-use Rattle.rv_machine.specs.Leakage.{Leads}
-use Rattle.rv_machine.specs.Machine.{State, Code}
-use Rattle.rv_machine.specs.declared.observation.Observation.{Observation}
-use Rattle.streams.specs.Streams.{Collected}
+use Rattle.run_reports.specs.Below.{Code, Collected, Leads, Observation, State}
 
 -- so many turns are made from this state, of which none stops, and more may be made
 abbrev pub GoesOn : Code → ℕ → State → ℕ → Type 0

@@ -2,8 +2,7 @@
 use Rattle.std.specs.Prelude.{ℕ, ◌*◌, Bool, true, false, List, [], ◌++◌, codes}
 use Rattle.std.specs.Fmt.{decimal}
 use Rattle.std.proofs.Common.{zero, suc}
-use Rattle.streams.specs.Puts.{IsPut, IsPutWhole, IsPutInPart}
-use Rattle.streams.specs.Streams.{Collected}
+use Rattle.run_reports.specs.Below.{Collected, IsPut, IsPutInPart, IsPutWhole}
 
 -- how many turns there are to a line
 abbrev pub turns_a_line : ℕ

@@ -1,11 +1,7 @@
 -- The turns of a run, by the places of the entries that they show.
 use Rattle.std.specs.Prelude.{◌≢◌, ◌⊎◌, ℕ, ◌<◌, ◌≤◌, List, [], ◌∷◌, ◌++◌, length}
-use Rattle.rv_machine.specs.declared.observation.Observation.{Observation}
-use Rattle.rv_machine.specs.declared.stops.Stop.{Stop}
-use Rattle.rv_machine.specs.declared.stops.Stop.TheVariants.{RecorderRefused}
-use Rattle.rv_machine.specs.Entries.{entries_of}
-use Rattle.rv_machine.specs.Leakage.{Leads, Runs}
-use Rattle.rv_machine.specs.Machine.{State, Code, goes_on, stops, Turn}
+use Rattle.run_reports.specs.Below.{Code, entries_of, goes_on, Leads, Observation, RecorderRefused, Runs, State, Stop}
+use Rattle.run_reports.specs.Below.{stops, Turn}
 
 -- a run of at most so many turns, which no recorder cuts short, shows this and stops so
 abbrev pub Ends : Code → ℕ → State → List Observation → Stop → Type 0

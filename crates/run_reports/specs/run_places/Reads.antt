@@ -6,7 +6,7 @@ use Rattle.rv_code.specs.declared.instructions.Instr.TheVariants.{Upper, Jump, J
 use Rattle.rv_code.specs.declared.instructions.Instr.TheVariants.{Immediate, Shift, Register, Multiply, Divide, Fence}
 use Rattle.rv_code.specs.declared.instructions.Instr.TheVariants.{Ecall, Ebreak}
 use Rattle.rv_code.specs.FieldText.{reg_text}
-use Rattle.rv_machine.specs.Machine.{State, Code, IsAt}
+use Rattle.run_reports.specs.Below.{Code, IsAt, State}
 use Rattle.rv_machine.specs.Registers.{register}
 
 -- the registers that an instruction reads, in the order of its text

@@ -1,9 +1,6 @@
 -- What a run shows at a place: an entry, and behind the last one the stop.
 use Rattle.std.specs.Prelude.{◌≡◌, ℕ, List, Option, Some, None, slice_get}
-use Rattle.rv_machine.specs.declared.observation.Observation.{Observation}
-use Rattle.rv_machine.specs.declared.stops.Stop.{Stop}
-use Rattle.rv_machine.specs.Entries.{Entry, program_counter, event, entries_of}
-use Rattle.rv_machine.specs.Machine.{State, Code}
+use Rattle.run_reports.specs.Below.{Code, entries_of, Entry, event, Observation, program_counter, State, Stop}
 use Rattle.run_reports.specs.run_places.Places.{Ends}
 use Rattle.run_reports.specs.declared.run_places.shown.Shown.{Shown}
 use Rattle.run_reports.specs.declared.run_places.shown.Shown.TheVariants.{ProgramCounter, HasEvent, Stopped}

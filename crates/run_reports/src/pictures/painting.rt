@@ -1,10 +1,7 @@
 // What runs show, a step at a time, counted and put into a grid.
 
 ghost use Rattle.std.specs.Prelude.{◌≡◌, ◌^◌, ◌<◌, ◌≤◌, List, [], length};
-ghost use Rattle.rv_machine.specs.Harts.{state_of};
-ghost use Rattle.rv_machine.specs.Leakage.{IsShown};
-ghost use Rattle.rv_machine.specs.Regions.{code_of};
-ghost use Rattle.rv_machine.specs.declared.observation.Observation.{Observation};
+ghost use Rattle.run_reports.specs.Below.{code_of, IsShown, Observation, state_of};
 ghost use Rattle.run_reports.specs.pictures.Grid.{IsGrid};
 ghost use Rattle.run_reports.specs.pictures.Marks.{marks_from};
 

@@ -1,8 +1,7 @@
 // The picture of two runs.
 
 ghost use Rattle.std.specs.Prelude.{◌≡◌, ◌^◌, ◌<◌, ◌≤◌, ◌+◌, length, IfOk};
-ghost use Rattle.rv_machine.specs.Harts.{state_of};
-ghost use Rattle.rv_machine.specs.Regions.{code_of};
+ghost use Rattle.run_reports.specs.Below.{code_of, state_of};
 ghost use Rattle.run_reports.specs.pictures.Pictured.{IsPicture};
 
 use crate::pictures::cells::{Area, Axes};

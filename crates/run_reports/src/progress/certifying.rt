@@ -1,15 +1,9 @@
 // A certified run in pieces.
 
 ghost use Rattle.std.specs.Prelude.{◌≡◌, ℕ, ◌+◌, ◌^◌, ◌<◌, List, IsTrue, is_some};
-ghost use Rattle.certified_runs.specs.Certified.{RunEnding, CertifiedRun};
-ghost use Rattle.certified_runs.specs.End.{end_of};
-ghost use Rattle.certified_runs.specs.Parts.{known_of};
+ghost use Rattle.run_reports.specs.Below.{CertifiedRun, code_of, collected, end_of, known_of, Observation, RunEnding, state_of};
 ghost use Rattle.run_reports.specs.progress.Certified.{GoesOnKnown, entries_at, end_behind};
 ghost use Rattle.run_reports.specs.progress.GoingOn.{HasLines, IsTold};
-ghost use Rattle.streams.specs.Puts.{collected};
-ghost use Rattle.rv_machine.specs.Harts.{state_of};
-ghost use Rattle.rv_machine.specs.Regions.{code_of};
-ghost use Rattle.rv_machine.specs.declared.observation.Observation.{Observation};
 
 use crate::progress::lines::{ProgressLines, TURNS_A_LINE};
 use certified_runs::{CertifiedEnd, KnownParts, certify};

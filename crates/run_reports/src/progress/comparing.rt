@@ -2,12 +2,7 @@
 
 ghost use Rattle.std.specs.Prelude.{◌≡◌, ℕ, ◌^◌, ◌<◌, List, IsTrue};
 ghost use Rattle.run_reports.specs.progress.GoingOn.{BothGoOn, HasLines, IsTold};
-ghost use Rattle.streams.specs.Puts.{collected};
-ghost use Rattle.rv_machine.specs.Entries.{entries_of, Compares};
-ghost use Rattle.rv_machine.specs.Harts.{state_of};
-ghost use Rattle.rv_machine.specs.Leakage.{IsShown};
-ghost use Rattle.rv_machine.specs.Regions.{code_of};
-ghost use Rattle.rv_machine.specs.declared.observation.Observation.{Observation};
+ghost use Rattle.run_reports.specs.Below.{code_of, collected, Compares, entries_of, IsShown, Observation, state_of};
 
 use crate::progress::lines::{ProgressLines, TURNS_A_LINE};
 use rv_machine::{CodeRegion, Memory, Pairing, Running, entry_count, first_difference};

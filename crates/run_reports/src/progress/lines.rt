@@ -2,9 +2,7 @@
 
 ghost use Rattle.std.specs.Prelude.{◌≡◌, ◌+◌, ◌*◌, ◌^◌, ◌<◌, ◌++◌, IsTrue, OnOk, OnErr};
 ghost use Rattle.run_reports.specs.progress.Lines.{turns_a_line, progress_line, WentOut};
-ghost use Rattle.streams.specs.Puts.{collected};
-ghost use Rattle.streams.specs.Streams.{Collected, GainsPart};
-ghost use Rattle.word.specs.Counts.{one_more};
+ghost use Rattle.run_reports.specs.Below.{Collected, collected, GainsPart, one_more};
 
 use arrayvec::ArrayString;
 use itoa::Buffer;

@@ -2,12 +2,8 @@
 
 ghost use Rattle.std.specs.Prelude.{◌≡◌, ◌≢◌, ℕ, ◌^◌, ◌<◌, ◌≤◌, true, false, List, [], IsTrue};
 ghost use Rattle.run_reports.specs.progress.Lines.{turns_a_line};
-ghost use Rattle.streams.specs.Puts.{collected};
+ghost use Rattle.run_reports.specs.Below.{code_of, collected, Observation, Runs, state_of};
 ghost use Rattle.run_reports.specs.progress.GoingOn.{GoesOn, HasLines, IsTold};
-ghost use Rattle.rv_machine.specs.Harts.{state_of};
-ghost use Rattle.rv_machine.specs.Leakage.{Runs};
-ghost use Rattle.rv_machine.specs.Regions.{code_of};
-ghost use Rattle.rv_machine.specs.declared.observation.Observation.{Observation};
 
 use crate::progress::lines::{ProgressLines, TURNS_A_LINE};
 use rv_machine::{CodeRegion, Memory, Observation, Recorder, Running, Stop, run};

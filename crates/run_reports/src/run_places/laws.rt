@@ -1,11 +1,7 @@
 // What the places of a run's entries are to each other.
 
 ghost use Rattle.std.specs.Prelude.{◌≡◌, ◌≢◌, ℕ, ◌+◌, ◌-◌, ◌<◌, ◌≤◌, List, None, length};
-ghost use Rattle.rv_machine.specs.declared.observation.Observation.{Observation};
-ghost use Rattle.rv_machine.specs.Entries.{entries_of, IsFirstDifference};
-ghost use Rattle.rv_machine.specs.Leakage.{Leads};
-ghost use Rattle.rv_machine.specs.Machine.{State, Code, word_at};
-ghost use Rattle.rv_machine.specs.declared.stops.Stop.{Stop};
+ghost use Rattle.run_reports.specs.Below.{Code, entries_of, IsFirstDifference, Leads, Observation, State, Stop, word_at};
 ghost use Rattle.run_reports.specs.run_places.Places.{Ends, IsLastBefore, ShowsFewer};
 ghost use Rattle.run_reports.specs.run_places.Shown.{ShowsAt};
 ghost use Rattle.run_reports.specs.declared.run_places.shown.Shown.{Shown};

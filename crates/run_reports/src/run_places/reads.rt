@@ -2,8 +2,7 @@
 
 ghost use Rattle.std.specs.Prelude.{◌≡◌, ◌++◌, ◌∷◌, [], IfOk, OnOk};
 ghost use Rattle.rv_machine.specs.Bytes.{ByteMap};
-ghost use Rattle.rv_machine.specs.Harts.{regs_of, state_of};
-ghost use Rattle.rv_machine.specs.Regions.{code_of};
+ghost use Rattle.run_reports.specs.Below.{code_of, regs_of, state_of};
 ghost use Rattle.run_reports.specs.run_places.Reads.{registers_read, register_text, registers_text, SaysRegisters};
 
 use rv_code::{Instr, Reg};

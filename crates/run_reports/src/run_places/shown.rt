@@ -2,11 +2,8 @@
 
 ghost use Rattle.std.specs.Prelude.{◌≡◌, ◌≤◌, ◌∷◌, [], length, slice_get, None, Some, IfOk, IfErr, ◌+◌};
 ghost use Rattle.std.specs.Option.{option_map};
-ghost use Rattle.rv_machine.specs.Entries.{entries_of};
-ghost use Rattle.rv_machine.specs.Harts.{state_of};
-ghost use Rattle.rv_machine.specs.Regions.{code_of};
+ghost use Rattle.run_reports.specs.Below.{code_of, entries_of, listed, state_of};
 ghost use Rattle.run_reports.specs.run_places.Shown.{shown_entry, ShowsAt};
-ghost use Rattle.rv_machine.specs.Turned.{listed};
 
 use crate::run_places::turns::turn;
 use rv_machine::{CodeRegion, Event, Memory, Observation, Running, Stop, entry_count};

@@ -1,14 +1,8 @@
 // Runs, a turn at a time, up to an entry of what they show.
 
 ghost use Rattle.std.specs.Prelude.{◌≡◌, ◌-◌, ◌<◌, ◌≤◌, List, [], length, None, IfSome, false};
-ghost use Rattle.rv_machine.specs.Entries.{entries_of};
-ghost use Rattle.rv_machine.specs.Harts.{state_of};
-ghost use Rattle.rv_machine.specs.Leakage.{Leads};
-ghost use Rattle.rv_machine.specs.Machine.{State};
-ghost use Rattle.rv_machine.specs.Regions.{code_of};
-ghost use Rattle.rv_machine.specs.declared.observation.Observation.{Observation};
+ghost use Rattle.run_reports.specs.Below.{code_of, entries_of, Leads, Observation, State, state_of, Turned};
 ghost use Rattle.run_reports.specs.run_places.Places.{IsLastBefore, ShowsFewer};
-ghost use Rattle.rv_machine.specs.Turned.{Turned};
 
 use rv_machine::{
     CodeRegion, Memory, Observation, Recorder, Running, Stop, TurnRecorder, entry_count, run, step,

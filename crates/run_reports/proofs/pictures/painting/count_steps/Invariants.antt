@@ -1,7 +1,6 @@
 -- So many steps were made.
 use Rattle.std.proofs.Common.{◌+◌, ◌≤◌}
-use Rattle.rv_machine.specs.Harts.{state_of}
-use Rattle.rv_machine.specs.Regions.{code_of}
+use Rattle.run_reports.specs.Below.{code_of, state_of}
 use Rattle.run_reports.proofs.pictures_lemmas.Painted.{Counted}
 use Rattle.run_reports.proofs.pictures.painting.count_steps.Given as goal
 

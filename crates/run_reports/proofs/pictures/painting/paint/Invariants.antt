@@ -1,7 +1,6 @@
 -- What is still to be shown has the marks that are left.
 use Rattle.std.proofs.Common.{◌≡◌, ◌+◌, ◌≤◌}
-use Rattle.rv_machine.specs.Harts.{state_of}
-use Rattle.rv_machine.specs.Regions.{code_of}
+use Rattle.run_reports.specs.Below.{code_of, state_of}
 use Rattle.run_reports.proofs.pictures_lemmas.Painted.{Painted}
 use Rattle.run_reports.proofs.pictures.painting.paint.Given as goal
 

@@ -7,9 +7,8 @@ use Rattle.run_reports.proofs.progress_lemmas.KnownPieces.{end_of_both, lines_of
 use Rattle.run_reports.proofs.progress_lemmas.Told.{none_yet, all_told}
 use Rattle.run_reports.specs.progress.Certified.{entries_at, end_behind}
 use Rattle.run_reports.specs.progress.Lines.{turns_a_line}
-use Rattle.streams.specs.Puts.{collected}
+use Rattle.run_reports.specs.Below.{collected, entries_of}
 use Rattle.rv_machine.proofs.Face.{entry_count-append}
-use Rattle.rv_machine.specs.Entries.{entries_of}
 use Rattle.run_reports.proofs.progress.certifying.certify_in_pieces.Goals as goal
 
 pub loop-left-init : goal.loop-left-init

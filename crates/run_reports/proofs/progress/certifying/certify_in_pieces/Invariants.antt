@@ -1,14 +1,8 @@
 -- So many pieces were made, all of which lead on, and a line went out behind each.
 use Rattle.std.proofs.Common.{◌≡◌, ℕ, ◌+◌, ◌*◌, ◌<◌, ◌⊎◌, List, length, IsTrue}
 use Rattle.std.specs.Prelude.{is_some}
-use Rattle.certified_runs.specs.Certified.{KnownLeads}
-use Rattle.certified_runs.specs.Parts.{known_of}
+use Rattle.run_reports.specs.Below.{code_of, collected, entries_of, known_of, KnownLeads, Observation, state_of}
 use Rattle.run_reports.specs.progress.Lines.{turns_a_line, WentOut}
-use Rattle.streams.specs.Puts.{collected}
-use Rattle.rv_machine.specs.Entries.{entries_of}
-use Rattle.rv_machine.specs.Harts.{state_of}
-use Rattle.rv_machine.specs.Regions.{code_of}
-use Rattle.rv_machine.specs.declared.observation.Observation.{Observation}
 use Rattle.run_reports.proofs.progress.certifying.certify_in_pieces.Given as goal
 
 abbrev pub invariant-loop-left : goal.invariant-loop-left

@@ -4,14 +4,10 @@ use Rattle.std.proofs.Common.{add-zero, arith}
 use Rattle.run_reports.proofs.progress_lemmas.Together.{InStep, both_step, both_go_on, told_at_end, one_ended}
 use Rattle.run_reports.proofs.progress_lemmas.Together.{other_ended, they_differ}
 use Rattle.run_reports.proofs.progress_lemmas.Told.{none_yet}
-use Rattle.streams.specs.Puts.{collected}
+use Rattle.run_reports.specs.Below.{begins, Code, collected, entries_of, Observation, State}
 use Rattle.rv_machine.proofs.Face.{entry_count-append, count-few, differ_after, same_after, something_shown}
 use Rattle.rv_machine.proofs.Face.{nothing_shown, one-ends, other-ends}
 use Rattle.rv_machine.proofs.Face as machine
-use Rattle.rv_machine.specs.Entries.{entries_of}
-use Rattle.rv_machine.specs.Machine.{State, Code}
-use Rattle.rv_machine.specs.Progress.{begins}
-use Rattle.rv_machine.specs.declared.observation.Observation.{Observation}
 use Rattle.run_reports.proofs.progress.comparing.compare_telling.Goals.{else-is_due-via-then-is_due+then-one-gt0+else-other-gt0}
 use Rattle.run_reports.proofs.progress.comparing.compare_telling.Goals.{else-is_due-via-then-is_due+else-one-gt0}
 use Rattle.run_reports.proofs.progress.comparing.compare_telling.Goals.{else-is_due-via-else-is_due}

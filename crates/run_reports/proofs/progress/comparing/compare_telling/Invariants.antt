@@ -3,11 +3,7 @@ use Rattle.std.proofs.Common.{◌≡◌, suc, ◌+◌, ◌*◌, ◌≤◌, ◌<�
 use Rattle.run_reports.proofs.progress_lemmas.Together.{InStep}
 use Rattle.run_reports.specs.progress.GoingOn.{BothGoOn, Reaches}
 use Rattle.run_reports.specs.progress.Lines.{turns_a_line, WentOut}
-use Rattle.streams.specs.Puts.{collected}
-use Rattle.rv_machine.specs.Entries.{entries_of}
-use Rattle.rv_machine.specs.Harts.{state_of}
-use Rattle.rv_machine.specs.Regions.{code_of}
-use Rattle.rv_machine.specs.declared.observation.Observation.{Observation}
+use Rattle.run_reports.specs.Below.{code_of, collected, entries_of, Observation, state_of}
 use Rattle.run_reports.proofs.progress.comparing.compare_telling.Given as goal
 
 abbrev pub invariant-turns : goal.invariant-turns

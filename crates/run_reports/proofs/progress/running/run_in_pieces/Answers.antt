@@ -4,8 +4,7 @@ use Rattle.run_reports.proofs.progress_lemmas.Pieces.{all_made, run_after, stop_
 use Rattle.run_reports.proofs.progress_lemmas.Told.{none_yet, all_told, lines_of_run, lines_at_end}
 use Rattle.rv_machine.proofs.Face.{Leads-append}
 use Rattle.run_reports.specs.progress.Lines.{turns_a_line}
-use Rattle.streams.specs.Puts.{collected}
-use Rattle.rv_machine.specs.Leakage.{stays}
+use Rattle.run_reports.specs.Below.{collected, stays}
 use Rattle.run_reports.proofs.progress.running.run_in_pieces.Goals as goal
 
 pub pieces-init : goal.pieces-init

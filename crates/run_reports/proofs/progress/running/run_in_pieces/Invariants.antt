@@ -1,11 +1,7 @@
 -- So many pieces were made, none of which stopped, and a line went out behind each.
 use Rattle.std.proofs.Common.{◌≡◌, ◌+◌, ◌*◌, ◌<◌, ◌⊎◌, List, IsTrue}
 use Rattle.run_reports.specs.progress.Lines.{turns_a_line, WentOut}
-use Rattle.streams.specs.Puts.{collected}
-use Rattle.rv_machine.specs.Harts.{state_of}
-use Rattle.rv_machine.specs.Leakage.{Leads}
-use Rattle.rv_machine.specs.Regions.{code_of}
-use Rattle.rv_machine.specs.declared.observation.Observation.{Observation}
+use Rattle.run_reports.specs.Below.{code_of, collected, Leads, Observation, state_of}
 use Rattle.run_reports.proofs.progress.running.run_in_pieces.Given as goal
 
 abbrev pub invariant-pieces : goal.invariant-pieces

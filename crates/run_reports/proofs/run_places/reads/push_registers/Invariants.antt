@@ -1,6 +1,6 @@
 -- The registers so far, and those that are left, are all.
 use Rattle.std.proofs.Common.{◌≡◌, ◌++◌, drop}
-use Rattle.rv_machine.specs.Harts.{regs_of}
+use Rattle.run_reports.specs.Below.{regs_of}
 use Rattle.run_reports.specs.run_places.Reads.{registers_text}
 use Rattle.run_reports.proofs.run_places.reads.push_registers.Given as goal
 

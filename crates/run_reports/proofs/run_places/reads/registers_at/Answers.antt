@@ -1,6 +1,5 @@
 use Rattle.std.proofs.Common.{◌≡◌, ◌++◌, List, ℕ, ap, refl, sym, ◌∙◌, subst}
-use Rattle.rv_machine.specs.Harts.{regs_of, state_of}
-use Rattle.rv_machine.specs.Machine.{IsAt}
+use Rattle.run_reports.specs.Below.{IsAt, regs_of, state_of}
 use Rattle.run_reports.specs.run_places.Reads.{registers_read, registers_text, SaysRegisters, read, nothing_read}
 use Rattle.run_reports.proofs.run_places.reads.registers_at.Goals as goal
 

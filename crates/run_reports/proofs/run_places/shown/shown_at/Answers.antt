@@ -1,8 +1,6 @@
 -- Turn by turn, up to the one that shows the entry.
 use Rattle.std.proofs.Common.{[], ◌∷◌, ◌++◌, arith}
-use Rattle.rv_machine.specs.declared.stops.Stop.TheVariants.{Budget}
-use Rattle.rv_machine.specs.Leakage.{stays}
-use Rattle.rv_machine.specs.Turned.{listed}
+use Rattle.run_reports.specs.Below.{Budget, listed, stays}
 use Rattle.run_reports.proofs.run_places_lemmas.Below.{stopped_at, went_to}
 use Rattle.run_reports.proofs.run_places_lemmas.Runs.{went_on_by, shows_shown, shows_stop, ends_here, ends_spent}
 use Rattle.run_reports.proofs.run_places_lemmas.Runs.{left_after}

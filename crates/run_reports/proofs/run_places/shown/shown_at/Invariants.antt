@@ -1,10 +1,6 @@
 -- So many turns were made, none of which stopped, and behind their entries so many are left before the place.
 use Rattle.std.proofs.Common.{◌≡◌, ◌+◌, List, length}
-use Rattle.rv_machine.specs.declared.observation.Observation.{Observation}
-use Rattle.rv_machine.specs.Entries.{entries_of}
-use Rattle.rv_machine.specs.Harts.{state_of}
-use Rattle.rv_machine.specs.Leakage.{Leads}
-use Rattle.rv_machine.specs.Regions.{code_of}
+use Rattle.run_reports.specs.Below.{code_of, entries_of, Leads, Observation, state_of}
 use Rattle.run_reports.proofs.run_places.shown.shown_at.Given as goal
 
 abbrev pub invariant-loop-turn : goal.invariant-loop-turn

@@ -1,7 +1,6 @@
 -- Turn by turn, up to the one at whose entries the place is.
 use Rattle.std.proofs.Common.{[], ◌∷◌, ◌++◌, sym, ◌∙◌, arith}
-use Rattle.rv_machine.specs.declared.stops.Stop.TheVariants.{Budget}
-use Rattle.rv_machine.specs.Leakage.{stays}
+use Rattle.run_reports.specs.Below.{Budget, stays}
 use Rattle.run_reports.proofs.run_places_lemmas.Below.{entry_count-append, none_of}
 use Rattle.run_reports.proofs.run_places_lemmas.Runs.{is_last, Leads-length, fewer_here, ends_silently, ends_spent}
 use Rattle.run_reports.proofs.run_places_lemmas.Runs.{went_on_by}

@@ -1,4 +1,4 @@
-use Rattle.rv_machine.specs.Leakage.{spent}
+use Rattle.run_reports.specs.Below.{spent}
 use Rattle.run_reports.proofs.run_places_lemmas.Below.{Runs-determined}
 use Rattle.run_reports.proofs.run_places.turns.make_turns.Goals as goal
 

@@ -3,8 +3,7 @@ use Rattle.std.proofs.Common.{◌≡◌, ℕ, ◌*◌, suc, true, ◌++◌, Resu
 use Rattle.std.specs.Result.{is_ok}
 use Rattle.run_reports.specs.progress.Lines.{turns_a_line, progress_line, WentOut}
 use Rattle.run_reports.proofs.progress_lemmas.Told.{told_next, cut_next, still_cut}
-use Rattle.streams.specs.Streams.{GainsPart, Collected}
-use Rattle.word.specs.Counts.{one_more}
+use Rattle.run_reports.specs.Below.{Collected, GainsPart, one_more}
 use Rattle.run_reports.proofs.progress.lines.ProgressLines.tell.Goals as goal
 
 -- by what the call answered
