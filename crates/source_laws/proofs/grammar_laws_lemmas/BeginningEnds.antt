@@ -6,19 +6,16 @@ use Rattle.syntax.specs.declared.token.Keyword.{Keyword}
 use Rattle.syntax.specs.declared.token.Keyword.TheVariants as keyword
 use Rattle.syntax.specs.declared.token.Sign.{Sign}
 use Rattle.syntax.specs.declared.token.Sign.TheVariants as sign
-use Rattle.syntax.specs.declared.token.TokenKind.{TokenKind}
+use Rattle.source_laws.specs.Below.{a_phrase, a_token, all, any_amount, any_conversion, any_label, any_length}
+use Rattle.source_laws.specs.Below.{any_number, any_prefix, any_word, Begins, BeginsParts, by_case, Case, in_case}
+use Rattle.source_laws.specs.Below.{in_phrase, IsOne, Lexeme, no_part, no_token, of_kind, one, operator_of, origin}
+use Rattle.source_laws.specs.Below.{Part, past_phrase, Phrase, Single, the_operator, TokenKind, Whole, WholeParts}
 use Rattle.syntax.specs.declared.token.TokenKind.TheVariants as token
 use Rattle.language.specs.declared.operators.BinaryOperator.{BinaryOperator}
 use Rattle.language.specs.declared.operators.BinaryOperator.TheVariants as operator
 use Rattle.language.specs.declared.operators.PrefixOperator.TheVariants as prefix
-use Rattle.syntax.specs.Beginning.{Whole, by_case, WholeParts, no_part, a_token, a_phrase, Begins, in_case}
-use Rattle.syntax.specs.Beginning.{BeginsParts, no_token, past_token, past_phrase, in_phrase}
+use Rattle.syntax.specs.Beginning.{past_token}
 use Rattle.syntax.specs.Cases as cases
-use Rattle.syntax.specs.Cases.{Single, of_kind, any_number, any_amount, any_length, any_label, any_word}
-use Rattle.syntax.specs.Cases.{any_conversion, any_prefix, the_operator, IsOne, Phrase, Part, one, all, Case}
-use Rattle.syntax.specs.Grammar.{operator_of}
-use Rattle.syntax.specs.Lexeme.{Lexeme}
-use Rattle.word.specs.Places.{origin}
 use Rattle.source_laws.proofs.grammar_laws_lemmas.BeginningLaws.{frame}
 
 abbrev of : TokenKind → Lexeme

@@ -1,9 +1,8 @@
 -- A front of a whole phrase begins it.
 use Rattle.std.proofs.Common.{◌≡◌, ◌⊎◌, inl, inr, List, [], ◌∷◌, ◌++◌, refl, subst}
-use Rattle.syntax.specs.Beginning.{Whole, by_case, WholeParts, no_part, a_token, a_phrase, Begins, in_case}
-use Rattle.syntax.specs.Beginning.{BeginsParts, no_token, past_token, past_phrase, in_phrase}
-use Rattle.syntax.specs.Cases.{IsOne, Phrase, Part, all}
-use Rattle.syntax.specs.Lexeme.{Lexeme}
+use Rattle.source_laws.specs.Below.{a_phrase, a_token, all, Begins, BeginsParts, by_case, in_case, in_phrase, IsOne}
+use Rattle.source_laws.specs.Below.{Lexeme, no_part, no_token, Part, past_phrase, Phrase, Whole, WholeParts}
+use Rattle.syntax.specs.Beginning.{past_token}
 
 -- further tokens may stand behind the rest
 mutual

@@ -1,9 +1,6 @@
 -- The cases of the grammar make its programs and their beginnings.
 use Rattle.std.proofs.Common.{List, [], ◌++◌, refl}
-use Rattle.syntax.specs.Beginning.{Begins, AreByCases}
-use Rattle.syntax.specs.Cases.{procedures}
-use Rattle.syntax.specs.Grammar.{a_program, IsBeginning}
-use Rattle.syntax.specs.Lexeme.{Lexeme}
+use Rattle.source_laws.specs.Below.{a_program, AreByCases, Begins, IsBeginning, Lexeme, procedures}
 use Rattle.source_laws.proofs.grammar_laws_lemmas.BeginningEnds.{ends}
 use Rattle.source_laws.proofs.grammar_laws_lemmas.BeginningLaws.{front_begins}
 use Rattle.source_laws.proofs.grammar_laws_lemmas.CasesOfTrees.{program}

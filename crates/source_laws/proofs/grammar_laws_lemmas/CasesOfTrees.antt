@@ -1,20 +1,14 @@
 -- What the grammar gives a tree is made by its cases, and the tree's heads are tokens of the text.
 use Rattle.std.proofs.Common.{ℕ, ◌+◌, ◌≤◌, Bool, List, [], ◌∷◌, Option, arith}
-use Rattle.word.specs.declared.place.Place.{Place}
-use Rattle.language.specs.declared.signature.Kind.{Kind}
-use Rattle.language.specs.declared.typing.WordType.{WordType}
-use Rattle.language.specs.Tree.{ExprTree, CallTree, RightTree, StatementTree, BlockTree, ParameterTree, ReturnTree}
-use Rattle.language.specs.Tree.{ProcedureTree, ProgramTree}
-use Rattle.syntax.specs.declared.token.TokenKind.{TokenKind}
-use Rattle.syntax.specs.Beginning.{Whole, by_case, WholeParts, no_part, a_token, a_phrase}
+use Rattle.source_laws.specs.Below.{a_phrase, a_token, all, Arguments, ArrayType, Block, BlockTree, BodyEnd, by_case}
+use Rattle.source_laws.specs.Below.{Call, CallTree, Case, Conditional, Exported, ExprAt, ExprTree, FirstValues, IsOne}
+use Rattle.source_laws.specs.Below.{IsProgram, Kind, Lexeme, MoreExprs, MoreParameters, Mutable, no_part, one}
+use Rattle.source_laws.specs.Below.{Otherwise, Parameter, Parameters, ParameterTree, Part, Phrase, Place, Procedure}
+use Rattle.source_laws.specs.Below.{Procedures, ProcedureTree, ProgramTree, ResultType, ReturnTree, RightSide}
+use Rattle.source_laws.specs.Below.{RightTree, Single, SomeExprs, Statement, Statements, StatementTree, TokenKind}
+use Rattle.source_laws.specs.Below.{Whole, WholeParts, WordType}
 use Rattle.syntax.specs.Cases as cases
-use Rattle.syntax.specs.Cases.{Single, IsOne, Phrase, Part, one, all, Case}
 use Rattle.syntax.specs.Grammar as grammar
-use Rattle.syntax.specs.Grammar.{ExprAt, MoreExprs, SomeExprs, Arguments, Call, RightSide, Mutable, ArrayType}
-use Rattle.syntax.specs.Grammar.{FirstValues, Statement, Conditional, Statements, Block, Otherwise, Parameter}
-use Rattle.syntax.specs.Grammar.{MoreParameters, Parameters, ResultType, BodyEnd, Exported, Procedure, Procedures}
-use Rattle.syntax.specs.Grammar.{IsProgram}
-use Rattle.syntax.specs.Lexeme.{Lexeme}
 use Rattle.source_laws.specs.grammar_laws.Heads.{in_expr, in_exprs, in_values, in_call, in_right, in_statement}
 use Rattle.source_laws.specs.grammar_laws.Heads.{in_block, in_parameters, in_return, in_export, in_procedure}
 use Rattle.source_laws.specs.grammar_laws.Heads.{in_procedures, in_program}

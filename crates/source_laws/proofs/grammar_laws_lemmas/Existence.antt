@@ -4,20 +4,15 @@ use Rattle.std.proofs.Common.{take, drop, refl, arith, nat_eq}
 use Rattle.std.proofs.lemmas.Bool.{cases_lt}
 use Rattle.std.specs.Prelude.{codes}
 use Rattle.std.specs.List.{position_or_len, starts_with}
-use Rattle.word.specs.Places.{origin}
-use Rattle.word.specs.declared.place.Place.{Place}
-use Rattle.language.specs.declared.rule.Rule.TheVariants.{UnknownCharacter, TextTooLong, BadNumber as BadNumberRule}
+use Rattle.source_laws.specs.Below.{Answer, at_bad_number, at_end, at_unknown_character, BadNumber, BeginsWith}
+use Rattle.source_laws.specs.Below.{BeginsWithNone, by_tokens, Ending, ends_at, is_blank, is_line_feed, is_word_byte}
+use Rattle.source_laws.specs.Below.{Lexeme, Lexes, LexesFrom, origin, past_space, past_token, Piece, Place, place_after}
+use Rattle.source_laws.specs.Below.{Reads, refused, Sign as SignToken, sign_text, Space, stops, TextTooLong, Token}
+use Rattle.source_laws.specs.Below.{too_long, UnknownCharacter}
+use Rattle.language.specs.declared.rule.Rule.TheVariants.{BadNumber as BadNumberRule}
 use Rattle.syntax.specs.Limits.{text_limit}
-use Rattle.syntax.specs.declared.lexer.piece.Piece.{Piece}
-use Rattle.syntax.specs.declared.lexer.piece.Piece.TheVariants.{Space, Token, BadNumber}
-use Rattle.syntax.specs.declared.token.TokenKind.TheVariants.{Sign as SignToken}
-use Rattle.syntax.specs.Lexeme.{Lexeme}
 use Rattle.syntax.specs.Nesting.{outside}
-use Rattle.syntax.specs.Reading.{Answer, refused, Reads, too_long, by_tokens}
-use Rattle.syntax.specs.Spelling.{is_blank, is_line_feed, is_word_byte, sign_text}
 use Rattle.syntax.specs.private.Splitting.{is_no_word_byte}
-use Rattle.syntax.specs.Tokens.{BeginsWith, BeginsWithNone, Ending, ends_at, stops, Lexes, LexesFrom, at_end}
-use Rattle.syntax.specs.Tokens.{past_space, past_token, at_bad_number, at_unknown_character, place_after}
 use Rattle.syntax.specs.private.Machine.{program, verdict}
 use Rattle.source_laws.proofs.grammar_laws_lemmas.Below.{answers, OnlySigns, blank_piece, comment_piece, signs}
 use Rattle.source_laws.proofs.grammar_laws_lemmas.Below.{word_piece, word_some, run_at, none_from_all, rest_shorter}

@@ -1,12 +1,7 @@
 -- A head's offset decides its line and its column, since it is a token's.
 use Rattle.std.proofs.Common.{◌≡◌, ℕ, List, [], ◌∷◌, take, refl, ap, arith}
 use Rattle.std.specs.List.{AllByRecursion}
-use Rattle.word.specs.Places.{origin}
-use Rattle.word.specs.declared.place.Place.{Place}
-use Rattle.language.specs.Tree.{ProgramTree}
-use Rattle.syntax.specs.Lexeme.{Lexeme}
-use Rattle.syntax.specs.Reading.{Reads, accepted, by_tokens}
-use Rattle.syntax.specs.Tokens.{place_after}
+use Rattle.source_laws.specs.Below.{accepted, by_tokens, Lexeme, origin, Place, place_after, ProgramTree, Reads}
 use Rattle.source_laws.specs.grammar_laws.Heads.{astray, in_program}
 use Rattle.source_laws.proofs.grammar_laws_lemmas.TokenPlaces.{IsPlacedIn, placed_from}
 use Rattle.source_laws.proofs.grammar_laws_lemmas.CasesOfTrees.{among}

@@ -3,10 +3,8 @@ use Rattle.std.proofs.Common.{◌≡◌, ℕ, ◌+◌, List, [], ◌∷◌, ◌+
 use Rattle.std.specs.List.{All, AllByRecursion}
 use Rattle.std.proofs.lemmas.List.{take_at}
 use Rattle.std.proofs.lemmas.List.Elements.{All-from_recursion}
-use Rattle.word.specs.Places.{origin}
-use Rattle.word.specs.declared.place.Place.{Place}
-use Rattle.syntax.specs.Lexeme.{Lexeme}
-use Rattle.syntax.specs.Tokens.{Ending, Lexes, LexesFrom, past_space, past_token, place_after, next_place}
+use Rattle.source_laws.specs.Below.{Ending, Lexeme, Lexes, LexesFrom, next_place, origin, past_space, past_token, Place}
+use Rattle.source_laws.specs.Below.{place_after}
 
 -- the token's place is that after the bytes before it
 abbrev pub IsPlacedIn : List ℕ → Lexeme → Type 0

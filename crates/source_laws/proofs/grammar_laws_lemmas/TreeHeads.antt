@@ -1,11 +1,9 @@
 -- The heads of a tree are tokens of the text, and each token is at most one head.
 use Rattle.std.proofs.Common.{◌≡◌, ℕ, ◌+◌, ◌<◌, ◌≤◌, List, refl, arith}
 use Rattle.std.proofs.lemmas.Bool.Decides.{nat_tests}
-use Rattle.word.specs.declared.place.Place.{Place}
-use Rattle.language.specs.Tree.{ProgramTree}
-use Rattle.syntax.specs.Lexeme.{Lexeme}
-use Rattle.syntax.specs.Reading.{Reads, accepted, by_tokens, Answers, a_program}
-use Rattle.syntax.specs.Tokens.{Ending, LexesFrom, past_space, past_token}
+use Rattle.source_laws.specs.Below.{accepted, Answers, by_tokens, Ending, Lexeme, LexesFrom, past_space, past_token}
+use Rattle.source_laws.specs.Below.{Place, ProgramTree, Reads}
+use Rattle.syntax.specs.Reading.{a_program}
 use Rattle.source_laws.proofs.grammar_laws_lemmas.Below.{spelled_some}
 use Rattle.source_laws.proofs.grammar_laws_lemmas.CasesOfTrees.{among, program}
 use Rattle.source_laws.proofs.grammar_laws_lemmas.TokenPlaces.{offset_after}

@@ -1,18 +1,13 @@
 -- What the cases of the grammar make has a tree.
 use Rattle.std.proofs.Common.{◌≡◌, ℕ, Bool, List, [], ◌∷◌, Option}
-use Rattle.word.specs.declared.place.Place.{Place}
-use Rattle.language.specs.declared.signature.Kind.{Kind}
-use Rattle.language.specs.declared.typing.WordType.{WordType}
-use Rattle.syntax.specs.Beginning.{Whole, by_case, WholeParts, no_part, a_token, a_phrase}
+use Rattle.source_laws.specs.Below.{a_phrase, a_token, all, Arguments, ArrayType, Block, BlockTree, BodyEnd, by_case}
+use Rattle.source_laws.specs.Below.{Call, CallTree, Case, Conditional, Exported, ExprAt, ExprTree, FirstValues, IsOne}
+use Rattle.source_laws.specs.Below.{Kind, Lexeme, MoreExprs, MoreParameters, Mutable, no_part, one, Otherwise}
+use Rattle.source_laws.specs.Below.{Parameter, Parameters, ParameterTree, Part, Phrase, Place, Procedure, Procedures}
+use Rattle.source_laws.specs.Below.{ProcedureTree, ResultType, ReturnTree, RightSide, RightTree, Single, SomeExprs}
+use Rattle.source_laws.specs.Below.{Statement, Statements, StatementTree, Whole, WholeParts, WordType}
 use Rattle.syntax.specs.Cases as cases
-use Rattle.syntax.specs.Cases.{Single, IsOne, Phrase, Part, one, all, Case}
 use Rattle.syntax.specs.Grammar as grammar
-use Rattle.syntax.specs.Grammar.{ExprAt, MoreExprs, SomeExprs, Arguments, Call, RightSide, Mutable, ArrayType}
-use Rattle.syntax.specs.Grammar.{FirstValues, Statement, Conditional, Statements, Block, Otherwise, Parameter}
-use Rattle.syntax.specs.Grammar.{MoreParameters, Parameters, ResultType, BodyEnd, Exported, Procedure, Procedures}
-use Rattle.syntax.specs.Lexeme.{Lexeme}
-use Rattle.language.specs.Tree.{ExprTree, CallTree, RightTree, StatementTree, BlockTree, ParameterTree, ReturnTree}
-use Rattle.language.specs.Tree.{ProcedureTree}
 
 infixr 50 ◌▸◌
 infixr 50 ◌▹◌

@@ -1,18 +1,26 @@
 -- A rule is violated at a head of the tree, or at the place where a text begins.
 use Rattle.std.proofs.Common.{◌≡◌, ℕ, Bool, true, false, not, ◌+◌, ◌==◌, if◌then◌else◌, List, [], ◌∷◌, ◌++◌, length}
 use Rattle.std.proofs.Common.{Option, None, Some, is_some, refl, arith}
-use Rattle.word.specs.Places.{origin}
-use Rattle.word.specs.declared.place.Place.{Place}
-use Rattle.word.specs.declared.profile.Profile.{Profile}
+use Rattle.source_laws.specs.Below.{ArgumentCount, arguments_violations, array, array_violations, asked_of_one}
+use Rattle.source_laws.specs.Below.{asked_of_three, asked_of_two, assignment, assignment_violations, because}
+use Rattle.source_laws.specs.Below.{because_of, binary, block_violations, BlockTree, body_scope, bounds_rules, call}
+use Rattle.source_laws.specs.Below.{call_violations, called, called_one, Callee, callee, CallTree, change_violations}
+use Rattle.source_laws.specs.Below.{clash_violations, computed, condition_rules, conditional, control_rules}
+use Rattle.source_laws.specs.Below.{control_violations, convert, count_violations, counter_as, declaration}
+use Rattle.source_laws.specs.Below.{declaration_control_violations, declaration_violations, declared, declared_at}
+use Rattle.source_laws.specs.Below.{element, element_assignment, element_assignment_violations, empty, export_place}
+use Rattle.source_laws.specs.Below.{export_violations, exports, ExprTree, first, first_clash, found, Kind, kind_of}
+use Rattle.source_laws.specs.Below.{known_call_violations, Label, label_of, label_under, loop, missing_violations, name}
+use Rattle.source_laws.specs.Below.{NameDeclaredTwice, nothing, NotMutable, number, of_one, of_two, origin}
+use Rattle.source_laws.specs.Below.{parameter_as, parameter_violations, ParameterTree, Passed, passed_violations, Place}
+use Rattle.source_laws.specs.Below.{prefix, procedure_violations, procedures_violations, ProcedureTree, Profile}
+use Rattle.source_laws.specs.Below.{ProgramTree, return_violations, returned_violations, ReturnTree, right_typed}
+use Rattle.source_laws.specs.Below.{right_violations, RightTree, rotate, Scope, scope_after, scope_after_all, select}
+use Rattle.source_laws.specs.Below.{size_violations, statement_violations, StatementTree, too_many, truth, value_rules}
+use Rattle.source_laws.specs.Below.{value_violations, values_violations, ValueType, variable, Violation, violations}
+use Rattle.source_laws.specs.Below.{when, with_procedure, WordType, written}
 use Rattle.language.specs.declared.rule.Rule.{Rule}
-use Rattle.language.specs.declared.rule.Rule.TheVariants.{ArgumentCount, NameDeclaredTwice, NotMutable}
-use Rattle.language.specs.declared.signature.Kind.{Kind}
-use Rattle.language.specs.declared.signature.Label.{Label}
-use Rattle.language.specs.declared.typing.Callee.{Callee}
-use Rattle.language.specs.declared.typing.ValueType.{ValueType}
 use Rattle.language.specs.declared.typing.VariableType.{VariableType}
-use Rattle.language.specs.declared.typing.Violation.{Violation}
-use Rattle.language.specs.declared.typing.WordType.{WordType}
 use Rattle.language.specs.declared.why.Part.{Part}
 use Rattle.language.specs.declared.why.Part.TheVariants.{Element, Result, Variable as VariablePart}
 use Rattle.language.specs.declared.why.SecretControl.{SecretControl}
@@ -26,23 +34,7 @@ use Rattle.language.specs.ExprTyping.{select_rules, type_of, typed_of, typed_of_
 use Rattle.language.specs.Operators.{operation_of}
 use Rattle.language.specs.Reasons.{operand_why, operands_why, rotate_why, choice_why, element_why, condition_why}
 use Rattle.language.specs.Reasons.{bounds_why, control_under}
-use Rattle.language.specs.Size.{size_violations}
-use Rattle.language.specs.Tree.{ExprTree, number, truth, name, prefix, binary, rotate, convert, select, element}
-use Rattle.language.specs.Tree.{CallTree, RightTree, called, computed, StatementTree, declaration, array, assignment}
-use Rattle.language.specs.Tree.{element_assignment, call, conditional, loop, BlockTree, nothing, first, ParameterTree}
-use Rattle.language.specs.Tree.{ReturnTree, ProcedureTree, ProgramTree, written}
-use Rattle.language.specs.Types.{Scope, asked_of_one, asked_of_two, asked_of_three, because, because_of, declared, empty}
-use Rattle.language.specs.Types.{callee, declared_at, found, kind_of, label_of, label_under, of_one, of_two, variable, when}
-use Rattle.language.specs.Typing.{Passed, arguments_violations, array_violations, assignment_violations}
-use Rattle.language.specs.Typing.{block_violations, body_scope, bounds_rules, called_one, right_typed, scope_after_all}
-use Rattle.language.specs.Typing.{call_violations, change_violations, clash_violations}
-use Rattle.language.specs.Typing.{condition_rules, control_rules, control_violations, count_violations, counter_as}
-use Rattle.language.specs.Typing.{declaration_control_violations, declaration_violations}
-use Rattle.language.specs.Typing.{element_assignment_violations, export_place, export_violations, exports, first_clash}
-use Rattle.language.specs.Typing.{known_call_violations, missing_violations, parameter_as, parameter_violations, passed}
-use Rattle.language.specs.Typing.{passed_violations, procedure_violations, procedures_violations, return_violations}
-use Rattle.language.specs.Typing.{returned_violations, right_violations, scope_after, statement_violations, too_many}
-use Rattle.language.specs.Typing.{value_rules, value_violations, values_violations, violations, with_procedure}
+use Rattle.language.specs.Typing.{passed}
 use Rattle.source_laws.proofs.grammar_laws_lemmas.Light.{AreLight, none, more, both}
 use Rattle.source_laws.specs.grammar_laws.Heads.{in_block, in_call, in_expr, in_exprs, in_export, in_parameters}
 use Rattle.source_laws.specs.grammar_laws.Heads.{in_procedure, in_procedures, in_program, in_return, in_right}

@@ -10,13 +10,11 @@ use Rattle.std.specs.Str.Parse.{AllDigits, IsNumeral, digits_value}
 use Rattle.std.proofs.lemmas.Bool.{cases_lt}
 use Rattle.std.proofs.lemmas.List.{take-append-drop}
 use Rattle.std.proofs.lemmas.Slice.Eq.{bytes_eq-Decides}
-use Rattle.syntax.specs.declared.lexer.piece.Piece.{Piece}
-use Rattle.syntax.specs.declared.lexer.piece.Piece.TheVariants.{Token, BadNumber}
+use Rattle.source_laws.specs.Below.{bad_number, BadNumber, is_word_byte, IsNumber, keyword, Keyword as KeywordToken}
+use Rattle.source_laws.specs.Below.{keyword_text, Name as NameToken, Number as NumberToken, Piece, Spells, suffix_text}
+use Rattle.source_laws.specs.Below.{Token, WritesValue}
 use Rattle.syntax.specs.declared.token.Suffix.{Suffix}
-use Rattle.syntax.specs.declared.token.TokenKind.TheVariants.{Keyword as KeywordToken, Name as NameToken}
-use Rattle.syntax.specs.declared.token.TokenKind.TheVariants.{Number as NumberToken}
-use Rattle.syntax.specs.Spelling.{IsNumber, Spells, WritesValue, bad_number, keyword, keyword_text, is_word_byte}
-use Rattle.syntax.specs.Spelling.{name, number, suffix_text}
+use Rattle.syntax.specs.Spelling.{name, number}
 use Rattle.syntax.specs.private.Splitting.{SplitsAtFirst, is_suffix_letter}
 use Rattle.source_laws.proofs.grammar_laws_lemmas.Below.{name_word, number_cut, number_word, suffixes, suffix_found}
 use Rattle.source_laws.proofs.grammar_laws_lemmas.Below.{keywords, keyword_found, find_passes, value_unique, run_at}

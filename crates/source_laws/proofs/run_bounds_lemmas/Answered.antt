@@ -3,26 +3,13 @@ use Rattle.std.proofs.Common.{◌≡◌, ℕ, ◌≤◌, nat_lt, false, List, []
 use Rattle.std.proofs.Common.{subst, arith}
 use Rattle.std.proofs.lemmas.Bool.Decides.{nat_tests}
 use Rattle.std.specs.List.{AllByRecursion}
-use Rattle.language.specs.arguments.Within.{AreWithin}
-use Rattle.inline.specs.FlatMeaning.{outcome_of}
-use Rattle.inline.specs.FlatTyping.{IsTypedProgram}
-use Rattle.inline.specs.Numbering.{flattened, param_of}
+use Rattle.source_laws.specs.Below.{AreWithin, Arg, bodies_of, exported, extents_of, flattened, Gives, gives}
+use Rattle.source_laws.specs.Below.{IsGrammatical, IsTypedProgram, most_bodies, most_work, outcome_of, param_of}
+use Rattle.source_laws.specs.Below.{ProcedureTree, Profile, program_run, ProgramTree, range_violations, Run, run_answer}
+use Rattle.source_laws.specs.Below.{turns_of, violations, work_of}
 use Rattle.source_laws.proofs.run_bounds_lemmas.Below.{flat_keeps_meaning, safe_runs_are_within_work, accepted_is_safe}
 use Rattle.source_laws.proofs.run_bounds_lemmas.Below.{safe_runs_meet_no_fault, program_opens, worked-out}
-use Rattle.intervals.specs.Limits.{most_work}
-use Rattle.intervals.specs.Ranges.{range_violations, turns_of}
-use Rattle.intervals.specs.Work.{work_of}
-use Rattle.language.specs.Limits.{most_bodies}
-use Rattle.language.specs.declared.values.Arg.{Arg}
-use Rattle.language.specs.Evaluation.{Run, program_run}
-use Rattle.language.specs.Grammatical.{IsGrammatical}
-use Rattle.language.specs.Meaning.{Gives, gives, exported}
 use Rattle.language.specs.Results.{Results}
-use Rattle.language.specs.Size.{bodies_of, extents_of}
-use Rattle.language.specs.Tree.{ProcedureTree, ProgramTree}
-use Rattle.language.specs.Typing.{violations}
-use Rattle.source_eval.specs.Answer.{run_answer}
-use Rattle.word.specs.declared.profile.Profile.{Profile}
 use Rattle.source_laws.proofs.run_bounds_lemmas.Programs.{program_spends}
 
 not_above : (a b : ℕ) → b ≤ a → nat_lt a b ≡ false

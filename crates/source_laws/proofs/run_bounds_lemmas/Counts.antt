@@ -2,20 +2,16 @@
 use Rattle.std.proofs.Common.{◌≡◌, ℕ, ◌+◌, ◌≤◌, List, [], ◌∷◌, Option, Some, None}
 use Rattle.std.proofs.Common.{inl, inr, refl, sym, ◌∙◌, subst, arith}
 use Rattle.std.proofs.lemmas.Bool.{cases_Bool}
-use Rattle.word.specs.declared.place.Place.{Place}
-use Rattle.inline.specs.Flat.{FlatBlock, nothing, first, chain}
+use Rattle.source_laws.specs.Below.{after, after_all, andthen, binary, chain, continued, convert, element, ended}
+use Rattle.source_laws.specs.Below.{evaluated_all, ExprTree, faults, FlatBlock, gives, inside, is_word, name, nodes_in}
+use Rattle.source_laws.specs.Below.{nodes_in_all, nodes_passed, number, Numbers, ParameterTree, passed as passed_block}
+use Rattle.source_laws.specs.Below.{Place, prefix, return_run, ReturnTree, rotate, Run, select, State, term_nodes, tick}
+use Rattle.source_laws.specs.Below.{truth, value, value_given, value_nodes, value_of, Values, values, word_arguments}
+use Rattle.inline.specs.Flat.{nothing, first}
 use Rattle.inline.specs.Flat as flat
-use Rattle.inline.specs.FlatMeaning.{Values, after, after_all}
-use Rattle.inline.specs.FlatSize.{term_nodes, value_nodes}
-use Rattle.inline.specs.Numbering.{Numbers, passed as passed_block, value_given, value_of}
 use Rattle.source_laws.proofs.run_bounds_lemmas.Below.{same_nodes, Comes, well, fails, mismatch}
-use Rattle.intervals.specs.Evaluated.{evaluated_all}
-use Rattle.language.specs.Evaluation.{Run, ended, tick, inside, andthen, continued, value, values, passed, return_run}
-use Rattle.language.specs.Meaning.{Ending, gives, faults, is_word, word_arguments}
-use Rattle.language.specs.Size.{nodes_in, nodes_in_all, nodes_passed}
-use Rattle.language.specs.State.{State}
-use Rattle.language.specs.Tree.{ExprTree, number, truth, name, prefix, binary, rotate, convert, select, element}
-use Rattle.language.specs.Tree.{ParameterTree, ReturnTree}
+use Rattle.language.specs.Evaluation.{passed}
+use Rattle.language.specs.Meaning.{Ending}
 
 -- Parts.
 

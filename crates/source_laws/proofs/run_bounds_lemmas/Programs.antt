@@ -1,23 +1,14 @@
 -- A program that violates no rule evaluates no more nodes than are counted for the one body that it becomes.
 use Rattle.std.proofs.Common.{◌≡◌, ◌≤◌, List, [], ◌++◌, length, map, Some, arith}
 use Rattle.std.specs.List.{AllByRecursion}
-use Rattle.language.specs.arguments.Within.{AreWithin}
-use Rattle.inline.specs.FlatMeaning.{given}
-use Rattle.inline.specs.FlatTyping.{parameter_types}
-use Rattle.inline.specs.Numbering.{param_of, callables, parameter_names, names_after_all, flattened, declared_in_all}
+use Rattle.source_laws.specs.Below.{AreWithin, Arg, callables, declared_in_all, evaluated_by, export_run, exported}
+use Rattle.source_laws.specs.Below.{flattened, given, holding, IsGrammatical, names_after_all, param_of}
+use Rattle.source_laws.specs.Below.{parameter_names, parameter_types, ProcedureTree, Profile, program_run, ProgramTree}
+use Rattle.source_laws.specs.Below.{Scope, violations, with_procedure}
 use Rattle.source_laws.proofs.run_bounds_lemmas.Below.{IsKept, begins, behaves, shows_arguments, all_own}
 use Rattle.source_laws.proofs.run_bounds_lemmas.Below.{linked_parameters, Stand, IsCallable, callable_parameters}
 use Rattle.source_laws.proofs.run_bounds_lemmas.Below.{callable_within, own_typing, variables_within}
-use Rattle.intervals.specs.Evaluated.{evaluated_by}
-use Rattle.language.specs.declared.values.Arg.{Arg}
-use Rattle.language.specs.Evaluation.{export_run, program_run}
-use Rattle.language.specs.Grammatical.{IsGrammatical}
-use Rattle.language.specs.Meaning.{exported, holding}
-use Rattle.language.specs.Tree.{ProcedureTree, ProgramTree}
-use Rattle.language.specs.Types.{Scope}
-use Rattle.language.specs.Typing.{violations, with_procedure}
 use Rattle.language.specs.WellTyped as rules
-use Rattle.word.specs.declared.profile.Profile.{Profile}
 use Rattle.source_laws.proofs.run_bounds_lemmas.Counts.{IsWithin, fits, none, then_within, inside_within, return_spends}
 use Rattle.source_laws.proofs.run_bounds_lemmas.Spending.{Spends, HasBound, block_spends}
 

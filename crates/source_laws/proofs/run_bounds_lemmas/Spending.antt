@@ -2,17 +2,19 @@
 use Rattle.std.proofs.Common.{◌≡◌, ℕ, zero, suc, ◌+◌, ◌-◌, ◌≤◌, ◌==◌, Bool, true, false, not, if◌then◌else◌, List, []}
 use Rattle.std.proofs.Common.{◌∷◌, length, Option, Some, None, refl, sym, ap, ◌∙◌, subst, arith}
 use Rattle.inline.specs.declared.numbering.Numbered.{Numbered}
-use Rattle.inline.specs.Flat.{word_as}
+use Rattle.source_laws.specs.Below.{after_all, AreAllSmall, ArePlain, begun as begun_names, block, BlockTree, body_run}
+use Rattle.source_laws.specs.Below.{call_block, call_result, call_run, call_value, call_variables, Callable, callable}
+use Rattle.source_laws.specs.Below.{callables, Callee, CallTree, computed, counter_type, counting, dropped_block}
+use Rattle.source_laws.specs.Below.{evaluated_all, evaluated_in_turns, ExprTree, gives, IsPlain, IsSmallRight, Label}
+use Rattle.source_laws.specs.Below.{names_after, names_after_all, naming, Numbers, numbers_taken, numbers_taken_all}
+use Rattle.source_laws.specs.Below.{passed as passed_block, passed_variables, ProcedureTree, Profile, right}
+use Rattle.source_laws.specs.Below.{right_block, right_run, RightTree, Run, run, run_all, Runnable, runnable, runnables}
+use Rattle.source_laws.specs.Below.{Scope, single, State, StatementTree, term, term_nodes, turns, Types}
+use Rattle.source_laws.specs.Below.{types_after_all, value, value_in, value_nodes, value_of, Values, ValueType}
+use Rattle.source_laws.specs.Below.{with_parameters, Word as a_word, word_arguments, word_as, WordType, written}
 use Rattle.inline.specs.Flat as flat_tree
-use Rattle.inline.specs.FlatMeaning.{Values, value_in, after_all}
 use Rattle.inline.specs.FlatMeaning as flat
-use Rattle.inline.specs.FlatSize.{term_nodes, value_nodes}
-use Rattle.inline.specs.FlatTyping.{Types, counter_type, types_after_all}
 use Rattle.inline.specs.Numbering as numbering
-use Rattle.inline.specs.Numbering.{Numbers, Callable, callable, callables, begun as begun_names, passed as passed_block}
-use Rattle.inline.specs.Numbering.{passed_variables, term, block, naming, names_after, names_after_all, numbers_taken}
-use Rattle.inline.specs.Numbering.{numbers_taken_all, right, right_block, call_block, call_value, call_result}
-use Rattle.inline.specs.Numbering.{call_variables, value_of, dropped_block}
 use Rattle.source_laws.proofs.run_bounds_lemmas.Below.{Enters, enters, distinct_none, Ready, ready_later}
 use Rattle.source_laws.proofs.run_bounds_lemmas.Below.{ready_declared, ready_after, Behaves, call_means, no_names}
 use Rattle.source_laws.proofs.run_bounds_lemmas.Below.{same_nodes, same_all, same_end, same_ends, Linked, entry}
@@ -20,25 +22,13 @@ use Rattle.source_laws.proofs.run_bounds_lemmas.Below.{found-kept, passed_comes,
 use Rattle.source_laws.proofs.run_bounds_lemmas.Below.{callable_after, callable_declared, shows_declared, shows_before}
 use Rattle.source_laws.proofs.run_bounds_lemmas.Below.{shows_kept, with_value-other, Shows, word_at, means}
 use Rattle.source_laws.proofs.run_bounds_lemmas.Below.{value-worked, passed-worked, statement-worked, block-worked}
-use Rattle.intervals.specs.Evaluated.{evaluated_all, evaluated_in_turns}
 use Rattle.language.specs.declared.signature.Kind.TheVariants.{Uint32}
-use Rattle.language.specs.declared.signature.Label.{Label}
-use Rattle.language.specs.declared.typing.Callee.{Callee}
-use Rattle.language.specs.declared.typing.ValueType.{ValueType}
-use Rattle.language.specs.declared.typing.ValueType.TheVariants.{Word as a_word}
-use Rattle.language.specs.declared.typing.WordType.{WordType}
-use Rattle.language.specs.Evaluation.{Run, Runnable, runnable, runnables, given, value, passed}
-use Rattle.language.specs.Evaluation.{call_run, right_run, turns, run, run_all, body_run}
-use Rattle.language.specs.Grammatical.{AreAllSmall, IsSmallRight, IsPlain, ArePlain}
-use Rattle.language.specs.Meaning.{gives, begun, counting, word_arguments, written}
-use Rattle.language.specs.State.{State, Word, single}
-use Rattle.language.specs.Tree.{ExprTree, CallTree, RightTree, computed, StatementTree, BlockTree, ProcedureTree}
-use Rattle.language.specs.Types.{Scope}
-use Rattle.language.specs.Typing.{with_parameters}
+use Rattle.language.specs.Evaluation.{given, passed}
+use Rattle.language.specs.Meaning.{begun}
+use Rattle.language.specs.State.{Word}
 use Rattle.language.specs.WellTyped as rules
 use Rattle.language.specs.names.Scope.{found}
 use Rattle.language.proofs.KnownLemmas.{known-named}
-use Rattle.word.specs.declared.profile.Profile.{Profile}
 use Rattle.source_laws.proofs.run_bounds_lemmas.Counts.{IsWithin, fits, none, then_within, ticked, inside_within}
 use Rattle.source_laws.proofs.run_bounds_lemmas.Counts.{reached, value_spends, values_spend, passed_spends}
 use Rattle.source_laws.proofs.run_bounds_lemmas.Counts.{given_nodes, evaluated_chain, passed_evaluated}

@@ -3,17 +3,11 @@ use Rattle.std.proofs.Common.{◌≡◌, ◌-◌, List, [], ◌++◌, length, ma
 use Rattle.std.proofs.Common.{length-append}
 use Rattle.std.proofs.lemmas.List.{length-map, length-replicate}
 use Rattle.std.specs.List.{AllByRecursion}
-use Rattle.inline.specs.FlatTyping.{parameter_types}
-use Rattle.inline.specs.Numbering.{Callables, block, callables, declared_in_all, flattened, return_names}
+use Rattle.source_laws.specs.Below.{block, bound_of, Callables, callables, declared_in_all, exported, first_bounds}
+use Rattle.source_laws.specs.Below.{flattened, IsGrammatical, parameter_types, ProcedureTree, Profile, ProgramTree}
+use Rattle.source_laws.specs.Below.{return_names, turns_of, violations, work_of}
 use Rattle.source_laws.proofs.source_work_lemmas.Below.{same_result, flat_is_typed, own_typing, enough_all}
-use Rattle.intervals.specs.Ranges.{bound_of, first_bounds, turns_of}
-use Rattle.intervals.specs.Work.{work_of}
 use Rattle.language.specs.declared.signature.Label.TheVariants.{Public}
-use Rattle.language.specs.Grammatical.{IsGrammatical}
-use Rattle.language.specs.Meaning.{exported}
-use Rattle.language.specs.Tree.{ProcedureTree, ProgramTree}
-use Rattle.language.specs.Typing.{violations}
-use Rattle.word.specs.declared.profile.Profile.{Profile}
 use Rattle.source_laws.specs.source_work.SourceWork.{export_start, export_variables, source_work}
 use Rattle.source_laws.proofs.source_work_lemmas.Sums.{Summed, numbered_alike, summed_one}
 use Rattle.source_laws.proofs.source_work_lemmas.Walked.{body_walked, walked_all}

@@ -5,33 +5,21 @@ use Rattle.std.proofs.lemmas.Bool.{cases_Bool}
 use Rattle.std.proofs.Math.Path.{fun_ext}
 use Rattle.std.specs.Option.{option_map}
 use Rattle.std.specs.Str.{bytes_eq}
-use Rattle.inline.specs.declared.flat.FlatVariable.{FlatVariable}
-use Rattle.inline.specs.Flat.{TermTree}
-use Rattle.inline.specs.FlatSize.{term_nodes, value_nodes}
-use Rattle.inline.specs.Numbering.{Numbers, Callables, callable, callables, passed, call_block, call_variables}
-use Rattle.inline.specs.Numbering.{call_result, call_value, right_block, right, value_of}
-use Rattle.inline.specs.Numbering.{dropped_block, names_after_all, statement, block, term}
+use Rattle.source_laws.specs.Below.{block, BlockTree, Bounds, bounds_after_all, call_block, call_result, call_value}
+use Rattle.source_laws.specs.Below.{call_variables, callable, Callables, callables, CallTree, dropped_block}
+use Rattle.source_laws.specs.Below.{element_assignment, ExprTree, first_known, FlatVariable, interval, is_word}
+use Rattle.source_laws.specs.Below.{known_from, Label, names_after_all, nodes_passed, nothing_known, Numbers}
+use Rattle.source_laws.specs.Below.{ParameterTree, passed, Place, ProcedureTree, result_value, ReturnTree, right}
+use Rattle.source_laws.specs.Below.{right_block, RightTree, Scope, statement, StatementTree, term, term_nodes, TermTree}
+use Rattle.source_laws.specs.Below.{value_nodes, value_of, ValueType, with_bound, with_known, with_procedure, Word}
+use Rattle.source_laws.specs.Below.{word_arguments, WordType, written}
 use Rattle.source_laws.proofs.source_work_lemmas.Below.{same_nodes, same_all, same_result, GoTogether, value_there}
 use Rattle.source_laws.proofs.source_work_lemmas.Below.{Stand, IsAt, IsWithin, earlier_within, callable_after}
 use Rattle.source_laws.proofs.source_work_lemmas.Below.{callable_declared, callable_parameters}
-use Rattle.intervals.specs.Intervals.{Bounds, interval, with_bound}
-use Rattle.intervals.specs.Ranges.{bounds_after_all}
 use Rattle.language.proofs.KnownLemmas.{known-named}
-use Rattle.language.specs.declared.signature.Label.{Label}
-use Rattle.language.specs.declared.typing.ValueType.{ValueType}
-use Rattle.language.specs.declared.typing.ValueType.TheVariants.{Word}
-use Rattle.language.specs.declared.typing.WordType.{WordType}
-use Rattle.language.specs.Known.{first_known, known_from, nothing_known, with_known}
-use Rattle.language.specs.Meaning.{is_word, word_arguments}
-use Rattle.language.specs.Size.{nodes_passed}
-use Rattle.language.specs.Tree.{ExprTree, RightTree, CallTree, StatementTree, element_assignment, BlockTree}
-use Rattle.language.specs.Tree.{ParameterTree, ProcedureTree, ReturnTree, written}
-use Rattle.language.specs.Types.{Scope}
-use Rattle.language.specs.Typing.{result_value, with_procedure}
 use Rattle.language.specs.WellTyped.{IsCall, of_procedure, Gives, of_call, of_value, IsWellTyped, declares}
 use Rattle.language.specs.WellTyped.{declares_array, assigns, assigns_element, calls, chooses, repeats, AreWellTyped}
 use Rattle.language.specs.WellTyped.{no_statement, one_more, IsProcedure, Returns, nothing_returned, value_returned}
-use Rattle.word.specs.declared.place.Place.{Place}
 use Rattle.source_laws.specs.source_work.SourceWork.{Here, here, Worked, Works, numberings, entered, called_work}
 use Rattle.source_laws.specs.source_work.SourceWork.{right_work, behind, turns, in_accepted, in_otherwise, in_turn}
 use Rattle.source_laws.specs.source_work.SourceWork.{statement_work, block_work, worked, works_of}

@@ -1,13 +1,9 @@
 -- The work of a body with numbered variables, by the intervals where each loop stands.
 use Rattle.std.proofs.Common.{◌≡◌, ℕ, ◌+◌, ◌*◌, List, refl, sym, ap₂, arith}
-use Rattle.inline.specs.declared.flat.FlatVariable.{FlatVariable}
-use Rattle.inline.specs.Flat.{FlatTree, declare, array, assign, put, hold, skip, branch, loop, FlatBlock, nothing}
-use Rattle.inline.specs.Flat.{first, chain}
-use Rattle.inline.specs.FlatSize.{term_nodes, terms_nodes}
-use Rattle.intervals.specs.Intervals.{Bounds, interval}
-use Rattle.intervals.specs.Narrowing.{where_true, where_false}
-use Rattle.intervals.specs.Ranges.{bounds_after, bounds_after_all, in_loop, most_turns}
-use Rattle.intervals.specs.Work.{tree_work, body_work}
+use Rattle.source_laws.specs.Below.{assign, body_work, Bounds, bounds_after, bounds_after_all, branch, chain, declare}
+use Rattle.source_laws.specs.Below.{FlatBlock, FlatTree, FlatVariable, hold, in_loop, interval, most_turns, put, skip}
+use Rattle.source_laws.specs.Below.{term_nodes, terms_nodes, tree_work, where_false, where_true}
+use Rattle.inline.specs.Flat.{array, loop, nothing, first}
 use Rattle.source_laws.proofs.source_work_lemmas.Below.{AreCounted, AllCounted}
 
 module _ (declared : List FlatVariable) where

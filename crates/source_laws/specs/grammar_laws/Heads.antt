@@ -1,13 +1,10 @@
 -- The heads of a tree: the place of each node and, where a node names an array, a target or a counter, that name's
 -- place. Each is given a weight, and the weights are summed.
 use Rattle.std.specs.Prelude.{ℕ, ◌+◌, ◌-◌, ◌==◌, List, [], ◌∷◌, take, Option, Some, None, if◌then◌else◌}
-use Rattle.word.specs.declared.place.Place.{Place}
-use Rattle.word.specs.Places.{origin}
-use Rattle.syntax.specs.Tokens.{place_after}
-use Rattle.language.specs.Tree.{ExprTree, number, truth, name, prefix, binary, rotate, convert, select, element}
-use Rattle.language.specs.Tree.{CallTree, RightTree, called, computed, StatementTree, declaration, array, assignment}
-use Rattle.language.specs.Tree.{element_assignment, call, conditional, loop, BlockTree, nothing, first, ParameterTree}
-use Rattle.language.specs.Tree.{ReturnTree, ProcedureTree, ProgramTree}
+use Rattle.source_laws.specs.Below.{array, assignment, binary, BlockTree, call, called, CallTree, computed, conditional}
+use Rattle.source_laws.specs.Below.{convert, declaration, element, element_assignment, ExprTree, first, loop, name}
+use Rattle.source_laws.specs.Below.{nothing, number, origin, ParameterTree, Place, place_after, prefix, ProcedureTree}
+use Rattle.source_laws.specs.Below.{ProgramTree, ReturnTree, RightTree, rotate, select, StatementTree, truth}
 
 -- two weights. 1 where the place is at the offset, else 0
 abbrev pub here : ℕ → Place → ℕ

@@ -3,24 +3,15 @@
 -- elements too; and a call counts the words that it passes and the called body, there where it stands.
 use Rattle.std.specs.Prelude.{ℕ, ◌+◌, ◌*◌, false, nat_lt, List, ◌++◌, length, map, replicate, Option, None, Some}
 use Rattle.std.specs.Option.{option_map}
-use Rattle.inline.specs.declared.flat.FlatVariable.{FlatVariable}
-use Rattle.inline.specs.Flat.{word_as, counter_type, declaration_of}
-use Rattle.inline.specs.Numbering.{Numbers, Callable, Callables, callable, callables, call_names, call_start}
-use Rattle.inline.specs.Numbering.{declared_in_all, label_in, names_after, naming, numbers_taken, numbers_taken_all}
-use Rattle.inline.specs.Numbering.{param_of, parameter_names, passed, statement, term}
-use Rattle.intervals.specs.Limits.{most_work}
-use Rattle.intervals.specs.Intervals.{Bounds, interval, with_bound}
-use Rattle.intervals.specs.Narrowing.{where_false, where_true}
-use Rattle.intervals.specs.Ranges.{bound_of, bounds_after_all, in_loop, most_turns}
-use Rattle.language.specs.declared.rule.Rule.TheVariants.{TooMuchWork}
-use Rattle.language.specs.declared.typing.Violation.{Violation}
-use Rattle.language.specs.Known.{Known, known_of}
-use Rattle.language.specs.Meaning.{word_arguments}
-use Rattle.language.specs.Size.{nodes_in, nodes_in_all, nodes_passed, return_nodes}
-use Rattle.language.specs.Tree.{ExprTree, CallTree, RightTree, called, computed, StatementTree, declaration, array}
-use Rattle.language.specs.Tree.{assignment, element_assignment, call, conditional, loop, BlockTree, nothing, first}
-use Rattle.language.specs.Tree.{ProcedureTree, written}
-use Rattle.language.specs.Types.{at, when}
+use Rattle.source_laws.specs.Below.{array, assignment, at, BlockTree, bound_of, Bounds, bounds_after_all, call}
+use Rattle.source_laws.specs.Below.{call_names, call_start, Callable, callable, Callables, callables, called, CallTree}
+use Rattle.source_laws.specs.Below.{computed, conditional, counter_type, declaration, declaration_of, declared_in_all}
+use Rattle.source_laws.specs.Below.{element_assignment, ExprTree, first, FlatVariable, in_loop, interval, Known}
+use Rattle.source_laws.specs.Below.{known_of, label_in, loop, most_turns, most_work, names_after, naming, nodes_in}
+use Rattle.source_laws.specs.Below.{nodes_in_all, nodes_passed, nothing, Numbers, numbers_taken, numbers_taken_all}
+use Rattle.source_laws.specs.Below.{param_of, parameter_names, passed, ProcedureTree, return_nodes, RightTree}
+use Rattle.source_laws.specs.Below.{statement, StatementTree, term, TooMuchWork, Violation, when, where_false}
+use Rattle.source_laws.specs.Below.{where_true, with_bound, word_arguments, word_as, written}
 
 -- Where a statement stands: what number each name in scope has, which is the next number, and between which numbers
 -- the variables lie there.

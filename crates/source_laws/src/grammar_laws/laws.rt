@@ -3,12 +3,7 @@
 ghost use Rattle.std.specs.Prelude.{◌≡◌, ℕ, ◌≤◌, List, take};
 ghost use Rattle.std.specs.List.{All};
 ghost use Rattle.source_laws.specs.grammar_laws.Heads.{astray, here, in_program};
-ghost use Rattle.language.specs.Tree.{ProgramTree};
-ghost use Rattle.syntax.specs.Beginning.{AreByCases};
-ghost use Rattle.syntax.specs.Lexeme.{Lexeme};
-ghost use Rattle.syntax.specs.Reading.{Answer, Reads, accepted};
-ghost use Rattle.syntax.specs.Tokens.{Ending, Lexes, place_after};
-ghost use Rattle.word.specs.Places.{origin};
+ghost use Rattle.source_laws.specs.Below.{accepted, Answer, AreByCases, Ending, Lexeme, Lexes, origin, place_after, ProgramTree, Reads};
 
 /// Some program begins with tokens exactly where they begin one by the cases of the grammar.
 pub fn beginnings_are_by_cases()

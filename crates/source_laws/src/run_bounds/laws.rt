@@ -2,24 +2,7 @@
 
 ghost use Rattle.std.specs.Prelude.{◌≡◌, ℕ, ◌≤◌, List, [], Some, Ok, length, map};
 ghost use Rattle.std.specs.List.{AllByRecursion};
-ghost use Rattle.language.specs.arguments.Within.{AreWithin};
-ghost use Rattle.inline.specs.FlatMeaning.{outcome_of};
-ghost use Rattle.inline.specs.FlatTyping.{IsTypedProgram};
-ghost use Rattle.inline.specs.Numbering.{flattened};
-ghost use Rattle.intervals.specs.Limits.{most_work};
-ghost use Rattle.intervals.specs.Evaluated.{evaluated_by};
-ghost use Rattle.intervals.specs.Ranges.{range_violations};
-ghost use Rattle.intervals.specs.Work.{work_of};
-ghost use Rattle.language.specs.Limits.{most_bodies};
-ghost use Rattle.language.specs.declared.values.Arg.{Arg};
-ghost use Rattle.language.specs.Evaluation.{program_run};
-ghost use Rattle.language.specs.Grammatical.{IsGrammatical};
-ghost use Rattle.language.specs.Signature.{exported, param_of};
-ghost use Rattle.language.specs.Size.{bodies_of, extents_of};
-ghost use Rattle.language.specs.Tree.{ProcedureTree, ProgramTree};
-ghost use Rattle.language.specs.Typing.{violations};
-ghost use Rattle.source_eval.specs.Answer.{run_answer};
-ghost use Rattle.word.specs.declared.profile.Profile.{Profile};
+ghost use Rattle.source_laws.specs.Below.{AreWithin, Arg, bodies_of, evaluated_by, exported, extents_of, flattened, IsGrammatical, IsTypedProgram, most_bodies, most_work, outcome_of, param_of, ProcedureTree, Profile, program_run, ProgramTree, range_violations, run_answer, violations, work_of};
 
 /// A run of a program that violates no rule evaluates no more nodes than are counted for a run of the one body that it
 /// becomes.

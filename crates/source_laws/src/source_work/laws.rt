@@ -2,14 +2,8 @@
 
 ghost use Rattle.std.specs.List.{AllByRecursion};
 ghost use Rattle.std.specs.Prelude.{◌≡◌, [], List, Some, length};
-ghost use Rattle.intervals.specs.Work.{work_of};
-ghost use Rattle.inline.specs.Numbering.{flattened};
-ghost use Rattle.language.specs.Grammatical.{IsGrammatical};
-ghost use Rattle.language.specs.Meaning.{exported};
-ghost use Rattle.language.specs.Tree.{ProcedureTree, ProgramTree};
-ghost use Rattle.language.specs.Typing.{violations};
+ghost use Rattle.source_laws.specs.Below.{exported, flattened, IsGrammatical, ProcedureTree, Profile, ProgramTree, violations, work_of};
 ghost use Rattle.source_laws.specs.source_work.SourceWork.{source_work};
-ghost use Rattle.word.specs.declared.profile.Profile.{Profile};
 
 /// The work of the export of a program that violates no rule is that of its one body with numbered variables.
 pub fn work_is_that_of_the_body()
