@@ -1,7 +1,6 @@
 pub mod Arguments
 pub mod Below
 pub mod Callees
-pub mod CountedWork
 pub mod Counts
 pub mod MostWork
 pub mod Splits

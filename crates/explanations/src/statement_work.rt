@@ -10,7 +10,6 @@ mod laws;
 mod lengths;
 mod measured;
 mod parts;
-mod works;
 
 pub use laws::parts_make_the_work;
 pub use measured::measured_work;

@@ -18,7 +18,6 @@ pub use Rattle.inline.proofs.Face.{
   parameters_fit,
   prefix_fits,
   some_bit,
-  some_nodes,
   type_kept,
   types_kept,
   with_type-other,

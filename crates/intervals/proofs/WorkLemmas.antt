@@ -1,14 +1,14 @@
--- What room the work of parts leaves.
-use Rattle.std.proofs.Common.{◌≡◌, ℕ, ◌+◌, ◌-◌, ◌*◌, ◌/◌, ◌<◌, ◌≤◌, List, Option, Some, None, Vec, Global}
-use Rattle.std.proofs.Common.{slice_index, ap, ◌∙◌, arith}
-use Rattle.std.proofs.Math.Nat.{le-div_iff_mul-le, mul_comm}
-use Rattle.std.specs.Option.{SomeIff}
+-- The work of statements that hold others, and of the turns of a loop.
+use Rattle.std.proofs.Common.{◌≡◌, ℕ, ◌+◌, ◌*◌, ◌<◌, List, Vec, Global, inl, inr, slice_index, ap, ◌∙◌, arith}
+use Rattle.std.proofs.lemmas.Bool.{cases_lt}
+use Rattle.std.proofs.Math.Nat.{le-mul_of_pos_right, mul_comm}
 use Rattle.inline.specs.declared.flat.FlatStatement.{FlatStatement, Branch, Loop}
 use Rattle.inline.specs.declared.flat.Term.{Term}
 use Rattle.inline.specs.Flat.{term_tree, flat_tree, flat_block}
 use Rattle.inline.specs.FlatSize.{term_nodes}
 use Rattle.intervals.specs.Work.{tree_work, body_work}
 use Rattle.intervals.proofs.Below.{branch_tree, loop_tree}
+use Rattle.language.specs.Shares.{counted, most_counted}
 use Rattle.language.specs.declared.signature.Label.{Label}
 
 -- the work of a branch and of a loop, by the lists of their statements
@@ -26,12 +26,13 @@ pub loop_work : (turns : List ℕ) (statement : FlatStatement) (counter : ℕ) (
 loop_work turns statement counter low high body is =
     ap (tree_work turns) (ap flat_tree is ∙ loop_tree counter low high body)
 
--- what a last part leaves of what the others left is what the whole leaves of the room
-pub last_part : (o : Option ℕ) (room left last whole : ℕ) → whole + left ≡ room + last → left ≤ room
-    → SomeIff o (last ≤ left) (left - last) → SomeIff o (whole ≤ room) (room - whole)
-last_part None room left last whole sum less h = λ fits. h (omega arith)
-last_part (Some x) room left last whole sum less h = (omega arith, omega arith)
-
--- what fits a share so many times fits the room
-pub share_fits : (times body room : ℕ) → 0 < times → times * (1 + body) ≤ room → 1 + body ≤ room / times
-share_fits times body room some fits = (le-div_iff_mul-le some).1 (omega (arith, mul_comm times (1 + body), fits))
+-- so many times a count, at least once, is counted as so many times what is counted
+pub times_counted : (t m : ℕ) → 0 < t → counted (t * counted m) ≡ counted (t * m)
+times_counted t m some = elim (cases_lt m most_counted) [
+  | inl few ↦
+      let same : counted m ≡ m = omega arith in
+      rw same
+  | inr many ↦
+      let same : counted m ≡ most_counted = omega arith in
+      rw same (omega (arith, le-mul_of_pos_right m some, mul_comm m t))
+]

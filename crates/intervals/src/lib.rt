@@ -21,3 +21,4 @@ pub use laws::{
 pub use limits::{MOST_WORK, limits_are_as_stated};
 pub use ranged::Ranged;
 pub use ranges::{check_ranges, turns};
+pub use work::{program_work, work_of_all};

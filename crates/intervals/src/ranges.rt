@@ -10,8 +10,8 @@ use crate::known::Known;
 use crate::operators::full_of;
 use crate::terms::note_term;
 use crate::walk::{Walk, statements};
-use crate::work::work;
-use crate::{Interval, Ranged};
+use crate::work::program_work;
+use crate::{Interval, MOST_WORK, Ranged};
 use inline::Flat;
 use language::{First, Form, Label, Param, Refusal, Rule};
 use std::alloc::{AllocError, Global};
@@ -89,10 +89,11 @@ fn with_work<'f>(flat: &'f Flat, turns: Vec<u32>) -> Result<Ranged<'f>, Refusal>
     ensures worked { OnOk result (length (work_violations flat.now) ≡ 0) }
     ensures refused { IfErr result (λ refusal. (first : Violation) × IsFirst (work_violations flat.now) first × IsNamed (work_violations flat.now) first × TellsOf refusal first) }
 {
-    match work(turns.as_slice(), flat) {
-        Some(work) => Ok(Ranged::new(flat, turns, work)),
-        None => Err(Refusal::at(Rule::TooMuchWork, flat.place())),
+    let work = program_work(turns.as_slice(), flat);
+    if work > MOST_WORK {
+        return Err(Refusal::at(Rule::TooMuchWork, flat.place()));
     }
+    Ok(Ranged::new(flat, turns, work))
 }
 
 /// The body with what is counted for it, where each index is within its array, no divisor is 0 and the work is within

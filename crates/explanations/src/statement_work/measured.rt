@@ -1,19 +1,17 @@
 // What is counted of the limit on work for an export.
 
-ghost use Rattle.std.specs.Prelude.{◌≡◌, ◌+◌, fold, map, IfOk};
-ghost use Rattle.inline.specs.FlatSize.{value_nodes};
+ghost use Rattle.std.specs.Prelude.{◌≡◌, fold, map, IfOk};
 ghost use Rattle.inline.specs.Numbering.{flattened};
 ghost use Rattle.intervals.specs.Ranges.{turns_of};
-ghost use Rattle.intervals.specs.Work.{body_work};
 ghost use Rattle.language.specs.Tree.{procedure_tree};
-ghost use Rattle.language.specs.Shares.{counted, counted_share, larger};
+ghost use Rattle.language.specs.Shares.{counted_share, larger};
 ghost use Rattle.language.specs.Size.{return_shares};
 ghost use Rattle.explanations.specs.statement_work.WorkCosts.{work_cost};
 
 use crate::statement_work::inlined::lengths;
 use crate::statement_work::parts::largest_statement;
-use crate::statement_work::works::{work_of_all, work_of_value};
 use inline::{Flat, larger_return};
+use intervals::program_work;
 use language::{Cost, Procedure, Share};
 use std::alloc::{AllocError, Global};
 
@@ -33,7 +31,7 @@ pub fn measured_work<'a>(
     let table = lengths(alloc, earlier)?;
     let most = largest_statement(&table, turns, flat.body(), &export.body);
     Ok(Cost {
-        whole: work_of_body(turns, flat),
+        whole: program_work(turns, flat),
         largest: with_return(most, export),
     })
 }
@@ -43,11 +41,4 @@ fn with_return(most: Option<Share>, export: &Procedure<'_>) -> Option<Share>
     ensures { result ≡ fold larger most (map counted_share (return_shares (procedure_tree export.now).returned)) }
 {
     larger_return(most, export.returned.as_ref())
-}
-
-/// The work of a body and of its result.
-fn work_of_body(turns: &[u32], flat: &Flat) -> u64
-    ensures { result ≡ counted (body_work turns.now flat.now.body + value_nodes flat.now.value) }
-{
-    work_of_all(turns, flat.body()).saturating_add(work_of_value(flat.value()))
 }

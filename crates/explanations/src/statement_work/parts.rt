@@ -8,8 +8,8 @@ ghost use Rattle.explanations.specs.statement_work.Pieces.{pieces};
 
 use crate::statement_work::inlined::Inlined;
 use crate::statement_work::lengths::statement_length;
-use crate::statement_work::works::work_of_all;
 use inline::FlatStatement;
+use intervals::work_of_all;
 use language::names::Names;
 use language::{Share, Statement, larger};
 

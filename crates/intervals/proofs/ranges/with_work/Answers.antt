@@ -12,19 +12,19 @@ new-requires c =
     let turns = c.requires.turns in
     let same = ap (λ ts. body_work ts p.body + value_nodes p.value) (c.as_slice.ensures.value ∙ turns) in
     let made : List ℕ → ℕ → RangedProgram = λ ts w. record { flat = p; turns = ts; work = w } in
-    let few = c.in-Some.ensures.0 in
-    let work : c.in-Some.work ≡ work_of p = c.in-Some.ensures.1 ∙ same in
+    let few : c.program_work-work.result ≤ most_work = omega (arith, c.if-work-gt-MOST_WORK.false) in
+    let work : c.program_work-work.result ≡ work_of p = omega (arith, few, c.program_work-work.ensures, same) in
     record {
       counted = ap₂ made turns work;
-      worked = omega (arith, few, c.in-Some.ensures.1);
+      worked = few;
       safe = c.requires.safe;
     }
 
-pub returns-clause-refused : goal.returns-clause-refused
-returns-clause-refused c =
+pub returns-then-work-gt-MOST_WORK-clause-refused : goal.returns-then-work-gt-MOST_WORK-clause-refused
+returns-then-work-gt-MOST_WORK-clause-refused c =
     let p = c.args.flat.now in
     let same = ap (λ ts. body_work ts p.body + value_nodes p.value) (c.as_slice.ensures.value ∙ c.requires.turns) in
-    let many : work_of p ≤ most_work → ⊥ = λ few. c.in-None.ensures (omega (arith, same, few)) in (
+    let many : work_of p ≤ most_work → ⊥ = λ few. omega (arith, same, few, c.if-work-gt-MOST_WORK.true, c.program_work-work.ensures) in (
       too_much p.place,
       above_limit p many,
       named_above_limit p many,

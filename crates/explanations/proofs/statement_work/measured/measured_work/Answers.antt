@@ -20,7 +20,7 @@ returns c =
     let turns = c.args.turns.now in
     let flat = c.requires.flat in
     let worked = c.requires.turns ∙ ap turns_of flat in
-    let whole = c.work_of_body.ensures
+    let whole = c.program_work.ensures
     ∙ ap₂ (λ ts (f : FlatProgram). counted (body_work ts f.body + value_nodes f.value)) worked flat in
     let body = c.body.ensures.body ∙ ap (λ (f : FlatProgram). f.body) flat in
     let kept = subst IsFlat flat c.body.ensures.kept in
