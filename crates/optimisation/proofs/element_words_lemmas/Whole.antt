@@ -1,8 +1,9 @@
 -- The program with words may stand in the place of the program.
-use Rattle.std.proofs.Common.{◌≡◌, ℕ, zero, suc, ◌+◌, ◌<◌, ◌≤◌, Bool, true, false, if◌then◌else◌, List, [], ◌∷◌}
+use Rattle.std.proofs.Common.{◌≡◌, ℕ, zero, suc, ◌+◌, ◌<◌, ◌≤◌, true, false, List, [], ◌∷◌}
 use Rattle.std.proofs.Common.{◌++◌, drop, length, replicate, Option, None, Some, option_map, slice_get}
 use Rattle.std.proofs.Common.{get_or, slice_index, refl, sym, ap, ap₂, ◌∙◌, arith, take as first_of}
 use Rattle.std.specs.Prelude.{nat_lt}
+use Rattle.std.proofs.lemmas.Bool.{cond_both}
 use Rattle.std.proofs.lemmas.List.{length-map, length-replicate, length-take}
 use Rattle.std.proofs.lemmas.Option.{none-some, same_Some, slice_get-get_or, slice_get_within}
 use Rattle.language.proofs.arguments_lemmas.FaultLemmas.{length-AreWithin}
@@ -167,23 +168,18 @@ module _ (p : StraightProgram) (is_straight : IsStraight p) (last : Parts) (belo
 abbrev pub split_with : Parts → StraightProgram → StraightProgram
 split_with parts p = split_by (record { declared = p.declared ++ all_words parts; parts = parts }) p
 
-replaced_chosen : (p : StraightProgram) → IsStraight p → (b : Bool)
-    → IsStraight (split_with (if b then [] else numbered (length p.declared) (room_beside p.declared) (used_parts p)) p)
-    → IsReplaced p (split_with (if b then [] else numbered (length p.declared) (room_beside p.declared)
-    (used_parts p)) p)
-replaced_chosen p is_straight true =
-    replaced_of p is_straight [] (λ x part is. absurd (none-some part is))
-    (splitting p.declared 0 [] (λ x part is. absurd (none-some part is)))
-replaced_chosen p is_straight false =
+pub replaced : (p : StraightProgram) → IsStraight p → IsStraight (split_program p) → IsReplaced p (split_program p)
+replaced p is_straight =
     let room = room_beside p.declared in
     let all = numbered (length p.declared) room (used_parts p) in
     let numbers = are_numbered (length p.declared) room (used_parts p) in
-    replaced_of p is_straight all (λ x part is. (made numbers x part is).found)
+    cond_both (nat_lt most_variable_words (length p.declared)) [] all
+    (λ parts. IsStraight (split_with parts p) → IsReplaced p (split_with parts p))
+    (λ many. replaced_of p is_straight [] (λ x part is. absurd (none-some part is))
+    (splitting p.declared 0 [] (λ x part is. absurd (none-some part is))))
+    (λ few. replaced_of p is_straight all (λ x part is. (made numbers x part is).found)
     (splitting p.declared room (used_parts p)
-    (λ x part is. (was_candidate p is_straight (used_parts p) below_itself x part is).1))
-
-pub replaced : (p : StraightProgram) → IsStraight p → IsStraight (split_program p) → IsReplaced p (split_program p)
-replaced p is_straight = replaced_chosen p is_straight (nat_lt most_variable_words (length p.declared))
+    (λ x part is. (was_candidate p is_straight (used_parts p) below_itself x part is).1)))
 
 -- a program of these parts is the one with words
 pub as_split : (p : StraightProgram) (plan : WordPlan) (declared : List FlatVariable) (parts : Parts)

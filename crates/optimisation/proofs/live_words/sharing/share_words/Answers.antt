@@ -1,4 +1,4 @@
-use Rattle.std.proofs.Common.{◌≡◌, List, option_map, refl, sym, ap, ap₂, ◌∙◌}
+use Rattle.std.proofs.Common.{◌≡◌, true, List, option_map, refl, sym, ap, ap₂, ◌∙◌}
 use Rattle.inline.specs.declared.flat.FlatVariable.{FlatVariable}
 use Rattle.inline.specs.Flat.{term_tree}
 use Rattle.branch_removal.proofs.Checked.{where_checked}
@@ -36,16 +36,12 @@ returns-clause-exact c =
     rw (sym fits ∙ c.if-not-all_fits.false) made
 
 pub returns-clause-replaced : goal.returns-clause-replaced
+unfolding shared_of
 returns-clause-replaced c =
     let p = c.args.straight.now in
     let table = c.as_slice.ensures.value ∙ c.in_ok-table.ensures in
     let fits = c.all_fits.ensures ∙ ap all_fits
     (c.in_ok-parts.ensures.live ∙ ap₂ (λ (t : Table) (h : Held). at_start t h p) table c.in_ok-live.ensures) in
-    let body = straight_block c.in_ok-parts.parts.body.items in
-    let value = option_map term_tree c.in_ok-parts.parts.value in
-    let made : c.rewritten.result ≡ checked (over (table_for p) (nothing_live p 0) p) =
-    c.rewritten.ensures.exact
-    ∙ ap checked (ap (λ (ds : List FlatVariable). with_variables p ds body value) c.declared.ensures
-    ∙ (c.in_ok-parts.ensures.code ∙ ap₂ (λ (t : Table) (h : Held). over t h p) table c.in_ok-live.ensures)) in
-    where_checked (IsReplaced p) _ (over (table_for p) (nothing_live p 0) p) made c.rewritten.ensures.straight
-    (replaced (table_for p) p (sym fits ∙ c.if-not-all_fits.false))
+    let all : all_fits (at_start (table_for p) (nothing_live p 0) p) ≡ true = sym fits ∙ c.if-not-all_fits.false in
+    where_checked (IsReplaced p) _ (over (table_for p) (nothing_live p 0) p) (rw all at (returns-clause-exact c))
+    c.rewritten.ensures.straight (replaced (table_for p) p all)
