@@ -2,10 +2,7 @@
 use Rattle.std.proofs.Common.{◌≡◌, ℕ, ◌==◌, List, Some, inl, inr, sym, ap, ◌∙◌, subst}
 use Rattle.std.proofs.lemmas.Bool.{cases_Bool, eqb-true}
 use Rattle.std.proofs.lemmas.Option.{same_Some}
-use Rattle.inline.specs.declared.flat.FlatVariable.{FlatVariable}
-use Rattle.inline.specs.FlatMeaning.{Values, with_value}
-use Rattle.inline.specs.FlatTyping.{Types, with_type}
-use Rattle.language.specs.declared.signature.Label.TheVariants.{Public}
+use Rattle.branch_removal.specs.Below.{FlatVariable, Public, Types, Values, with_type, with_value}
 
 -- which variables are looked at
 abbrev pub Sees : Type 1

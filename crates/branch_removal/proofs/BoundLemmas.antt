@@ -1,14 +1,11 @@
 -- Straight code keeps the bounds of the body that it is made for.
 use Rattle.std.proofs.Common.{◌≡◌, ℕ, ◌+◌, ◌*◌, ◌≤◌, List, [], ◌∷◌, Option, None, Some, max, slice_index, arith}
 use Rattle.std.proofs.Math.Nat.{max-le, mul-le-mul_left}
-use Rattle.inline.specs.Flat.{TermTree, FlatTree, declare, array, assign, put, hold, skip, branch, loop, FlatBlock}
-use Rattle.inline.specs.Flat.{nothing, first, FlatProgram}
+use Rattle.branch_removal.specs.Below.{array, assign, body_nodes, body_work, branch, declare, first, FlatBlock}
+use Rattle.branch_removal.specs.Below.{FlatProgram, FlatTree, hold, IsSized, loop, most_nodes, most_work, nothing}
+use Rattle.branch_removal.specs.Below.{Public, put, ranged, Secret, skip, term_nodes, terms_nodes, TermTree, tree_nodes}
+use Rattle.branch_removal.specs.Below.{tree_work, value_nodes}
 use Rattle.inline.specs.Flat as flat
-use Rattle.inline.specs.FlatSize.{IsSized, term_nodes, terms_nodes, value_nodes, tree_nodes, body_nodes}
-use Rattle.intervals.specs.Limits.{most_work}
-use Rattle.language.specs.Limits.{most_nodes}
-use Rattle.intervals.specs.Work.{tree_work, body_work, ranged}
-use Rattle.language.specs.declared.signature.Label.TheVariants.{Public, Secret}
 use Rattle.branch_removal.specs.Bounds.{statement_nodes, block_nodes, block_work, set_work}
 use Rattle.branch_removal.specs.Bounds.{IsBounded, IsCounted}
 use Rattle.branch_removal.specs.Heights.{height_of, height_of_all, height_in, height_in_all, depth_in, depth_in_all}

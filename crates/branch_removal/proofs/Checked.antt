@@ -4,12 +4,8 @@ use Rattle.std.proofs.Common.{Some, Bool, false, if◌then◌else◌, IfSome, Bo
 use Rattle.std.proofs.lemmas.Option.{none-some, same_Some}
 use Rattle.std.proofs.lemmas.Bool.{cond-false, cond-true, leb-true}
 use Rattle.std.proofs.lemmas.List.{length-map}
-use Rattle.inline.specs.declared.flat.FlatVariable.{FlatVariable}
-use Rattle.inline.specs.declared.flat.Term.{Term}
-use Rattle.inline.specs.Flat.{TermTree, declaration_of, term_tree}
-use Rattle.inline.specs.FlatSize.{declared_words, value_nodes}
-use Rattle.inline.specs.FlatTyping.{types_of}
-use Rattle.inline.specs.Limits.{most_variable_bytes}
+use Rattle.branch_removal.specs.Below.{declaration_of, declared_words, FlatVariable, most_variable_bytes, Term}
+use Rattle.branch_removal.specs.Below.{term_tree, TermTree, types_of, value_nodes}
 use Rattle.branch_removal.specs.Bounds.{block_work}
 use Rattle.branch_removal.specs.Checked.{checked, is_checked}
 use Rattle.branch_removal.specs.Heights.{depth_in_all, program_height}

@@ -5,39 +5,24 @@ use Rattle.std.proofs.Common.{subst, take as first_of, arith, rules}
 use Rattle.std.proofs.lemmas.Bool.{and_parts, eqb-true, false≢true, ltb-true, ne_eqb, not-true}
 use Rattle.std.proofs.lemmas.Option.{none-some, same_Some}
 use Rattle.std.specs.Option.{option_map}
-use Rattle.inline.specs.declared.flat.FlatVariable.{FlatVariable}
-use Rattle.inline.specs.Flat.{TermTree, number, truth, variable, prefix, binary, rotate, convert, select, element}
-use Rattle.inline.specs.Flat.{array_as, counter_type, word_as}
-use Rattle.inline.specs.FlatTyping.{Types, types_of, HasType, of_number, of_truth, of_variable, of_prefix, of_binary}
-use Rattle.inline.specs.FlatTyping.{of_rotation, of_conversion, of_selection, of_element, Suits, AllSuit, HasCount}
-use Rattle.inline.specs.FlatTyping.{IsResult}
-use Rattle.language.specs.ExprTyping.{binary_rules, number_rules, prefix_rules, rotate_rules}
-use Rattle.language.specs.ExprTyping.{operation_kind, select_rules}
+use Rattle.branch_removal.specs.Below.{AllSuit, are_met, array_as, binary, binary_rules, BinaryOperator, bits, bits_of}
+use Rattle.branch_removal.specs.Below.{Boolean, convert, counter_type, element, FlatVariable, HasCount, HasType}
+use Rattle.branch_removal.specs.Below.{is_hidden, is_narrow, is_secret, IsResult, joined, Label, labelled, Makes}
+use Rattle.branch_removal.specs.Below.{number, number_rules, of_binary, of_conversion, of_element, of_number, of_one}
+use Rattle.branch_removal.specs.Below.{of_prefix, of_rotation, of_selection, of_three, of_truth, of_two, of_variable}
+use Rattle.branch_removal.specs.Below.{operation_kind, operation_of, Place, prefix, prefix_rules, PrefixOperator}
+use Rattle.branch_removal.specs.Below.{Profile, Public, public_flows, rotate, rotate_rules, Secret, secret_flows}
+use Rattle.branch_removal.specs.Below.{select, select_rules, Suits, suits as flow_suits, Takes, TermTree, truth, Types}
+use Rattle.branch_removal.specs.Below.{types_of, unless, ValueType, variable, Width, width_of, Word, word_as, WordType}
 use Rattle.language.specs.Grammatical.{IsNumberKind}
-use Rattle.language.specs.Operators.{operation_of, width_of}
-use Rattle.language.specs.Types.{are_met, bits_of, is_hidden, is_narrow, is_secret, joined, of_one, of_three, of_two}
-use Rattle.language.specs.Types.{unless}
-use Rattle.language.specs.WellTyped.{labelled, Makes, public_flows, secret_flows, suits as flow_suits, Takes}
 use Rattle.language.specs.WellTyped.{Suits as SuitsWord}
-use Rattle.language.specs.declared.operators.BinaryOperator.{BinaryOperator}
-use Rattle.language.specs.declared.operators.PrefixOperator.{PrefixOperator}
 use Rattle.language.specs.declared.rule.Rule.{Rule}
-use Rattle.language.specs.declared.signature.Kind.TheVariants.{Boolean}
-use Rattle.language.specs.declared.signature.Label.{Label}
-use Rattle.language.specs.declared.signature.Label.TheVariants.{Public, Secret}
-use Rattle.language.specs.declared.typing.ValueType.{ValueType}
-use Rattle.language.specs.declared.typing.ValueType.TheVariants.{Word}
-use Rattle.language.specs.declared.typing.WordType.{WordType}
 use Rattle.language.proofs.typing_laws_lemmas.NoRules.{is_met}
 use Rattle.language.proofs.typing_laws_lemmas.Nodes.{is_operated, is_rotated, is_selected, made, public_index}
 use Rattle.language.proofs.typing_laws_lemmas.Nodes.{taken_by_sign}
 use Rattle.language.proofs.typing_laws_lemmas.TypeTests.{a_number, bool_word}
 use Rattle.language.proofs.typing_laws_lemmas.Values.{is_suited}
-use Rattle.word.specs.Widths.{bits}
-use Rattle.word.specs.declared.place.Place.{Place}
-use Rattle.word.specs.declared.width.Width.{Width}
 use Rattle.word.specs.declared.width.Width.TheVariants.{W8, W16, W32}
-use Rattle.word.specs.declared.profile.Profile.{Profile}
 use Rattle.branch_removal.specs.Straight.{StraightTree, set, array, put, take, branch, repeats}
 use Rattle.branch_removal.specs.Straight.{StraightBlock, nothing, first}
 use Rattle.branch_removal.specs.StraightTyping.{IsAmong, IsTyped, AreTyped, IsHidden, AreHidden, IsSecretWithin}

@@ -4,24 +4,16 @@
 use Rattle.std.proofs.Common.{◌≡◌, ℕ, zero, suc, ◌+◌, ◌-◌, ◌<◌, ◌==◌, Bool, true, false, cond, if◌then◌else◌, List}
 use Rattle.std.proofs.Common.{[], ◌∷◌, ◌++◌, map, replicate, Option, None, Some, slice_set, refl, sym, ap, ap₂, ◌∙◌}
 use Rattle.std.proofs.Common.{subst, arith}
-use Rattle.inline.specs.declared.flat.FlatVariable.{FlatVariable}
-use Rattle.inline.specs.Flat.{TermTree, FlatTree, declare, array, assign, put, hold, skip, branch, loop, FlatBlock}
-use Rattle.inline.specs.Flat.{nothing, first, word_as, array_as}
-use Rattle.inline.specs.FlatMeaning.{Values, with_value, value_in, path_in, path_in_all, turns, path_of_turns}
-use Rattle.inline.specs.FlatTyping.{Types, with_type, types_of, types_after, types_after_all, IsTyped, AreTyped}
-use Rattle.inline.specs.FlatTyping.{HasType, IsPut, counter_type}
-use Rattle.inline.specs.Path.{Path, AreFine, bounded, indexed}
+use Rattle.branch_removal.specs.Below.{a_turn, AreFine, AreTyped, array, array_as, assign, assigns, Boolean, bounded}
+use Rattle.branch_removal.specs.Below.{branch, chooses, counter_type, declare, declares, declares_array, ends, first}
+use Rattle.branch_removal.specs.Below.{FlatBlock, FlatTree, FlatVariable, goes_on, HasType, hold, holds, indexed, IsPut}
+use Rattle.branch_removal.specs.Below.{IsTyped, Label, labelled, LeadAll, Leads, loop, no_turn, none_left, nothing}
+use Rattle.branch_removal.specs.Below.{Path, path_in, path_in_all, path_of_turns, Place, Profile, Public, put, puts}
+use Rattle.branch_removal.specs.Below.{repeats, Secret, skip, skips, TermTree, to_anything, Turns, turns, Types}
+use Rattle.branch_removal.specs.Below.{types_after, types_after_all, types_of, value_in, Values, with_type, with_value}
+use Rattle.branch_removal.specs.Below.{word_as, WordType}
 use Rattle.inline.proofs.Face.{types_kept}
-use Rattle.intervals.specs.Loose.{to_anything, none_left, Leads, declares, declares_array, assigns, puts, holds, skips}
-use Rattle.intervals.specs.Loose.{chooses, repeats, Turns, no_turn, a_turn, LeadAll, ends, goes_on}
 use Rattle.intervals.proofs.StrictRuns.{comes, come_all}
-use Rattle.language.specs.WellTyped.{labelled}
-use Rattle.language.specs.declared.signature.Kind.TheVariants.{Boolean}
-use Rattle.language.specs.declared.signature.Label.{Label}
-use Rattle.language.specs.declared.signature.Label.TheVariants.{Public, Secret}
-use Rattle.language.specs.declared.typing.WordType.{WordType}
-use Rattle.word.specs.declared.place.Place.{Place}
-use Rattle.word.specs.declared.profile.Profile.{Profile}
 use Rattle.branch_removal.specs.private.Removal.{take_within, removed, removed_all}
 use Rattle.branch_removal.specs.Straight.{StraightTree, StraightBlock}
 use Rattle.branch_removal.specs.Straight as straight

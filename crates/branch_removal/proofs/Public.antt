@@ -3,16 +3,9 @@
 use Rattle.std.proofs.Common.{◌≡◌, ℕ, zero, suc, ◌+◌, ◌-◌, ◌==◌, cond, List, [], ◌∷◌, ◌++◌, Option, None, Some}
 use Rattle.std.proofs.Common.{inl, inr, slice_set, slice_get, refl, sym, ap, ap₂, ◌∙◌}
 use Rattle.std.proofs.lemmas.Bool.{cases_Bool}
-use Rattle.inline.specs.declared.flat.FlatVariable.{FlatVariable}
-use Rattle.inline.specs.Flat.{TermTree, array_as}
-use Rattle.inline.specs.FlatMeaning.{path_of_turns, path_in, turns}
-use Rattle.inline.specs.FlatTyping.{Types, types_of, HasType, AllSuit}
-use Rattle.inline.specs.Path.{Path, decided, bounded, indexed, seen}
-use Rattle.language.specs.declared.signature.Kind.TheVariants.{Boolean}
-use Rattle.language.specs.declared.signature.Label.TheVariants.{Public, Secret}
-use Rattle.language.specs.declared.typing.WordType.{WordType}
-use Rattle.language.specs.WellTyped.{labelled}
-use Rattle.word.specs.declared.profile.Profile.{Profile}
+use Rattle.branch_removal.specs.Below.{AllSuit, array_as, Boolean, bounded, decided, FlatVariable, HasType, indexed}
+use Rattle.branch_removal.specs.Below.{labelled, Path, path_in, path_of_turns, Profile, Public, Secret, seen, TermTree}
+use Rattle.branch_removal.specs.Below.{turns, Types, types_of, WordType}
 use Rattle.branch_removal.specs.Straight.{StraightTree, set, array, put, take, branch}
 use Rattle.branch_removal.specs.Straight.{repeats, StraightBlock, nothing, first}
 use Rattle.branch_removal.specs.StraightMeaning.{StraightState, holds, with_variable, value_at, counted, after}

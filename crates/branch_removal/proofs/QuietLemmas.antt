@@ -2,12 +2,9 @@
 use Rattle.std.proofs.Common.{◌≡◌, ℕ, ◌&&◌, true, false, true≢false, not, [], ◌++◌, refl, sym, ap₂, ◌∙◌}
 use Rattle.std.proofs.lemmas.Bool.{cond-false, or_parts, and_parts, not-true}
 use Rattle.branch_removal.specs.Quiet.{is_marked, is_quiet}
-use Rattle.inline.specs.Flat.{TermTree, number, truth, variable, prefix, binary, rotate, convert, select, element}
-use Rattle.inline.specs.FlatMeaning.{Values, value_in, path_in, marks_of}
-use Rattle.inline.specs.Path.{Path}
-use Rattle.language.specs.declared.operators.BinaryOperator.{BinaryOperator}
-use Rattle.language.specs.Operators.{divides, multiplies}
-use Rattle.word.specs.declared.place.Place.{Place}
+use Rattle.branch_removal.specs.Below.{binary, BinaryOperator, convert, divides, element, marks_of, multiplies, number}
+use Rattle.branch_removal.specs.Below.{Path, path_in, Place, prefix, rotate, select, TermTree, truth, value_in, Values}
+use Rattle.branch_removal.specs.Below.{variable}
 
 -- operands of an operator without marks are not on the path
 pub no_marks : (place : Place) (operator : BinaryOperator) (a b : ℕ) → is_marked operator ≡ false

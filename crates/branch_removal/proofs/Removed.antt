@@ -1,22 +1,12 @@
 -- Straight code is what is promised of it.
 use Rattle.std.proofs.Common.{◌≡◌, ℕ, ◌≤◌, List, [], Option, None, Some, slice_get, refl, ap, ap₂, ◌∙◌, subst, sym}
 use Rattle.std.proofs.Common.{arith}
-use Rattle.language.specs.arguments.Within.{AreWithin}
-use Rattle.inline.specs.Flat.{FlatBlock, FlatProgram, TermTree, declaration_of}
-use Rattle.inline.specs.FlatMeaning.{given, path_of_result}
+use Rattle.branch_removal.specs.Below.{AreFine, AreWithin, Arg, declaration_of, end_types, FlatBlock, FlatProgram}
+use Rattle.branch_removal.specs.Below.{given, IsFlat, IsSafe, IsSized, IsTypedProgram, most_work, Param}
+use Rattle.branch_removal.specs.Below.{parameter_types, path_of_result, Public, ranged, RangedProgram, TermTree}
+use Rattle.branch_removal.specs.Below.{types_of}
 use Rattle.inline.specs.FlatMeaning as flat
-use Rattle.inline.specs.FlatSize.{IsSized}
-use Rattle.inline.specs.FlatTyping.{types_of, end_types, parameter_types, IsTypedProgram}
-use Rattle.inline.specs.Kept.{IsFlat}
-use Rattle.inline.specs.Path.{AreFine}
 use Rattle.intervals.specs.Kept.{IsRanged}
-use Rattle.intervals.specs.Loose.{IsSafe}
-use Rattle.intervals.specs.Ranged.{RangedProgram}
-use Rattle.intervals.specs.Limits.{most_work}
-use Rattle.intervals.specs.Work.{ranged}
-use Rattle.language.specs.declared.signature.Label.TheVariants.{Public}
-use Rattle.language.specs.declared.signature.Param.{Param}
-use Rattle.language.specs.declared.values.Arg.{Arg}
 use Rattle.branch_removal.specs.private.Removal.{controls_in_all, removed_all, straightened}
 use Rattle.branch_removal.specs.Removed.{IsRemoved}
 use Rattle.branch_removal.specs.declared.straight.StraightStatement.{StraightStatement}

@@ -3,22 +3,13 @@ use Rattle.std.proofs.Common.{◌≡◌, ℕ, zero, suc, ◌+◌, if◌then◌el
 use Rattle.std.proofs.Common.{Option, None, Some, IfSome, slice_get, refl, sym, ap, ap₂, ◌∙◌, subst, arith}
 use Rattle.std.specs.Option.{option_map}
 use Rattle.std.proofs.lemmas.Option.{none-some, same_Some}
-use Rattle.language.specs.arguments.Agreement.{EqualWherePublic}
-use Rattle.language.specs.arguments.PublicResults.{public_arrays, next_public}
-use Rattle.language.specs.arguments.Within.{AreWithin, words_of}
-use Rattle.inline.specs.declared.flat.FlatVariable.{FlatVariable}
-use Rattle.inline.specs.Flat.{TermTree, declaration_of}
-use Rattle.inline.specs.FlatMeaning.{Values, value_in, given, array_of, arrays_from}
-use Rattle.inline.specs.FlatTyping.{Types, types_of, IsResult}
+use Rattle.branch_removal.specs.Below.{AreWithin, Arg, array_of, arrays_from, declaration_of, EqualWherePublic}
+use Rattle.branch_removal.specs.Below.{FlatVariable, given, is_mutable, IsResult, Label, next_public, Param, Profile}
+use Rattle.branch_removal.specs.Below.{Public, public_arrays, Secret, TermTree, Types, types_of, value_in, Values}
+use Rattle.branch_removal.specs.Below.{WordType}
+use Rattle.language.specs.arguments.Within.{words_of}
 use Rattle.language.specs.declared.signature.Form.{Form}
 use Rattle.language.specs.declared.signature.Form.TheVariants.{SingleWord, FixedArray, MutableArray}
-use Rattle.language.specs.declared.signature.Label.{Label}
-use Rattle.language.specs.declared.signature.Label.TheVariants.{Public, Secret}
-use Rattle.language.specs.declared.signature.Param.{Param}
-use Rattle.language.specs.declared.typing.WordType.{WordType}
-use Rattle.language.specs.declared.values.Arg.{Arg}
-use Rattle.language.specs.Typing.{is_mutable}
-use Rattle.word.specs.declared.profile.Profile.{Profile}
 use Rattle.intervals.proofs.Safe.{get_before}
 use Rattle.branch_removal.proofs.Agreement.{Agree, what_is_public}
 use Rattle.branch_removal.proofs.Scopes.{AreAmong}

@@ -3,10 +3,8 @@ use Rattle.std.proofs.Common.{◌≡◌, ℕ, zero, suc, ◌+◌, ◌-◌, ◌<�
 use Rattle.std.proofs.Common.{Option, Some, slice_set, refl, ap, ◌∙◌, subst, arith}
 use Rattle.std.proofs.lemmas.Bool.{cond-false, cond-true, cond_both, ne_eqb, eq-eqb}
 use Rattle.inline.proofs.Face.{turns_keep}
-use Rattle.inline.specs.Flat.{FlatTree, assign, put, branch, loop, FlatBlock, nothing}
-use Rattle.inline.specs.Flat.{first}
-use Rattle.inline.specs.FlatMeaning.{turns}
-use Rattle.language.specs.declared.signature.Label.TheVariants.{Public, Secret}
+use Rattle.branch_removal.specs.Below.{assign, branch, first, FlatBlock, FlatTree, loop, nothing, Public, put, Secret}
+use Rattle.branch_removal.specs.Below.{turns}
 use Rattle.branch_removal.specs.private.Removal.{take_within, removed, removed_all}
 use Rattle.branch_removal.specs.Straight.{StraightBlock}
 use Rattle.branch_removal.specs.StraightMeaning.{StraightState, holds, with_variable, with_controls, value_at, counted}

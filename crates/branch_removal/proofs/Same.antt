@@ -2,15 +2,11 @@
 use Rattle.std.proofs.Common.{◌≡◌, ℕ, ◌+◌, ◌-◌, ◌<◌, true, false, ◌&&◌, ◌==◌, cond, List, [], ◌∷◌, Option, None}
 use Rattle.std.proofs.Common.{Some, slice_set, refl, sym, ap, ap₂, ◌∙◌, subst, arith}
 use Rattle.std.proofs.lemmas.Bool.{cond-true, cond_both, and_from, and_right, not_from_true, not_from_false}
-use Rattle.inline.specs.declared.flat.FlatVariable.{FlatVariable}
-use Rattle.inline.specs.Flat.{TermTree, FlatTree, declare, array, assign, put, hold, skip, branch, loop, FlatBlock}
-use Rattle.inline.specs.Flat.{nothing, first, word_as, array_as}
-use Rattle.inline.specs.FlatMeaning.{Values, with_value, value_in}
+use Rattle.branch_removal.specs.Below.{AreTyped, array, array_as, assign, branch, counter_type, declare, first}
+use Rattle.branch_removal.specs.Below.{FlatBlock, FlatTree, FlatVariable, hold, IsTyped, Label, loop, nothing, Place}
+use Rattle.branch_removal.specs.Below.{Public, put, Secret, skip, TermTree, Types, types_after, types_after_all}
+use Rattle.branch_removal.specs.Below.{value_in, Values, with_type, with_value, word_as}
 use Rattle.inline.specs.FlatMeaning as flat
-use Rattle.inline.specs.FlatTyping.{Types, with_type, IsTyped, AreTyped, types_after, types_after_all, counter_type}
-use Rattle.language.specs.declared.signature.Label.{Label}
-use Rattle.language.specs.declared.signature.Label.TheVariants.{Public, Secret}
-use Rattle.word.specs.declared.place.Place.{Place}
 use Rattle.branch_removal.specs.private.Removal.{take_within, removed, removed_all}
 use Rattle.branch_removal.specs.Straight.{StraightBlock}
 use Rattle.branch_removal.specs.StraightMeaning.{StraightState, holds, with_variable, with_element, value_at, counted}

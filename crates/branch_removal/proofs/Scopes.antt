@@ -2,17 +2,14 @@
 use Rattle.std.proofs.Common.{◌≡◌, ℕ, ◌==◌, false, List, [], ◌∷◌, Option, None, Some, slice_get, inl, inr, refl, ◌∙◌}
 use Rattle.std.proofs.lemmas.Bool.{cases_Bool, ne_eqb, cond-false}
 use Rattle.std.proofs.lemmas.Option.{none-some}
-use Rattle.inline.specs.declared.flat.FlatVariable.{FlatVariable}
-use Rattle.inline.specs.Flat.{TermTree, FlatTree, declare, array, hold, FlatBlock, nothing, first}
-use Rattle.inline.specs.FlatTyping.{Types, with_type, types_of, HasType, of_number, of_truth, of_variable, of_prefix}
-use Rattle.inline.specs.FlatTyping.{of_binary, of_rotation, of_conversion, of_selection, of_element, Suits, AllSuit}
-use Rattle.inline.specs.FlatTyping.{IsResult, IsTyped, AreTyped, types_after, types_after_all}
+use Rattle.branch_removal.specs.Below.{AllSuit, AreTyped, array, declare, first, FlatBlock, FlatTree, FlatVariable}
+use Rattle.branch_removal.specs.Below.{HasType, hold, IsResult, IsTyped, Label, nothing, of_binary, of_conversion}
+use Rattle.branch_removal.specs.Below.{of_element, of_number, of_prefix, of_rotation, of_selection, of_truth}
+use Rattle.branch_removal.specs.Below.{of_variable, Profile, Suits, TermTree, Types, types_after, types_after_all}
+use Rattle.branch_removal.specs.Below.{types_of, with_type, WordType}
 use Rattle.inline.proofs.Face.{new_number, with_type-other}
 use Rattle.intervals.proofs.LooseTypes.{listed_beside}
 use Rattle.branch_removal.specs.StraightTyping.{types_but}
-use Rattle.language.specs.declared.signature.Label.{Label}
-use Rattle.language.specs.declared.typing.WordType.{WordType}
-use Rattle.word.specs.declared.profile.Profile.{Profile}
 
 -- a new variable is none of those in scope
 pub apart : (types : Types) (x y : ℕ) (d : FlatVariable) → types.at x ≡ None → types.at y ≡ Some d → (y == x) ≡ false

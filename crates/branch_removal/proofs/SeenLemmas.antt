@@ -1,8 +1,6 @@
 -- What an observer sees of a path that is made of parts; and a path is fine exactly where what is seen of it is.
 use Rattle.std.proofs.Common.{◌≡◌, ℕ, List, [], ◌∷◌, ◌++◌, refl, sym, ap, ap₂, ◌∙◌, append_assoc, subst}
-use Rattle.inline.specs.Path.{Path, multiplied, AreFine, shown_of, seen}
-use Rattle.word.specs.declared.profile.Profile.{Profile}
-use Rattle.word.specs.declared.profile.Profile.TheVariants.{P1, P2}
+use Rattle.branch_removal.specs.Below.{AreFine, multiplied, P1, P2, Path, Profile, seen, shown_of}
 
 -- what is seen of one path and then another
 pub seen-append : (profile : Profile) (a b : Path) → seen profile (a ++ b) ≡ seen profile a ++ seen profile b

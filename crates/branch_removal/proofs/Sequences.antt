@@ -1,6 +1,6 @@
 -- Blocks one after the other, and paths.
 use Rattle.std.proofs.Common.{◌≡◌, ℕ, List, [], ◌++◌, refl, sym, ap, ◌∙◌, append_assoc}
-use Rattle.inline.specs.Path.{Path, AreFine}
+use Rattle.branch_removal.specs.Below.{AreFine, Path}
 pub use Rattle.inline.proofs.FinePaths.{fine_back, fine_both, fine_front}
 use Rattle.branch_removal.specs.Straight.{StraightBlock, nothing, first, chain}
 use Rattle.branch_removal.specs.StraightMeaning.{StraightState, after, after_all, path_at, path_along}

@@ -1,14 +1,8 @@
 -- What a run of well-typed straight code shows, and its public results, are decided by what is public.
 use Rattle.std.proofs.Common.{◌≡◌, List, ◌∙◌}
 use Rattle.language.specs.arguments.Agreement as arguments
-use Rattle.language.specs.arguments.PublicResults.{AgreeInPublic}
-use Rattle.language.specs.arguments.Within.{AreWithin}
-use Rattle.inline.specs.Flat.{declaration_of}
-use Rattle.inline.specs.FlatMeaning.{given, path_of_result}
-use Rattle.inline.specs.FlatTyping.{types_of, parameter_types}
-use Rattle.inline.specs.Path.{seen}
-use Rattle.intervals.specs.Ranged.{RangedProgram}
-use Rattle.language.specs.declared.values.Arg.{Arg}
+use Rattle.branch_removal.specs.Below.{AgreeInPublic, AreWithin, Arg, declaration_of, given, parameter_types}
+use Rattle.branch_removal.specs.Below.{path_of_result, RangedProgram, seen, types_of}
 use Rattle.branch_removal.specs.Removed.{IsRemoved}
 use Rattle.branch_removal.specs.Replaced.{IsReplaced}
 use Rattle.branch_removal.specs.Straight.{StraightProgram}

@@ -3,13 +3,9 @@ use Rattle.std.proofs.Common.{◌≡◌, ℕ, zero, suc, ◌+◌, ◌≤◌, ◌
 use Rattle.std.proofs.Common.{Option, Some, refl, sym, ap, ap₂, ◌∙◌, arith}
 use Rattle.std.proofs.Math.Nat.{le-max_left, le-max_right}
 use Rattle.inline.proofs.RowLemmas as rows
-use Rattle.inline.specs.declared.flat.FlatStatement.{FlatStatement, Branch, Loop}
-use Rattle.inline.specs.declared.flat.Term.{Term}
-use Rattle.inline.specs.Flat.{TermTree, FlatBlock, term_tree, flat_tree, flat_block}
+use Rattle.branch_removal.specs.Below.{body_nodes, Branch, flat_block, flat_tree, FlatBlock, FlatStatement, Label, Loop}
+use Rattle.branch_removal.specs.Below.{Secret, Term, term_tree, TermTree, tree_nodes}
 use Rattle.inline.specs.Flat as flat
-use Rattle.inline.specs.FlatSize.{body_nodes, tree_nodes}
-use Rattle.language.specs.declared.signature.Label.{Label}
-use Rattle.language.specs.declared.signature.Label.TheVariants.{Secret}
 use Rattle.branch_removal.specs.private.Removal.{take_within, controls_in, controls_in_all, own_controls, removed}
 use Rattle.branch_removal.specs.private.Removal.{removed_all, single}
 use Rattle.branch_removal.specs.Straight.{StraightTree, StraightBlock, chain, take, repeats}

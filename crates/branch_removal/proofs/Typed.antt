@@ -2,14 +2,10 @@
 use Rattle.std.proofs.Common.{◌≡◌, ℕ, ◌+◌, ◌≤◌, false, List, Option, None, Some, refl, sym, ◌∙◌, arith}
 use Rattle.std.proofs.lemmas.Option.{same_Some}
 use Rattle.std.proofs.Math.Nat.{le-max_left, le-max_right}
-use Rattle.inline.specs.declared.flat.FlatVariable.{FlatVariable}
-use Rattle.inline.specs.Flat.{FlatTree, declare, array, assign, put, hold, skip, branch, loop, FlatBlock}
-use Rattle.inline.specs.Flat.{nothing, first, word_as}
-use Rattle.inline.specs.FlatTyping.{Types, with_type, types_of, types_after, counter_type}
+use Rattle.branch_removal.specs.Below.{array, assign, branch, counter_type, declare, first, FlatBlock, FlatTree}
+use Rattle.branch_removal.specs.Below.{FlatVariable, hold, Label, loop, nothing, Profile, Public, put, Secret, skip}
+use Rattle.branch_removal.specs.Below.{Types, types_after, types_of, with_type, word_as}
 use Rattle.inline.specs.FlatTyping as flat
-use Rattle.language.specs.declared.signature.Label.{Label}
-use Rattle.language.specs.declared.signature.Label.TheVariants.{Public, Secret}
-use Rattle.word.specs.declared.profile.Profile.{Profile}
 use Rattle.branch_removal.specs.private.Removal.{removed, removed_all, controls_in, controls_in_all}
 use Rattle.branch_removal.specs.Straight.{StraightTree, StraightBlock, chain}
 use Rattle.branch_removal.specs.Straight as straight

@@ -4,12 +4,9 @@ use Rattle.std.proofs.Common.{◌≡◌, ℕ, ◌+◌, ◌-◌, ◌<◌, ◌==�
 use Rattle.std.proofs.Common.{slice_set, refl, sym, ap, ◌∙◌, arith}
 use Rattle.std.proofs.lemmas.Bool.{cond-false, cond_both, false_from_ne_true, eqb-true, and_left}
 use Rattle.std.proofs.lemmas.Option.{same_Some}
-use Rattle.inline.specs.declared.flat.FlatVariable.{FlatVariable}
-use Rattle.inline.specs.Flat.{TermTree, FlatTree, declare, array, assign, put, hold, skip, branch, loop, FlatBlock}
-use Rattle.inline.specs.Flat.{nothing, first, word_as}
-use Rattle.inline.specs.FlatTyping.{Types, with_type, IsTyped, AreTyped, types_after, counter_type}
-use Rattle.language.specs.declared.signature.Label.{Label}
-use Rattle.language.specs.declared.signature.Label.TheVariants.{Public, Secret}
+use Rattle.branch_removal.specs.Below.{AreTyped, array, assign, branch, counter_type, declare, first, FlatBlock}
+use Rattle.branch_removal.specs.Below.{FlatTree, FlatVariable, hold, IsTyped, Label, loop, nothing, Public, put, Secret}
+use Rattle.branch_removal.specs.Below.{skip, TermTree, Types, types_after, with_type, word_as}
 use Rattle.branch_removal.specs.private.Removal.{take_within, removed, removed_all}
 use Rattle.branch_removal.specs.Straight.{StraightBlock}
 use Rattle.branch_removal.specs.StraightMeaning.{StraightState, holds, with_variable, value_at, counted, after}

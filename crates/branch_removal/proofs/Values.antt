@@ -5,26 +5,16 @@ use Rattle.std.proofs.Common.{◌≡◌, ◌≢◌, ℕ, ◌==◌, List, [], ◌
 use Rattle.std.proofs.Common.{Some, refl, ap, ap₂, ◌∙◌, true≢false}
 use Rattle.std.specs.Option.{option_map}
 use Rattle.word.specs.Operators.{converted, rotated_left}
-use Rattle.word.specs.declared.place.Place.{Place}
-use Rattle.word.specs.declared.profile.Profile.{Profile}
-use Rattle.word.specs.declared.profile.Profile.TheVariants.{P1, P2}
-use Rattle.inline.specs.Flat.{TermTree}
-use Rattle.inline.specs.FlatMeaning.{Values, value_in, path_in, path_in_all, marks_of, path_of_result}
-use Rattle.inline.specs.FlatTyping.{Types, HasType, of_number, of_truth, of_variable, of_prefix, of_binary}
-use Rattle.inline.specs.FlatTyping.{of_rotation, of_conversion, of_selection, of_element, Suits, AllSuit, IsResult}
-use Rattle.inline.specs.Path.{Path, indexed, divided, multiplied, seen}
-use Rattle.language.specs.declared.signature.Label.{Label}
-use Rattle.language.specs.declared.signature.Label.TheVariants.{Public, Secret}
-use Rattle.language.specs.declared.operators.BinaryOperator.{BinaryOperator}
+use Rattle.branch_removal.specs.Below.{AllSuit, BinaryOperator, both_public as public_factors, divided}
+use Rattle.branch_removal.specs.Below.{division as divides_public, HasType, indexed, is_secret, IsResult, joined, Label}
+use Rattle.branch_removal.specs.Below.{Makes, marks_of, multiplication, multiplied, of_binary, of_conversion}
+use Rattle.branch_removal.specs.Below.{of_element, of_number, of_prefix, of_rotation, of_selection, of_truth}
+use Rattle.branch_removal.specs.Below.{of_variable, operated, operation_of, P1, P2, Path, path_in, path_in_all}
+use Rattle.branch_removal.specs.Below.{path_of_result, Place, prefix_value, Profile, Public, Secret, seen, Suits}
+use Rattle.branch_removal.specs.Below.{TermTree, Types, value_in, Values, width_of, WordType}
 use Rattle.language.specs.declared.operators.BinaryOperator.TheVariants.{Multiply}
 use Rattle.language.specs.declared.operators.BinaryOperator.TheVariants.{Divide, Remainder}
 use Rattle.language.specs.declared.operation.Operation.{Operation}
-use Rattle.language.specs.declared.typing.WordType.{WordType}
-use Rattle.language.specs.Operators.{operation_of}
-use Rattle.language.specs.Operators.{operated, prefix_value, width_of}
-use Rattle.language.specs.Types.{joined, is_secret}
-use Rattle.language.specs.WellTyped.{Makes, multiplication, division as divides_public}
-use Rattle.language.specs.WellTyped.{both_public as public_factors}
 use Rattle.intervals.proofs.LooseTypes.{joined_public}
 use Rattle.branch_removal.proofs.SeenLemmas.{both_seen}
 use Rattle.branch_removal.proofs.Agreement.{Agree, everything, what_is_public}

@@ -1,15 +1,12 @@
 -- How large straight code is and how much work it is, and the bounds that it keeps.
 use Rattle.std.specs.Prelude.{ℕ, ◌+◌, ◌*◌, ◌≤◌, List, Option, None, map, slice_index}
 use Rattle.std.specs.List.{AllByRecursion}
-use Rattle.inline.specs.Limits.{most_variable_bytes}
-use Rattle.inline.specs.Flat.{TermTree, number, declaration_of}
-use Rattle.inline.specs.FlatSize.{HasLength, declared_words, term_nodes, terms_nodes, value_nodes}
+use Rattle.branch_removal.specs.Below.{declaration_of, declared_words, HasLength, most_declared_bytes, most_nodes}
+use Rattle.branch_removal.specs.Below.{most_variable_bytes, most_work, number, Param, term_nodes, terms_nodes, TermTree}
+use Rattle.branch_removal.specs.Below.{value_nodes}
 use Rattle.branch_removal.specs.Heights.{depth_in_all, program_height}
 use Rattle.branch_removal.specs.Straight.{StraightTree, set, array, put, take, branch, repeats}
 use Rattle.branch_removal.specs.Straight.{StraightBlock, nothing, first, StraightProgram}
-use Rattle.intervals.specs.Limits.{most_work}
-use Rattle.language.specs.Limits.{most_nodes, most_declared_bytes}
-use Rattle.language.specs.declared.signature.Param.{Param}
 
 abbrev mutual
   -- the nodes of a statement, itself among them; an element that is set is one too

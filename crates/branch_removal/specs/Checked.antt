@@ -1,9 +1,7 @@
 -- Whether straight code may be made of other parts: a test of its types, of the words that its variables take, of its
 -- work, and of the room that it asks of a frame. What passes it is straight. How it tests types is private.
 use Rattle.std.specs.Prelude.{◌+◌, ◌*◌, ◌&&◌, Bool, if◌then◌else◌, map, nat_le, Option, None, Some}
-use Rattle.inline.specs.Flat.{declaration_of}
-use Rattle.inline.specs.FlatSize.{declared_words, value_nodes}
-use Rattle.inline.specs.Limits.{most_variable_bytes}
+use Rattle.branch_removal.specs.Below.{declaration_of, declared_words, most_variable_bytes, value_nodes}
 use Rattle.branch_removal.specs.Bounds.{block_work}
 use Rattle.branch_removal.specs.Heights.{depth_in_all, program_height}
 use Rattle.branch_removal.specs.Straight.{StraightProgram}

@@ -3,7 +3,8 @@
 use Rattle.std.specs.Prelude.{ℕ, ◌+◌, List, [], ◌∷◌, Option, None, Some, max}
 use Rattle.branch_removal.specs.Straight.{StraightTree, set, array, put, take, branch, repeats}
 use Rattle.branch_removal.specs.Straight.{StraightBlock, nothing, first, StraightProgram}
-use Rattle.inline.specs.Flat.{TermTree, number, truth, variable, prefix, binary, rotate, convert, select, element}
+use Rattle.branch_removal.specs.Below.{binary, convert, element, number, prefix, rotate, select, TermTree, truth}
+use Rattle.branch_removal.specs.Below.{variable}
 
 -- how many temporaries an expression has at once, beside the one that it comes into
 abbrev pub height_of : TermTree → ℕ

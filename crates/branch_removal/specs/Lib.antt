@@ -12,3 +12,4 @@ pub mod Quiet
 pub mod Uses
 pub mod Greatest
 pub mod private
+pub mod Below

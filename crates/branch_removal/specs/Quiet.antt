@@ -1,8 +1,7 @@
 -- Expressions of which a run shows nothing.
 use Rattle.std.specs.Prelude.{◌&&◌, ◌||◌, Bool, true, false, not}
-use Rattle.inline.specs.Flat.{TermTree, number, truth, variable, prefix, binary, rotate, convert, select, element}
-use Rattle.language.specs.declared.operators.BinaryOperator.{BinaryOperator}
-use Rattle.language.specs.Operators.{divides, multiplies}
+use Rattle.branch_removal.specs.Below.{binary, BinaryOperator, convert, divides, element, multiplies, number, prefix}
+use Rattle.branch_removal.specs.Below.{rotate, select, TermTree, truth, variable}
 
 -- operands of this operator are on the path
 abbrev pub is_marked : BinaryOperator → Bool

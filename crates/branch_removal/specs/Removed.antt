@@ -1,16 +1,11 @@
 -- What is promised of straight code for a body with branches.
 use Rattle.std.specs.Prelude.{◌≡◌, List}
-use Rattle.language.specs.arguments.Agreement.{Agree}
-use Rattle.language.specs.arguments.PublicResults.{AgreeInPublic}
-use Rattle.language.specs.arguments.Within.{AreWithin}
+use Rattle.branch_removal.specs.Below.{Agree, AgreeInPublic, AreFine, AreWithin, Arg, outcome_of as outcome_of_flat}
+use Rattle.branch_removal.specs.Below.{RangedProgram, seen}
 use Rattle.branch_removal.specs.Bounds.{IsBounded}
 use Rattle.branch_removal.specs.Straight.{StraightProgram}
 use Rattle.branch_removal.specs.StraightMeaning.{outcome_of, path_of}
 use Rattle.branch_removal.specs.StraightTyping.{IsTypedStraight}
-use Rattle.inline.specs.FlatMeaning.{outcome_of as outcome_of_flat}
-use Rattle.inline.specs.Path.{AreFine, seen}
-use Rattle.intervals.specs.Ranged.{RangedProgram}
-use Rattle.language.specs.declared.values.Arg.{Arg}
 
 pub record IsRemoved (ranged : RangedProgram) (straight : StraightProgram) : Type 0 where
   -- what stays as it was

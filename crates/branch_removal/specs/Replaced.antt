@@ -1,11 +1,9 @@
 -- Straight code that may stand in the place of other: what a pass over straight code promises.
 use Rattle.std.specs.Prelude.{◌≡◌, List}
-use Rattle.language.specs.arguments.Within.{AreWithin}
+use Rattle.branch_removal.specs.Below.{AreFine, AreWithin, Arg}
 use Rattle.branch_removal.specs.Kept.{IsStraight}
 use Rattle.branch_removal.specs.Straight.{StraightProgram}
 use Rattle.branch_removal.specs.StraightMeaning.{outcome_of, path_of}
-use Rattle.inline.specs.Path.{AreFine}
-use Rattle.language.specs.declared.values.Arg.{Arg}
 
 pub record IsReplaced (before after : StraightProgram) : Type 0 where
   -- what stays as it was

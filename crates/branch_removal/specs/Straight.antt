@@ -6,12 +6,7 @@ use Rattle.branch_removal.specs.declared.straight.StraightStatement.{Branch', Re
 use Rattle.branch_removal.specs.declared.straight.StraightStatement.{Row_of-StraightStatement}
 use Rattle.branch_removal.specs.declared.straight.StraightStatement.{end_of-StraightStatement}
 use Rattle.branch_removal.specs.declared.straight.StraightStatement.{more_of-StraightStatement}
-use Rattle.inline.specs.declared.flat.FlatVariable.{FlatVariable}
-use Rattle.inline.specs.Flat.{TermTree, term_tree}
-use Rattle.language.specs.declared.signature.Param.{Param}
-use Rattle.language.specs.declared.typing.WordType.{WordType}
-use Rattle.word.specs.declared.place.Place.{Place}
-use Rattle.word.specs.declared.profile.Profile.{Profile}
+use Rattle.branch_removal.specs.Below.{FlatVariable, Param, Place, Profile, term_tree, TermTree, WordType}
 
 mutual
   pub data StraightTree : Type 0 where

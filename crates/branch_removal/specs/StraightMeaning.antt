@@ -3,14 +3,12 @@
 -- target where that value is true and else keeps it.
 use Rattle.std.specs.Prelude.{ℕ, ◌+◌, ◌-◌, ◌==◌, Bool, true, false, not, ◌&&◌, List, [], ◌∷◌, ◌++◌}
 use Rattle.std.specs.Prelude.{Option, None, Some, if◌then◌else◌, slice_set}
-use Rattle.inline.specs.Flat.{TermTree}
-use Rattle.inline.specs.FlatMeaning.{Values, with_value, value_in, elements, path_in, path_in_all, turns, path_of_turns}
-use Rattle.inline.specs.FlatMeaning.{given, results_of, path_of_result}
-use Rattle.inline.specs.Path.{Path, decided, bounded, indexed}
+use Rattle.branch_removal.specs.Below.{Arg, bounded, decided, elements, given, indexed, Path, path_in, path_in_all}
+use Rattle.branch_removal.specs.Below.{path_of_result, path_of_turns, results_of, TermTree, turns, value_in, Values}
+use Rattle.branch_removal.specs.Below.{with_value}
 use Rattle.branch_removal.specs.Straight.{StraightTree, set, array, put, take, branch, repeats}
 use Rattle.branch_removal.specs.Straight.{StraightBlock, nothing, first, StraightProgram}
 use Rattle.language.specs.Results.{Results}
-use Rattle.language.specs.declared.values.Arg.{Arg}
 
 pub record StraightState : Type 0 where
   pub variables : Values

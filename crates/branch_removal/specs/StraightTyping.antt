@@ -4,15 +4,9 @@ use Rattle.std.specs.Prelude.{◌≡◌, ℕ, ◌+◌, ◌<◌, ◌==◌, if◌t
 use Rattle.std.specs.Prelude.{take as first_of, Option, None, Some, slice_get}
 use Rattle.branch_removal.specs.Straight.{StraightTree, set, array, put, take, branch, repeats}
 use Rattle.branch_removal.specs.Straight.{StraightBlock, nothing, first, StraightProgram}
-use Rattle.inline.specs.declared.flat.FlatVariable.{FlatVariable}
-use Rattle.inline.specs.Flat.{TermTree, word_as, array_as, declaration_of}
-use Rattle.inline.specs.FlatTyping.{Types, types_of, HasType, HasCount, Suits, AllSuit, IsResult, counter_type}
-use Rattle.language.specs.WellTyped.{labelled}
-use Rattle.language.specs.declared.signature.Kind.TheVariants.{Boolean}
-use Rattle.language.specs.declared.signature.Label.{Label}
-use Rattle.language.specs.declared.signature.Label.TheVariants.{Public, Secret}
-use Rattle.language.specs.declared.typing.WordType.{WordType}
-use Rattle.word.specs.declared.profile.Profile.{Profile}
+use Rattle.branch_removal.specs.Below.{AllSuit, array_as, Boolean, counter_type, declaration_of, FlatVariable, HasCount}
+use Rattle.branch_removal.specs.Below.{HasType, IsResult, Label, labelled, Profile, Public, Secret, Suits, TermTree}
+use Rattle.branch_removal.specs.Below.{Types, types_of, word_as, WordType}
 
 -- a word, and a value for it
 pub record IsSet (profile : Profile) (declared : List FlatVariable) (x : ℕ) (value : TermTree) : Type 0 where

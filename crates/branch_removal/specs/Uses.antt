@@ -4,7 +4,8 @@ use Rattle.std.specs.Prelude.{ℕ, ◌+◌, ◌-◌, ◌*◌, ◌^◌, List, [],
 use Rattle.std.specs.Prelude.{replicate, slice_index, slice_set}
 use Rattle.branch_removal.specs.Straight.{StraightTree, set, array, put, take, branch, repeats}
 use Rattle.branch_removal.specs.Straight.{StraightBlock, nothing, first, StraightProgram}
-use Rattle.inline.specs.Flat.{TermTree, number, truth, variable, prefix, binary, rotate, convert, select, element}
+use Rattle.branch_removal.specs.Below.{binary, convert, element, number, prefix, rotate, select, TermTree, truth}
+use Rattle.branch_removal.specs.Below.{variable}
 
 abbrev pub greatest_weight : ℕ
 greatest_weight = 2 ^ 64 - 1

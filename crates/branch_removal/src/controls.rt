@@ -1,5 +1,5 @@
 ghost use Rattle.std.specs.Prelude.{◌≡◌, ◌^◌, ◌<◌};
-ghost use Rattle.inline.specs.Flat.{flat_tree, flat_block};
+ghost use Rattle.branch_removal.specs.Below.{flat_block, flat_tree};
 ghost use Rattle.branch_removal.specs.private.Removal.{own_controls, controls_in, controls_in_all};
 
 use inline::FlatStatement;

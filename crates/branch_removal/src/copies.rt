@@ -2,7 +2,7 @@
 
 ghost use Rattle.std.specs.Prelude.{◌≡◌, map, IfOk};
 ghost use Rattle.std.specs.Option.{option_map};
-ghost use Rattle.inline.specs.Flat.{term_tree};
+ghost use Rattle.branch_removal.specs.Below.{term_tree};
 
 use inline::Term;
 use std::alloc::{AllocError, Global};

@@ -1,19 +1,13 @@
 // The laws, which hold of the definitions alone.
 
 ghost use Rattle.std.specs.Prelude.{◌≡◌, List, [], true};
-ghost use Rattle.language.specs.arguments.Agreement.{Agree};
-ghost use Rattle.language.specs.arguments.PublicResults.{AgreeInPublic};
+ghost use Rattle.branch_removal.specs.Below.{Agree, AgreeInPublic, Arg, path_in, RangedProgram, seen, TermTree, Values};
 ghost use Rattle.branch_removal.specs.Quiet.{is_quiet};
 ghost use Rattle.branch_removal.specs.Removed.{IsRemoved};
 ghost use Rattle.branch_removal.specs.Replaced.{IsReplaced};
 ghost use Rattle.branch_removal.specs.Straight.{StraightProgram};
 ghost use Rattle.branch_removal.specs.StraightMeaning.{outcome_of, path_of};
 ghost use Rattle.branch_removal.specs.StraightTyping.{IsTypedStraight};
-ghost use Rattle.inline.specs.Flat.{TermTree};
-ghost use Rattle.inline.specs.FlatMeaning.{Values, path_in};
-ghost use Rattle.inline.specs.Path.{seen};
-ghost use Rattle.intervals.specs.Ranged.{RangedProgram};
-ghost use Rattle.language.specs.declared.values.Arg.{Arg};
 
 /// What a run of well-typed straight code shows is decided by what is public, and so are its public results.
 pub fn straight_shows_what_is_public()

@@ -3,7 +3,7 @@
 ghost use Rattle.std.specs.Prelude.{◌≡◌};
 ghost use Rattle.branch_removal.specs.Straight as straight;
 ghost use Rattle.branch_removal.specs.Straight.{straight_block, straight_tree};
-ghost use Rattle.inline.specs.Flat.{term_tree};
+ghost use Rattle.branch_removal.specs.Below.{term_tree};
 
 use crate::StraightStatement;
 use inline::Term;

@@ -2,7 +2,7 @@
 
 ghost use Rattle.std.specs.Prelude.{◌≡◌};
 ghost use Rattle.branch_removal.specs.Quiet.{is_marked, is_quiet};
-ghost use Rattle.inline.specs.Flat.{term_tree};
+ghost use Rattle.branch_removal.specs.Below.{term_tree};
 
 use inline::Term;
 use language::BinaryOperator;

@@ -1,6 +1,5 @@
 ghost use Rattle.std.specs.Prelude.{◌≡◌, ◌+◌, ◌^◌, ◌<◌, map, IfOk, IfErr, OnOk};
-ghost use Rattle.inline.specs.Flat.{branch, term_tree, flat_tree, flat_block};
-ghost use Rattle.language.specs.declared.signature.Label.TheVariants.{Public, Secret};
+ghost use Rattle.branch_removal.specs.Below.{branch, flat_block, flat_tree, Public, Secret, term_tree};
 ghost use Rattle.language.specs.WantOfMemory.{IsWantOfMemory};
 ghost use Rattle.branch_removal.specs.private.Removal.{controls_in, controls_in_all, removed, removed_all, single};
 ghost use Rattle.branch_removal.specs.Exact.{straight_of};

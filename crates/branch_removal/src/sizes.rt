@@ -3,8 +3,7 @@
 
 ghost use Rattle.std.specs.Prelude.{◌≡◌, ◌+◌, ◌*◌, ◌^◌, ◌<◌, map, max, slice_index};
 ghost use Rattle.std.specs.Option.{option_map};
-ghost use Rattle.inline.specs.Flat.{term_tree};
-ghost use Rattle.inline.specs.FlatSize.{declared_words, term_nodes, terms_nodes, value_nodes, words_of};
+ghost use Rattle.branch_removal.specs.Below.{declared_words, term_nodes, term_tree, terms_nodes, value_nodes, words_of};
 ghost use Rattle.branch_removal.specs.Bounds.{block_work, set_work, statement_work};
 ghost use Rattle.branch_removal.specs.Heights.{depth_in, depth_in_all, height_in, height_in_all, height_of};
 ghost use Rattle.branch_removal.specs.Heights.{height_of_all, result_height};

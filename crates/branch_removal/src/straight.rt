@@ -1,6 +1,6 @@
 ghost use Rattle.std.specs.Prelude.{◌≡◌, IfSome};
 ghost use Rattle.std.specs.Option.{option_map};
-ghost use Rattle.inline.specs.Flat.{term_tree};
+ghost use Rattle.branch_removal.specs.Below.{term_tree};
 ghost use Rattle.branch_removal.specs.Kept.{IsStraight};
 ghost use Rattle.branch_removal.specs.Straight.{StraightProgram, straight_block, with_variables};
 ghost use Rattle.branch_removal.specs.Checked.{checked, has_room, is_checked};
@@ -52,7 +52,7 @@ pub struct StraightCode<'f> {
 
 impl<'f> Model for StraightCode<'f> {
     ghost use Rattle.std.specs.Option.{option_map};
-    ghost use Rattle.inline.specs.Flat.{term_tree};
+    ghost use Rattle.branch_removal.specs.Below.{term_tree};
     ghost use Rattle.branch_removal.specs.Straight.{StraightProgram, straight_block};
     ghost use Rattle.branch_removal.specs.private.StraightCodes.{coded_straight};
     ghost use Rattle.branch_removal.specs.Kept.{IsStraight};

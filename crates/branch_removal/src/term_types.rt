@@ -3,10 +3,7 @@
 
 ghost use Rattle.std.specs.Prelude.{◌≡◌, None};
 ghost use Rattle.std.specs.Option.{option_map};
-ghost use Rattle.inline.specs.Flat.{term_tree};
-ghost use Rattle.language.specs.ExprTyping.{select_type};
-ghost use Rattle.language.specs.Types.{of_one, of_three, of_two};
-ghost use Rattle.language.specs.declared.typing.ValueType.TheVariants.{Word};
+ghost use Rattle.branch_removal.specs.Below.{of_one, of_three, of_two, select_type, term_tree, Word};
 ghost use Rattle.branch_removal.specs.private.Checks.{between, converted, element_in, indexed, is_at, is_counter};
 ghost use Rattle.branch_removal.specs.private.Checks.{prefixed, rotated, type_of, types_beside, variable_at, word_in};
 

@@ -8,7 +8,7 @@ use Rattle.codegen.proofs.Language.{Param, WordType}
 use Rattle.codegen.proofs.Logic.{length-map, All-append, option_map, setting as pieces_of, bytes_of, place_of, Setting}
 use Rattle.codegen.proofs.Logic.{seen_by, Straight, Steps, Runs, cheaper, All-one, Placed, Placed-left, Placed-right}
 use Rattle.codegen.proofs.Logic.{Halts-after, ecall_halts}
-use Rattle.branch_removal.specs.StraightMeaning.{start as start_of}
+use Rattle.codegen.specs.Below.{Event, start as start_of, words_of}
 use Rattle.codegen.proofs.Machine.{body_words, Stand, IsPlaced, IsLoaded, RunsBehind, IsFollowedIn, loaded_at}
 use Rattle.codegen.proofs.Machine.{results_in, code_at, depth_in_all, most_words, program_code, image_of, result_slot}
 use Rattle.codegen.proofs.Machine.{HasRoom, variable_offset, slots_from, Instr, word_of, Observation, number_at, Leads}
@@ -20,7 +20,6 @@ use Rattle.codegen.proofs.Standing.{words_alone, body_words_before, placed_alone
 use Rattle.codegen.proofs.Standing.{within_among as words_within_among}
 use Rattle.codegen.proofs.program_logic_lemmas.TurnLaws.{leads_kept, still_there}
 use Rattle.codegen.specs.program_logic.Turns.{LeadsWithin}
-use Rattle.rv_machine.specs.declared.observation.Event.{Event}
 use Rattle.codegen.proofs.FreshRuns.{Ended, program_runs}
 use Rattle.codegen.specs.private.Fresh.{starts_fresh}
 use Rattle.std.proofs.lemmas.Bool.{and_parts, ltb-true}
@@ -28,7 +27,6 @@ use Rattle.codegen.proofs.Slots.{Laid, laid_same}
 use Rattle.rv_code.specs.declared.instructions.Instr.TheVariants as instr
 use Rattle.rv_machine.specs.Machine as machine
 use Rattle.codegen.proofs.ImageLemmas.{room_frame}
-use Rattle.inline.specs.FlatSize.{words_of}
 
 -- the state that the value is taken in
 abbrev last_state : StraightProgram → StraightState → StraightState

@@ -9,7 +9,7 @@ use Rattle.codegen.proofs.Machine.{operands_code, operands_or, read_code, right_
 use Rattle.codegen.proofs.WordLengths.{read_length}
 use Rattle.codegen.specs.declared.comparing.Comparison.{Comparison}
 use Rattle.codegen.specs.private.Compared.{is_short_arm}
-use Rattle.inline.specs.Flat.{binary}
+use Rattle.codegen.specs.Below.{binary}
 
 -- as long as two arms, and so many instructions more at most
 abbrev pub SpansBoth : List Instr → List Instr → ℕ → List Instr → Type 0

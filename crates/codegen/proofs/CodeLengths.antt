@@ -17,7 +17,7 @@ use Rattle.codegen.specs.private.Emitted.{clear_code, array_code, fill_code, int
 use Rattle.codegen.specs.private.Emitted.{block_code, index_code, put_code, put_element_code, put_under_code}
 use Rattle.codegen.specs.private.Emitted.{put_under_near_code}
 use Rattle.codegen.specs.private.Erased.{erase_under_code}
-use Rattle.branch_removal.specs.Heights.{height_of_all, height_in, height_in_all, depth_in, depth_in_all}
+use Rattle.codegen.specs.Below.{depth_in, depth_in_all, height_in, height_in_all, height_of_all}
 use Rattle.codegen.proofs.Machine.{ArePlacedTerms, control_location, HasPlace, HavePlaces, register_of, variable_offset}
 use Rattle.codegen.proofs.Machine.{next_offset, temporaries_offset, kind_at, near_element, height_of, Instr, slots_to}
 use Rattle.codegen.proofs.Machine.{Allocation, InRegister, InSlot, Location, variable_location, unless_unread}

@@ -13,17 +13,9 @@ use Rattle.codegen.proofs.Slots.{read_runs, read_source, ready_valued}
 use Rattle.codegen.specs.declared.comparing.Comparison.{Comparison}
 use Rattle.codegen.specs.declared.jumping.Test.{Test}
 use Rattle.codegen.specs.private.Compared.{against_zero}
-use Rattle.inline.specs.Flat.{binary}
-use Rattle.inline.specs.FlatMeaning.{marks_of}
-use Rattle.inline.specs.FlatTyping.{of_binary}
-use Rattle.language.specs.declared.operators.BinaryOperator.{BinaryOperator}
-use Rattle.language.specs.declared.operators.BinaryOperator.TheVariants.{Equal, Unequal, Less, LessOrEqual, Greater}
-use Rattle.language.specs.declared.operators.BinaryOperator.TheVariants.{GreaterOrEqual}
-use Rattle.language.specs.Operators.{operated}
-use Rattle.rv_machine.specs.Effects.{holds}
+use Rattle.codegen.specs.Below.{binary, BinaryOperator, Equal, Greater, GreaterOrEqual, holds, Less, LessOrEqual}
+use Rattle.codegen.specs.Below.{marks_of, of_binary, operated, register, Unequal, Width}
 use Rattle.rv_machine.specs.Machine as machine
-use Rattle.rv_machine.specs.Registers.{register}
-use Rattle.word.specs.declared.width.Width.{Width}
 use Rattle.codegen.proofs.expression_code_lemmas.NumberCode.{zero_known}
 
 -- Comparisons.

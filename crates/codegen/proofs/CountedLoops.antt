@@ -21,10 +21,8 @@ use Rattle.codegen.proofs.Slots.{Shown, Hidden, hidden_then, hidden_by, hidden_k
 use Rattle.codegen.proofs.Slots.{read_source, source_apart, homed_runs}
 use Rattle.codegen.specs.private.Loops.{any_sets, below_number_code, below_word_code, guarded_code, is_below}
 use Rattle.codegen.specs.private.Loops.{short_number, to_number_code, turns_code}
-use Rattle.inline.specs.Flat.{number}
+use Rattle.codegen.specs.Below.{Addi, number, sign_extended, Sltiu}
 use Rattle.rv_code.specs.declared.instructions.Instr.TheVariants as instr
-use Rattle.rv_code.specs.declared.operations.ImmediateOperation.TheVariants.{Addi, Sltiu}
-use Rattle.rv_machine.specs.Effects.{sign_extended}
 use Rattle.rv_machine.specs.Machine as machine
 use Rattle.codegen.proofs.HomeWords.{ready_homed}
 use Rattle.codegen.proofs.expression_code_lemmas.WorkRegisters.{when_some}

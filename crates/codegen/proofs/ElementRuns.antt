@@ -20,7 +20,7 @@ use Rattle.codegen.proofs.Machine.{variable_offset, fill_code, height_of, index_
 use Rattle.codegen.proofs.Machine.{stored_register, height_of_put}
 use Rattle.codegen.proofs.Slots.{Shown, suits_fits, wrote_as, hidden_valued, hidden_then, ready_same, ready_put}
 use Rattle.codegen.proofs.Slots.{offered_put, offered_low, offered_runs, ready_offered}
-use Rattle.rv_machine.specs.Registers.{register}
+use Rattle.codegen.specs.Below.{register}
 use Rattle.codegen.specs.private.Emitted.{into_element_code, put_value_code}
 use Rattle.codegen.specs.private.StoredValues.{stored_value}
 use Rattle.codegen.proofs.StoredValues.{IsCutTo, stored_cut, stored_height, stored_nodes, stored_path}

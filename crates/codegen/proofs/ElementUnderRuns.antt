@@ -18,7 +18,7 @@ use Rattle.codegen.proofs.Elements.{ElementAccess, addressed_at, at_element, awa
 use Rattle.codegen.proofs.Elements.{value_source, put_by, Puts, put_access}
 use Rattle.codegen.proofs.ElementRuns.{offered_element}
 use Rattle.codegen.proofs.UnderRuns.{number_under, read_begun, merges}
-use Rattle.inline.specs.Fitting.{Fits}
+use Rattle.codegen.specs.Below.{Fits}
 use Rattle.codegen.proofs.expression_code_lemmas.Moves.{is_left, is_written}
 
 module _ (z : Setting) (depth : ℕ) (place : Place) (x size : ℕ) (index value : TermTree)

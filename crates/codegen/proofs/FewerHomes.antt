@@ -20,7 +20,7 @@ use Rattle.codegen.specs.private.Loops.{any_sets, counting_home, loop_from, repe
 use Rattle.codegen.specs.expression_code.Allocation.{temporary, working_register}
 use Rattle.codegen.specs.expression_code.TermCode.{is_at_home, keeps_words, operand}
 use Rattle.inline.specs.Flat as flat
-use Rattle.language.specs.declared.signature.Kind.{Kind}
+use Rattle.codegen.specs.Below.{Kind}
 
 neither_of_three : (a b c : Bool) → (a || (b || c)) ≡ false → (a ≡ false) × (b ≡ false) × (c ≡ false)
 neither_of_three a b c h =

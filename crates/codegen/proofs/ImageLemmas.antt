@@ -17,8 +17,7 @@ use Rattle.codegen.proofs.Language.{StraightProgram, most_elements, Form}
 use Rattle.codegen.proofs.Language.{SingleWord, Kind, Boolean, Param, WordType, held_words, array_words, Profile}
 use Rattle.codegen.proofs.Language.{FlatVariable, declaration_of, TermTree, HasLength, declared_words, value_nodes}
 use Rattle.codegen.proofs.Language.{IsCounted, types_of, IsResult}
-use Rattle.branch_removal.specs.Kept.{IsStraight}
-use Rattle.inline.specs.FlatSize.{words_of}
+use Rattle.codegen.specs.Below.{IsStraight, words_of}
 use Rattle.codegen.proofs.CodeLengths.{assign_length, block_length, blocks_placed}
 
 -- The parameters' slots.

@@ -9,7 +9,7 @@ use Rattle.codegen.proofs.Language.{StraightBlock, StraightProgram, StraightTree
 use Rattle.codegen.proofs.Logic.{cases_eq, cases_lt, option_map}
 use Rattle.codegen.proofs.Machine.{AllReadKept, IsKeptWithin, ReadsKept}
 use Rattle.codegen.specs.private.Reads.{unread_of}
-use Rattle.branch_removal.specs.Uses.{greatest_weight, used, weight_inside}
+use Rattle.codegen.specs.Below.{greatest_weight, used, weight_inside}
 use Rattle.codegen.specs.private.Uses.{control_weights_of, controls_read_by, controls_read_by_all, used_within}
 use Rattle.codegen.proofs.WeightLengths.{all_read_keep, used_length}
 

@@ -21,14 +21,12 @@ use Rattle.codegen.proofs.Logic.{place_target, variables_home, is_free, idle, lt
 use Rattle.codegen.proofs.Logic.{move_runs, setting, Runs, gives, cheaper, kept_less, kept_by, ready_below, along}
 use Rattle.codegen.proofs.Logic.{home_allowed, home_there, known, none, quiet, ready_after, register-at, value_fits}
 use Rattle.codegen.specs.expression_code.Allocation.{slot_of}
-use Rattle.inline.specs.FlatSize.{words_of}
+use Rattle.codegen.specs.Below.{register, StoreOperation, words_of}
 use Rattle.codegen.proofs.expression_code_lemmas.Operands.{put_wrote}
 use Rattle.codegen.proofs.expression_code_lemmas.Moves.{is_left, put_code, putting}
 use Rattle.codegen.proofs.expression_code_lemmas.WorkRegisters.{cases_Option}
 use Rattle.codegen.proofs.expression_code_lemmas.Values.{kind_fits}
 use Rattle.std.proofs.lemmas.Bool.{cases_Bool, cases_eq, cond_both}
-use Rattle.rv_code.specs.declared.operations.StoreOperation.{StoreOperation}
-use Rattle.rv_machine.specs.Registers.{register}
 use Rattle.rv_machine.specs.Machine as machine
 pub use Rattle.codegen.proofs.HiddenWords.{Hidden, hidden_beyond, hidden_by, hidden_kept, hidden_less, hidden_number}
 pub use Rattle.codegen.proofs.HiddenWords.{hidden_then, hidden_wrote}

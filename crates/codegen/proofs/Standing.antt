@@ -8,7 +8,7 @@ use Rattle.codegen.proofs.Machine.{goes_on, word_at, Turn, executes}
 use Rattle.codegen.proofs.Logic.{nat_tests, none-some, Placed}
 use Rattle.codegen.proofs.expression_code_lemmas.WorkRegisters.{when_some}
 use Rattle.codegen.specs.program_logic.Turns.{LeadsWithin, stays_within, turns_within}
-use Rattle.rv_machine.specs.declared.observation.Event.{Event}
+use Rattle.codegen.specs.Below.{Event}
 
 -- The words of an image.
 

@@ -7,11 +7,7 @@ use Rattle.codegen.proofs.Language.{Types, value_in, Values, WordType}
 use Rattle.codegen.proofs.Machine.{Allocation, height_of}
 use Rattle.codegen.proofs.Slots.{cut_number}
 use Rattle.codegen.specs.private.StoredValues.{cuts, stored_value, uncut}
-use Rattle.inline.specs.Flat.{convert}
-use Rattle.inline.specs.FlatTyping.{of_conversion}
-use Rattle.language.specs.Operators.{width_of}
-use Rattle.language.specs.declared.signature.Kind.TheVariants.{Uint8, Uint16}
-use Rattle.word.specs.Operators.{converted}
+use Rattle.codegen.specs.Below.{convert, converted, of_conversion, Uint16, Uint8, width_of}
 
 -- What holds of an expression where it holds of a conversion of it.
 

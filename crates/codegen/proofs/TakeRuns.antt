@@ -23,7 +23,7 @@ use Rattle.codegen.proofs.Masks.{ready_taken, mask_beside}
 use Rattle.codegen.proofs.program_logic_lemmas.Computing.{computed_value, computes, written_register}
 use Rattle.codegen.proofs.expression_code_lemmas.WorkRegisters.{IsFree}
 use Rattle.codegen.proofs.expression_code_lemmas.Moves.{register-at}
-use Rattle.rv_machine.specs.Registers.{register}
+use Rattle.codegen.specs.Below.{register}
 
 -- Two instructions that compute, each unless nothing reads what it writes.
 module _ (z : Setting) where

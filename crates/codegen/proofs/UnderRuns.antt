@@ -32,7 +32,7 @@ use Rattle.codegen.proofs.expression_code_lemmas.NumberCode.{zero_known}
 use Rattle.codegen.proofs.expression_code_lemmas.Values.{kind_fits}
 use Rattle.codegen.proofs.expression_code_lemmas.WorkRegisters.{IsFree}
 use Rattle.std.proofs.lemmas.Bool.{or_from}
-use Rattle.inline.specs.Fitting.{Fits}
+use Rattle.codegen.specs.Below.{Fits}
 
 -- either of two numbers fits where both do
 chosen_fits : (b : Bool) (v old n : ℕ) → v < n → old < n → (if b then v else old) < n

@@ -6,7 +6,7 @@ use Rattle.codegen.proofs.Language.{StraightTree, set, array, put, take, branch,
 use Rattle.codegen.proofs.Language.{StraightState, with_variable, counted, after, after_all, holds, turns, value_in}
 use Rattle.codegen.proofs.Language.{Values}
 use Rattle.codegen.specs.private.Loops.{any_sets, sets}
-use Rattle.inline.specs.FlatMeaning.{with_value}
+use Rattle.codegen.specs.Below.{with_value}
 
 beside : (m : Values) (x y : ℕ) (l : List ℕ) → (x == y) ≡ false → with_value m x l y ≡ m y
 beside m x y l apart = ap (λ b. cond b l (m y)) (ne_eqb y x (λ e. eqb-false x y apart (sym e)))

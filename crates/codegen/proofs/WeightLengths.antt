@@ -4,8 +4,8 @@ use Rattle.std.proofs.Common.{replicate}
 use Rattle.branch_removal.specs.Straight as straight
 use Rattle.codegen.proofs.Language.{StraightBlock, StraightProgram, StraightTree, TermTree, first, nothing}
 use Rattle.codegen.proofs.Logic.{length-replicate, length-set}
-use Rattle.branch_removal.specs.Uses.{used, used_by, used_by_all, used_in, used_in_result, used_in_terms, weight_inside}
-use Rattle.branch_removal.specs.Uses.{weights_of}
+use Rattle.codegen.specs.Below.{used, used_by, used_by_all, used_in, used_in_result, used_in_terms, weight_inside}
+use Rattle.codegen.specs.Below.{weights_of}
 use Rattle.codegen.specs.private.Uses.{control_weights_of, controls_read_by, controls_read_by_all, used_within}
 use Rattle.codegen.specs.private.Uses.{word_weights_of}
 use Rattle.inline.specs.Flat as flat

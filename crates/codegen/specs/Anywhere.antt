@@ -3,18 +3,12 @@
 -- alone, and leaves the outcome in its slots. So it can be the body of a function.
 use Rattle.std.specs.Prelude.{◌≡◌, ◌⊎◌, ℕ, ◌+◌, ◌*◌, ◌%◌, ◌^◌, ◌<◌, ◌≤◌, true, List, [], ◌∷◌, length, All, Some}
 use Rattle.std.specs.Prelude.{is_some}
-use Rattle.language.specs.arguments.Within.{AreWithin}
-use Rattle.branch_removal.specs.Straight.{StraightProgram}
-use Rattle.branch_removal.specs.StraightMeaning.{outcome_of, path_of}
+use Rattle.codegen.specs.Below.{AreFine, AreWithin, Arg, Code, Leads, Observation, outcome_of, Path, path_of, seen}
+use Rattle.codegen.specs.Below.{State, StraightProgram, word_at}
 use Rattle.codegen.specs.Bases.{IsInside}
 use Rattle.codegen.specs.Loaded.{loaded_at, results_in}
 use Rattle.codegen.specs.image_fields.Fields.{Fields}
 use Rattle.codegen.specs.program_logic.Turns.{LeadsWithin}
-use Rattle.inline.specs.Path.{Path, AreFine, seen}
-use Rattle.language.specs.declared.values.Arg.{Arg}
-use Rattle.rv_machine.specs.Leakage.{Leads}
-use Rattle.rv_machine.specs.Machine.{State, Code, word_at}
-use Rattle.rv_machine.specs.declared.observation.Observation.{Observation}
 
 -- the words of code but the last
 abbrev pub body_words : List ℕ → List ℕ

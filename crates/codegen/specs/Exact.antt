@@ -1,5 +1,5 @@
 -- The one image for straight code: two answers of `generate` are one. How its words are made is private.
-use Rattle.branch_removal.specs.Straight.{StraightProgram}
+use Rattle.codegen.specs.Below.{StraightProgram}
 use Rattle.std.specs.Prelude.{Option}
 use Rattle.codegen.specs.private.Generated.{image_of, image_within}
 use Rattle.codegen.specs.private.Homes.{word_homes}

@@ -2,20 +2,14 @@
 -- the code, and what is shown is decided by what the observer sees of the path.
 use Rattle.std.specs.Prelude.{◌≡◌, ℕ, ◌+◌, ◌*◌, ◌≤◌, List, length, All}
 use Rattle.std.specs.Option.{option_map}
-use Rattle.language.specs.arguments.Within.{AreWithin}
-use Rattle.branch_removal.specs.Straight.{StraightProgram}
-use Rattle.branch_removal.specs.StraightMeaning.{outcome_of, path_of}
+use Rattle.codegen.specs.Below.{AreFine, AreWithin, Arg, Code, Halts, Observation, outcome_of, Path, path_of, seen}
+use Rattle.codegen.specs.Below.{State, StraightProgram}
 use Rattle.codegen.specs.Anywhere.{IsPlaced, IsFollowedIn}
 use Rattle.codegen.specs.Bases.{AreBases, IsInside}
 use Rattle.codegen.specs.Loaded.{params_of, code_at, loaded_at, results_in}
 use Rattle.codegen.specs.image_fields.Fields.{Fields, type_in}
 use Rattle.codegen.specs.image_fields.Limits.{most_frame_bytes}
-use Rattle.inline.specs.Path.{Path, AreFine, seen}
-use Rattle.rv_machine.specs.Leakage.{Halts}
-use Rattle.rv_machine.specs.Machine.{State, Code}
-use Rattle.rv_machine.specs.declared.observation.Observation.{Observation}
 use Rattle.rv_machine.specs.declared.stops.Stop.TheVariants.{Ecall}
-use Rattle.language.specs.declared.values.Arg.{Arg}
 
 -- a run on some arguments, which shows this list
 pub record RunsAs (p : StraightProgram) (image : Fields) (code frame : ℕ) (args : List Arg)

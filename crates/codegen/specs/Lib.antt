@@ -7,3 +7,4 @@ pub mod Bases
 pub mod Anywhere
 pub mod Followed
 pub mod Exact
+pub mod Below

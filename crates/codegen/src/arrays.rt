@@ -2,19 +2,14 @@
 
 ghost use Rattle.std.specs.Prelude.{◌≡◌, ◌≤◌, ◌<◌, ◌+◌, ◌*◌, ◌++◌, ◌∷◌, [], map, length, IfOk, OnOk};
 ghost use Rattle.codegen.specs.private.Emitted.{store_by, element_store_code, clear_code, fill_code, index_code};
-ghost use Rattle.branch_removal.specs.StraightTyping.{IsAmong};
+ghost use Rattle.codegen.specs.Below.{Addi, Immediate, IsAmong, Register, Store, Sub, Sw, term_tree};
 ghost use Rattle.codegen.specs.private.Emitted.{into_element_code, put_code, put_element_code, put_under_code};
 ghost use Rattle.codegen.specs.private.Emitted.{put_under_near_code, read_register};
 ghost use Rattle.codegen.specs.private.Jumps.{loop_code};
 ghost use Rattle.codegen.specs.expression_code.Layout.{temporaries_offset};
 ghost use Rattle.codegen.specs.expression_code.Registers.{zero_register, value_register, second_register};
 ghost use Rattle.codegen.specs.expression_code.Registers.{third_register};
-ghost use Rattle.rv_code.specs.declared.instructions.Instr.TheVariants.{Immediate, Register, Store};
-ghost use Rattle.rv_code.specs.declared.operations.ImmediateOperation.TheVariants.{Addi};
-ghost use Rattle.rv_code.specs.declared.operations.RegisterOperation.TheVariants.{Sub};
-ghost use Rattle.rv_code.specs.declared.operations.StoreOperation.TheVariants.{Sw};
 ghost use Rattle.codegen.specs.private.Placed.{IsPlaced, ArePlacedTerms};
-ghost use Rattle.inline.specs.Flat.{term_tree};
 
 use crate::expression_code::emit::{self, address, load_by, near};
 use crate::expression_code::{Layout, Location, fetch};

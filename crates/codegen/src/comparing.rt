@@ -8,7 +8,7 @@ ghost use Rattle.codegen.specs.private.Placed.{IsPlaced};
 ghost use Rattle.codegen.specs.private.Words.{read_code, read_register};
 ghost use Rattle.codegen.specs.expression_code.Layout.{temporaries_offset};
 ghost use Rattle.codegen.specs.expression_code.Registers.{value_register};
-ghost use Rattle.inline.specs.Flat.{term_tree};
+ghost use Rattle.codegen.specs.Below.{term_tree};
 
 use crate::expression_code::Layout;
 use crate::jumping::Test;

@@ -1,7 +1,7 @@
 // How much each control value is read: each place that reads it counts 8 to the number of loops around it.
 
 ghost use Rattle.std.specs.Prelude.{◌≡◌, ◌==◌, map, IfOk};
-ghost use Rattle.branch_removal.specs.Straight.{straight_tree, straight_block};
+ghost use Rattle.codegen.specs.Below.{straight_block, straight_tree};
 ghost use Rattle.codegen.specs.private.Reads.{unread_of};
 ghost use Rattle.codegen.specs.private.Uses.{control_weights_of, controls_read_by, controls_read_by_all, used_within};
 

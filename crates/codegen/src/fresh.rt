@@ -1,10 +1,9 @@
 // Which variables need not hold anything at first: the first statement that names one sets it, and does not read it.
 
 ghost use Rattle.std.specs.Prelude.{◌≡◌, map};
-ghost use Rattle.branch_removal.specs.Straight.{straight_tree, straight_block};
+ghost use Rattle.codegen.specs.Below.{straight_block, straight_tree, term_tree};
 ghost use Rattle.codegen.specs.private.Fresh.{names_in, names_in_any, names_in_result, names, any_names, sets_fresh};
 ghost use Rattle.codegen.specs.private.Fresh.{is_fresh, starts_fresh};
-ghost use Rattle.inline.specs.Flat.{term_tree};
 ghost use Rattle.std.specs.Option.{option_map};
 
 use branch_removal::{StraightCode, StraightStatement};

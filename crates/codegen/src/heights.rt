@@ -1,12 +1,8 @@
 // How many temporaries, and how many loops in one another, statements have at once.
 
 ghost use Rattle.std.specs.Prelude.{◌≡◌, ◌≤◌, map};
-ghost use Rattle.branch_removal.specs.Straight.{straight_tree, straight_block};
-ghost use Rattle.branch_removal.specs.Heights.{program_height, height_of_all, height_in, height_in_all, depth_in};
-ghost use Rattle.branch_removal.specs.Heights.{depth_in_all};
-ghost use Rattle.branch_removal.specs.Kept.{IsStraight};
+ghost use Rattle.codegen.specs.Below.{depth_in, depth_in_all, height_in, height_in_all, height_of_all, IsStraight, program_height, straight_block, straight_tree, term_tree};
 ghost use Rattle.codegen.specs.private.Homes.{temporary_registers};
-ghost use Rattle.inline.specs.Flat.{term_tree};
 
 use crate::expression_code::height;
 use branch_removal::{StraightCode, StraightStatement};

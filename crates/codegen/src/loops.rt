@@ -8,9 +8,7 @@ ghost use Rattle.codegen.specs.private.Loops.{to_number_code, to_word_code, turn
 ghost use Rattle.codegen.specs.private.Jumps.{IsFar};
 ghost use Rattle.codegen.specs.private.Placed.{IsPlaced};
 ghost use Rattle.codegen.specs.expression_code.Layout.{next_offset, temporaries_offset, variable_location};
-ghost use Rattle.inline.specs.Flat.{term_tree};
-ghost use Rattle.rv_code.specs.declared.instructions.Instr.TheVariants.{Immediate};
-ghost use Rattle.rv_code.specs.declared.operations.ImmediateOperation.TheVariants.{Addi};
+ghost use Rattle.codegen.specs.Below.{Addi, Immediate, term_tree};
 
 use crate::expression_code::emit::{MINUS_ONE, NEAR, load, store};
 use crate::expression_code::{Layout, Location, WORD_BYTES, into, move_register};

@@ -1,7 +1,7 @@
 // Instructions for control values, which are masks, each in its home or in its slot.
 
 ghost use Rattle.std.specs.Prelude.{◌≡◌, ◌<◌, ◌++◌, ◌∷◌, [], OnOk};
-ghost use Rattle.branch_removal.specs.StraightTyping.{IsAmong};
+ghost use Rattle.codegen.specs.Below.{IsAmong};
 ghost use Rattle.codegen.specs.private.Erased.{erase_code, erase_under_code};
 ghost use Rattle.codegen.specs.private.Emitted.{masks_code, join_code, kept_code, merge_code, taken_code};
 ghost use Rattle.codegen.specs.private.Emitted.{unless_unread};

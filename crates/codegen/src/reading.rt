@@ -6,8 +6,7 @@ ghost use Rattle.codegen.specs.private.Emitted.{stored_code, stored_register};
 ghost use Rattle.codegen.specs.expression_code.Allocation.{slots_to};
 ghost use Rattle.codegen.specs.expression_code.Layout.{temporaries_offset};
 ghost use Rattle.codegen.specs.expression_code.TermCode.{IsAmong};
-ghost use Rattle.branch_removal.specs.Heights.{height_of};
-ghost use Rattle.inline.specs.Flat.{term_tree};
+ghost use Rattle.codegen.specs.Below.{height_of, term_tree};
 
 use crate::expression_code::{Layout, emit, into, number};
 use inline::Term;

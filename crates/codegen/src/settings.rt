@@ -1,7 +1,7 @@
 // Which statements set a variable.
 
 ghost use Rattle.std.specs.Prelude.{◌≡◌};
-ghost use Rattle.branch_removal.specs.Straight.{straight_tree, straight_block};
+ghost use Rattle.codegen.specs.Below.{straight_block, straight_tree};
 ghost use Rattle.codegen.specs.private.Loops.{sets, any_sets};
 
 use branch_removal::StraightStatement;

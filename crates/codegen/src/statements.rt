@@ -1,16 +1,12 @@
 // A statement's code, and how many slots and how many loops in one another statements take.
 
 ghost use Rattle.std.specs.Prelude.{◌≡◌, ◌++◌, ◌+◌, ◌*◌, ◌<◌, ◌≤◌, map, length, IfErr, OnOk};
-ghost use Rattle.branch_removal.specs.Straight.{straight_tree, straight_block};
+ghost use Rattle.codegen.specs.Below.{array_words, depth_in, depth_in_all, height_in, height_in_all, height_of, height_of_all, straight_block, straight_tree, term_tree};
 ghost use Rattle.branch_removal.specs.Straight as straight;
 ghost use Rattle.codegen.specs.private.Emitted.{branching_code, statement_code, block_code};
-ghost use Rattle.branch_removal.specs.Heights.{height_of_all, height_in, height_in_all, depth_in, depth_in_all};
 ghost use Rattle.codegen.specs.expression_code.Layout.{temporaries_offset};
 ghost use Rattle.codegen.specs.private.Jumps.{AreNear, IsFar};
 ghost use Rattle.codegen.specs.private.Placed.{IsPlaced, HasPlace, HavePlaces};
-ghost use Rattle.branch_removal.specs.Heights.{height_of};
-ghost use Rattle.inline.specs.Flat.{term_tree};
-ghost use Rattle.language.specs.Size.{array_words};
 
 use crate::expression_code::{Layout, Location, emit, fetch, into};
 use crate::loops::Loop;

@@ -3,7 +3,7 @@
 ghost use Rattle.std.specs.Prelude.{◌≡◌, ℕ};
 ghost use Rattle.codegen.specs.private.Emitted.{cuts, stored_value, uncut};
 ghost use Rattle.codegen.specs.private.Placed.{IsPlaced};
-ghost use Rattle.inline.specs.Flat.{term_tree};
+ghost use Rattle.codegen.specs.Below.{term_tree};
 
 use crate::expression_code::Layout;
 use inline::Term;

@@ -8,11 +8,9 @@ use Rattle.std.proofs.lemmas.List.{drop-append-le, length-drop, length-take-le, 
 use Rattle.byteorder.specs.Endian.{little_number}
 use Rattle.byteorder.specs.Numbers.{little_from-append}
 use Rattle.image.specs.Format.{Format, ends, field, read_by}
-use Rattle.image.specs.Limits.{longest_image}
-use Rattle.image.specs.Reading.{slot_format, slots_format, flagged_format, result_format, words_format, image_format}
-use Rattle.image.specs.Reading.{reading, is_word_count}
-use Rattle.codegen.specs.image_fields.Fields.{slot_end, slots_end}
-use Rattle.codegen.specs.image_fields.Limits.{most_parameters, most_words}
+use Rattle.commands.specs.Below.{flagged_format, image_format, is_word_count, longest_image, most_parameters}
+use Rattle.commands.specs.Below.{most_words, reading, result_format, slot_end, slot_format, slots_end, slots_format}
+use Rattle.commands.specs.Below.{words_format}
 use Rattle.codegen.specs.declared.image_fields.slot.Slot.{Slot}
 use Rattle.codegen.specs.declared.image_fields.slot.ResultSlot.{ResultSlot}
 

@@ -2,21 +2,14 @@
 use Rattle.std.proofs.Common.{◌≡◌, ◌≢◌, ℕ, List, Option, None, Result, Ok, refl, sym, subst, ◌∙◌}
 use Rattle.std.proofs.lemmas.Option.{none-some}
 use Rattle.rv_code.specs.Words.{word_of}
-use Rattle.rv_machine.specs.Machine.{Code, word_at}
+use Rattle.commands.specs.Below.{Arg, Certified, certified, CertifiedEnd, Code, code_at, code_base, Fields, MayDiffer}
+use Rattle.commands.specs.Below.{RunFault, Same, Shifts, word_at}
 use Rattle.rv_machine.specs.declared.observation.Observation.{Observation}
-use Rattle.certified_runs.specs.declared.shifts.Shifts.{Shifts}
 use Rattle.certified_runs.specs.Certified.{KnownEnding, depends, KnownTurn, decided, stopped, undecided, RunEnding}
 use Rattle.certified_runs.specs.Certified.{same, may_differ, CertifiedRun, spent, halts, cut, turns}
 use Rattle.certified_runs.specs.Known.{Known}
-use Rattle.certified_runs.specs.declared.certifying.CertifiedEnd.{CertifiedEnd}
-use Rattle.certified_runs.specs.declared.certifying.CertifiedEnd.TheVariants.{Same, MayDiffer}
-use Rattle.image_reports.specs.certificates.Certified.{Certified, refused, out_of_memory, certified}
-use Rattle.codegen.specs.Loaded.{code_at}
+use Rattle.image_reports.specs.certificates.Certified.{refused, out_of_memory}
 use Rattle.commands.specs.Certificates.{StandsInCode}
-use Rattle.hepurita.specs.Bases.{code_base}
-use Rattle.hepurita.specs.declared.fault.RunFault.{RunFault}
-use Rattle.codegen.specs.image_fields.Fields.{Fields}
-use Rattle.language.specs.declared.values.Arg.{Arg}
 
 depends_at : (code : Code) (k : Known) (ending : KnownEnding) → KnownTurn code k ending → ending ≡ depends
     → word_at code k.state.pc ≢ None

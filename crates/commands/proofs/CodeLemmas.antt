@@ -3,11 +3,8 @@ use Rattle.std.proofs.Common.{◌≡◌, ℕ, zero, suc, ◌*◌, ◌-◌, ◌<�
 use Rattle.std.proofs.Common.{List, length, take, Option, Some, None, refl, sym, ap, ◌∙◌, subst, arith}
 use Rattle.std.proofs.lemmas.Bool.Decides.{Decides-eqb, nat_tests}
 use Rattle.std.proofs.lemmas.List.{length-take-le, take_all}
-use Rattle.image.specs.Reading.{is_word_count, is_frame_size, is_step_limit}
-use Rattle.codegen.specs.image_fields.Limits.{most_words}
-use Rattle.input_files.specs.wrapping.Wrapped.{is_code_length, broken_rule, IsWrapped, Breaks}
-use Rattle.input_files.specs.declared.wrapping.asked.Asked.{Asked}
-use Rattle.input_files.specs.declared.wrapping.fault.CodeRule.{CodeRule}
+use Rattle.commands.specs.Below.{Asked, Breaks, broken_rule, CodeRule, is_code_length, is_frame_size, is_step_limit}
+use Rattle.commands.specs.Below.{is_word_count, IsWrapped, most_words}
 use Rattle.input_files.specs.declared.wrapping.fault.CodeRule.TheVariants.{Length, Frame, Steps}
 
 both : (a b : Bool) → (a && b) ≡ true → (a ≡ true) × (b ≡ true)

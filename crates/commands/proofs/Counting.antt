@@ -13,11 +13,9 @@ use Rattle.commands.specs.declared.fault.Fault.{Fault}
 use Rattle.commands.specs.declared.fault.Fault.TheVariants.{Text, Explained, Image, Run, Eval, Plan, Harts, Vectors}
 use Rattle.commands.specs.declared.fault.Fault.TheVariants.{Code, Name, File}
 use Rattle.commands.specs.declared.fault.FileFault.TheVariants.{CannotRead, CannotWrite, NotUtf8}
-use Rattle.language.specs.declared.refusal.Refusal.{Refusal}
-use Rattle.input_files.specs.declared.stream_build.fault.BuildFault.{BuildFault}
-use Rattle.input_files.specs.declared.stream_build.fault.BuildFault.TheVariants.{Read, Refused, Write}
+use Rattle.commands.specs.Below.{BuildFault, one_more, Read, Refusal, Refused}
+use Rattle.input_files.specs.declared.stream_build.fault.BuildFault.TheVariants.{Write}
 use Rattle.input_files.specs.declared.stream_build.fault.BuildFault.TheVariants as texts
-use Rattle.word.specs.Counts.{one_more}
 
 -- where memory was refused, none did
 pub memory_calm : (fault : Fault) {before after : Store} → IsOutOfMemory fault → after ≡ before

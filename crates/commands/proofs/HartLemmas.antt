@@ -3,7 +3,9 @@ use Rattle.std.proofs.Common.{◌≡◌, ℕ, ◌+◌, ◌<◌, ◌≤◌, true,
 use Rattle.std.proofs.Common.{Result, Ok, Err, append_assoc, refl, sym, ap, ◌∙◌, subst, arith}
 use Rattle.std.specs.List.{AllZip}
 use Rattle.std.proofs.lemmas.List.{take_more, take-append-drop, map-append, length-take, take_all}
-use Rattle.codegen.specs.Loaded.{params_of}
+use Rattle.commands.specs.Below.{Arg, cut_short, fault_of_texts, Fields, hart_of, HartEnd, HartObservation, HartsFault}
+use Rattle.commands.specs.Below.{HartsRule, IsFault, IsPlan, job_of, out_of_memory, Param, params_of, PlanFault}
+use Rattle.commands.specs.Below.{PlannedHart, ran, refused, Refuses, RunFault, RunsHarts}
 use Rattle.commands.specs.Contents.{Contents}
 use Rattle.commands.specs.Harts.{IsJobOf, SaysPlan, RefusesHart, RefusesJobs, by_hart, RefusesPlan, by_line, by_run}
 use Rattle.commands.specs.Harts.{plan_wants_memory}
@@ -12,27 +14,10 @@ use Rattle.commands.specs.Images.{HoldsImage}
 use Rattle.commands.specs.Words.{AreSpelled, IsFaultOfWords}
 use Rattle.commands.specs.declared.fault.Fault.{Fault}
 use Rattle.commands.specs.declared.fault.Fault.TheVariants as faults
-use Rattle.harts.specs.Frames.{job_of}
-use Rattle.harts.specs.Refused.{Refuses}
-use Rattle.harts.specs.RunHarts.{RunsHarts, refused, out_of_memory, cut_short, ran}
-use Rattle.harts.specs.declared.fault.HartsFault.{HartsFault}
 use Rattle.harts.specs.declared.fault.HartsFault.TheVariants as harts_faults
-use Rattle.harts.specs.declared.fault.HartsRule.{HartsRule}
-use Rattle.hepurita.specs.declared.fault.RunFault.{RunFault}
-use Rattle.input_files.specs.declared.harts_file.fault.PlanFault.{PlanFault}
 use Rattle.input_files.specs.declared.harts_file.fault.PlanFault.TheVariants.{Line, Memory}
-use Rattle.input_files.specs.harts_file.Faults.{IsFault}
-use Rattle.language.specs.arguments.Texts.{fault_of_texts}
 use Rattle.harts.specs.SideBySide as side_by_side
-use Rattle.harts.specs.declared.ends.HartEnd.{HartEnd}
-use Rattle.input_files.specs.harts_file.Jobs.{hart_of}
-use Rattle.input_files.specs.harts_file.Lines.{PlannedHart}
-use Rattle.input_files.specs.harts_file.Plans.{IsPlan}
 use Rattle.input_files.specs.declared.harts_file.jobs.Job.{Job}
-use Rattle.codegen.specs.image_fields.Fields.{Fields}
-use Rattle.language.specs.declared.signature.Param.{Param}
-use Rattle.language.specs.declared.values.Arg.{Arg}
-use Rattle.rv_machine.specs.declared.hart_recording.HartObservation.{HartObservation}
 
 -- fewer bytes than were asked for are all that a file has
 pub all_of_it : (limit : ℕ) (whole bytes : List ℕ) → bytes ≡ take limit whole → length bytes < limit → whole ≡ bytes

@@ -5,11 +5,8 @@ use Rattle.commands.specs.Images.{HoldsImage, NoImage, not_read, not_spelled}
 use Rattle.commands.specs.Unread.{out_of_memory}
 use Rattle.commands.specs.declared.fault.Fault.TheVariants.{Image}
 use Rattle.commands.proofs.Beginnings.{one_byte_more}
-use Rattle.image.specs.Limits.{longest_image}
-use Rattle.image.specs.Reading.{reading, IsUnlessMemory}
-use Rattle.image.specs.declared.fault.ImageFault.{ImageFault}
-use Rattle.image.specs.declared.fault.ImageFault.TheVariants.{Field, Memory}
-use Rattle.codegen.specs.image_fields.Fields.{Fields, IsImage}
+use Rattle.commands.specs.Below.{Field, Fields, ImageFault, IsImage, IsUnlessMemory, longest_image, reading}
+use Rattle.image.specs.declared.fault.ImageFault.TheVariants.{Memory}
 
 -- what is read of the beginning of a file is what all of it spells
 pub all_read : (files : Contents) (path bytes : List ℕ) (begun : Begins files path (longest_image + 1) bytes)

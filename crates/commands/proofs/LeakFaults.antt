@@ -1,6 +1,7 @@
 -- A listing that was not written failed at standard output, or nothing was written.
 use Rattle.std.proofs.Common.{◌≡◌, ◌≢◌, inl, inr, ℕ, List, Result, Ok, refl, sym, subst, ◌∙◌}
-use Rattle.codegen.specs.Loaded.{params_of}
+use Rattle.commands.specs.Below.{Arg, Fields, IsLeak, LeakFault, Leaks, one_more, params_of, Stop, Write, Writes}
+use Rattle.commands.specs.Below.{WritesPart}
 use Rattle.commands.specs.Contents.{Contents, Store}
 use Rattle.commands.specs.Failures.{IsReadBy, IsReadOrPrinted}
 use Rattle.commands.specs.Images.{HoldsImage, NoImage, not_read, not_spelled}
@@ -14,16 +15,10 @@ use Rattle.commands.specs.declared.fault.Fault.TheVariants.{Text, Explained, Ima
 use Rattle.commands.specs.declared.fault.Fault.TheVariants.{Code, Name, File}
 use Rattle.commands.specs.declared.fault.FileFault.{FileFault}
 use Rattle.commands.specs.declared.fault.FileFault.TheVariants.{CannotRead, CannotWrite, NotUtf8}
-use Rattle.codegen.specs.image_fields.Fields.{Fields}
-use Rattle.language.specs.declared.values.Arg.{Arg}
 use Rattle.listing.specs.Leaked as leaked_specs
-use Rattle.listing.specs.Leaked.{Leaks, IsLeak, ran}
+use Rattle.listing.specs.Leaked.{ran}
 use Rattle.listing.specs.Listings.{listing}
-use Rattle.listing.specs.declared.fault.LeakFault.{LeakFault}
-use Rattle.listing.specs.declared.fault.LeakFault.TheVariants.{Argument, Memory, Write}
-use Rattle.rv_machine.specs.declared.stops.Stop.{Stop}
-use Rattle.streams.specs.Streams.{Writes, WritesPart}
-use Rattle.word.specs.Counts.{one_more}
+use Rattle.listing.specs.declared.fault.LeakFault.TheVariants.{Argument, Memory}
 
 not_memory : (fault : Fault) → IsOutOfMemory fault → IsOutputFault fault → ⊥
 not_memory (Text refusal) memory output = let is = output.2 in cc

@@ -3,12 +3,8 @@ use Rattle.std.proofs.Common.{◌≡◌, ◌≢◌, ℕ, List, Result, Ok, Err, 
 use Rattle.commands.specs.Contents.{Contents}
 use Rattle.commands.specs.FileTexts.{HoldsText}
 use Rattle.commands.specs.Meanings.{HoldsProgram}
-use Rattle.hepurita.specs.Built.{Judges, accepts}
-use Rattle.language.specs.Results.{Results}
-use Rattle.language.specs.Tree.{ProcedureTree, ProgramTree}
-use Rattle.source_eval.specs.declared.fault.EvalFault.{EvalFault}
+use Rattle.commands.specs.Below.{accepts, EvalFault, Judges, P1, ProcedureTree, ProgramTree, Results}
 use Rattle.source_eval.specs.declared.fault.EvalFault.TheVariants.{Argument, NoMeaning, Budget, Memory}
-use Rattle.word.specs.declared.profile.Profile.TheVariants.{P1}
 
 pub program_held : (files : Contents) (path text judged : List ℕ) (program : ProgramTree)
     (before : List ProcedureTree) (export : ProcedureTree)

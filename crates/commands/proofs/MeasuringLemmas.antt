@@ -7,12 +7,9 @@ use Rattle.commands.specs.Costs.{HoldsOther, SaysCosts, RefusesCosts, of_image, 
 use Rattle.commands.specs.Unread.{out_of_memory}
 use Rattle.commands.specs.declared.fault.Fault.TheVariants.{Image}
 use Rattle.commands.proofs.ImageLemmas.{all_read, image_held}
-use Rattle.image.specs.Limits.{longest_image}
-use Rattle.image.specs.declared.fault.ImageFault.{ImageFault}
-use Rattle.image.specs.declared.fault.ImageFault.TheVariants.{Field, Memory}
-use Rattle.image_reports.specs.image_statistics.ImageText.{BeginsOtherwise, SaysFields, IsFaultOf}
-use Rattle.syntax.specs.Limits.{text_limit}
-use Rattle.word.specs.declared.profile.Profile.{Profile}
+use Rattle.commands.specs.Below.{BeginsOtherwise, Field, ImageFault, IsFaultOf, longest_image, Profile, SaysFields}
+use Rattle.commands.specs.Below.{text_limit}
+use Rattle.image.specs.declared.fault.ImageFault.TheVariants.{Memory}
 
 -- the first bytes of a file, cut to what a text may have and one more, are the first so many of the file
 pub cut_shorter : (whole bytes fewer : List ℕ) → bytes ≡ take (longest_image + 1) whole

@@ -1,15 +1,12 @@
 -- Why a picture is refused, by how many words there are.
 use Rattle.std.proofs.Common.{ℕ, Bool, List, if◌then◌else◌, sym, subst, inl, inr}
-use Rattle.image_reports.specs.certificates.Texts.{fault_of_given_texts}
-use Rattle.codegen.specs.Loaded.{params_of}
+use Rattle.commands.specs.Below.{fault_of_given_texts, Fields, params_of, RunFault}
 use Rattle.commands.specs.Contents.{Contents}
 use Rattle.commands.specs.ImageRefusals.{no_arguments, no_answer}
 use Rattle.commands.specs.Images.{HoldsImage}
 use Rattle.commands.specs.Pictures.{RefusesLists, one_refused, two_refused, RefusesPicture}
 use Rattle.commands.specs.Words.{IsFaultOfWords, fault_of_both}
 use Rattle.commands.specs.declared.fault.Fault.TheVariants.{Run}
-use Rattle.hepurita.specs.declared.fault.RunFault.{RunFault}
-use Rattle.codegen.specs.image_fields.Fields.{Fields}
 
 module _ (files : Contents) (path : List ℕ) (words : List (List ℕ)) (image : Fields) (why : RunFault)
     (held : HoldsImage files path image) where

@@ -1,6 +1,7 @@
 -- What goes out while an image runs, case by case.
 use Rattle.std.proofs.Common.{◌≡◌, ◌⊎◌, inl, inr, ℕ, Bool, true, false, List, Option, Result, Ok, Err, OnOk, OnErr, sym, subst}
-use Rattle.codegen.specs.Loaded.{params_of, code_at, loaded_at}
+use Rattle.commands.specs.Below.{Arg, BothGoOn, Code, code_at, code_base, Collected, Counting, Fields, frame_base}
+use Rattle.commands.specs.Below.{GoesOn, HasLines, IsTold, loaded_at, params_of, Reaches, State}
 use Rattle.commands.specs.declared.command_line.words.Request.{Request}
 use Rattle.commands.specs.Certificates.{shifts_seen}
 use Rattle.commands.specs.Contents.{Contents}
@@ -8,13 +9,7 @@ use Rattle.commands.specs.Images.{HoldsImage}
 use Rattle.commands.specs.Progress.{RunGoesOn, PairGoesOn, CertificateGoesOn, Tells}
 use Rattle.commands.specs.Progress.{FileRunTells, FilePairTells, FileCertificateTells, RequestTells}
 use Rattle.commands.specs.Words.{AreSpelled, AreBothSpelled, AreGiven}
-use Rattle.hepurita.specs.Bases.{code_base, frame_base}
-use Rattle.codegen.specs.image_fields.Fields.{Fields}
-use Rattle.language.specs.declared.values.Arg.{Arg}
 use Rattle.run_reports.proofs.progress_lemmas.Told.{reaches}
-use Rattle.run_reports.specs.progress.GoingOn.{Counting, GoesOn, BothGoOn, Reaches, HasLines, IsTold}
-use Rattle.rv_machine.specs.Machine.{State, Code}
-use Rattle.streams.specs.Streams.{Collected}
 
 -- where it holds whatever the answer is
 pub on_ok : {T E P : Type 0} (answer : Result T E) → P → OnOk answer P

@@ -13,9 +13,7 @@ use Rattle.commands.specs.Leaks.{SaysLeak, RefusesLeak, IsOutputFault}
 use Rattle.commands.specs.Requests.{Answers, Leaves, Refuses, IsDone, Fails, refused, unprinted}
 use Rattle.commands.specs.Unread.{IsOutOfMemory}
 use Rattle.commands.specs.declared.fault.Fault.{Fault}
-use Rattle.streams.specs.Puts.{IsPut, IsPutWhole, IsPutInPart}
-use Rattle.streams.specs.Streams.{GainsPart, Writes, WritesPart, Collected}
-use Rattle.word.specs.Counts.{one_more}
+use Rattle.commands.specs.Below.{Collected, GainsPart, IsPut, IsPutInPart, IsPutWhole, one_more, Writes, WritesPart}
 
 -- bytes that were put, whether or not a call failed
 pub is_put : {A E : Type 0} (bytes : List ℕ) (before after : Collected) (answer : Result A E)

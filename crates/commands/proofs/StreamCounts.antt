@@ -2,7 +2,7 @@
 use Rattle.std.proofs.Common.{◌≡◌, ℕ, zero, suc, ◌+◌, ◌-◌, ◌^◌, ◌≤◌, min, refl, sym, ap, ◌∙◌, arith}
 use Rattle.std.proofs.Math.Nat.{min-eq_left, min-eq_right}
 use Rattle.commands.specs.Contents.{Contents, Store, failed, failed_times}
-use Rattle.word.specs.Counts.{one_more}
+use Rattle.commands.specs.Below.{one_more}
 
 -- one more of a count that is kept
 one_more_kept : (n m : ℕ) → m ≡ n + 1 → one_more (min n (2 ^ 64 - 1)) ≡ min m (2 ^ 64 - 1)

@@ -6,10 +6,8 @@ use Rattle.commands.specs.Vectors.{HoldVectors, RefusesVectors, no_vectors, no_m
 use Rattle.commands.specs.declared.fault.Fault.TheVariants.{Vectors}
 use Rattle.std.specs.Prelude.{Some}
 use Rattle.std.specs.Str.{IsUtf8}
-use Rattle.image_reports.specs.vectors.Lines.{NamedVector, vectors_in}
-use Rattle.image_reports.specs.declared.vectors.fault.VectorsFault.{VectorsFault}
-use Rattle.image_reports.specs.declared.vectors.fault.VectorsFault.TheVariants.{Line, Memory}
-use Rattle.word.specs.declared.profile.Profile.{Profile}
+use Rattle.commands.specs.Below.{Line, NamedVector, Profile, vectors_in, VectorsFault}
+use Rattle.image_reports.specs.declared.vectors.fault.VectorsFault.TheVariants.{Memory}
 
 -- why a text says no vectors
 pub unsaid : (profile : Profile) (files : Contents) (path list source lines : List ℕ) (fault : VectorsFault)

@@ -5,20 +5,10 @@ use Rattle.std.specs.Option.{option_map}
 use Rattle.std.proofs.lemmas.Bool.Decides.{Decides-eqb}
 use Rattle.std.proofs.lemmas.List.{take-map, drop-map, length-map}
 use Rattle.std.proofs.lemmas.Simd.{map-map}
-use Rattle.language.specs.arguments.Faults.{count_fault}
-use Rattle.language.specs.arguments.Texts.{numbers_of, fault_of_texts}
-use Rattle.language.specs.arguments.Within.{AreWithin, words_of}
-use Rattle.language.specs.declared.arguments.fault.ArgumentFault.{ArgumentFault}
-use Rattle.image_reports.specs.certificates.Given.{fault_of_given}
-use Rattle.image_reports.specs.certificates.Texts.{numbers_given}
+use Rattle.commands.specs.Below.{AreWithin, Arg, Argument, ArgumentFault, count_fault, fault_of_given, fault_of_texts}
+use Rattle.commands.specs.Below.{first_of, Memory, numbers_given, numbers_of, Param, RunFault, shifted, Stop, Stopped}
+use Rattle.commands.specs.Below.{words_of}
 use Rattle.commands.specs.Words.{AreSpelled, AreGiven, IsFaultOfWords, fault_of_both}
-use Rattle.language.specs.arguments.Faults.{shifted}
-use Rattle.hepurita.specs.Paired.{first_of}
-use Rattle.hepurita.specs.declared.fault.RunFault.{RunFault}
-use Rattle.hepurita.specs.declared.fault.RunFault.TheVariants.{Argument, Memory, Stopped}
-use Rattle.language.specs.declared.signature.Param.{Param}
-use Rattle.language.specs.declared.values.Arg.{Arg}
-use Rattle.rv_machine.specs.declared.stops.Stop.{Stop}
 
 -- a fault that reading answers is out of memory or the first fault
 pub fault_of_words : {A : Type 0} (first : Option ArgumentFault) (why : RunFault) (answer : Result A RunFault)

@@ -1,13 +1,8 @@
 -- What is printed of a certificate.
 use Rattle.std.specs.Prelude.{◌≡◌, ◌≢◌, ℕ, Bool, true, false, ◌++◌, List, Option, Some, None, Ok, Err, codes, ⊤}
 use Rattle.std.specs.Fmt.{decimal}
-use Rattle.image_reports.specs.certificates.Certified.{Certified}
-use Rattle.image_reports.specs.certificates.Texts.{fault_of_given_texts}
-use Rattle.certified_runs.specs.declared.certifying.CertifiedEnd.{CertifiedEnd}
-use Rattle.certified_runs.specs.declared.certifying.CertifiedEnd.TheVariants.{Same, MayDiffer}
-use Rattle.certified_runs.specs.declared.shifts.Shifts.{Shifts}
-use Rattle.certified_runs.specs.declared.shifts.Shifts.TheVariants.{Hidden, Seen}
-use Rattle.codegen.specs.Loaded.{params_of, code_at}
+use Rattle.commands.specs.Below.{Arg, Certified, CertifiedEnd, code_at, code_base, fault_of_given_texts, Fields, Hidden}
+use Rattle.commands.specs.Below.{IsLineAt, MayDiffer, params_of, RunFault, Same, Seen, Shifts, stop_line, word_at}
 use Rattle.commands.specs.Contents.{Contents}
 use Rattle.commands.specs.ImageRefusals.{RefusesImage}
 use Rattle.commands.specs.Images.{HoldsImage}
@@ -15,13 +10,6 @@ use Rattle.commands.specs.Stops.{status_of}
 use Rattle.commands.specs.Words.{AreGiven}
 use Rattle.commands.specs.declared.fault.Fault.{Fault}
 use Rattle.commands.specs.declared.fault.Fault.TheVariants.{Run}
-use Rattle.hepurita.specs.Bases.{code_base}
-use Rattle.hepurita.specs.declared.fault.RunFault.{RunFault}
-use Rattle.codegen.specs.image_fields.Fields.{Fields}
-use Rattle.language.specs.declared.values.Arg.{Arg}
-use Rattle.listing.specs.Code.{IsLineAt}
-use Rattle.listing.specs.Lines.{stop_line}
-use Rattle.rv_machine.specs.Machine.{word_at}
 
 -- `same` and the stop; or the entry that may differ, and the line of the word that stands where its turn is made
 abbrev pub PrintsCertificate : Fields → CertifiedEnd → List ℕ → Type 0

@@ -8,8 +8,7 @@ use Rattle.commands.specs.Unread.{IsOutOfMemory}
 use Rattle.commands.specs.command_line.Words.{IsAskedBy}
 use Rattle.commands.specs.declared.command_line.words.Request.{Request}
 use Rattle.commands.specs.declared.fault.Fault.{Fault}
-use Rattle.streams.specs.Puts.{IsPut, IsPutWhole, IsPutInPart}
-use Rattle.streams.specs.Streams.{Collected}
+use Rattle.commands.specs.Below.{Collected, IsPut, IsPutInPart, IsPutWhole}
 
 -- what is said where words ask for no request, with which exit status: help or the version on standard output, or that
 -- this failed; on standard error what is wrong with the words, or that memory was refused

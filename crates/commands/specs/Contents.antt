@@ -2,7 +2,7 @@
 -- a call fails.
 use Rattle.std.specs.Prelude.{◌≡◌, ◌≢◌, ◌⊎◌, ℕ, List, take, Option, Some}
 use Rattle.std.proofs.Common.{zero, suc}
-use Rattle.word.specs.Counts.{one_more}
+use Rattle.commands.specs.Below.{one_more}
 
 -- the bytes of the file at a path, where there is one
 abbrev pub Contents : Type 0

@@ -6,13 +6,8 @@ use Rattle.commands.specs.Judged.{IsRefused, SaysStatistics}
 use Rattle.commands.specs.Unread.{NotRead}
 use Rattle.commands.specs.declared.fault.Fault.{Fault}
 use Rattle.commands.specs.declared.fault.Fault.TheVariants.{Image}
-use Rattle.image.specs.Reading.{reading}
-use Rattle.image.specs.declared.fault.ImageFault.TheVariants.{Field}
-use Rattle.image.specs.declared.fault.ImageRule.{ImageRule}
-use Rattle.codegen.specs.image_fields.Fields.{Fields}
-use Rattle.image_reports.specs.image_statistics.ImageText.{BeginsOtherwise}
+use Rattle.commands.specs.Below.{BeginsOtherwise, Field, Fields, ImageRule, Profile, reading}
 use Rattle.image_reports.specs.statistics.FieldsText.{fields_text}
-use Rattle.word.specs.declared.profile.Profile.{Profile}
 
 -- the file at a path does not begin as an image does
 abbrev pub HoldsOther : Contents → List ℕ → Type 0

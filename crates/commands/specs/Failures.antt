@@ -7,7 +7,7 @@ use Rattle.commands.specs.declared.fault.Fault.{Fault}
 use Rattle.commands.specs.declared.fault.Fault.TheVariants.{File}
 use Rattle.commands.specs.declared.fault.FileFault.{FileFault}
 use Rattle.commands.specs.declared.fault.FileFault.TheVariants.{CannotRead, CannotWrite, NotUtf8}
-use Rattle.word.specs.Counts.{one_more}
+use Rattle.commands.specs.Below.{one_more}
 
 -- how many calls of files have failed after a fault of one: one more, unless it was read and is no text
 abbrev pub file_failures : FileFault → ℕ → ℕ

@@ -11,26 +11,21 @@ use Rattle.commands.specs.declared.fault.FileFault.TheVariants.{CannotRead, Cann
 use Rattle.functions.specs.function_text.FaultText as functions
 use Rattle.functions.specs.declared.function_text.fault.FunctionFault.TheVariants as function_faults
 use Rattle.harts.specs.RuleNames as rules
-use Rattle.harts.specs.declared.fault.HartsFault.{HartsFault}
+use Rattle.commands.specs.Below.{EvalFault, HartsFault, ImageFault, PlanFault, RunFault, VectorsFault}
 use Rattle.harts.specs.declared.fault.HartsFault.TheVariants as harts
 use Rattle.input_files.specs.harts_file.Text.{plan_fault_text}
-use Rattle.input_files.specs.declared.harts_file.fault.PlanFault.{PlanFault}
 use Rattle.input_files.specs.declared.harts_file.fault.PlanFault.TheVariants as plans
 use Rattle.hepurita.specs.Text.{run_fault_text}
-use Rattle.hepurita.specs.declared.fault.RunFault.{RunFault}
 use Rattle.hepurita.specs.declared.fault.RunFault.TheVariants as runs
 use Rattle.image.specs.Text as images
-use Rattle.image.specs.declared.fault.ImageFault.{ImageFault}
 use Rattle.image.specs.declared.fault.ImageFault.TheVariants as image_faults
 use Rattle.language.specs.Rules.{refusal_text}
 use Rattle.language.specs.declared.rule.Rule.{Rule}
 use Rattle.language.specs.declared.rule.Rule.TheVariants.{OutOfMemory}
 use Rattle.source_eval.specs.FaultText.{eval_fault_text}
-use Rattle.source_eval.specs.declared.fault.EvalFault.{EvalFault}
 use Rattle.source_eval.specs.declared.fault.EvalFault.TheVariants as evaluations
 use Rattle.rv_machine.specs.Stops.{stop_name}
 use Rattle.image_reports.specs.vectors.FaultText.{vectors_fault_text}
-use Rattle.image_reports.specs.declared.vectors.fault.VectorsFault.{VectorsFault}
 use Rattle.image_reports.specs.declared.vectors.fault.VectorsFault.TheVariants as vectors
 use Rattle.input_files.specs.wrapping.RuleNames.{rule_text}
 

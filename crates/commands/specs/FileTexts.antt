@@ -7,9 +7,7 @@ use Rattle.commands.specs.declared.fault.Fault.{Fault}
 use Rattle.commands.specs.declared.fault.Fault.TheVariants.{Text, File}
 use Rattle.commands.specs.declared.fault.FileFault.{FileFault}
 use Rattle.commands.specs.declared.fault.FileFault.TheVariants.{CannotRead, CannotWrite, NotUtf8}
-use Rattle.language.specs.declared.refusal.Refusal.{Refusal}
-use Rattle.input_files.specs.stream_build.Faults.{IsText, IsTooLong}
-use Rattle.syntax.specs.Limits.{text_limit}
+use Rattle.commands.specs.Below.{IsText, IsTooLong, Refusal, text_limit}
 
 -- the bytes of the file at a path, all of them, are a text that is not too long
 pub record HoldsText (files : Contents) (path : List ℕ) (bytes : List ℕ) : Type 0 where

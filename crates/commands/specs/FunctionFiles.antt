@@ -7,9 +7,8 @@ use Rattle.commands.specs.declared.fault.Fault.{Fault}
 use Rattle.commands.specs.declared.fault.Fault.TheVariants.{Name}
 use Rattle.functions.specs.function_text.Functions.{HasTakenName}
 use Rattle.functions.specs.function_text.Texts.{AreTextsOf}
-use Rattle.hepurita.specs.declared.optimised.Optimisation.{Optimisation}
+use Rattle.commands.specs.Below.{Optimisation, Profile}
 use Rattle.word.specs.declared.place.Place.{Place}
-use Rattle.word.specs.declared.profile.Profile.{Profile}
 
 -- the texts are those of the function of the file's text, plain or optimised: for an assembler, and the C header
 pub record AreFunctionTexts (optimisation : Optimisation) (profile : Profile) (files : Contents) (path : List ℕ)

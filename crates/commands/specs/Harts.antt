@@ -2,8 +2,8 @@
 use Rattle.std.specs.Prelude.{◌≡◌, ℕ, true, List, [], ◌∷◌, ◌++◌, Some, Ok}
 use Rattle.std.specs.List.{AllZip}
 use Rattle.std.specs.Str.{IsUtf8}
-use Rattle.codegen.specs.Loaded.{params_of}
-use Rattle.codegen.specs.image_fields.Fields.{Fields}
+use Rattle.commands.specs.Below.{fault_of_texts, Fields, HartEnd, HartObservation, HartsFault, HartsRule, IsFault}
+use Rattle.commands.specs.Below.{IsPlan, Job, params_of, PlannedHart, Refuses, RunFault, RunsHarts}
 use Rattle.commands.specs.Contents.{Contents}
 use Rattle.commands.specs.FileTexts.{NoWholeText}
 use Rattle.commands.specs.HartsText.{harts_text, status_of_ends}
@@ -12,19 +12,7 @@ use Rattle.commands.specs.Unread.{IsOutOfMemory}
 use Rattle.commands.specs.Words.{AreSpelled, IsFaultOfWords}
 use Rattle.commands.specs.declared.fault.Fault.{Fault}
 use Rattle.commands.specs.declared.fault.Fault.TheVariants.{Run, Plan, Harts}
-use Rattle.harts.specs.Refused.{Refuses}
-use Rattle.harts.specs.RunHarts.{RunsHarts}
-use Rattle.harts.specs.SideBySide.{Job}
-use Rattle.harts.specs.declared.ends.HartEnd.{HartEnd}
-use Rattle.harts.specs.declared.fault.HartsFault.{HartsFault}
-use Rattle.harts.specs.declared.fault.HartsRule.{HartsRule}
-use Rattle.hepurita.specs.declared.fault.RunFault.{RunFault}
 use Rattle.input_files.specs.declared.harts_file.fault.PlanFault.TheVariants.{Line}
-use Rattle.input_files.specs.harts_file.Faults.{IsFault}
-use Rattle.input_files.specs.harts_file.Lines.{PlannedHart}
-use Rattle.input_files.specs.harts_file.Plans.{IsPlan}
-use Rattle.language.specs.arguments.Texts.{fault_of_texts}
-use Rattle.rv_machine.specs.declared.hart_recording.HartObservation.{HartObservation}
 
 -- the job of a hart that a line names: the image of the file at its path, and the arguments that its words spell
 pub record IsJobOf (files : Contents) (hart : PlannedHart) (job : Job) : Type 0 where

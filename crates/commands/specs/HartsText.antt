@@ -3,17 +3,9 @@ use Rattle.std.specs.Prelude.{ℕ, ◌+◌, ◌==◌, Bool, true, false, List, [
 use Rattle.std.specs.Prelude.{if◌then◌else◌}
 use Rattle.std.specs.Fmt.{decimal}
 use Rattle.std.specs.List.{flat_map, list_all}
-use Rattle.codegen.specs.Loaded.{params_of}
+use Rattle.commands.specs.Below.{AccessFault, Break, Budget, Ecall, Fields, HartEnd, HartObservation, Illegal, Job}
+use Rattle.commands.specs.Below.{lines_of, Misaligned, params_of, RecorderRefused, Results, Stop, stop_line}
 use Rattle.commands.specs.OutcomeText.{outcome_text}
-use Rattle.harts.specs.SideBySide.{Job}
-use Rattle.harts.specs.declared.ends.HartEnd.{HartEnd}
-use Rattle.codegen.specs.image_fields.Fields.{Fields}
-use Rattle.language.specs.Results.{Results}
-use Rattle.listing.specs.Lines.{lines_of, stop_line}
-use Rattle.rv_machine.specs.declared.hart_recording.HartObservation.{HartObservation}
-use Rattle.rv_machine.specs.declared.stops.Stop.{Stop}
-use Rattle.rv_machine.specs.declared.stops.Stop.TheVariants.{Ecall, Break, Illegal, AccessFault, Misaligned, Budget}
-use Rattle.rv_machine.specs.declared.stops.Stop.TheVariants.{RecorderRefused}
 
 -- bytes with a front before each line, whose ends are the bytes 10; whether the first of them begins a line
 abbrev pub with_fronts : List ℕ → Bool → List ℕ → List ℕ

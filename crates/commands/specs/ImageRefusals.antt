@@ -1,14 +1,12 @@
 -- Why what a command asks of the image of a file, on words, is not done.
 use Rattle.std.specs.Prelude.{ℕ, List, Option}
-use Rattle.language.specs.declared.arguments.fault.ArgumentFault.{ArgumentFault}
+use Rattle.commands.specs.Below.{ArgumentFault, Fields, RunFault}
 use Rattle.commands.specs.Contents.{Contents}
 use Rattle.commands.specs.Images.{HoldsImage, NoImage}
 use Rattle.commands.specs.Unread.{IsOutOfMemory}
 use Rattle.commands.specs.Words.{IsFaultOfWords}
 use Rattle.commands.specs.declared.fault.Fault.{Fault}
 use Rattle.commands.specs.declared.fault.Fault.TheVariants.{Run}
-use Rattle.hepurita.specs.declared.fault.RunFault.{RunFault}
-use Rattle.codegen.specs.image_fields.Fields.{Fields}
 
 -- there is no image; or the words have a first fault, by the image; or the answer for the image is this fault; or
 -- memory was refused

@@ -4,10 +4,7 @@ use Rattle.commands.specs.Contents.{Contents}
 use Rattle.commands.specs.Unread.{NotRead}
 use Rattle.commands.specs.declared.fault.Fault.{Fault}
 use Rattle.commands.specs.declared.fault.Fault.TheVariants.{Image}
-use Rattle.image.specs.Reading.{Spells, reading}
-use Rattle.image.specs.declared.fault.ImageFault.TheVariants.{Field}
-use Rattle.image.specs.declared.fault.ImageRule.{ImageRule}
-use Rattle.codegen.specs.image_fields.Fields.{Fields, IsImage}
+use Rattle.commands.specs.Below.{Field, Fields, ImageRule, IsImage, reading, Spells}
 
 -- the bytes of the file at a path, all of them, spell the fields of an image
 pub record HoldsImage (files : Contents) (path : List ℕ) (image : Fields) : Type 0 where

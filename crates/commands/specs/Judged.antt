@@ -7,13 +7,9 @@ use Rattle.commands.specs.declared.fault.Fault.{Fault}
 use Rattle.commands.specs.declared.fault.Fault.TheVariants.{Text, Explained}
 use Rattle.commands.specs.Unread.{IsOutOfMemory}
 use Rattle.explanations.specs.explained_refusals.Explained.{Explains}
-use Rattle.hepurita.specs.Built.{Judges, IsBuilt, accepts}
-use Rattle.hepurita.specs.Told.{IsRefusalOf}
-use Rattle.hepurita.specs.declared.optimised.Optimisation.{Optimisation}
-use Rattle.language.specs.Tree.{ProcedureTree, ProgramTree}
-use Rattle.language.specs.declared.refusal.Refusal.{Refusal}
+use Rattle.commands.specs.Below.{accepts, IsBuilt, IsRefusalOf, Judges, Optimisation, ProcedureTree, Profile}
+use Rattle.commands.specs.Below.{ProgramTree, Refusal}
 use Rattle.image_reports.specs.source_statistics.SourceText.{SaysCosts}
-use Rattle.word.specs.declared.profile.Profile.{Profile}
 
 -- the file's bytes are a text that is accepted
 pub record IsAccepted (profile : Profile) (files : Contents) (path : List ℕ) : Type 0 where

@@ -1,7 +1,6 @@
 -- What is written of what an observer sees of a run of the image of a file.
 use Rattle.std.specs.Prelude.{◌≡◌, ℕ, List, Err, codes}
-use Rattle.language.specs.arguments.Texts.{fault_of_texts}
-use Rattle.codegen.specs.Loaded.{params_of}
+use Rattle.commands.specs.Below.{Arg, fault_of_texts, Fields, IsLeak, LeakFault, Leaks, params_of, Stop, Write}
 use Rattle.commands.specs.Contents.{Contents}
 use Rattle.commands.specs.ImageRefusals.{RefusesImage}
 use Rattle.commands.specs.Images.{HoldsImage}
@@ -12,12 +11,7 @@ use Rattle.commands.specs.declared.fault.Fault.{Fault}
 use Rattle.commands.specs.declared.fault.Fault.TheVariants as faults
 use Rattle.commands.specs.declared.fault.FileFault.{FileFault}
 use Rattle.hepurita.specs.declared.fault.RunFault.TheVariants as runs
-use Rattle.codegen.specs.image_fields.Fields.{Fields}
-use Rattle.language.specs.declared.values.Arg.{Arg}
-use Rattle.listing.specs.Leaked.{Leaks, IsLeak}
-use Rattle.listing.specs.declared.fault.LeakFault.{LeakFault}
-use Rattle.listing.specs.declared.fault.LeakFault.TheVariants.{Argument, Memory, Write}
-use Rattle.rv_machine.specs.declared.stops.Stop.{Stop}
+use Rattle.listing.specs.declared.fault.LeakFault.TheVariants.{Argument, Memory}
 
 -- the path that stands for standard output
 abbrev pub standard_output : List ℕ

@@ -27,3 +27,4 @@ pub mod Vectors
 pub mod Progress
 pub mod Requests
 pub mod Commanded
+pub mod Below

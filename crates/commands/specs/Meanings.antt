@@ -1,6 +1,7 @@
 -- What is printed of what the text of a file means.
 use Rattle.std.specs.Prelude.{◌≡◌, Bool, ℕ, List, map, Some, Ok}
-use Rattle.language.specs.arguments.Texts.{fault_of_texts}
+use Rattle.commands.specs.Below.{accepts, answer, Arg, fault_of_texts, IsRefusalOf, IsText, Judges, Means, P1}
+use Rattle.commands.specs.Below.{ProcedureTree, ProgramTree, Refusal, Results, RunFault}
 use Rattle.commands.specs.Contents.{Contents}
 use Rattle.commands.specs.FileTexts.{NoText}
 use Rattle.commands.specs.Judged.{Tells}
@@ -9,18 +10,7 @@ use Rattle.commands.specs.Unread.{IsOutOfMemory}
 use Rattle.commands.specs.Words.{AreSpelled, IsFaultOfWords}
 use Rattle.commands.specs.declared.fault.Fault.{Fault}
 use Rattle.commands.specs.declared.fault.Fault.TheVariants.{Run}
-use Rattle.hepurita.specs.Built.{Judges, accepts}
-use Rattle.hepurita.specs.Told.{IsRefusalOf}
-use Rattle.hepurita.specs.Compiled.{Means}
-use Rattle.hepurita.specs.declared.fault.RunFault.{RunFault}
 use Rattle.inline.specs.Numbering.{param_of}
-use Rattle.language.specs.Results.{Results}
-use Rattle.language.specs.Tree.{ProcedureTree, ProgramTree}
-use Rattle.language.specs.declared.refusal.Refusal.{Refusal}
-use Rattle.language.specs.declared.values.Arg.{Arg}
-use Rattle.source_eval.specs.Answer.{answer}
-use Rattle.input_files.specs.stream_build.Faults.{IsText}
-use Rattle.word.specs.declared.profile.Profile.TheVariants.{P1}
 
 -- how many nodes are evaluated at most
 abbrev pub evaluation_budget : ℕ

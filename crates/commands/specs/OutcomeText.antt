@@ -2,9 +2,8 @@
 use Rattle.std.specs.Prelude.{ℕ, ◌+◌, List, [], ◌∷◌, ◌++◌, drop, codes, Option, Some, None, if◌then◌else◌}
 use Rattle.std.specs.Fmt.{decimal}
 use Rattle.std.specs.List.{flat_map}
-use Rattle.language.specs.Results.{Results}
+use Rattle.commands.specs.Below.{Param, Results}
 use Rattle.language.specs.Typing.{is_mutable}
-use Rattle.language.specs.declared.signature.Param.{Param}
 
 -- numbers with commas between them
 abbrev pub numbers_text : List ℕ → List ℕ

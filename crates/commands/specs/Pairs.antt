@@ -1,21 +1,14 @@
 -- What is printed of two runs of the image of a file, and of its words.
 use Rattle.std.specs.Prelude.{◌≡◌, Bool, true, false, ℕ, ◌++◌, List, Ok, Err, codes}
 use Rattle.std.specs.Fmt.{decimal}
-use Rattle.codegen.specs.Loaded.{params_of}
+use Rattle.commands.specs.Below.{Arg, code_base, Fields, ListsCode, Paired, Pairing, params_of, RunFault}
 use Rattle.commands.specs.Contents.{Contents}
 use Rattle.commands.specs.ImageRefusals.{RefusesImage}
 use Rattle.commands.specs.Images.{HoldsImage}
 use Rattle.commands.specs.Words.{AreBothSpelled, fault_of_both}
 use Rattle.commands.specs.declared.fault.Fault.{Fault}
 use Rattle.commands.specs.declared.fault.Fault.TheVariants.{Run}
-use Rattle.hepurita.specs.Bases.{code_base}
-use Rattle.hepurita.specs.Paired.{Paired}
-use Rattle.hepurita.specs.declared.fault.RunFault.{RunFault}
-use Rattle.codegen.specs.image_fields.Fields.{Fields}
-use Rattle.language.specs.declared.values.Arg.{Arg}
-use Rattle.listing.specs.Code.{ListsCode}
 use Rattle.image_reports.specs.pair_explanations.Explained.{Explains}
-use Rattle.rv_machine.specs.declared.pairing.Pairing.{Pairing}
 use Rattle.rv_machine.specs.declared.pairing.Pairing.TheVariants.{Same, Differ}
 
 -- how a comparison is printed

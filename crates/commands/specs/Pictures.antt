@@ -1,11 +1,7 @@
 -- Which page is the picture of the image of a file.
 use Rattle.std.specs.Prelude.{◌≡◌, ◌⊎◌, ℕ, ◌==◌, true, false, List, ◌++◌, length, Option, Ok, codes, if◌then◌else◌}
-use Rattle.language.specs.declared.arguments.fault.ArgumentFault.{ArgumentFault}
-use Rattle.image_reports.specs.certificates.Certified.{Certified}
-use Rattle.image_reports.specs.certificates.Texts.{fault_of_given_texts}
-use Rattle.certified_runs.specs.declared.certifying.CertifiedEnd.{CertifiedEnd}
-use Rattle.certified_runs.specs.declared.shifts.Shifts.TheVariants.{Hidden}
-use Rattle.codegen.specs.Loaded.{params_of}
+use Rattle.commands.specs.Below.{Arg, ArgumentFault, Certified, CertifiedEnd, DrawsOne, DrawsTwo, fault_of_given_texts}
+use Rattle.commands.specs.Below.{Fields, Hidden, Paired, Pairing, Param, params_of, RunFault}
 use Rattle.commands.specs.Certificates.{PrintsCertificate, FaultsByCertificate}
 use Rattle.commands.specs.Contents.{Contents}
 use Rattle.commands.specs.ImageRefusals.{RefusesImage}
@@ -14,13 +10,6 @@ use Rattle.commands.specs.Pairs.{pairing_text, FaultsByPair}
 use Rattle.commands.specs.Words.{AreGiven, AreBothSpelled, IsFaultOfWords, fault_of_both}
 use Rattle.commands.specs.declared.fault.Fault.{Fault}
 use Rattle.commands.specs.declared.fault.Fault.TheVariants.{Run}
-use Rattle.hepurita.specs.Paired.{Paired}
-use Rattle.hepurita.specs.declared.fault.RunFault.{RunFault}
-use Rattle.codegen.specs.image_fields.Fields.{Fields}
-use Rattle.image_reports.specs.image_pictures.Drawn.{DrawsOne, DrawsTwo}
-use Rattle.language.specs.declared.signature.Param.{Param}
-use Rattle.language.specs.declared.values.Arg.{Arg}
-use Rattle.rv_machine.specs.declared.pairing.Pairing.{Pairing}
 
 -- what is said before a certificate, and before a comparison
 abbrev pub before_certificate : List ℕ

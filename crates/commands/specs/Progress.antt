@@ -2,20 +2,15 @@
 -- after which the run goes on.
 use Rattle.std.specs.Prelude.{◌≡◌, ℕ, Bool, true, false, List, map, Option}
 use Rattle.image_reports.specs.certificates.KnownImage.{known_at}
-use Rattle.certified_runs.specs.declared.shifts.Shifts.{Shifts}
-use Rattle.codegen.specs.Loaded.{params_of, code_at, loaded_at}
+use Rattle.commands.specs.Below.{Arg, BothGoOn, code_at, code_base, Collected, Counting, Fields, frame_base, GoesOn}
+use Rattle.commands.specs.Below.{IsTold, loaded_at, params_of, Shifts}
 use Rattle.commands.specs.declared.command_line.words.Request.{Request}
 use Rattle.commands.specs.declared.command_line.words.Request.TheVariants as requests
 use Rattle.commands.specs.Certificates.{shifts_seen}
 use Rattle.commands.specs.Contents.{Contents}
 use Rattle.commands.specs.Images.{HoldsImage}
 use Rattle.commands.specs.Words.{AreSpelled, AreBothSpelled, AreGiven}
-use Rattle.hepurita.specs.Bases.{code_base, frame_base}
-use Rattle.codegen.specs.image_fields.Fields.{Fields}
-use Rattle.language.specs.declared.values.Arg.{Arg}
 use Rattle.run_reports.specs.progress.Certified.{GoesOnKnown}
-use Rattle.run_reports.specs.progress.GoingOn.{Counting, GoesOn, BothGoOn, IsTold}
-use Rattle.streams.specs.Streams.{Collected}
 
 -- an image's run on arguments goes on after so many turns
 abbrev pub RunGoesOn : Fields → List Arg → ℕ → Type 0

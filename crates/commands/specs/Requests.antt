@@ -24,11 +24,7 @@ use Rattle.commands.specs.WrappedCode.{IsImageOfCode, RefusesCode}
 use Rattle.commands.specs.Written.{WritesFile, FailsToWrite}
 use Rattle.commands.specs.declared.fault.Fault.{Fault}
 use Rattle.explanations.specs.Text.{explanation_text}
-use Rattle.run_reports.specs.progress.GoingOn.{Reaches, HasLines}
-use Rattle.streams.specs.Puts.{IsPut, IsPutWhole, IsPutInPart}
-use Rattle.streams.specs.Streams.{Collected}
-use Rattle.input_files.specs.declared.wrapping.asked.Asked.{Asked}
-use Rattle.word.specs.Counts.{one_more}
+use Rattle.commands.specs.Below.{Asked, Collected, HasLines, IsPut, IsPutInPart, IsPutWhole, one_more, Reaches}
 
 -- the text that answers a request, and the exit status, by what files hold
 abbrev pub Answers : Request → Contents → List ℕ → ℕ → Type 0

@@ -1,7 +1,7 @@
 -- What is printed of a run of the image of a file, by its outcome.
 use Rattle.std.specs.Prelude.{◌≡◌, ◌≢◌, ℕ, false, List, [], Ok, Err}
-use Rattle.language.specs.arguments.Texts.{fault_of_texts}
-use Rattle.codegen.specs.Loaded.{params_of}
+use Rattle.commands.specs.Below.{Arg, Executed, fault_of_texts, Fields, params_of, RecorderRefused, Results, RunFault}
+use Rattle.commands.specs.Below.{Stopped}
 use Rattle.commands.specs.Contents.{Contents}
 use Rattle.commands.specs.ImageRefusals.{RefusesImage}
 use Rattle.commands.specs.Images.{HoldsImage}
@@ -9,13 +9,6 @@ use Rattle.commands.specs.OutcomeText.{outcome_text}
 use Rattle.commands.specs.Words.{AreSpelled}
 use Rattle.commands.specs.declared.fault.Fault.{Fault}
 use Rattle.commands.specs.declared.fault.Fault.TheVariants.{Run}
-use Rattle.hepurita.specs.Executed.{Executed}
-use Rattle.hepurita.specs.declared.fault.RunFault.{RunFault}
-use Rattle.hepurita.specs.declared.fault.RunFault.TheVariants.{Stopped}
-use Rattle.codegen.specs.image_fields.Fields.{Fields}
-use Rattle.language.specs.Results.{Results}
-use Rattle.language.specs.declared.values.Arg.{Arg}
-use Rattle.rv_machine.specs.declared.stops.Stop.TheVariants.{RecorderRefused}
 
 -- the text of the outcome of the file's image on the arguments that the words spell
 pub record SaysRun (files : Contents) (path : List ℕ) (words : List (List ℕ)) (text : List ℕ) : Type 0 where

@@ -1,8 +1,6 @@
 -- The exit status of a run.
 use Rattle.std.specs.Prelude.{ℕ}
-use Rattle.rv_machine.specs.declared.stops.Stop.{Stop}
-use Rattle.rv_machine.specs.declared.stops.Stop.TheVariants.{Ecall, Break, Illegal, AccessFault, Misaligned, Budget}
-use Rattle.rv_machine.specs.declared.stops.Stop.TheVariants.{RecorderRefused}
+use Rattle.commands.specs.Below.{AccessFault, Break, Budget, Ecall, Illegal, Misaligned, RecorderRefused, Stop}
 
 -- 0 where it stops by ECALL, else 5
 abbrev pub status_of : Stop → ℕ

@@ -9,7 +9,7 @@ use Rattle.harts.specs.declared.fault.HartsFault.TheVariants as harts
 use Rattle.input_files.specs.declared.harts_file.fault.PlanFault.TheVariants as plans
 use Rattle.hepurita.specs.declared.fault.RunFault.TheVariants as runs
 use Rattle.image.specs.declared.fault.ImageFault.TheVariants as images
-use Rattle.language.specs.WantOfMemory.{IsWantOfMemory}
+use Rattle.commands.specs.Below.{IsWantOfMemory}
 use Rattle.source_eval.specs.declared.fault.EvalFault.TheVariants as evaluations
 use Rattle.image_reports.specs.declared.vectors.fault.VectorsFault.TheVariants as vectors
 

@@ -6,12 +6,7 @@ use Rattle.commands.specs.FileTexts.{HoldsText, NoText, NoWholeText}
 use Rattle.commands.specs.Unread.{IsOutOfMemory}
 use Rattle.commands.specs.declared.fault.Fault.{Fault}
 use Rattle.commands.specs.declared.fault.Fault.TheVariants.{Text, Vectors}
-use Rattle.hepurita.specs.Told.{IsRefusalOf}
-use Rattle.language.specs.declared.refusal.Refusal.{Refusal}
-use Rattle.image_reports.specs.vectors.Lines.{NamedVector, vectors_in}
-use Rattle.image_reports.specs.vectors.Verdicts.{IsReport}
-use Rattle.image_reports.specs.declared.vectors.fault.VectorsFault.TheVariants.{Line}
-use Rattle.word.specs.declared.profile.Profile.{Profile}
+use Rattle.commands.specs.Below.{IsRefusalOf, IsReport, Line, NamedVector, Profile, Refusal, vectors_in}
 
 -- the exit status: 0 where none failed, else 1
 abbrev pub status_of_failures : ℕ → ℕ

@@ -1,18 +1,9 @@
 -- The arguments that the words of a command line spell, or their first fault.
 use Rattle.std.specs.Prelude.{◌≡◌, ℕ, ◌*◌, ◌==◌, List, length, map, take, drop, Option, Some, None, if◌then◌else◌, ⊤}
 use Rattle.std.specs.Option.{option_map}
-use Rattle.language.specs.arguments.Faults.{count_fault}
-use Rattle.language.specs.arguments.Texts.{numbers_of, fault_of_texts}
-use Rattle.language.specs.arguments.Within.{AreWithin, words_of}
-use Rattle.language.specs.declared.arguments.fault.ArgumentFault.{ArgumentFault}
-use Rattle.image_reports.specs.certificates.Given.{fault_of_given}
-use Rattle.image_reports.specs.certificates.Texts.{numbers_given}
-use Rattle.language.specs.arguments.Faults.{shifted}
-use Rattle.hepurita.specs.Paired.{first_of}
-use Rattle.hepurita.specs.declared.fault.RunFault.{RunFault}
-use Rattle.hepurita.specs.declared.fault.RunFault.TheVariants.{Argument, Memory, Stopped}
-use Rattle.language.specs.declared.signature.Param.{Param}
-use Rattle.language.specs.declared.values.Arg.{Arg}
+use Rattle.commands.specs.Below.{AreWithin, Arg, Argument, ArgumentFault, count_fault, fault_of_given, fault_of_texts}
+use Rattle.commands.specs.Below.{first_of, Memory, numbers_given, numbers_of, Param, RunFault, shifted, Stopped}
+use Rattle.commands.specs.Below.{words_of}
 
 -- arguments within the parameter types, whose numbers the words spell
 pub record AreSpelled (params : List Param) (words : List (List ℕ)) (args : List Arg) : Type 0 where

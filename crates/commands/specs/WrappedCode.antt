@@ -6,9 +6,7 @@ use Rattle.commands.specs.Judged.{IsRefused}
 use Rattle.commands.specs.Unread.{NotRead}
 use Rattle.commands.specs.declared.fault.Fault.{Fault}
 use Rattle.commands.specs.declared.fault.Fault.TheVariants.{Code}
-use Rattle.input_files.specs.wrapping.Wrapped.{IsWrapped, Breaks}
-use Rattle.input_files.specs.declared.wrapping.asked.Asked.{Asked}
-use Rattle.input_files.specs.declared.wrapping.fault.CodeRule.{CodeRule}
+use Rattle.commands.specs.Below.{Asked, Breaks, CodeRule, IsWrapped}
 
 -- the bytes are the image asked for, of the code that one file holds, for the text of another
 pub record IsImageOfCode (asked : Asked) (files : Contents) (path code : List ℕ) (bytes : List ℕ) : Type 0 where

@@ -2,16 +2,10 @@
 
 ghost use Rattle.std.specs.Prelude.{◌≡◌, ◌≢◌, ◌≤◌, ◌++◌, ◌⊎◌, ℕ, List, Some, None, map, codes, IsTrue, IfOk, IfErr, OnOk, OnErr};
 ghost use Rattle.std.specs.Fmt.{decimal};
-ghost use Rattle.codegen.specs.Loaded.{code_at};
+ghost use Rattle.commands.specs.Below.{code_at, code_base, collected, HasLines, IsLineAt, Reaches, stop_line, word_at};
 ghost use Rattle.commands.specs.Certificates.{StandsInCode, PrintsCertificate, certificate_status, shifts_seen, SaysCertificate, RefusesCertificate};
 ghost use Rattle.commands.specs.Failures.{IsReadBy};
 ghost use Rattle.commands.specs.Progress.{FileCertificateTells};
-ghost use Rattle.hepurita.specs.Bases.{code_base};
-ghost use Rattle.listing.specs.Code.{IsLineAt};
-ghost use Rattle.listing.specs.Lines.{stop_line};
-ghost use Rattle.run_reports.specs.progress.GoingOn.{Reaches, HasLines};
-ghost use Rattle.streams.specs.Puts.{collected};
-ghost use Rattle.rv_machine.specs.Machine.{word_at};
 
 use crate::fault::Fault;
 use crate::files::Files;

@@ -6,7 +6,7 @@ ghost use Rattle.commands.specs.Failures.{IsReadBy, failures_by};
 ghost use Rattle.commands.specs.FunctionFiles.{AreFunctionTexts, RefusesFunction};
 ghost use Rattle.commands.specs.TwoFiles.{AreWritten, AreCutOff, WritesTwo, FailsToWriteTwo};
 ghost use Rattle.commands.specs.Written.{IsWriteFault};
-ghost use Rattle.word.specs.Counts.{one_more};
+ghost use Rattle.commands.specs.Below.{one_more};
 
 use crate::command_line::CompileOptions;
 use crate::fault::Fault;

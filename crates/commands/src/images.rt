@@ -3,21 +3,13 @@
 ghost use Rattle.std.specs.Prelude.{◌≡◌, ◌≤◌, ◌⊎◌, None, List, ℕ, length, map, Ok, IsTrue, IfOk, IfErr, OnOk, OnErr};
 ghost use Rattle.std.specs.String.{string_bytes};
 ghost use Rattle.std.specs.Option.{option_map};
-ghost use Rattle.language.specs.arguments.Texts.{fault_of_texts};
-ghost use Rattle.language.specs.arguments.Within.{AreWithin};
-ghost use Rattle.codegen.specs.Loaded.{params_of};
-ghost use Rattle.language.specs.arguments.Faults.{shifted};
-ghost use Rattle.hepurita.specs.Paired.{Paired};
-ghost use Rattle.codegen.specs.image_fields.Limits.{most_parameters};
-ghost use Rattle.streams.specs.Puts.{collected};
-ghost use Rattle.streams.specs.Streams.{Writes, WritesPart};
+ghost use Rattle.commands.specs.Below.{AreWithin, collected, fault_of_texts, HasLines, most_parameters, Paired, params_of, Reaches, shifted, Writes, WritesPart};
 ghost use Rattle.commands.specs.Failures.{IsReadBy, IsReadOrPrinted};
 ghost use Rattle.commands.specs.Images.{HoldsImage, NoImage};
 ghost use Rattle.commands.specs.Leaks.{SaysLeak, RefusesLeak, IsFaultOfLeak, IsOutputFault};
 ghost use Rattle.commands.specs.Pairs.{SaysPair, RefusesPair, SaysList, PrintsPairing, pairing_text};
 ghost use Rattle.commands.specs.Progress.{FileRunTells, FilePairTells};
 ghost use Rattle.commands.specs.Runs.{SaysRun, RefusesRun};
-ghost use Rattle.run_reports.specs.progress.GoingOn.{Reaches, HasLines};
 ghost use Rattle.commands.specs.Stops.{status_of};
 ghost use Rattle.commands.specs.Words.{AreSpelled, AreBothSpelled, IsFaultOfWords, fault_of_both};
 

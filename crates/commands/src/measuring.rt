@@ -6,7 +6,7 @@ ghost use Rattle.commands.specs.Contents.{Contents, Store};
 ghost use Rattle.commands.specs.Costs.{SaysCosts, RefusesCosts};
 ghost use Rattle.commands.specs.Failures.{IsReadBy};
 ghost use Rattle.commands.specs.Judged.{IsRefused, SaysStatistics};
-ghost use Rattle.image.specs.Limits.{longest_image};
+ghost use Rattle.commands.specs.Below.{longest_image};
 
 use crate::fault::Fault;
 use crate::files::Files;

@@ -7,9 +7,7 @@ ghost use Rattle.commands.specs.FaultText.{fault_status};
 ghost use Rattle.commands.specs.Leaks.{IsOutputFault};
 ghost use Rattle.commands.specs.Progress.{RequestTells};
 ghost use Rattle.commands.specs.Requests.{IsDone, Fails, Reports, Performs, Ends};
-ghost use Rattle.run_reports.specs.progress.GoingOn.{Reaches, HasLines};
-ghost use Rattle.streams.specs.Puts.{collected, IsPutWhole, IsPutInPart};
-ghost use Rattle.word.specs.Counts.{one_more};
+ghost use Rattle.commands.specs.Below.{collected, HasLines, IsPutInPart, IsPutWhole, one_more, Reaches};
 
 use crate::certifying::certify_image;
 use crate::command_line::{NoRequest, Request, parse};

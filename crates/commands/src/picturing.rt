@@ -1,8 +1,7 @@
 // The picture of an image's runs.
 
 ghost use Rattle.std.specs.Prelude.{◌≡◌, map, IsTrue, IfOk, IfErr, OnOk};
-ghost use Rattle.codegen.specs.Loaded.{params_of};
-ghost use Rattle.codegen.specs.image_fields.Fields.{IsImage};
+ghost use Rattle.commands.specs.Below.{IsImage, params_of};
 ghost use Rattle.commands.specs.Failures.{IsReadBy};
 ghost use Rattle.commands.specs.Pictures.{PicturesOne, PicturesTwo, PicturesImage, RefusesOne, RefusesTwo, RefusesLists, SaysPicture, RefusesPicture};
 

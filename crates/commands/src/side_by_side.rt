@@ -3,10 +3,7 @@
 ghost use Rattle.std.specs.Prelude.{◌≡◌, ◌≤◌, ◌++◌, Some, length, map, vec_len, IsTrue, IfOk, IfErr, OnOk};
 ghost use Rattle.std.specs.List.{AllZip};
 ghost use Rattle.std.specs.String.{string_bytes};
-ghost use Rattle.codegen.specs.Loaded.{params_of};
-ghost use Rattle.hepurita.specs.Bases.{most_images};
-ghost use Rattle.harts.specs.Frames.{job_of};
-ghost use Rattle.input_files.specs.harts_file.Jobs.{hart_of};
+ghost use Rattle.commands.specs.Below.{hart_of, job_of, most_images, params_of};
 ghost use Rattle.commands.specs.Failures.{IsReadBy};
 ghost use Rattle.commands.specs.FileTexts.{NoWholeText};
 ghost use Rattle.commands.specs.Harts.{IsJobOf, SaysPlan, RefusesJobs, RefusesPlan};

@@ -1,12 +1,8 @@
 // Runs of an image that say on standard error how many turns they have made, where that is asked for.
 
 ghost use Rattle.std.specs.Prelude.{◌≡◌, ◌≢◌, false, [], Err, IsTrue, OnOk, OnErr};
-ghost use Rattle.image_reports.specs.certificates.Certified.{Certified};
+ghost use Rattle.commands.specs.Below.{Certified, collected, Executed, HasLines, IsTold, Paired, Reaches};
 ghost use Rattle.commands.specs.Progress.{RunGoesOn, PairGoesOn, CertificateGoesOn, Tells};
-ghost use Rattle.hepurita.specs.Executed.{Executed};
-ghost use Rattle.hepurita.specs.Paired.{Paired};
-ghost use Rattle.run_reports.specs.progress.GoingOn.{Reaches, HasLines, IsTold};
-ghost use Rattle.streams.specs.Puts.{collected};
 
 use hepurita::{
     RunFault, answer, code, execute, fault_of_both, first_fault, load, pair, result_space,

@@ -8,7 +8,7 @@ ghost use Rattle.commands.specs.FileTexts.{HoldsText, NoText};
 ghost use Rattle.commands.specs.Judged.{Tells, IsAccepted, IsRefusedSo, IsImageOf};
 ghost use Rattle.commands.specs.Written.{IsWriteFault, WritesFile, FailsToWrite};
 ghost use Rattle.input_files.specs.stream_build.Faults as texts;
-ghost use Rattle.word.specs.Counts.{one_more};
+ghost use Rattle.commands.specs.Below.{one_more};
 
 use crate::command_line::CompileOptions;
 use crate::fault::{Fault, FileFault};

@@ -2,10 +2,8 @@
 use Rattle.std.proofs.Common.{◌≡◌, Vec, Global, ap, ◌∙◌}
 use Rattle.language.proofs.BlockLemmas.{conditional_tree, loop_tree}
 use Rattle.language.specs.declared.tree.Counter.{Counter}
-use Rattle.language.specs.declared.tree.Expr.{Expr}
+use Rattle.explanations.specs.Below.{block_tree, conditional, Expr, expr_tree, loop, Place, statement_tree}
 use Rattle.language.specs.declared.tree.Statement.{Statement, If, For}
-use Rattle.language.specs.Tree.{conditional, loop, expr_tree, statement_tree, block_tree}
-use Rattle.word.specs.declared.place.Place.{Place}
 
 pub conditional_is : {s : Statement} {place : Place} {condition : Expr} (accepted otherwise : Vec Statement Global)
     → s ≡ If place condition accepted otherwise

@@ -8,9 +8,7 @@ use Rattle.std.specs.Str.{bytes_eq}
 use Rattle.explanations.specs.Table.{HasItsName}
 use Rattle.explanations.specs.private.Names.{have_names, rules, suits}
 use Rattle.explanations.specs.declared.row.Explanation.{Explanation}
-use Rattle.language.specs.Rules.{code_of, name_of, rank_of}
-use Rattle.language.specs.declared.rule.Rule.{Rule}
-use Rattle.language.specs.declared.rule.Rule.TheVariants.{OutOfMemory}
+use Rattle.explanations.specs.Below.{code_of, name_of, OutOfMemory, rank_of, Rule}
 
 both : (a b : Bool) → (a && b) ≡ true → (a ≡ true) × (b ≡ true)
 both true b h = (refl, h)

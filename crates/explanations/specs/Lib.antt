@@ -8,3 +8,4 @@ pub mod Listed
 pub mod Text
 pub mod Table
 pub mod private
+pub mod Below

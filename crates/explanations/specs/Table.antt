@@ -13,8 +13,7 @@ use Rattle.explanations.specs.declared.rows.reading.TheConstants.{X1, X2, X3, X4
 use Rattle.explanations.specs.declared.rows.runs.TheConstants.{E1, E2, ECALL, BREAK, ILLEGAL, ACCESS_FAULT}
 use Rattle.explanations.specs.declared.rows.runs.TheConstants.{MISALIGNED, BUDGET, RECORDER_REFUSED}
 use Rattle.explanations.specs.declared.rows.secrecy.TheConstants.{L1, L2, L3, L4, L5, L6, L7}
-use Rattle.language.specs.Rules.{code_of, name_of}
-use Rattle.language.specs.declared.rule.Rule.{Rule}
+use Rattle.explanations.specs.Below.{code_of, name_of, Rule}
 
 -- a row that has the code of a rule has the rule's name
 abbrev pub HasItsName : Explanation → Type 0

@@ -9,8 +9,7 @@ ghost use Rattle.std.specs.Prelude.{◌≡◌, Some, IfOk, IfErr};
 ghost use Rattle.std.specs.String.{string_bytes};
 ghost use Rattle.explanations.specs.Table.{text_of};
 ghost use Rattle.explanations.specs.explained_refusals.Explained.{place_lines, Explains};
-ghost use Rattle.language.specs.Rules.{code_of};
-ghost use Rattle.language.specs.WantOfMemory.{IsWantOfMemory};
+ghost use Rattle.explanations.specs.Below.{code_of, IsWantOfMemory};
 
 use crate::refusal_details::details;
 use crate::source_excerpts::excerpt;

@@ -20,7 +20,7 @@ mod work_lines;
 
 ghost use Rattle.std.specs.Prelude.{IfOk, IfErr};
 ghost use Rattle.std.specs.String.{string_bytes};
-ghost use Rattle.language.specs.WantOfMemory.{IsWantOfMemory};
+ghost use Rattle.explanations.specs.Below.{IsWantOfMemory};
 ghost use Rattle.explanations.specs.refusal_details.Details.{Finds, FindsBeside, Says};
 
 use crate::refusal_details::characters::character_line;

@@ -1,1 +1,2 @@
 pub mod function_text
+pub mod Below

@@ -3,20 +3,14 @@ use Rattle.std.specs.Prelude.{◌⊎◌, slice_get}
 use Rattle.std.proofs.Common.{◌≡◌, ℕ, zero, suc, ◌+◌, ◌≤◌, Bool, List, [], ◌∷◌, Some, Ok, sym, ap, ◌∙◌, inl, inr, arith}
 use Rattle.std.proofs.lemmas.Option.{none-some, same_Some}
 use Rattle.std.specs.List.{AllByRecursion}
-use Rattle.codegen.specs.Loaded.{results_in}
+use Rattle.harts.specs.Below.{ByteMap, Ecall, HartObservation, Means, Member, Results, results_in, System, turns_of}
 use Rattle.harts.proofs.EveryScheduleLemmas.{each_is_alone, one_list}
 use Rattle.harts.specs.Ends.{end_of, ends_from, ends_of, still_going, ended_with}
 use Rattle.harts.specs.EverySchedule.{IsFromText, AllAgree}
 use Rattle.harts.specs.RunHarts.{RunsHarts, ran}
 use Rattle.harts.specs.SideBySide.{Job, frame_base_of}
 use Rattle.harts.specs.declared.ends.HartEnd.{HartEnd}
-use Rattle.hepurita.specs.Compiled.{Means}
-use Rattle.language.specs.Results.{Results}
-use Rattle.rv_machine.specs.Bytes.{ByteMap}
 use Rattle.rv_machine.specs.HartRecording.{kept_of}
-use Rattle.rv_machine.specs.System.{Member, System, turns_of}
-use Rattle.rv_machine.specs.declared.hart_recording.HartObservation.{HartObservation}
-use Rattle.rv_machine.specs.declared.stops.Stop.TheVariants.{Ecall}
 
 -- the end of the hart with a number
 end_at : (base : ℕ) (jobs : List Job) (members : List Member) (bytes : ByteMap) (k : ℕ) (job : Job) (m : Member)

@@ -4,9 +4,7 @@ use Rattle.std.proofs.Common.{sym, ap, subst, ◌∙◌, arith}
 use Rattle.std.specs.List.{AllZip}
 use Rattle.std.specs.Prelude.{slice_get}
 use Rattle.std.proofs.lemmas.Option.{same_Some, slice_get_within}
-use Rattle.hepurita.specs.declared.results.ResultSpace.{ResultSpace}
-use Rattle.rv_machine.specs.Bytes.{ByteMap}
-use Rattle.rv_machine.specs.System.{Member}
+use Rattle.harts.specs.Below.{ByteMap, Member, ResultSpace}
 use Rattle.harts.specs.EndSpace.{HasSpace}
 use Rattle.harts.specs.Ends.{end_of, ends_from}
 use Rattle.harts.specs.SideBySide.{Job}

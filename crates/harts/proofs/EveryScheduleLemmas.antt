@@ -5,26 +5,17 @@ use Rattle.std.proofs.Common.{refl, sym, ap, subst, ◌∙◌, inl, inr, arith}
 use Rattle.std.proofs.lemmas.List.Elements.{All-take}
 use Rattle.std.proofs.lemmas.Option.{none-some, same_Some, slice_get_within}
 use Rattle.std.specs.List.{AllByRecursion}
-use Rattle.codegen.specs.Bases.{IsInside}
-use Rattle.codegen.specs.Loaded.{code_at, loaded_at, results_in}
+use Rattle.harts.specs.Below.{ByteMap, code_at, Ecall, Follows, HartObservation, IsAsAlone, IsInside, loaded_at, Makes}
+use Rattle.harts.specs.Below.{Means, Member, most_images, none, Observation, one_more, Results, results_in, ShowTheSame}
+use Rattle.harts.specs.Below.{Stop, System, turns_of}
 use Rattle.harts.proofs.FrameLemmas.{frame_there, outcome_same}
 use Rattle.harts.proofs.Resting.{rests_on}
 use Rattle.harts.proofs.SystemLemmas.{IsFit, fit_of, all_fit, fit_at, run_of, member_at, job_at, own_of, own_is}
 use Rattle.harts.proofs.SystemLemmas.{jobs_apart}
 use Rattle.harts.specs.EverySchedule.{IsFromText, IsAlone, JobsAgree, AllAgree}
 use Rattle.harts.specs.SideBySide.{code_base_of, frame_base_of, Job, loaded_alone, member_of, members_from, system_of}
-use Rattle.hepurita.specs.Bases.{most_images}
-use Rattle.hepurita.specs.Compiled.{Means}
-use Rattle.language.specs.Results.{Results}
 use Rattle.harts.proofs.Below.{alone, shown_the_same, shown_alone, stopped_alone, MemberTurn-determined}
-use Rattle.rv_machine.specs.Apart.{IsAsAlone, ShowTheSame}
-use Rattle.rv_machine.specs.Bytes.{ByteMap}
 use Rattle.rv_machine.specs.Leakage.{Halts}
-use Rattle.rv_machine.specs.System.{Member, System, Follows, Makes, none, one_more, turns_of}
-use Rattle.rv_machine.specs.declared.hart_recording.HartObservation.{HartObservation}
-use Rattle.rv_machine.specs.declared.observation.Observation.{Observation}
-use Rattle.rv_machine.specs.declared.stops.Stop.{Stop}
-use Rattle.rv_machine.specs.declared.stops.Stop.TheVariants.{Ecall}
 
 -- What a hart is alone after so many turns is one thing.
 

@@ -6,17 +6,12 @@ use Rattle.std.proofs.Math.Nat.{mul-suc}
 use Rattle.std.proofs.lemmas.Bool.Decides.{nat_tests}
 use Rattle.std.specs.List.{AllByRecursion}
 use Rattle.std.specs.Option.{option_map}
-use Rattle.language.specs.arguments.Within.{AreWithin}
-use Rattle.codegen.specs.Loaded.{params_of, with_argument, with_arguments, loaded_at, word_in, numbers_at, array_in}
-use Rattle.codegen.specs.Loaded.{arrays_in, results_in}
-use Rattle.codegen.specs.image_fields.Fields.{Fields, IsImage, slot_bytes, slot_end, result_end}
+use Rattle.harts.specs.Below.{AreWithin, Arg, array_in, arrays_in, ByteMap, element_bytes, Fields, IsImage, loaded_at}
+use Rattle.harts.specs.Below.{number_at, numbers_at, params_of, result_end, results_in, Slot, slot_bytes, slot_end}
+use Rattle.harts.specs.Below.{with_argument, with_arguments, word_in, zeros}
 use Rattle.codegen.specs.declared.image_fields.slot.ResultSlot.{ResultSlot}
-use Rattle.codegen.specs.declared.image_fields.slot.Slot.{Slot}
-use Rattle.language.specs.Size.{element_bytes}
 use Rattle.language.specs.declared.signature.Form.{Form}
 use Rattle.language.specs.declared.signature.Form.TheVariants.{MutableArray}
-use Rattle.language.specs.declared.values.Arg.{Arg}
-use Rattle.rv_machine.specs.Bytes.{ByteMap, number_at, zeros}
 use Rattle.harts.proofs.Below.{argument_extent, bytes_within, number_at_same, zeros_there}
 
 -- each byte from one address up to another is data

@@ -5,8 +5,7 @@ use Rattle.std.specs.Prelude.{slice_get}
 use Rattle.std.proofs.lemmas.List.{take_more, take_all, length-take-le, length-map, get_or-map}
 use Rattle.std.proofs.lemmas.List.Elements.{All-more, All-get_or}
 use Rattle.std.proofs.lemmas.Option.{none-some, same_Some, slice_get-get_or}
-use Rattle.rv_machine.specs.Bytes.{ByteMap}
-use Rattle.rv_machine.specs.System.{Member}
+use Rattle.harts.specs.Below.{ByteMap, Member}
 use Rattle.harts.specs.Ends.{end_of, ends_from}
 use Rattle.harts.specs.Frames.{each_from}
 use Rattle.harts.specs.SideBySide.{Job, member_of, members_from}

@@ -1,9 +1,6 @@
 -- A hart that has stopped is given more turns, and stays what it is.
 use Rattle.std.proofs.Common.{◌≡◌, ℕ, zero, suc, ◌+◌, List, [], Some, refl, subst, arith}
-use Rattle.rv_machine.specs.Bytes.{ByteMap}
-use Rattle.rv_machine.specs.System.{Member, rests, Makes, none, one_more}
-use Rattle.rv_machine.specs.declared.observation.Observation.{Observation}
-use Rattle.rv_machine.specs.declared.stops.Stop.{Stop}
+use Rattle.harts.specs.Below.{ByteMap, Makes, Member, none, Observation, one_more, rests, Stop}
 
 resting : (more : ℕ) {bytes : ByteMap} {m : Member} {stop : Stop} → m.stop ≡ Some stop → Makes more bytes m [] bytes m
 resting zero is = none

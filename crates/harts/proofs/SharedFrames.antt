@@ -11,20 +11,13 @@ use Rattle.std.proofs.lemmas.List.{drop_more}
 use Rattle.std.proofs.lemmas.List.Elements.{All-head, All-tail, All-cons, All-get_or, All-from_recursion}
 use Rattle.std.proofs.lemmas.List.Elements.{All-weaker, recursion_from_All}
 use Rattle.std.proofs.lemmas.Option.{none-some, same_Some, slice_get_within, get_or_from_slice_get}
-use Rattle.language.specs.arguments.Within.{AreWithin}
-use Rattle.codegen.specs.Loaded.{with_numbers, with_argument, with_arguments}
-use Rattle.hepurita.specs.Frames.{HoldsSlot}
+use Rattle.harts.specs.Below.{AddressRange, AreWithin, Arg, ByteMap, element_bytes, first_of, HoldsSlot, IsImage}
+use Rattle.harts.specs.Below.{lies_in, Slot, with_argument, with_arguments, with_byte, with_number, with_numbers, zeros}
+use Rattle.harts.specs.Below.{zeros_in}
 use Rattle.harts.proofs.FrameLemmas.{frame_only}
 use Rattle.harts.proofs.Below.{zeros_there, HoldsSlot-same, is_some-with_argument, slots_held, with_byte_same}
 use Rattle.harts.proofs.Below.{with_byte_other, with_number-zero, with_number-suc}
-use Rattle.codegen.specs.image_fields.Fields.{IsImage}
-use Rattle.codegen.specs.declared.image_fields.slot.Slot.{Slot}
-use Rattle.language.specs.Size.{element_bytes}
-use Rattle.language.specs.declared.values.Arg.{Arg}
 use Rattle.language.specs.declared.values.Arg.TheVariants.{Word, Array}
-use Rattle.rv_machine.specs.Bytes.{ByteMap, with_byte, with_number, zeros}
-use Rattle.rv_machine.specs.Paged.{lies_in, zeros_in, first_of}
-use Rattle.rv_machine.specs.declared.paged.AddressRange.{AddressRange}
 use Rattle.harts.specs.Frames.{each_from, IsRunnable, HasImage, frame_of, with_all_arguments, HoldFrames}
 use Rattle.harts.specs.SideBySide.{Job, code_base_of, frame_base_of, loaded_alone, bytes_from}
 

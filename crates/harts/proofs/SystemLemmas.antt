@@ -5,23 +5,14 @@ use Rattle.std.proofs.Common.{None, is_some, refl, sym, ap, subst, ◌∙◌, �
 use Rattle.std.proofs.lemmas.Bool.{cases_lt, false≢true, false_from_ne_true}
 use Rattle.std.proofs.lemmas.Option.{none-some, same_Some, slice_get_within}
 use Rattle.std.specs.List.{AllByRecursion}
-use Rattle.language.specs.arguments.Within.{AreWithin}
-use Rattle.codegen.specs.Bases.{AreBases}
-use Rattle.codegen.specs.Loaded.{params_of}
+use Rattle.harts.specs.Below.{AreApart, AreBases, AreWithin, ByteMap, Covers, Ecall, first_of, frame_distance}
+use Rattle.harts.specs.Below.{IsCompiled, IsImage, KeepsInside, Member, most_images, params_of, ProcedureTree}
+use Rattle.harts.specs.Below.{ProgramTree, RunsTo}
 use Rattle.harts.proofs.FrameLemmas.{frame_only}
 use Rattle.harts.specs.EverySchedule.{IsFromText}
 use Rattle.harts.specs.SideBySide.{code_base_of, frame_base_of, Job, loaded_alone, member_of, bytes_from, members_from}
 use Rattle.harts.specs.SideBySide.{system_of}
-use Rattle.hepurita.specs.Bases.{most_images, frame_distance}
-use Rattle.hepurita.specs.Compiled.{IsCompiled, RunsTo}
-use Rattle.codegen.specs.image_fields.Fields.{IsImage}
-use Rattle.language.specs.Tree.{ProcedureTree, ProgramTree}
 use Rattle.harts.proofs.Below.{keeps_inside, same_fields}
-use Rattle.rv_machine.specs.Apart.{Covers, KeepsInside, AreApart}
-use Rattle.rv_machine.specs.Bytes.{ByteMap}
-use Rattle.rv_machine.specs.Paged.{first_of}
-use Rattle.rv_machine.specs.System.{Member}
-use Rattle.rv_machine.specs.declared.stops.Stop.TheVariants.{Ecall}
 
 -- One job.
 

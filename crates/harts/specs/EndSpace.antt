@@ -1,8 +1,7 @@
 -- Space for how harts have ended.
 use Rattle.std.specs.Prelude.{◌≡◌, ◌≤◌, List, [], length, vec_capacity}
 use Rattle.std.specs.List.{AllZip}
-use Rattle.hepurita.specs.Frames.{IsSpaceFor}
-use Rattle.hepurita.specs.declared.results.ResultSpace.{ResultSpace}
+use Rattle.harts.specs.Below.{IsSpaceFor, ResultSpace}
 use Rattle.harts.specs.SideBySide.{Job}
 use Rattle.harts.specs.declared.ends.EndSpace.{EndSpace}
 

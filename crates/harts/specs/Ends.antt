@@ -1,13 +1,8 @@
 -- How each hart has ended.
 use Rattle.std.specs.Prelude.{ℕ, List, [], ◌∷◌, Option, Some, None}
 use Rattle.std.proofs.Common.{suc}
-use Rattle.codegen.specs.Loaded.{results_in}
-use Rattle.language.specs.Results.{Results}
-use Rattle.rv_machine.specs.Bytes.{ByteMap}
-use Rattle.rv_machine.specs.System.{Member, System}
-use Rattle.rv_machine.specs.declared.stops.Stop.{Stop}
-use Rattle.rv_machine.specs.declared.stops.Stop.TheVariants.{Ecall, Break, Illegal, AccessFault, Misaligned, Budget}
-use Rattle.rv_machine.specs.declared.stops.Stop.TheVariants.{RecorderRefused}
+use Rattle.harts.specs.Below.{AccessFault, Break, Budget, ByteMap, Ecall, Illegal, Member, Misaligned, RecorderRefused}
+use Rattle.harts.specs.Below.{Results, results_in, Stop, System}
 use Rattle.harts.specs.SideBySide.{Job, frame_base_of}
 use Rattle.harts.specs.declared.ends.HartEnd.{HartEnd}
 

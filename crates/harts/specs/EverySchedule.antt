@@ -1,21 +1,13 @@
 -- What is promised of the images of accepted texts side by side, under any schedule.
 use Rattle.std.specs.Prelude.{◌≡◌, ◌⊎◌, ℕ, ◌+◌, ◌<◌, ◌≤◌, List, [], ◌∷◌, Some, None, All, slice_get}
 use Rattle.language.specs.arguments.Agreement.{Agree}
-use Rattle.language.specs.arguments.Within.{AreWithin}
-use Rattle.codegen.specs.Bases.{IsInside}
-use Rattle.codegen.specs.Loaded.{params_of, results_in}
+use Rattle.harts.specs.Below.{AreWithin, ByteMap, Ecall, HartObservation, IsInside, Makes, Means, Member, Observation}
+use Rattle.harts.specs.Below.{of_hart, params_of, ProgramTree, results_in, System, turns_of}
 use Rattle.harts.specs.SideBySide.{frame_base_of, Job, loaded_alone, member_of}
 use Rattle.hepurita.specs.Built.{IsBuilt}
-use Rattle.hepurita.specs.Compiled.{Means}
 use Rattle.hepurita.specs.declared.optimised.Optimisation.{Optimisation}
 use Rattle.image.specs.Reading.{Spells}
-use Rattle.language.specs.Tree.{ProgramTree}
 use Rattle.word.specs.declared.profile.Profile.{Profile}
-use Rattle.rv_machine.specs.Bytes.{ByteMap}
-use Rattle.rv_machine.specs.System.{Member, System, Makes, of_hart, turns_of}
-use Rattle.rv_machine.specs.declared.hart_recording.HartObservation.{HartObservation}
-use Rattle.rv_machine.specs.declared.observation.Observation.{Observation}
-use Rattle.rv_machine.specs.declared.stops.Stop.TheVariants.{Ecall}
 
 -- the image of an accepted text, plain or optimised, for some observer, with arguments within its parameter types
 pub record IsFromText (job : Job) : Type 0 where

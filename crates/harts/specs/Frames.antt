@@ -1,13 +1,8 @@
 -- Frames side by side in one memory, and arguments put into one after another.
 use Rattle.std.specs.Prelude.{◌≡◌, ℕ, ◌+◌, List, [], ◌∷◌, slice_get, Some, All}
 use Rattle.std.proofs.Common.{suc}
-use Rattle.language.specs.arguments.Within.{AreWithin}
-use Rattle.codegen.specs.Loaded.{params_of, with_arguments}
-use Rattle.hepurita.specs.Frames.{HoldsSlot}
-use Rattle.codegen.specs.image_fields.Fields.{Fields, IsImage}
-use Rattle.language.specs.declared.values.Arg.{Arg}
-use Rattle.rv_machine.specs.Bytes.{ByteMap}
-use Rattle.rv_machine.specs.declared.paged.AddressRange.{AddressRange}
+use Rattle.harts.specs.Below.{AddressRange, AreWithin, Arg, ByteMap, Fields, HoldsSlot, IsImage, params_of}
+use Rattle.harts.specs.Below.{with_arguments}
 use Rattle.harts.specs.SideBySide.{Job, frame_base_of}
 
 -- the arguments are within the parameters' types

@@ -6,3 +6,4 @@ pub mod Refused
 pub mod RuleNames
 pub mod RunHarts
 pub mod SideBySide
+pub mod Below

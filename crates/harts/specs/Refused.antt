@@ -3,8 +3,7 @@ use Rattle.std.specs.Prelude.{◌≡◌, ◌⊎◌, ℕ, ◌<◌, ◌≤◌, nat
 use Rattle.std.specs.Prelude.{Some, None, All}
 use Rattle.language.specs.arguments.Faults.{fault_of}
 use Rattle.language.specs.declared.arguments.fault.ArgumentFault.{ArgumentFault}
-use Rattle.codegen.specs.Loaded.{params_of}
-use Rattle.hepurita.specs.Bases.{most_images}
+use Rattle.harts.specs.Below.{most_images, params_of}
 use Rattle.harts.specs.SideBySide.{Job}
 use Rattle.harts.specs.declared.fault.HartsFault.{HartsFault}
 use Rattle.harts.specs.declared.fault.HartsFault.TheVariants.{Schedule, Argument}

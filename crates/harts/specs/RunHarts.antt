@@ -1,8 +1,6 @@
 -- What a run of several harts under a schedule gives.
 use Rattle.std.specs.Prelude.{◌≡◌, ℕ, Bool, List, Vec, Result, Ok, Err}
-use Rattle.rv_machine.specs.RunningHarts.{Followed, CutShort}
-use Rattle.rv_machine.specs.System.{System}
-use Rattle.rv_machine.specs.declared.hart_recording.HartObservation.{HartObservation}
+use Rattle.harts.specs.Below.{CutShort, Followed, HartObservation, System}
 use Rattle.harts.specs.Ends.{ends_of}
 use Rattle.harts.specs.Refused.{Refuses, AreAllowed}
 use Rattle.harts.specs.SideBySide.{Job, system_of}

@@ -1,14 +1,9 @@
 -- Images side by side on one memory, a hart for each.
 use Rattle.std.specs.Prelude.{ℕ, ◌+◌, ◌*◌, List, [], ◌∷◌, None}
 use Rattle.std.proofs.Common.{zero, suc}
-use Rattle.codegen.specs.Loaded.{code_at, loaded_at}
-use Rattle.hepurita.specs.Bases.{code_base, frame_base, code_distance, frame_distance}
-use Rattle.codegen.specs.image_fields.Fields.{Fields}
-use Rattle.language.specs.declared.values.Arg.{Arg}
-use Rattle.rv_machine.specs.Bytes.{ByteMap}
+use Rattle.harts.specs.Below.{Arg, ByteMap, code_at, code_base, code_distance, Fields, first_of, frame_base}
+use Rattle.harts.specs.Below.{frame_distance, loaded_at, Member, System}
 use Rattle.rv_machine.specs.Machine.{State}
-use Rattle.rv_machine.specs.Paged.{first_of}
-use Rattle.rv_machine.specs.System.{Member, System}
 
 -- where the code and the frame of a hart lie
 abbrev pub code_base_of : ℕ → ℕ

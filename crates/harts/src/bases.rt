@@ -1,7 +1,7 @@
 // Where each of several images lies.
 
 ghost use Rattle.std.specs.Prelude.{◌≡◌, ◌<◌};
-ghost use Rattle.hepurita.specs.Bases.{most_images};
+ghost use Rattle.harts.specs.Below.{most_images};
 ghost use Rattle.harts.specs.SideBySide.{code_base_of, frame_base_of};
 
 use hepurita::{CODE_BASE, FRAME_BASE};

@@ -1,13 +1,7 @@
 // How harts have ended, and the space for that, which is made before they run.
 
 ghost use Rattle.std.specs.Prelude.{◌≡◌, ◌<◌, ◌≤◌, List, length, map, All, IfOk};
-ghost use Rattle.codegen.specs.Loaded.{results_in};
-ghost use Rattle.hepurita.specs.Bases.{most_images};
-ghost use Rattle.hepurita.specs.Frames.{IsSpaceFor};
-ghost use Rattle.codegen.specs.image_fields.Fields.{IsImage};
-ghost use Rattle.language.specs.declared.values.Arg.{Arg};
-ghost use Rattle.rv_machine.specs.Paged.{paged_bytes};
-ghost use Rattle.rv_machine.specs.RunningHarts.{system_now};
+ghost use Rattle.harts.specs.Below.{Arg, IsImage, IsSpaceFor, most_images, paged_bytes, results_in, system_now};
 ghost use Rattle.harts.specs.EndSpace.{IsEndSpaceFor};
 ghost use Rattle.harts.specs.Ends.{outcome_at, end_of, ends_of};
 ghost use Rattle.harts.specs.Frames.{job_of, HasImage};

@@ -7,13 +7,7 @@ ghost use Rattle.harts.specs.EverySchedule.{AllAgree, IsAlone, IsFromText};
 ghost use Rattle.harts.specs.RunHarts.{RunsHarts};
 ghost use Rattle.harts.specs.SideBySide.{Job, system_of};
 ghost use Rattle.harts.specs.declared.ends.HartEnd.{HartEnd};
-ghost use Rattle.hepurita.specs.Bases.{most_images};
-ghost use Rattle.hepurita.specs.Compiled.{Means};
-ghost use Rattle.language.specs.Results.{Results};
-ghost use Rattle.rv_machine.specs.Bytes.{ByteMap};
-ghost use Rattle.rv_machine.specs.System.{Member, System, Follows, Makes, turns_of};
-ghost use Rattle.rv_machine.specs.declared.hart_recording.HartObservation.{HartObservation};
-ghost use Rattle.rv_machine.specs.declared.observation.Observation.{Observation};
+ghost use Rattle.harts.specs.Below.{ByteMap, Follows, HartObservation, Makes, Means, Member, most_images, Observation, Results, System, turns_of};
 
 use rv_machine::Stop;
 

@@ -1,10 +1,7 @@
 // Several images and their arguments, loaded side by side.
 
 ghost use Rattle.std.specs.Prelude.{◌≡◌, ℕ, ◌<◌, ◌≤◌, List, length, map, All, IfOk, OnOk};
-ghost use Rattle.hepurita.specs.Bases.{most_images};
-ghost use Rattle.language.specs.declared.values.Arg.{Arg};
-ghost use Rattle.rv_machine.specs.Paged.{paged_bytes};
-ghost use Rattle.rv_machine.specs.RunningHarts.{member_now, system_now};
+ghost use Rattle.harts.specs.Below.{Arg, member_now, most_images, paged_bytes, system_now};
 ghost use Rattle.harts.specs.Frames.{job_of, each_from, IsRunnable, HasImage, frame_of, with_all_arguments, HoldFrames};
 ghost use Rattle.harts.specs.SideBySide.{member_of, members_from, bytes_from, system_of};
 

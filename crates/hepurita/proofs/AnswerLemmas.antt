@@ -1,31 +1,13 @@
 -- What is answered for a compiled image at the standard bases.
 use Rattle.std.proofs.Common.{◌≡◌, ◌≢◌, ◌↔◌, inl, inr, ℕ, Bool, true, List, [], length, slice_get, None, Result, Ok}
 use Rattle.std.proofs.Common.{eq-eqb, refl, sym, ap, subst, ◌∙◌, arith}
-use Rattle.language.specs.arguments.Faults.{fault_of}
-use Rattle.language.specs.arguments.Within.{AreWithin}
-use Rattle.codegen.specs.image_fields.Fields.{Fields}
-use Rattle.image.specs.Reading.{Spells}
-use Rattle.rv_machine.specs.Entries.{Entry, entries_of, Compares}
-use Rattle.rv_machine.specs.declared.pairing.Pairing.{Pairing}
-use Rattle.rv_machine.specs.declared.pairing.Pairing.TheVariants.{Same, Differ}
-use Rattle.rv_machine.specs.Leakage.{Ran}
-use Rattle.rv_machine.specs.Machine.{State}
-use Rattle.rv_machine.specs.Recording.{kept}
+use Rattle.hepurita.specs.Below.{Agree, AgreeInPublic, AreBases, AreWithin, Arg, code_at, Compares, Differ, Ecall}
+use Rattle.hepurita.specs.Below.{entries_of, Entry, fault_of, Fields, kept, loaded_at, Observation, OneAnswer, Pairing}
+use Rattle.hepurita.specs.Below.{Param, params_of, ProcedureTree, Profile, ProgramTree, Ran, RecorderRefused, Results}
+use Rattle.hepurita.specs.Below.{results_in, Same, Spells, State, Stop}
 use Rattle.hepurita.proofs.Below.{Ran-halts}
-use Rattle.rv_machine.specs.declared.observation.Observation.{Observation}
-use Rattle.rv_machine.specs.declared.stops.Stop.{Stop}
-use Rattle.rv_machine.specs.declared.stops.Stop.TheVariants.{Ecall, RecorderRefused}
-use Rattle.language.specs.arguments.Agreement.{Agree}
-use Rattle.language.specs.arguments.PublicResults.{AgreeInPublic}
 use Rattle.hepurita.specs.Bases.{code_base, frame_base}
-use Rattle.codegen.specs.Bases.{AreBases}
 use Rattle.hepurita.specs.Compiled.{IsCompiled, Means, RunsTo, TwoRuns}
-use Rattle.codegen.specs.Loaded.{params_of, code_at, loaded_at, results_in}
-use Rattle.language.specs.declared.signature.Param.{Param}
-use Rattle.language.specs.declared.values.Arg.{Arg}
-use Rattle.syntax.specs.Reading.{OneAnswer}
-use Rattle.language.specs.Results.{Results}
-use Rattle.language.specs.Tree.{ProcedureTree, ProgramTree}
 use Rattle.hepurita.specs.declared.fault.RunFault.{RunFault}
 use Rattle.hepurita.specs.Answers.{Builds, IsTheOutcome, IsSame}
 use Rattle.hepurita.specs.Executed.{Executed, answer_at, refused, out_of_memory, ran}
@@ -33,7 +15,6 @@ use Rattle.hepurita.specs.Paired.{Paired, Observed, pair_fault}
 use Rattle.hepurita.specs.Paired as pairs
 use Rattle.hepurita.specs.declared.optimised.Optimisation.{Optimisation}
 use Rattle.hepurita.proofs.JudgementLemmas.{one_export}
-use Rattle.word.specs.declared.profile.Profile.{Profile}
 
 -- ---- the laws of the layers below
 

@@ -1,16 +1,12 @@
 -- The standard bases serve each compiled image, and so do those of several side by side.
 use Rattle.std.proofs.Common.{ℕ, ◌+◌, ◌*◌, ◌<◌, ◌≤◌, List, arith}
-use Rattle.codegen.specs.Bases.{AreBases}
+use Rattle.hepurita.specs.Below.{AreBases, extents_of, Fields, most_nodes, nodes_of, ProcedureTree, Profile}
+use Rattle.hepurita.specs.Below.{ProgramTree}
 use Rattle.hepurita.specs.Bases.{code_base, frame_base, most_images, code_distance, frame_distance}
 use Rattle.hepurita.specs.Compiled.{IsCompiled}
 use Rattle.hepurita.specs.Built.{JudgesProgram, accepts}
 use Rattle.hepurita.proofs.Below.{few_of}
 use Rattle.hepurita.proofs.JudgementLemmas.{of_accepted}
-use Rattle.codegen.specs.image_fields.Fields.{Fields}
-use Rattle.language.specs.Size.{extents_of, nodes_of}
-use Rattle.language.specs.Tree.{ProcedureTree, ProgramTree}
-use Rattle.language.specs.Limits.{most_nodes}
-use Rattle.word.specs.declared.profile.Profile.{Profile}
 
 pub standard_bases : (program : ProgramTree) (before : List ProcedureTree) (p : ProcedureTree) (image : Fields)
     (k : ℕ) → IsCompiled program before p image → nodes_of (extents_of before) p ≤ most_nodes → k < most_images

@@ -1,21 +1,12 @@
 -- Refusals of the passes as judgements on programs and texts.
 use Rattle.std.proofs.Common.{◌≡◌, inl, inr, ℕ, List, [], length, Some, sym, subst}
-use Rattle.inline.specs.Flat.{FlatProgram}
-use Rattle.inline.specs.Numbering.{flattened}
-use Rattle.intervals.specs.Work.{IsRefusedByRanges}
-use Rattle.language.specs.declared.refusal.Refusal.{Refusal}
-use Rattle.language.specs.Meaning.{exported}
-use Rattle.language.specs.FirstViolation.{IsFirst, IsRefusedFor}
-use Rattle.syntax.specs.Reading.{Reads, accepted, IsRefusedAs}
-use Rattle.language.specs.Size.{size_violations}
-use Rattle.language.specs.Tree.{ProcedureTree, ProgramTree}
-use Rattle.language.specs.Typing.{violations}
-use Rattle.language.specs.declared.typing.Violation.{Violation}
+use Rattle.hepurita.specs.Below.{accepted, exported, FlatProgram, flattened, IsFirst, IsRefusedAs, IsRefusedByRanges}
+use Rattle.hepurita.specs.Below.{IsRefusedFor, ProcedureTree, Profile, ProgramTree, Reads, Refusal, size_violations}
+use Rattle.hepurita.specs.Below.{Violation, violations}
 use Rattle.hepurita.specs.Built.{IsWellFormed, IsSmall, JudgesProgram, ill_typed, too_large, out_of_range}
 use Rattle.hepurita.specs.Built.{too_much_work, unreadable, readable, IsRefusal}
 use Rattle.hepurita.specs.Told.{IsRefusalOf, IsToldOfProgram, of_program, of_reading}
 use Rattle.hepurita.proofs.GrammaticalExports.{HasGrammaticalExport, same_violations}
-use Rattle.word.specs.declared.profile.Profile.{Profile}
 
 module _ (profile : Profile) where
   -- a refusal by the rules on names, types and labels

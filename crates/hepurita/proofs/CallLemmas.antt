@@ -2,23 +2,9 @@
 use Rattle.std.proofs.Common.{◌≡◌, ◌≢◌, inl, inr, ℕ, Bool, true, false, List, [], ◌∷◌, ◌++◌, Some, Result, Ok}
 use Rattle.std.proofs.Common.{Err, map, refl, sym, ap, ◌∙◌, append-nil}
 use Rattle.std.proofs.lemmas.Option.{same_Some}
-use Rattle.language.specs.arguments.Within.{AreWithin, HasShape, words_of}
-use Rattle.language.specs.declared.arguments.fault.ArgumentFault.{ArgumentFault}
-use Rattle.codegen.specs.image_fields.Fields.{Fields}
-use Rattle.language.specs.Results.{Results}
-use Rattle.language.specs.declared.signature.Form.{Form}
-use Rattle.language.specs.declared.signature.Form.TheVariants.{SingleWord, FixedArray, MutableArray}
-use Rattle.language.specs.declared.signature.Param.{Param}
-use Rattle.language.specs.declared.values.Arg.{Arg}
-use Rattle.language.specs.declared.values.Arg.TheVariants.{Word, Array}
-use Rattle.rv_machine.specs.Entries.{Entry, entries_of, Compares}
-use Rattle.rv_machine.specs.Machine.{State}
-use Rattle.rv_machine.specs.Recording.{kept}
-use Rattle.rv_machine.specs.declared.observation.Observation.{Observation}
-use Rattle.rv_machine.specs.declared.pairing.Pairing.{Pairing}
-use Rattle.rv_machine.specs.declared.pairing.Pairing.TheVariants.{Same, Differ}
-use Rattle.rv_machine.specs.declared.stops.Stop.{Stop}
-use Rattle.rv_machine.specs.declared.stops.Stop.TheVariants.{RecorderRefused}
+use Rattle.hepurita.specs.Below.{AreWithin, Arg, ArgumentFault, Array, Compares, Differ, entries_of, Entry, Fields}
+use Rattle.hepurita.specs.Below.{FixedArray, Form, HasShape, kept, MutableArray, Observation, Pairing, Param}
+use Rattle.hepurita.specs.Below.{RecorderRefused, Results, Same, SingleWord, State, Stop, Word, words_of}
 use Rattle.hepurita.proofs.Below.{differ-apart, first-unique, Runs-determined, Ran-determined, Ran-beginning}
 use Rattle.hepurita.specs.Bases.{frame_base}
 use Rattle.hepurita.specs.Executed.{Executed, refused, out_of_memory, ran, answer_at, WantsMemory}

@@ -1,20 +1,14 @@
 -- What is generated for an accepted text is its compilation, and that has bytes.
 use Rattle.std.proofs.Common.{◌≡◌, ℕ, List, ◌∙◌}
-use Rattle.branch_removal.specs.Removed.{IsRemoved}
-use Rattle.branch_removal.specs.Straight.{StraightProgram}
-use Rattle.codegen.specs.Followed.{IsGenerated}
-use Rattle.codegen.specs.image_fields.Fields.{Fields, IsImage}
+use Rattle.hepurita.specs.Below.{Fields, flattened, IsGenerated, IsImage, IsRemoved, ProcedureTree, Profile}
+use Rattle.hepurita.specs.Below.{ProgramTree, ranged, StraightProgram}
 use Rattle.image.proofs.Spellings.{allowed_by_bytes}
-use Rattle.inline.specs.Numbering.{flattened}
-use Rattle.intervals.specs.Work.{ranged}
-use Rattle.language.specs.Tree.{ProcedureTree, ProgramTree}
 use Rattle.hepurita.specs.Answers.{Builds}
 use Rattle.hepurita.specs.Built.{IsCompilation, Judges, accepts, fine, readable}
 use Rattle.hepurita.specs.Exact.{image_for}
 use Rattle.hepurita.specs.declared.optimised.Optimisation.{Optimisation}
 use Rattle.hepurita.proofs.BaseLemmas.{bases_of}
 use Rattle.hepurita.proofs.TheoremLemmas.{texts_compiled}
-use Rattle.word.specs.declared.profile.Profile.{Profile}
 
 module _ (optimisation : Optimisation) (profile : Profile) (text : List ℕ) (program : ProgramTree)
     (before : List ProcedureTree) (export : ProcedureTree) (image : Fields) where

@@ -1,31 +1,14 @@
 -- The compiler's theorem, from what each pass promises.
 use Rattle.std.proofs.Common.{◌≡◌, ℕ, ◌+◌, ◌*◌, ◌≤◌, List, length, map, sym, ap, ◌∙◌, subst}
-use Rattle.language.specs.arguments.Agreement.{Agree}
-use Rattle.language.specs.arguments.PublicResults.{AgreeInPublic}
-use Rattle.language.specs.arguments.Within.{AreWithin}
-use Rattle.branch_removal.specs.Removed.{IsRemoved}
-use Rattle.branch_removal.specs.Straight.{StraightProgram}
+use Rattle.hepurita.specs.Below.{Agree, AgreeInPublic, AreBases, AreWithin, Arg, Code, Fields, flattened, gives}
+use Rattle.hepurita.specs.Below.{IsGenerated, IsLoaded, IsPlaced, IsRemoved, outcome_of as outcome_of_flat, Param}
+use Rattle.hepurita.specs.Below.{param_of, params_of, ProcedureTree, Profile, ProgramTree, ranged, Results, results_in}
+use Rattle.hepurita.specs.Below.{RunsAs, source_work, State, StraightProgram, work_of}
 use Rattle.branch_removal.specs.StraightMeaning.{outcome_of, path_of}
-use Rattle.codegen.specs.Anywhere.{IsPlaced, IsLoaded}
-use Rattle.codegen.specs.Bases.{AreBases}
-use Rattle.codegen.specs.Followed.{RunsAs, IsGenerated}
-use Rattle.codegen.specs.Loaded.{params_of, results_in}
-use Rattle.codegen.specs.image_fields.Fields.{Fields}
-use Rattle.inline.specs.FlatMeaning.{outcome_of as outcome_of_flat}
-use Rattle.inline.specs.Numbering.{flattened, param_of}
 use Rattle.inline.specs.Path.{Path, seen as seen_of}
-use Rattle.intervals.specs.Work.{ranged, work_of}
-use Rattle.rv_machine.specs.Machine.{State, Code}
 use Rattle.hepurita.proofs.Below.{Halts-determined}
-use Rattle.language.specs.declared.signature.Param.{Param}
-use Rattle.language.specs.declared.values.Arg.{Arg}
-use Rattle.language.specs.Meaning.{gives}
-use Rattle.language.specs.Results.{Results}
-use Rattle.language.specs.Tree.{ProcedureTree, ProgramTree}
 use Rattle.hepurita.specs.Compiled.{Means, WholeRun, RunsTo, TwoRuns, IsCompiled}
 use Rattle.hepurita.specs.Linked.{RunsLinked, IsLinked}
-use Rattle.source_laws.specs.source_work.SourceWork.{source_work}
-use Rattle.word.specs.declared.profile.Profile.{Profile}
 
 -- a procedure, the program's export, means what its body with numbered variables means
 abbrev pub MeansFlat : Profile → ProgramTree → List ProcedureTree → ProcedureTree → Type 0

@@ -3,23 +3,15 @@ use Rattle.std.specs.Prelude.{◌⊎◌}
 use Rattle.std.proofs.Common.{◌≡◌, ◌≢◌, inl, inr, ℕ, suc, ◌<◌, ◌≤◌, List, ◌∷◌, ◌++◌, length, length-append, take}
 use Rattle.std.proofs.Common.{refl, sym, ap, subst, ◌∙◌, arith}
 use Rattle.std.proofs.lemmas.List.{take_all}
-use Rattle.language.specs.arguments.Agreement.{Agree}
-use Rattle.language.specs.arguments.Within.{AreWithin}
-use Rattle.codegen.specs.Loaded.{params_of, results_in}
+use Rattle.hepurita.specs.Below.{Agree, AreWithin, Arg, Budget, Code, cut_short, Ecall, Fields, halted, Halts, halts}
+use Rattle.hepurita.specs.Below.{Leads, Observation, params_of, ProcedureTree, ProgramTree, RecorderRefused, results_in}
+use Rattle.hepurita.specs.Below.{Runs, spent, State, stays, Stop, stops, Turn, turns}
 use Rattle.hepurita.proofs.AnswerLemmas.{Fits, run_on, same_shown}
 use Rattle.hepurita.specs.Bases.{frame_base}
 use Rattle.hepurita.specs.Compiled.{Means}
 use Rattle.hepurita.specs.CutOff.{IsRightSoFar}
 use Rattle.hepurita.specs.Uncut.{RunsFor}
-use Rattle.codegen.specs.image_fields.Fields.{Fields}
-use Rattle.language.specs.Tree.{ProcedureTree, ProgramTree}
-use Rattle.language.specs.declared.values.Arg.{Arg}
 use Rattle.hepurita.proofs.Below.{Turn-determined, goes_on≢stops, Halts-determined, turn_stops}
-use Rattle.rv_machine.specs.Leakage.{Leads, stays, turns, Halts, halts, Runs, halted, cut_short, spent}
-use Rattle.rv_machine.specs.Machine.{State, Code, stops, Turn}
-use Rattle.rv_machine.specs.declared.observation.Observation.{Observation}
-use Rattle.rv_machine.specs.declared.stops.Stop.{Stop}
-use Rattle.rv_machine.specs.declared.stops.Stop.TheVariants.{Ecall, Budget, RecorderRefused}
 
 -- each turn shows one observation, and the one that stops at most one
 as_many_shown : {code : Code} {n : ℕ} {s t : State} {seen : List Observation} → Leads code n s seen t

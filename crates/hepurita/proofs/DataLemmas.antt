@@ -2,19 +2,10 @@
 use Rattle.std.proofs.Common.{◌≡◌, ℕ, ◌+◌, ◌*◌, ◌<◌, ◌≤◌, Bool, true, ◌&&◌, nat_le, nat_lt, List, length, Some, None}
 use Rattle.std.proofs.Common.{cond, is_some, ap, ◌∙◌, arith}
 use Rattle.std.proofs.lemmas.Bool.Decides.{nat_tests}
-use Rattle.language.specs.arguments.Within.{HasShape}
-use Rattle.codegen.specs.image_fields.Fields.{slot_bytes, slot_end}
-use Rattle.codegen.specs.declared.image_fields.slot.Slot.{Slot}
-use Rattle.rv_machine.specs.Bytes.{ByteMap, number_at, zeros}
+use Rattle.hepurita.specs.Below.{Arg, Array, array_words, Boolean, ByteMap, element_bytes, Form, HasShape, number_at}
+use Rattle.hepurita.specs.Below.{SingleWord, Slot, slot_bytes, slot_end, with_argument, Word, zeros}
 use Rattle.hepurita.proofs.Below.{is_some-with_number}
-use Rattle.language.specs.Size.{element_bytes, array_words}
-use Rattle.language.specs.declared.signature.Form.{Form}
-use Rattle.language.specs.declared.signature.Form.TheVariants.{SingleWord}
 use Rattle.language.specs.declared.signature.Kind.{Kind}
-use Rattle.language.specs.declared.signature.Kind.TheVariants.{Boolean}
-use Rattle.language.specs.declared.values.Arg.{Arg}
-use Rattle.language.specs.declared.values.Arg.TheVariants.{Word, Array}
-use Rattle.codegen.specs.Loaded.{with_argument}
 use Rattle.hepurita.specs.Frames.{HoldsSlot}
 use Rattle.hepurita.proofs.ElementLemmas.{number_there, is_some-with_numbers}
 

@@ -3,12 +3,10 @@ use Rattle.std.proofs.Common.{◌≡◌, ℕ, zero, suc, ◌+◌, ◌*◌, ◌<�
 use Rattle.std.proofs.Common.{length, drop, slice_index_or, is_some, unwrap_or, refl, sym, ap, ◌∙◌, arith, drop-cons}
 use Rattle.std.proofs.Common.{add-one}
 use Rattle.std.proofs.Math.Nat.{mul-suc}
-use Rattle.rv_machine.specs.Bytes.{ByteMap, joined, number_at, with_number}
+use Rattle.hepurita.specs.Below.{byte_count, ByteMap, joined, number_at, numbers_at, with_number, with_numbers}
 use Rattle.hepurita.proofs.Below.{number_at-suc, number_at-zero, is_some-with_number}
-use Rattle.rv_machine.specs.Sizes.{byte_count}
 use Rattle.rv_machine.specs.declared.memory.Size.{Size}
 use Rattle.rv_machine.specs.declared.memory.Size.TheVariants.{Byte}
-use Rattle.codegen.specs.Loaded.{with_numbers, numbers_at}
 
 is_some-joined : (a b : Option ℕ) → is_some (joined a b) ≡ (is_some a && is_some b)
 is_some-joined (Some x) (Some y) = refl

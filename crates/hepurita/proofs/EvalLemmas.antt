@@ -1,26 +1,17 @@
 -- What `eval` answers for an accepted text: its one outcome.
 use Rattle.std.proofs.Common.{◌≡◌, ℕ, ◌≤◌, List, map, None, Ok, ap, subst, ◌∙◌}
-use Rattle.language.specs.arguments.Faults.{fault_of}
-use Rattle.language.specs.arguments.Within.{AreWithin}
-use Rattle.inline.specs.FlatMeaning.{outcome_of}
-use Rattle.inline.specs.Numbering.{flattened, param_of}
+use Rattle.hepurita.specs.Below.{answer, AreWithin, Arg, extents_of, fault_of, flattened, found_params, judged_answer}
+use Rattle.hepurita.specs.Below.{most_work, outcome_of, Param, param_of, ProcedureTree, Profile, ProgramTree, Results}
+use Rattle.hepurita.specs.Below.{source_work}
 use Rattle.hepurita.proofs.Below.{accepted_is_safe, few_of}
-use Rattle.intervals.specs.Limits.{most_work}
 use Rattle.language.specs.Evaluation.{program_run}
-use Rattle.language.specs.Results.{Results}
-use Rattle.language.specs.Size.{extents_of}
-use Rattle.language.specs.Tree.{ProcedureTree, ProgramTree}
-use Rattle.language.specs.declared.signature.Param.{Param}
-use Rattle.language.specs.declared.values.Arg.{Arg}
 use Rattle.source_laws.proofs.run_bounds_lemmas.Answered.{answered}
-use Rattle.source_laws.specs.source_work.SourceWork.{source_work}
-use Rattle.source_eval.specs.Answer.{answer, judged_answer, found_params, params_of}
+use Rattle.source_eval.specs.Answer.{params_of}
 use Rattle.hepurita.specs.Built.{Judges, accepts, readable, fine}
 use Rattle.hepurita.specs.Compiled.{Means}
 use Rattle.hepurita.proofs.AnswerLemmas.{Faultless}
 use Rattle.hepurita.proofs.TheoremLemmas.{flat_typed, safe_means, within_work}
 use Rattle.hepurita.proofs.GrammaticalExports.{grammatical_export, same_work}
-use Rattle.word.specs.declared.profile.Profile.{Profile}
 
 -- arguments without a fault are answered by the run
 judged : (program : ProgramTree) (args : List Arg) (budget : ℕ) (params : List Param) → params_of program ≡ params

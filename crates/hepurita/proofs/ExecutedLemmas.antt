@@ -1,18 +1,10 @@
 -- What is answered to arguments, case by case.
 use Rattle.std.proofs.Common.{◌≡◌, ℕ, Bool, List, Some, None, Result, Err}
-use Rattle.language.specs.arguments.Faults.{fault_of}
-use Rattle.language.specs.declared.arguments.fault.ArgumentFault.{ArgumentFault}
-use Rattle.codegen.specs.image_fields.Fields.{Fields}
-use Rattle.rv_machine.specs.Leakage.{Ran}
-use Rattle.rv_machine.specs.Machine.{State, Code}
-use Rattle.rv_machine.specs.declared.observation.Observation.{Observation}
-use Rattle.rv_machine.specs.declared.stops.Stop.{Stop}
-use Rattle.language.specs.Results.{Results}
-use Rattle.language.specs.declared.values.Arg.{Arg}
+use Rattle.hepurita.specs.Below.{Arg, ArgumentFault, Code, code_at, fault_of, Fields, loaded_at, Observation, params_of}
+use Rattle.hepurita.specs.Below.{Ran, Results, State, Stop}
 use Rattle.hepurita.specs.declared.fault.RunFault.{RunFault}
 use Rattle.hepurita.specs.declared.fault.RunFault.TheVariants.{Argument, Memory}
 use Rattle.hepurita.specs.Bases.{code_base, frame_base}
-use Rattle.codegen.specs.Loaded.{params_of, code_at, loaded_at}
 use Rattle.hepurita.specs.Executed.{Executed, refused, out_of_memory, ran, answer_at}
 
 -- out of memory, where there is no fault

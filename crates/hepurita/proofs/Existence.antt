@@ -1,17 +1,10 @@
 -- Each text has a judgement.
 use Rattle.std.proofs.Common.{◌≡◌, ℕ, List, [], length, None, Some, ⊎_elim, refl}
 use Rattle.hepurita.proofs.Below.{answer_to, Export, has_export, first_of}
-use Rattle.inline.specs.Numbering.{flattened}
-use Rattle.intervals.specs.Ranges.{range_violations}
-use Rattle.source_laws.specs.source_work.SourceWork.{work_violations}
-use Rattle.language.specs.Meaning.{exported}
-use Rattle.language.specs.Size.{size_violations}
-use Rattle.language.specs.Tree.{ProcedureTree, ProgramTree}
-use Rattle.language.specs.Typing.{violations}
-use Rattle.syntax.specs.Reading.{Answer, Reads, accepted, refused}
+use Rattle.hepurita.specs.Below.{accepted, Answer, exported, flattened, ProcedureTree, Profile, ProgramTree}
+use Rattle.hepurita.specs.Below.{range_violations, Reads, refused, size_violations, violations, work_violations}
 use Rattle.hepurita.specs.Built.{Judgement, IsWellFormed, IsSmall, Judges, JudgesProgram, accepts, refuses, ill_typed}
 use Rattle.hepurita.specs.Built.{too_large, out_of_range, too_much_work, fine, unreadable, readable}
-use Rattle.word.specs.declared.profile.Profile.{Profile}
 
 module _ (profile : Profile) (program : ProgramTree) where
   abbrev Judged : Type 0

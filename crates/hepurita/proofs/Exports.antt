@@ -5,8 +5,7 @@ use Rattle.std.proofs.lemmas.Option.{get_or_from_slice_get, same_Some, slice_get
 use Rattle.std.specs.List.{AllByRecursion}
 use Rattle.hepurita.proofs.Below.{export_at}
 use Rattle.labels.specs.Exports.{export_index}
-use Rattle.language.specs.Meaning.{exported}
-use Rattle.language.specs.Tree.{ProcedureTree}
+use Rattle.hepurita.specs.Below.{exported, ProcedureTree}
 
 -- the exported procedure, and those before it, if there is one
 abbrev pub Export : Type 0

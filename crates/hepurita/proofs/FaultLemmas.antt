@@ -1,6 +1,6 @@
 -- Faults of arguments, as faults of reading and of a run.
 use Rattle.std.proofs.Common.{◌≡◌, ◌↔◌, Result, Err, ap, ◌∙◌}
-use Rattle.language.specs.declared.arguments.fault.ArgumentFault.{ArgumentFault}
+use Rattle.hepurita.specs.Below.{ArgumentFault}
 use Rattle.language.specs.declared.arguments.texts.ReadError.{ReadError}
 use Rattle.language.specs.declared.arguments.texts.ReadError.TheVariants as errors
 use Rattle.hepurita.specs.declared.fault.RunFault.{RunFault}

@@ -1,10 +1,9 @@
 -- What the last passes find in a text's one body is the judgement on the text.
 use Rattle.std.proofs.Common.{◌≡◌, ℕ, List, length, Result, Ok, Err, ap, ◌∙◌}
 use Rattle.std.specs.Result.{IfOk, IfErr, OnOk}
-use Rattle.intervals.specs.Ranges.{range_violations}
-use Rattle.intervals.specs.Work.{work_violations, IsRefusedByRanges, IsToldByRanges}
-use Rattle.language.specs.Tree.{ProgramTree, program_tree}
-use Rattle.language.specs.declared.refusal.Refusal.{Refusal}
+use Rattle.hepurita.specs.Below.{IsRefusedByRanges, IsToldByRanges, Profile, program_tree, ProgramTree}
+use Rattle.hepurita.specs.Below.{range_violations, Refusal}
+use Rattle.intervals.specs.Work.{work_violations}
 use Rattle.hepurita.specs.Built.{Judges, accepts, fine, readable}
 use Rattle.hepurita.specs.Flattened.{IsFlattened}
 use Rattle.hepurita.specs.Told.{IsRefusalOf}
@@ -12,7 +11,6 @@ use Rattle.hepurita.specs.declared.flattening.Flattened.{Flattened}
 use Rattle.hepurita.proofs.TellingLemmas.{told_of_ranges}
 use Rattle.hepurita.proofs.BuiltLemmas.{refusal_of_program, refusal_of_ranges}
 use Rattle.hepurita.proofs.GrammaticalExports.{HasGrammaticalExport, grammatical_export, same_violations}
-use Rattle.word.specs.declared.profile.Profile.{Profile}
 
 -- two facts beside what was answered
 pub ok_beside : {X Y A B : Type 0} (r : Result X Y) (P Q : X → Type 0) → OnOk r A → OnOk r B → IfOk r P

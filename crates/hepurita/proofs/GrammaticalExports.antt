@@ -2,19 +2,12 @@
 -- on it.
 use Rattle.std.proofs.Common.{◌≡◌, ℕ, List, [], Some, ap, nat_lt}
 use Rattle.std.specs.List.{AllByRecursion}
-use Rattle.inline.specs.Numbering.{flattened}
-use Rattle.intervals.specs.Limits.{most_work}
-use Rattle.intervals.specs.Work.{work_of, work_violations as body_violations}
+use Rattle.hepurita.specs.Below.{accepted, at, exported, flattened, most_work, ProcedureTree, Profile, ProgramTree}
+use Rattle.hepurita.specs.Below.{Reads, source_work, TooMuchWork, when, work_of, work_violations}
+use Rattle.intervals.specs.Work.{work_violations as body_violations}
 use Rattle.language.specs.Grammatical.{IsGrammatical}
-use Rattle.language.specs.Meaning.{exported}
-use Rattle.language.specs.Tree.{ProcedureTree, ProgramTree}
-use Rattle.language.specs.Types.{at, when}
-use Rattle.language.specs.declared.rule.Rule.TheVariants.{TooMuchWork}
 use Rattle.source_laws.proofs.source_work_lemmas.Export.{work_is_that_of_the_body}
-use Rattle.source_laws.specs.source_work.SourceWork.{source_work, work_violations}
 use Rattle.syntax.proofs.GrammarLemmas.{read_text}
-use Rattle.syntax.specs.Reading.{Reads, accepted}
-use Rattle.word.specs.declared.profile.Profile.{Profile}
 use Rattle.hepurita.specs.Built.{IsSmall}
 use Rattle.hepurita.proofs.Exports.{of_export}
 

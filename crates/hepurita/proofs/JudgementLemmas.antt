@@ -2,22 +2,12 @@
 use Rattle.std.proofs.Common.{◌≡◌, ℕ, ◌≤◌, Bool, true, false, nat_lt, ◌||◌, List, [], ◌∷◌, ◌++◌, None, Some, length}
 use Rattle.std.proofs.Common.{refl, ap, sym, subst, ◌∙◌, arith}
 use Rattle.std.specs.List.{AllByRecursion}
-use Rattle.word.specs.declared.place.Place.{Place}
-use Rattle.language.specs.FirstViolation.{IsFirst}
-use Rattle.language.specs.declared.rule.Rule.{Rule}
-use Rattle.language.specs.declared.typing.Violation.{Violation}
-use Rattle.inline.specs.Numbering.{flattened}
-use Rattle.intervals.specs.Ranges.{range_violations}
-use Rattle.source_laws.specs.source_work.SourceWork.{work_violations}
-use Rattle.language.specs.Meaning.{exported}
-use Rattle.syntax.specs.Reading.{accepted, refused, OneAnswer}
-use Rattle.language.specs.Size.{size_violations}
-use Rattle.language.specs.Tree.{ProcedureTree, ProgramTree}
-use Rattle.language.specs.Typing.{violations}
+use Rattle.hepurita.specs.Below.{accepted, exported, flattened, IsFirst, OneAnswer, Place, ProcedureTree, Profile}
+use Rattle.hepurita.specs.Below.{ProgramTree, range_violations, refused, Rule, size_violations, Violation, violations}
+use Rattle.hepurita.specs.Below.{work_violations}
 use Rattle.hepurita.specs.Built.{IsSmall, Judges, JudgesProgram, accepts, refuses, ill_typed, too_large, out_of_range}
 use Rattle.hepurita.specs.Built.{too_much_work, fine, unreadable, readable}
 use Rattle.hepurita.proofs.Exports.{Export, export_or, front_or}
-use Rattle.word.specs.declared.profile.Profile.{Profile}
 
 -- ---- the lists of violations, in the order in which they are asked for
 

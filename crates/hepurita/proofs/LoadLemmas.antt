@@ -2,16 +2,9 @@
 use Rattle.std.proofs.Common.{◌≡◌, ℕ, zero, suc, ◌+◌, ◌-◌, ◌^◌, ◌<◌, ◌≤◌, List, [], ◌∷◌, length, map, drop, get_or}
 use Rattle.std.proofs.Common.{slice_index_or, is_some, true, refl, ap, arith, drop-cons, add-one}
 use Rattle.std.specs.List.{AllByRecursion}
-use Rattle.language.specs.arguments.Within.{AreWithin, HasShape}
-use Rattle.codegen.specs.image_fields.Fields.{slot_end, slots_end}
-use Rattle.codegen.specs.declared.image_fields.slot.Slot.{Slot}
-use Rattle.rv_machine.specs.Bytes.{ByteMap, zeros}
-use Rattle.language.specs.declared.signature.Form.TheVariants.{SingleWord}
-use Rattle.language.specs.declared.signature.Kind.TheVariants.{Boolean}
+use Rattle.hepurita.specs.Below.{AreWithin, Arg, Boolean, ByteMap, HasShape, Param, SingleWord, Slot, slot_end}
+use Rattle.hepurita.specs.Below.{slots_end, with_argument, with_arguments, zeros}
 use Rattle.language.specs.declared.signature.Label.TheVariants.{Public}
-use Rattle.language.specs.declared.signature.Param.{Param}
-use Rattle.language.specs.declared.values.Arg.{Arg}
-use Rattle.codegen.specs.Loaded.{with_argument, with_arguments}
 use Rattle.hepurita.specs.Frames.{HoldsSlot}
 use Rattle.hepurita.proofs.DataLemmas.{zeros_there}
 

@@ -2,15 +2,11 @@
 use Rattle.std.proofs.Common.{◌≡◌, ℕ, List, Result, Ok, Err, ap₂, sym, subst, ◌∙◌}
 use Rattle.std.specs.Result.{IfOk}
 use Rattle.image.proofs.Spellings.{one_by_fields}
-use Rattle.image.specs.Reading.{Spells}
-use Rattle.codegen.specs.image_fields.Fields.{Fields}
-use Rattle.language.specs.Tree.{ProcedureTree, ProgramTree}
-use Rattle.syntax.specs.Reading.{OneAnswer}
+use Rattle.hepurita.specs.Below.{Fields, OneAnswer, ProcedureTree, Profile, ProgramTree, Spells}
 use Rattle.hepurita.specs.Built.{IsBuilt, IsCompilation}
 use Rattle.hepurita.specs.Exact.{image_for}
 use Rattle.hepurita.specs.declared.optimised.Optimisation.{Optimisation}
 use Rattle.hepurita.proofs.JudgementLemmas.{one_export}
-use Rattle.word.specs.declared.profile.Profile.{Profile}
 
 -- both facts of what was answered
 pub ok_both : {X Y : Type 0} (r : Result X Y) (P Q : X → Type 0) → IfOk r P → IfOk r Q → IfOk r (λ x. P x × Q x)

@@ -1,15 +1,9 @@
 -- What is answered to two lists of arguments, case by case.
 use Rattle.std.proofs.Common.{◌≡◌, ℕ, List, Some, None, Result, Err}
-use Rattle.language.specs.declared.arguments.fault.ArgumentFault.{ArgumentFault}
-use Rattle.codegen.specs.image_fields.Fields.{Fields}
-use Rattle.rv_machine.specs.Leakage.{IsShown}
-use Rattle.rv_machine.specs.Machine.{State, Code}
-use Rattle.rv_machine.specs.declared.observation.Observation.{Observation}
-use Rattle.rv_machine.specs.declared.pairing.Pairing.{Pairing}
-use Rattle.language.specs.declared.values.Arg.{Arg}
+use Rattle.hepurita.specs.Below.{Arg, ArgumentFault, Code, code_at, Fields, IsShown, loaded_at, Observation, Pairing}
+use Rattle.hepurita.specs.Below.{params_of, State}
 use Rattle.hepurita.specs.declared.fault.RunFault.{RunFault}
 use Rattle.hepurita.specs.declared.fault.RunFault.TheVariants.{Argument, Memory}
-use Rattle.codegen.specs.Loaded.{params_of, code_at, loaded_at}
 use Rattle.hepurita.specs.Bases.{code_base, frame_base}
 use Rattle.hepurita.specs.Paired.{Observed, Paired, pair_fault, refused, out_of_memory}
 

@@ -2,10 +2,8 @@
 -- code is of.
 use Rattle.std.proofs.Common.{◌≡◌, Option, None, Some, IfSome, subst, sym}
 use Rattle.std.specs.Prelude.{unwrap_or}
-use Rattle.branch_removal.specs.Removed.{IsRemoved}
+use Rattle.hepurita.specs.Below.{IsRemoved, RangedProgram, StraightProgram}
 use Rattle.branch_removal.specs.Replaced.{IsReplaced}
-use Rattle.branch_removal.specs.Straight.{StraightProgram}
-use Rattle.intervals.specs.Ranged.{RangedProgram}
 
 pub stands_on : (ranged : RangedProgram) (made : Option StraightProgram) (given result : StraightProgram)
     → ((one other : StraightProgram) → IsRemoved ranged one → IsReplaced one other → IsRemoved ranged other)

@@ -2,18 +2,13 @@
 use Rattle.std.proofs.Common.{◌≡◌, ℕ, Bool, true, false, List, [], ◌∷◌, ◌++◌, is_some, cond, Some, refl, ap, subst}
 use Rattle.std.proofs.Common.{arith}
 use Rattle.word.specs.Places.{origin}
-use Rattle.word.specs.declared.place.Place.{Place}
-use Rattle.language.specs.declared.rule.Rule.{Rule}
-use Rattle.language.specs.Meaning.{exported}
-use Rattle.language.specs.Tree.{ProcedureTree, ProgramTree}
-use Rattle.syntax.specs.Reading.{Reads, accepted}
-use Rattle.source_laws.specs.grammar_laws.Heads.{astray, in_procedure, in_procedures, in_program}
+use Rattle.hepurita.specs.Below.{accepted, astray, exported, in_procedure, in_procedures, in_program, Place}
+use Rattle.hepurita.specs.Below.{ProcedureTree, Profile, ProgramTree, Reads, Rule}
 use Rattle.hepurita.proofs.Below.{heads_in_place, light_of, sizes_light, violations_light}
 use Rattle.hepurita.specs.Built.{IsWellFormed, JudgesProgram, refuses, ill_typed, too_large, out_of_range}
 use Rattle.hepurita.specs.Built.{too_much_work}
 use Rattle.hepurita.proofs.Exports.{Export, export_or, front_or}
 use Rattle.hepurita.proofs.RangePlaces.{ranges_light, work_light}
-use Rattle.word.specs.declared.profile.Profile.{Profile}
 
 module _ (w : Place → ℕ) where
   -- an exported procedure and those before it

@@ -5,40 +5,30 @@ use Rattle.std.proofs.Common.{◌++◌, map, length, Option, None, Some, refl, a
 use Rattle.std.specs.Str.{bytes_eq}
 use Rattle.std.proofs.lemmas.Bool.{cond_both}
 use Rattle.hepurita.proofs.Below.{none, more, both, AreAtLight}
-use Rattle.source_laws.specs.grammar_laws.Heads.{in_block, in_call, in_expr, in_exprs, in_procedure, in_procedures}
-use Rattle.source_laws.specs.grammar_laws.Heads.{in_return, in_right, in_statement, in_values}
-use Rattle.source_laws.specs.source_work.SourceWork.{source_work, work_violations}
+use Rattle.hepurita.specs.Below.{array, assignment, because, binary, BlockTree, bounds_after, bounds_after_all, call}
+use Rattle.hepurita.specs.Below.{call_block, call_names, call_result, call_start, call_value, call_variables, Callable}
+use Rattle.hepurita.specs.Below.{callable, Callables, callables, called, CallTree, chain, computed, conditional}
+use Rattle.hepurita.specs.Below.{convert, counter_type, declaration, DivisorMayBeZero, dropped_block, element}
+use Rattle.hepurita.specs.Below.{element_assignment, element_block, ExprTree, first, FlatBlock, flattened, in_block}
+use Rattle.hepurita.specs.Below.{in_call, in_expr, in_exprs, in_procedure, in_procedures, in_return, in_right}
+use Rattle.hepurita.specs.Below.{in_statement, in_values, index_violations, IndexOutOfRange, is_word, loop, most_work}
+use Rattle.hepurita.specs.Below.{name, names_after, names_after_all, naming, nothing, number, Numbers, numbers_taken}
+use Rattle.hepurita.specs.Below.{numbers_taken_all, parameter_names, ParameterTree, passed, Place, prefix}
+use Rattle.hepurita.specs.Below.{ProcedureTree, Profile, range_violations, result_violations, return_names, ReturnTree}
+use Rattle.hepurita.specs.Below.{right, right_block, RightTree, rotate, Rule, select, size_of, source_work}
+use Rattle.hepurita.specs.Below.{StatementTree, term, term_violations, terms_violations, TermTree, TooMuchWork, truth}
+use Rattle.hepurita.specs.Below.{value_given, value_of, violations_all, when, word_as, work_violations, written}
 use Rattle.inline.specs.declared.flat.FlatVariable.{FlatVariable}
 use Rattle.inline.specs.Flat as flat
-use Rattle.inline.specs.Flat.{TermTree, FlatBlock, chain, word_as}
-use Rattle.inline.specs.FlatTyping.{counter_type}
-use Rattle.inline.specs.Numbering.{Numbers, Callable, Callables, callable, callables, flattened, term, naming, size_of}
-use Rattle.inline.specs.Numbering.{names_after, names_after_all, numbers_taken, numbers_taken_all, passed, call_block}
-use Rattle.inline.specs.Numbering.{call_value, call_names, call_start, call_variables, call_result, value_given}
-use Rattle.inline.specs.Numbering.{right_block, right, element_block, dropped_block, value_of, parameter_names}
-use Rattle.inline.specs.Numbering.{return_names}
 use Rattle.inline.specs.Numbering as numbering
 use Rattle.language.specs.declared.interval.Interval.{Interval}
 use Rattle.intervals.specs.Intervals.{Bounds, interval}
-use Rattle.intervals.specs.Limits.{most_work}
-use Rattle.intervals.specs.Ranges.{index_violations, term_violations, terms_violations, violations_all}
-use Rattle.intervals.specs.Ranges.{result_violations, range_violations, bounds_after, bounds_after_all}
 use Rattle.language.specs.declared.typing.WordType.{WordType}
-use Rattle.language.specs.declared.rule.Rule.{Rule}
-use Rattle.language.specs.declared.rule.Rule.TheVariants.{IndexOutOfRange, DivisorMayBeZero, TooMuchWork}
 use Rattle.language.specs.Known.{first_known, with_known, known_from, nothing_known}
-use Rattle.language.specs.Meaning.{is_word}
 use Rattle.language.specs.Operators.{divides}
-use Rattle.language.specs.Tree.{ExprTree, number, truth, name, prefix, binary, rotate, convert, select, element}
-use Rattle.language.specs.Tree.{CallTree, RightTree, called, computed, StatementTree, declaration, array, assignment}
-use Rattle.language.specs.Tree.{element_assignment, call, conditional, loop, BlockTree, nothing, first, ParameterTree}
-use Rattle.language.specs.Tree.{ReturnTree, ProcedureTree, written}
-use Rattle.language.specs.Types.{because, when}
 use Rattle.language.specs.declared.why.Why.{Why}
 use Rattle.language.specs.declared.why.Why.TheVariants.{Index, Divisor, Plain}
 use Rattle.language.specs.WellTyped.{labelled}
-use Rattle.word.specs.declared.place.Place.{Place}
-use Rattle.word.specs.declared.profile.Profile.{Profile}
 
 -- what is said of two blocks one behind the other
 violations_chain : (declared : List FlatVariable) (bounds : Bounds) (a b : FlatBlock)

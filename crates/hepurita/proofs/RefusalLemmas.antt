@@ -1,28 +1,19 @@
 -- A text is refused for one rule at one place.
 use Rattle.std.proofs.Common.{◌≡◌, inl, inr, ℕ, List, [], ◌∷◌, get_or, refl, ap, sym, subst, ◌∙◌, arith}
 use Rattle.std.proofs.lemmas.List.Elements.{All-contains}
-use Rattle.word.specs.declared.place.Place.{Place}
-use Rattle.language.specs.declared.rule.Rule.{Rule}
-use Rattle.language.specs.declared.rule.Rule.TheVariants.{UnknownCharacter, BadNumber, UnexpectedToken, Nesting}
-use Rattle.language.specs.declared.rule.Rule.TheVariants.{TextTooLong, UndeclaredName, NameDeclaredTwice}
-use Rattle.language.specs.declared.rule.Rule.TheVariants.{ProcedureNotDeclaredEarlier, NotExactlyOneExport}
-use Rattle.language.specs.declared.rule.Rule.TheVariants.{WidthsDiffer, WrongKind, LiteralOutOfRange, ArgumentCount}
-use Rattle.language.specs.declared.rule.Rule.TheVariants.{ArrayShapeOrLabel, NotMutable, ReturnMismatch}
-use Rattle.language.specs.declared.rule.Rule.TheVariants.{ArrayPassedTwice, InitialiserCount, SecretToPublic}
-use Rattle.language.specs.declared.rule.Rule.TheVariants.{PublicAssignedUnderSecretControl, SecretIndex, SecretBound}
-use Rattle.language.specs.declared.rule.Rule.TheVariants.{SecretDivisionOperand, CallAssignsPublicUnderSecretControl}
-use Rattle.language.specs.declared.rule.Rule.TheVariants.{SecretMultiplicationOperand, InlinedSize, DeclaredBytes}
-use Rattle.language.specs.declared.rule.Rule.TheVariants.{IndexOutOfRange, DivisorMayBeZero, TooMuchWork, OutOfMemory}
-use Rattle.language.specs.declared.typing.Violation.{Violation}
-use Rattle.language.specs.FirstViolation.{IsFirst, IsNoLaterThan}
-use Rattle.language.specs.Rules.{rank_of}
-use Rattle.language.specs.Tree.{ProgramTree}
-use Rattle.syntax.specs.Reading.{accepted, refused, OneAnswer}
+use Rattle.hepurita.specs.Below.{accepted, ArgumentCount, ArrayPassedTwice, ArrayShapeOrLabel, BadNumber}
+use Rattle.hepurita.specs.Below.{CallAssignsPublicUnderSecretControl, DeclaredBytes, DivisorMayBeZero, IndexOutOfRange}
+use Rattle.hepurita.specs.Below.{InitialiserCount, InlinedSize, IsFirst, IsNoLaterThan, LiteralOutOfRange}
+use Rattle.hepurita.specs.Below.{NameDeclaredTwice, Nesting, NotExactlyOneExport, NotMutable, OneAnswer, OutOfMemory}
+use Rattle.hepurita.specs.Below.{Place, ProcedureNotDeclaredEarlier, Profile, ProgramTree}
+use Rattle.hepurita.specs.Below.{PublicAssignedUnderSecretControl, rank_of, refused, ReturnMismatch, Rule, SecretBound}
+use Rattle.hepurita.specs.Below.{SecretDivisionOperand, SecretIndex, SecretMultiplicationOperand, SecretToPublic}
+use Rattle.hepurita.specs.Below.{TextTooLong, TooMuchWork, UndeclaredName, UnexpectedToken, UnknownCharacter, Violation}
+use Rattle.hepurita.specs.Below.{WidthsDiffer, WrongKind}
 use Rattle.hepurita.specs.Built.{Judges, JudgesProgram, refuses, unreadable, readable}
 use Rattle.hepurita.proofs.Below.{one_place}
 use Rattle.hepurita.proofs.PlaceLemmas.{refused_in_place}
 use Rattle.hepurita.proofs.JudgementLemmas.{IsNamed, here, behind, all_asked, named}
-use Rattle.word.specs.declared.profile.Profile.{Profile}
 
 -- one rule, at one offset
 abbrev AreAlike : Rule → Place → Rule → Place → Type 0

@@ -2,13 +2,8 @@
 use Rattle.std.proofs.Common.{◌≡◌, ◌≢◌, ℕ, ◌+◌, ◌*◌, ◌<◌, ◌≤◌, List, [], ◌∷◌, ◌++◌, length, map, drop, slice_index_or}
 use Rattle.std.proofs.Common.{refl, ap, arith, drop-cons, add-one, append_assoc}
 use Rattle.std.proofs.lemmas.List.{map-append}
-use Rattle.codegen.specs.Loaded.{array_in, arrays_in}
-use Rattle.codegen.specs.image_fields.Fields.{slot_bytes, slot_end}
-use Rattle.codegen.specs.declared.image_fields.slot.Slot.{Slot}
-use Rattle.language.specs.Size.{element_bytes}
-use Rattle.language.specs.declared.signature.Form.{Form}
-use Rattle.language.specs.declared.signature.Form.TheVariants.{MutableArray}
-use Rattle.rv_machine.specs.Bytes.{ByteMap}
+use Rattle.hepurita.specs.Below.{array_in, arrays_in, ByteMap, element_bytes, Form, MutableArray, Slot, slot_bytes}
+use Rattle.hepurita.specs.Below.{slot_end}
 use Rattle.hepurita.specs.declared.results.ArraySpace.{ArraySpace}
 use Rattle.hepurita.specs.Frames.{elements_in}
 use Rattle.hepurita.proofs.DataLemmas.{bytes_within}

@@ -4,17 +4,8 @@ use Rattle.hepurita.proofs.BuiltLemmas.{IsSmallFlat}
 use Rattle.hepurita.proofs.GrammaticalExports.{HasGrammaticalExport, same_violations}
 use Rattle.hepurita.specs.Built.{IsSmall}
 use Rattle.hepurita.specs.Told.{IsToldOfProgram, of_sizes, of_ranges, of_work}
-use Rattle.inline.specs.Flat.{FlatProgram}
-use Rattle.inline.specs.Numbering.{flattened}
-use Rattle.intervals.specs.Work.{IsToldByRanges}
-use Rattle.language.specs.FirstViolation.{IsToldOf}
-use Rattle.language.specs.Meaning.{exported}
-use Rattle.language.specs.Size.{size_violations}
-use Rattle.language.specs.Tree.{ProcedureTree, ProgramTree}
-use Rattle.language.specs.Typing.{violations}
-use Rattle.language.specs.declared.refusal.Refusal.{Refusal}
-use Rattle.language.specs.declared.typing.Violation.{Violation}
-use Rattle.word.specs.declared.profile.Profile.{Profile}
+use Rattle.hepurita.specs.Below.{exported, FlatProgram, flattened, IsToldByRanges, IsToldOf, ProcedureTree, Profile}
+use Rattle.hepurita.specs.Below.{ProgramTree, Refusal, size_violations, Violation, violations}
 
 module _ (profile : Profile) where
   -- the export's size, or out of memory

@@ -1,35 +1,18 @@
 -- An accepted text's image is the export, compiled; and what the passes ask of its export.
 use Rattle.std.proofs.Common.{◌≡◌, ℕ, ◌≤◌, inl, inr, nat_lt, List, length, map, sym, subst, ◌∙◌, arith}
 use Rattle.std.proofs.lemmas.Bool.{cases_lt, lt-ltb}
-use Rattle.language.specs.arguments.Within.{AreWithin}
-use Rattle.branch_removal.specs.Removed.{IsRemoved}
-use Rattle.branch_removal.specs.Straight.{StraightProgram}
-use Rattle.codegen.specs.Followed.{IsGenerated}
-use Rattle.codegen.specs.image_fields.Fields.{Fields}
+use Rattle.hepurita.specs.Below.{accepted, AreWithin, Arg, at, Ending, Fields, FlatProgram, flattened, Gives, gives}
+use Rattle.hepurita.specs.Below.{IsGenerated, IsRemoved, IsTypedProgram, most_work, outcome_of, param_of, Place}
+use Rattle.hepurita.specs.Below.{ProcedureTree, Profile, ProgramTree, ranged, Reads, Results, StraightProgram}
+use Rattle.hepurita.specs.Below.{TooMuchWork, turns_of, when}
 use Rattle.hepurita.proofs.Below.{flat_keeps_meaning, flat_is_typed, accepted_is_safe, safe_runs_meet_no_fault}
-use Rattle.inline.specs.FlatMeaning.{outcome_of}
-use Rattle.inline.specs.FlatTyping.{IsTypedProgram}
-use Rattle.inline.specs.Numbering.{flattened, param_of}
 use Rattle.intervals.specs.Loose.{IsSafe}
-use Rattle.intervals.specs.Ranges.{turns_of}
-use Rattle.intervals.specs.Work.{ranged}
-use Rattle.intervals.specs.Limits.{most_work}
-use Rattle.inline.specs.Flat.{FlatProgram}
-use Rattle.language.specs.Types.{at, when}
-use Rattle.language.specs.declared.rule.Rule.TheVariants.{TooMuchWork}
 use Rattle.hepurita.specs.Compiled.{Means, IsCompiled}
-use Rattle.language.specs.Meaning.{Ending, Gives, gives}
-use Rattle.language.specs.Results.{Results}
-use Rattle.language.specs.declared.values.Arg.{Arg}
 use Rattle.source_eval.proofs.WorkedOut.{worked-out}
-use Rattle.syntax.specs.Reading.{Reads, accepted}
-use Rattle.language.specs.Tree.{ProcedureTree, ProgramTree}
 use Rattle.hepurita.specs.Built.{IsSmall, JudgesProgram, accepts}
 use Rattle.hepurita.proofs.Compiler.{compiled}
 use Rattle.hepurita.proofs.GrammaticalExports.{HasGrammaticalExport, grammatical_export, same_work}
 use Rattle.hepurita.proofs.JudgementLemmas.{of_accepted}
-use Rattle.word.specs.declared.place.Place.{Place}
-use Rattle.word.specs.declared.profile.Profile.{Profile}
 
 -- where the limit on work is not passed, it is kept
 pub within_work : (place : Place) (work : ℕ) → length (at place (when (nat_lt most_work work) TooMuchWork)) ≡ 0

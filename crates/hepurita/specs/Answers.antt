@@ -1,19 +1,12 @@
 -- What `execute` and `pair` are to answer for the image of an accepted text.
 use Rattle.std.specs.Prelude.{◌≡◌, ◌⊎◌, ℕ, List, Result, Ok, Err}
-use Rattle.codegen.specs.image_fields.Fields.{Fields, IsImage}
-use Rattle.image.specs.Reading.{Spells}
-use Rattle.rv_machine.specs.declared.pairing.Pairing.{Pairing}
-use Rattle.rv_machine.specs.declared.pairing.Pairing.TheVariants.{Same}
-use Rattle.rv_machine.specs.declared.stops.Stop.TheVariants.{RecorderRefused}
-use Rattle.language.specs.declared.values.Arg.{Arg}
-use Rattle.language.specs.Results.{Results}
-use Rattle.language.specs.Tree.{ProcedureTree, ProgramTree}
+use Rattle.hepurita.specs.Below.{Arg, Fields, IsImage, Pairing, ProcedureTree, Profile, ProgramTree, RecorderRefused}
+use Rattle.hepurita.specs.Below.{Results, Same, Spells}
 use Rattle.hepurita.specs.declared.fault.RunFault.{RunFault}
 use Rattle.hepurita.specs.declared.fault.RunFault.TheVariants.{Memory, Stopped}
 use Rattle.hepurita.specs.Built.{Judges, accepts, IsBuilt}
 use Rattle.hepurita.specs.Compiled.{Means}
 use Rattle.hepurita.specs.declared.optimised.Optimisation.{Optimisation}
-use Rattle.word.specs.declared.profile.Profile.{Profile}
 
 -- a text that is accepted with this export, for an observer, and the plain or the optimised image that its bytes
 -- spell

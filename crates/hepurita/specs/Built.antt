@@ -1,27 +1,13 @@
 -- What the compiler answers to a text: the passes are asked in order, and each names its first violation.
 use Rattle.std.specs.Prelude.{◌≡◌, ◌⊎◌, ℕ, ◌+◌, ◌*◌, ◌<◌, List, [], length, Some}
-use Rattle.codegen.specs.image_fields.Fields.{Fields, IsImage}
-use Rattle.image.specs.Reading.{AreBytes, Spells}
-use Rattle.codegen.specs.Bases.{AreBases}
+use Rattle.hepurita.specs.Below.{accepted, AreBases, AreBytes, exported, Fields, flattened, IsFirst, IsImage}
+use Rattle.hepurita.specs.Below.{IsWantOfMemory, Place, ProcedureTree, Profile, ProgramTree, range_violations, Reads}
+use Rattle.hepurita.specs.Below.{Refusal, refused, Rule, size_violations, Spells, Violation, violations}
+use Rattle.hepurita.specs.Below.{work_violations}
 use Rattle.hepurita.specs.Bases.{code_base, frame_base, most_images, code_distance, frame_distance}
 use Rattle.hepurita.specs.Compiled.{IsCompiled}
 use Rattle.hepurita.specs.Exact.{image_for}
 use Rattle.hepurita.specs.declared.optimised.Optimisation.{Optimisation}
-use Rattle.inline.specs.Numbering.{flattened}
-use Rattle.intervals.specs.Ranges.{range_violations}
-use Rattle.source_laws.specs.source_work.SourceWork.{work_violations}
-use Rattle.word.specs.declared.place.Place.{Place}
-use Rattle.word.specs.declared.profile.Profile.{Profile}
-use Rattle.language.specs.declared.refusal.Refusal.{Refusal}
-use Rattle.language.specs.declared.rule.Rule.{Rule}
-use Rattle.language.specs.declared.typing.Violation.{Violation}
-use Rattle.language.specs.FirstViolation.{IsFirst}
-use Rattle.language.specs.Meaning.{exported}
-use Rattle.syntax.specs.Reading.{Reads, accepted, refused}
-use Rattle.language.specs.Size.{size_violations}
-use Rattle.language.specs.Tree.{ProcedureTree, ProgramTree}
-use Rattle.language.specs.Typing.{violations}
-use Rattle.language.specs.WantOfMemory.{IsWantOfMemory}
 
 pub data Judgement : Type 0 where
   -- a program with this export, and the procedures before it

@@ -1,23 +1,10 @@
 -- What it is for an image to be a compiled procedure: its outcome is the source's, and it shows only what is public.
 use Rattle.std.specs.Prelude.{◌≡◌, ℕ, ◌+◌, ◌*◌, ◌≤◌, List, length, map, All}
 use Rattle.std.specs.Option.{option_map}
-use Rattle.language.specs.arguments.PublicResults.{AgreeInPublic}
-use Rattle.language.specs.arguments.Within.{AreWithin}
-use Rattle.inline.specs.Numbering.{param_of}
-use Rattle.source_laws.specs.source_work.SourceWork.{source_work}
-use Rattle.codegen.specs.image_fields.Fields.{Fields, type_in}
-use Rattle.codegen.specs.image_fields.Limits.{most_frame_bytes}
-use Rattle.rv_machine.specs.Leakage.{Halts}
-use Rattle.rv_machine.specs.Machine.{State, Code}
-use Rattle.rv_machine.specs.declared.observation.Observation.{Observation}
-use Rattle.rv_machine.specs.declared.stops.Stop.TheVariants.{Ecall}
-use Rattle.language.specs.declared.values.Arg.{Arg}
-use Rattle.language.specs.Size.{extents_of, nodes_of}
-use Rattle.language.specs.Tree.{ProcedureTree, ProgramTree}
-use Rattle.language.specs.arguments.Agreement.{Agree}
-use Rattle.codegen.specs.Anywhere.{IsPlaced}
-use Rattle.codegen.specs.Bases.{AreBases, IsInside}
-use Rattle.codegen.specs.Loaded.{params_of, code_at, loaded_at, results_in}
+use Rattle.hepurita.specs.Below.{Agree, AgreeInPublic, AreBases, AreWithin, Arg, Code, code_at, Ecall, extents_of}
+use Rattle.hepurita.specs.Below.{Fields, Halts, IsInside, IsPlaced, loaded_at, most_frame_bytes, nodes_of, Observation}
+use Rattle.hepurita.specs.Below.{param_of, params_of, ProcedureTree, ProgramTree, results_in, source_work, State}
+use Rattle.hepurita.specs.Below.{type_in}
 use Rattle.hepurita.specs.Linked.{IsLinked}
 pub use Rattle.hepurita.specs.Meant.{Means}
 

@@ -1,12 +1,6 @@
 -- How runs of an image are to end that are cut off after so many turns.
 use Rattle.std.specs.Prelude.{◌≡◌, ◌⊎◌, ℕ, ◌<◌, List}
-use Rattle.codegen.specs.Loaded.{results_in}
-use Rattle.codegen.specs.image_fields.Fields.{Fields}
-use Rattle.language.specs.Tree.{ProgramTree}
-use Rattle.language.specs.declared.values.Arg.{Arg}
-use Rattle.rv_machine.specs.Machine.{State}
-use Rattle.rv_machine.specs.declared.stops.Stop.{Stop}
-use Rattle.rv_machine.specs.declared.stops.Stop.TheVariants.{Ecall, Budget}
+use Rattle.hepurita.specs.Below.{Arg, Budget, Ecall, Fields, ProgramTree, results_in, State, Stop}
 use Rattle.hepurita.specs.Bases.{frame_base}
 use Rattle.hepurita.specs.Compiled.{Means}
 

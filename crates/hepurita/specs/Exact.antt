@@ -1,19 +1,12 @@
 -- The one image for an exported procedure, behind those before it, for an observer, plain or optimised: what the
 -- passes make of it, one after another.
 use Rattle.std.specs.Prelude.{List, [], ◌∷◌, Option, None, Some, unwrap_or}
-use Rattle.branch_removal.specs.Exact.{straight_of}
-use Rattle.branch_removal.specs.Straight.{StraightProgram}
-use Rattle.codegen.specs.Exact.{fields_of, optimised_fields_of}
-use Rattle.optimisation.specs.constants.Exact.{simplified_of, unrolled_of}
+use Rattle.hepurita.specs.Below.{Fields, fields_of, flattened, optimised_fields_of, ProcedureTree, Profile, ranged}
+use Rattle.hepurita.specs.Below.{simplified_of, straight_of, StraightProgram, unrolled_of}
 use Rattle.optimisation.specs.element_words.Exact.{split_of}
 use Rattle.hepurita.specs.declared.optimised.Optimisation.{Optimisation}
 use Rattle.hepurita.specs.declared.optimised.Optimisation.TheVariants.{Off, On}
-use Rattle.codegen.specs.image_fields.Fields.{Fields}
-use Rattle.inline.specs.Numbering.{flattened}
-use Rattle.intervals.specs.Work.{ranged}
-use Rattle.language.specs.Tree.{ProcedureTree}
 use Rattle.optimisation.specs.live_words.Exact.{shared_of}
-use Rattle.word.specs.declared.profile.Profile.{Profile}
 
 -- the first image of those that are there, and else another
 abbrev pub first_of : List (Option Fields) → Fields → Fields

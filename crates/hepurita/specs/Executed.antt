@@ -1,22 +1,11 @@
 -- What a run of an image gives.
 use Rattle.std.specs.Prelude.{◌≡◌, ◌⊎◌, ℕ, Bool, List, Option, Some, None, Result, Ok, Err}
-use Rattle.language.specs.arguments.Faults.{fault_of}
-use Rattle.language.specs.declared.arguments.fault.ArgumentFault.{ArgumentFault}
-use Rattle.codegen.specs.image_fields.Fields.{Fields}
-use Rattle.rv_machine.specs.Bytes.{ByteMap}
-use Rattle.rv_machine.specs.Leakage.{Ran}
-use Rattle.rv_machine.specs.Machine.{State}
-use Rattle.rv_machine.specs.Recording.{count_after}
-use Rattle.rv_machine.specs.declared.observation.Observation.{Observation}
-use Rattle.rv_machine.specs.declared.stops.Stop.{Stop}
-use Rattle.rv_machine.specs.declared.stops.Stop.TheVariants.{Ecall, Break, Illegal, AccessFault, Misaligned, Budget}
-use Rattle.rv_machine.specs.declared.stops.Stop.TheVariants.{RecorderRefused}
-use Rattle.language.specs.Results.{Results}
-use Rattle.language.specs.declared.values.Arg.{Arg}
+use Rattle.hepurita.specs.Below.{AccessFault, Arg, ArgumentFault, Break, Budget, ByteMap, code_at, count_after, Ecall}
+use Rattle.hepurita.specs.Below.{fault_of, Fields, Illegal, loaded_at, Misaligned, Observation, params_of, Ran}
+use Rattle.hepurita.specs.Below.{RecorderRefused, Results, results_in, State, Stop}
 use Rattle.hepurita.specs.declared.fault.RunFault.{RunFault}
 use Rattle.hepurita.specs.declared.fault.RunFault.TheVariants.{Argument, Memory, Stopped}
 use Rattle.hepurita.specs.Bases.{code_base, frame_base}
-use Rattle.codegen.specs.Loaded.{params_of, code_at, loaded_at, results_in}
 
 -- what is answered where the machine stops so
 abbrev pub answer_at : ℕ → Fields → Stop → ByteMap → Result Results RunFault

@@ -2,10 +2,7 @@
 use Rattle.std.specs.Prelude.{◌≡◌, ℕ, List}
 use Rattle.hepurita.specs.Built.{IsSmall}
 use Rattle.hepurita.specs.declared.flattening.Flattened.{Flattened}
-use Rattle.inline.specs.Numbering.{flattened}
-use Rattle.language.specs.Tree.{ProcedureTree, program_tree}
-use Rattle.syntax.specs.Reading.{Reads, accepted}
-use Rattle.word.specs.declared.profile.Profile.{Profile}
+use Rattle.hepurita.specs.Below.{accepted, flattened, ProcedureTree, Profile, program_tree, Reads}
 
 -- the text is this program, and the body is its export with the bodies that it calls, which passes no limit on size
 pub record IsFlattened (profile : Profile) (text : List ℕ) (made : Flattened) : Type 0 where

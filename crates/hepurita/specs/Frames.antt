@@ -1,11 +1,7 @@
 -- Where the data of a frame is, and what space there is for its arrays.
 use Rattle.std.specs.Prelude.{◌≡◌, ℕ, ◌+◌, ◌*◌, ◌^◌, ◌<◌, ◌≤◌, true, is_some, List, [], length, map, All}
 use Rattle.std.specs.Prelude.{vec_capacity}
-use Rattle.codegen.specs.Loaded.{arrays_in, numbers_at}
-use Rattle.codegen.specs.image_fields.Fields.{Fields, slot_end}
-use Rattle.codegen.specs.declared.image_fields.slot.Slot.{Slot}
-use Rattle.language.specs.Size.{element_bytes}
-use Rattle.rv_machine.specs.Bytes.{ByteMap}
+use Rattle.hepurita.specs.Below.{arrays_in, ByteMap, element_bytes, Fields, numbers_at, Slot, slot_end}
 use Rattle.hepurita.specs.declared.results.ArraySpace.{ArraySpace}
 use Rattle.hepurita.specs.declared.results.ResultSpace.{ResultSpace}
 

@@ -14,3 +14,4 @@ pub mod Answers
 pub mod Text
 pub mod CutOff
 pub mod Uncut
+pub mod Below

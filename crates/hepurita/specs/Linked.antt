@@ -1,18 +1,9 @@
 -- What is promised of the body of a compiled image, wherever its words stand, so that it can be the body of a
 -- function: among whatever other code it does what the image does, and leaves what is not its own as it was.
 use Rattle.std.specs.Prelude.{◌≡◌, ℕ, List}
-use Rattle.language.specs.arguments.Agreement.{Agree}
-use Rattle.language.specs.arguments.PublicResults.{AgreeInPublic}
-use Rattle.language.specs.arguments.Within.{AreWithin}
-use Rattle.codegen.specs.Anywhere.{IsLoaded, BodyRun}
-use Rattle.codegen.specs.Loaded.{params_of, results_in}
+use Rattle.hepurita.specs.Below.{Agree, AgreeInPublic, AreWithin, Arg, BodyRun, Code, Fields, IsLoaded, Observation}
+use Rattle.hepurita.specs.Below.{params_of, ProcedureTree, ProgramTree, Results, results_in, State}
 use Rattle.hepurita.specs.Meant.{Means}
-use Rattle.codegen.specs.image_fields.Fields.{Fields}
-use Rattle.language.specs.declared.values.Arg.{Arg}
-use Rattle.language.specs.Results.{Results}
-use Rattle.language.specs.Tree.{ProcedureTree, ProgramTree}
-use Rattle.rv_machine.specs.Machine.{State, Code}
-use Rattle.rv_machine.specs.declared.observation.Observation.{Observation}
 
 -- a run of the body on arguments, which gives what the source means
 pub record RunsLinked (program : ProgramTree) (image : Fields) (code : Code) (start frame : ℕ) (args : List Arg)

@@ -1,9 +1,6 @@
 -- What a program means on arguments.
 use Rattle.std.specs.Prelude.{◌≡◌, List}
-use Rattle.language.specs.declared.values.Arg.{Arg}
-use Rattle.language.specs.Meaning.{Ending, Gives, gives}
-use Rattle.language.specs.Results.{Results}
-use Rattle.language.specs.Tree.{ProgramTree}
+use Rattle.hepurita.specs.Below.{Arg, Ending, Gives, gives, ProgramTree, Results}
 
 -- on these arguments the program gives these results, and nothing else: it meets no fault
 pub record Means (program : ProgramTree) (args : List Arg) (results : Results) : Type 0 where

@@ -2,19 +2,11 @@
 use Rattle.std.specs.Prelude.{◌≡◌, ◌==◌, ◌&&◌, List, length, Option, Some, None, Result, Ok, Err}
 use Rattle.std.specs.Prelude.{if◌then◌else◌}
 use Rattle.std.specs.Option.{option_map}
-use Rattle.language.specs.arguments.Faults.{fault_of, count_fault, shifted}
-use Rattle.language.specs.declared.arguments.fault.ArgumentFault.{ArgumentFault}
-use Rattle.codegen.specs.image_fields.Fields.{Fields}
-use Rattle.rv_machine.specs.Entries.{entries_of, Compares}
-use Rattle.rv_machine.specs.declared.pairing.Pairing.{Pairing}
-use Rattle.rv_machine.specs.declared.observation.Observation.{Observation}
-use Rattle.rv_machine.specs.declared.stops.Stop.{Stop}
-use Rattle.language.specs.declared.signature.Param.{Param}
-use Rattle.language.specs.declared.values.Arg.{Arg}
+use Rattle.hepurita.specs.Below.{Arg, ArgumentFault, Compares, count_fault, entries_of, fault_of, Fields, Observation}
+use Rattle.hepurita.specs.Below.{Pairing, Param, params_of, shifted, Stop}
 use Rattle.hepurita.specs.declared.fault.RunFault.{RunFault}
 use Rattle.hepurita.specs.declared.fault.RunFault.TheVariants.{Argument, Memory}
 use Rattle.hepurita.specs.Uncut.{ImageEnds}
-use Rattle.codegen.specs.Loaded.{params_of}
 
 abbrev pub first_of : Option ArgumentFault → Option ArgumentFault → Option ArgumentFault
 first_of (Some fault) later = Some fault

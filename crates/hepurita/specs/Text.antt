@@ -4,8 +4,7 @@ use Rattle.language.specs.arguments.Text.{fault_text}
 use Rattle.rv_machine.specs.Stops.{stop_name}
 use Rattle.hepurita.specs.declared.fault.RunFault.{RunFault}
 use Rattle.hepurita.specs.declared.fault.RunFault.TheVariants.{Argument, Memory, Stopped}
-use Rattle.language.specs.Rules.{refusal_text}
-use Rattle.language.specs.declared.rule.Rule.TheVariants.{OutOfMemory}
+use Rattle.hepurita.specs.Below.{OutOfMemory, refusal_text}
 
 abbrev pub run_fault_text : RunFault → List ℕ
 run_fault_text (Argument rule index) = fault_text (record { rule = rule; index = index })

@@ -2,18 +2,9 @@
 -- refuses it, with why.
 use Rattle.std.specs.Prelude.{◌≡◌, ◌⊎◌, ℕ, List, length, Some}
 use Rattle.hepurita.specs.Built.{IsSmall, IsWellFormed, Judges, refuses}
-use Rattle.inline.specs.Numbering.{flattened}
-use Rattle.intervals.specs.Ranges.{range_violations}
-use Rattle.language.specs.declared.refusal.Refusal.{Refusal}
-use Rattle.language.specs.FirstViolation.{IsToldOf}
-use Rattle.language.specs.Size.{size_violations}
-use Rattle.language.specs.Tree.{ProcedureTree, ProgramTree}
-use Rattle.language.specs.Typing.{violations}
-use Rattle.language.specs.WantOfMemory.{IsWantOfMemory}
-use Rattle.source_laws.specs.source_work.SourceWork.{work_violations}
-use Rattle.syntax.specs.Reading.{IsRefusedAs, Reads, accepted}
-use Rattle.word.specs.declared.place.Place.{Place}
-use Rattle.word.specs.declared.profile.Profile.{Profile}
+use Rattle.hepurita.specs.Below.{accepted, flattened, IsRefusedAs, IsToldOf, IsWantOfMemory, Place, ProcedureTree}
+use Rattle.hepurita.specs.Below.{Profile, ProgramTree, range_violations, Reads, Refusal, size_violations, violations}
+use Rattle.hepurita.specs.Below.{work_violations}
 
 pub data IsToldOfProgram (profile : Profile) (program : ProgramTree) (refusal : Refusal) : Type 0 where
   -- a rule on names, types and labels

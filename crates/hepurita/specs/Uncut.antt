@@ -1,13 +1,6 @@
 -- Runs of at most so many turns that no recorder cuts short.
 use Rattle.std.specs.Prelude.{◌≢◌, ℕ, List}
-use Rattle.codegen.specs.Loaded.{code_at, loaded_at}
-use Rattle.codegen.specs.image_fields.Fields.{Fields}
-use Rattle.language.specs.declared.values.Arg.{Arg}
-use Rattle.rv_machine.specs.Leakage.{Runs}
-use Rattle.rv_machine.specs.Machine.{State, Code}
-use Rattle.rv_machine.specs.declared.observation.Observation.{Observation}
-use Rattle.rv_machine.specs.declared.stops.Stop.{Stop}
-use Rattle.rv_machine.specs.declared.stops.Stop.TheVariants.{RecorderRefused}
+use Rattle.hepurita.specs.Below.{Arg, Code, code_at, Fields, loaded_at, Observation, RecorderRefused, Runs, State, Stop}
 use Rattle.hepurita.specs.Bases.{code_base, frame_base}
 
 -- the run shows this, and has this stop, which is `Budget` where no turn has stopped, and this state

@@ -1,9 +1,7 @@
 // A text, compiled to the bytes of an image.
 
 ghost use Rattle.std.specs.Prelude.{◌≡◌, ℕ, List, IfOk, IfErr};
-ghost use Rattle.language.specs.Tree.{ProcedureTree, ProgramTree};
-ghost use Rattle.word.specs.declared.place.Place.{Place};
-ghost use Rattle.language.specs.declared.rule.Rule.{Rule};
+ghost use Rattle.hepurita.specs.Below.{Place, ProcedureTree, ProgramTree, Rule};
 ghost use Rattle.hepurita.specs.Built.{Judgement, Judges, IsBuilt, accepts, refuses};
 ghost use Rattle.hepurita.specs.Told.{IsRefusalOf};
 

@@ -1,10 +1,7 @@
 // What is wrong with arguments, found over an image's slots before any memory is asked for.
 
 ghost use Rattle.std.specs.Prelude.{◌≡◌, ◌↔◌, None};
-ghost use Rattle.language.specs.arguments.Faults.{fault_of};
-ghost use Rattle.language.specs.arguments.Within.{AreWithin};
-ghost use Rattle.codegen.specs.Loaded.{params_of};
-ghost use Rattle.codegen.specs.image_fields.Fields.{IsImage};
+ghost use Rattle.hepurita.specs.Below.{AreWithin, fault_of, IsImage, params_of};
 
 use codegen::image_fields::Slot;
 use image::Image;

@@ -1,9 +1,7 @@
 // Two runs of an image, compared by what an observer sees.
 
 ghost use Rattle.std.specs.Prelude.{◌≡◌, None};
-ghost use Rattle.language.specs.arguments.Within.{AreWithin};
-ghost use Rattle.codegen.specs.Loaded.{params_of};
-ghost use Rattle.codegen.specs.image_fields.Fields.{IsImage};
+ghost use Rattle.hepurita.specs.Below.{AreWithin, IsImage, params_of};
 ghost use Rattle.hepurita.specs.Paired.{pair_fault, Paired};
 
 use crate::checking::first_fault;

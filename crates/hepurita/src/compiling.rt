@@ -1,20 +1,12 @@
 // A text, compiled: the value from which all is taken that is made of an accepted text.
 
 ghost use Rattle.std.specs.Prelude.{◌≡◌, ℕ, List, IfOk, IfErr};
-ghost use Rattle.branch_removal.specs.Exact.{straight_of};
-ghost use Rattle.branch_removal.specs.Removed.{IsRemoved};
-ghost use Rattle.branch_removal.specs.Straight.{StraightProgram};
-ghost use Rattle.codegen.specs.Exact.{fields_of};
-ghost use Rattle.codegen.specs.Followed.{IsGenerated};
-ghost use Rattle.codegen.specs.image_fields.Fields.{IsImage};
-ghost use Rattle.language.specs.Tree.{ProcedureTree, program_tree};
-ghost use Rattle.language.specs.WantOfMemory.{IsWantOfMemory};
+ghost use Rattle.hepurita.specs.Below.{fields_of, IsGenerated, IsImage, IsRemoved, IsWantOfMemory, ProcedureTree, Profile, program_tree, straight_of, StraightProgram};
 ghost use Rattle.hepurita.specs.Built.{IsCompilation};
 ghost use Rattle.hepurita.specs.CodeFor.{IsCodeFor};
 ghost use Rattle.hepurita.specs.Exact.{code_for, first_of, optimised_for};
 ghost use Rattle.hepurita.specs.Flattened.{IsFlattened};
 ghost use Rattle.hepurita.specs.Told.{IsRefusalOf};
-ghost use Rattle.word.specs.declared.profile.Profile.{Profile};
 
 use crate::flattening::{Flattened, flatten};
 use crate::optimised::Optimisation;

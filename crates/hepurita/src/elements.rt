@@ -1,9 +1,7 @@
 // Numbers of 1, 2 or 4 bytes, one after another in a memory.
 
 ghost use Rattle.std.specs.Prelude.{◌≡◌, ℕ, ◌+◌, ◌*◌, ◌^◌, ◌<◌, ◌≤◌, true, is_some, [], length, vec_capacity};
-ghost use Rattle.codegen.specs.Loaded.{with_numbers, numbers_at};
-ghost use Rattle.language.specs.Size.{element_bytes};
-ghost use Rattle.rv_machine.specs.Sizes.{byte_count};
+ghost use Rattle.hepurita.specs.Below.{byte_count, element_bytes, numbers_at, with_numbers};
 
 use language::Kind;
 use rv_machine::memory::{Memory, Size};

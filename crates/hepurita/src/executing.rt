@@ -2,8 +2,7 @@
 
 ghost use Rattle.std.specs.Prelude.{◌≡◌, ◌≢◌, ◌+◌, ◌^◌, ◌<◌, Err};
 ghost use Rattle.hepurita.specs.Executed.{Executed, answer_at, refusals_after};
-ghost use Rattle.rv_machine.specs.Recording.{HasRefused};
-ghost use Rattle.rv_machine.specs.Paged.{paged_bytes};
+ghost use Rattle.hepurita.specs.Below.{HasRefused, paged_bytes};
 ghost use Rattle.hepurita.specs.Bases.{frame_base};
 ghost use Rattle.hepurita.specs.Frames.{IsSpaceFor};
 

@@ -1,13 +1,10 @@
 // A text up to what the passes on its size accept: its program, and its export as one body.
 
 ghost use Rattle.std.specs.Prelude.{◌≡◌, List, ℕ, IfOk, IfErr};
-ghost use Rattle.inline.specs.Numbering.{flattened};
-ghost use Rattle.intervals.specs.Work.{ranged};
-ghost use Rattle.language.specs.Tree.{program_tree};
+ghost use Rattle.hepurita.specs.Below.{flattened, Profile, program_tree, ranged};
 ghost use Rattle.hepurita.specs.Built.{Judges, accepts};
 ghost use Rattle.hepurita.specs.Flattened.{IsFlattened};
 ghost use Rattle.hepurita.specs.Told.{IsRefusalOf};
-ghost use Rattle.word.specs.declared.profile.Profile.{Profile};
 
 use crate::judging::flat_of;
 use inline::Flat;

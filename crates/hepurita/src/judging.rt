@@ -2,8 +2,7 @@
 // text.
 
 ghost use Rattle.std.specs.Prelude.{◌≡◌, List, map, IfOk, IfErr};
-ghost use Rattle.inline.specs.Numbering.{flattened, param_of};
-ghost use Rattle.language.specs.Tree.{ProcedureTree, program_tree};
+ghost use Rattle.hepurita.specs.Below.{flattened, param_of, ProcedureTree, program_tree};
 ghost use Rattle.hepurita.specs.Built.{IsSmall, Judges, JudgesProgram, IsRefusal, accepts};
 ghost use Rattle.hepurita.specs.Told.{IsRefusalOf, IsToldOfProgram};
 

@@ -1,35 +1,11 @@
 // What the answers of the calls are to each other.
 
 ghost use Rattle.std.specs.Prelude.{ℕ, ◌+◌, ◌*◌, ◌<◌, ◌≤◌, ◌≡◌, ◌≢◌, Bool, List, ◌++◌, Result, Ok, Err, Some, map};
-ghost use Rattle.language.specs.arguments.Within.{AreWithin, words_of};
-ghost use Rattle.branch_removal.specs.Removed.{IsRemoved};
-ghost use Rattle.branch_removal.specs.Straight.{StraightProgram};
-ghost use Rattle.codegen.specs.Bases.{AreBases};
-ghost use Rattle.codegen.specs.Followed.{IsGenerated};
-ghost use Rattle.codegen.specs.image_fields.Fields.{Fields};
-ghost use Rattle.inline.specs.Numbering.{flattened, param_of};
-ghost use Rattle.intervals.specs.Work.{ranged};
-ghost use Rattle.intervals.specs.Limits.{most_work};
-ghost use Rattle.rv_machine.specs.declared.pairing.Pairing.{Pairing};
-ghost use Rattle.rv_machine.specs.Machine.{State};
-ghost use Rattle.rv_machine.specs.declared.observation.Observation.{Observation};
-ghost use Rattle.rv_machine.specs.declared.stops.Stop.{Stop};
-ghost use Rattle.language.specs.arguments.Agreement.{Agree};
-ghost use Rattle.language.specs.arguments.PublicResults.{AgreeInPublic};
-ghost use Rattle.language.specs.Size.{extents_of, nodes_of};
-ghost use Rattle.language.specs.Limits.{most_nodes};
+ghost use Rattle.hepurita.specs.Below.{accepted, Agree, AgreeInPublic, answer, AreBases, AreWithin, Arg, extents_of, Fields, flattened, IsGenerated, IsRemoved, most_nodes, most_work, nodes_of, Observation, Pairing, Param, param_of, params_of, ProcedureTree, Profile, ProgramTree, ranged, Reads, Results, State, Stop, StraightProgram, words_of};
 ghost use Rattle.hepurita.specs.Bases.{code_base, frame_base, most_images, code_distance, frame_distance};
 ghost use Rattle.hepurita.specs.Built.{IsBuilt, IsCompilation, Judges, JudgesProgram, accepts};
 ghost use Rattle.hepurita.specs.Compiled.{IsCompiled, Means};
 ghost use Rattle.hepurita.specs.CutOff.{IsRightSoFar};
-ghost use Rattle.source_eval.specs.Answer.{answer};
-ghost use Rattle.codegen.specs.Loaded.{params_of};
-ghost use Rattle.syntax.specs.Reading.{Reads, accepted};
-ghost use Rattle.language.specs.declared.signature.Param.{Param};
-ghost use Rattle.language.specs.declared.values.Arg.{Arg};
-ghost use Rattle.language.specs.Results.{Results};
-ghost use Rattle.language.specs.Tree.{ProcedureTree, ProgramTree};
-ghost use Rattle.word.specs.declared.profile.Profile.{Profile};
 ghost use Rattle.hepurita.specs.declared.fault.RunFault.{RunFault};
 ghost use Rattle.hepurita.specs.declared.optimised.Optimisation.{Optimisation};
 ghost use Rattle.hepurita.specs.Answers.{Builds, IsTheOutcome, IsSame};

@@ -1,14 +1,7 @@
 // Images and their arguments, loaded into a machine.
 
 ghost use Rattle.std.specs.Prelude.{◌≡◌, ◌≤◌, length, map, All, IfOk};
-ghost use Rattle.language.specs.arguments.Within.{AreWithin, HasShape};
-ghost use Rattle.codegen.specs.Loaded.{params_of, with_argument, with_arguments, code_at, loaded_at};
-ghost use Rattle.codegen.specs.image_fields.Fields.{IsImage};
-ghost use Rattle.codegen.specs.image_fields.Limits.{most_parameters};
-ghost use Rattle.rv_machine.specs.Harts.{state_of};
-ghost use Rattle.rv_machine.specs.Bytes.{zeros};
-ghost use Rattle.rv_machine.specs.Paged.{paged_bytes};
-ghost use Rattle.rv_machine.specs.Regions.{code_of};
+ghost use Rattle.hepurita.specs.Below.{AreWithin, code_at, code_of, HasShape, IsImage, loaded_at, most_parameters, paged_bytes, params_of, state_of, with_argument, with_arguments, zeros};
 ghost use Rattle.hepurita.specs.Bases.{code_base, frame_base};
 ghost use Rattle.hepurita.specs.Frames.{HoldsSlot};
 

@@ -1,12 +1,9 @@
 // Optimised code: rows of passes over straight code, each program of which may stand in the place of the one before.
 
 ghost use Rattle.std.specs.Prelude.{◌≡◌, IfOk, IfErr, IfSome, unwrap_or};
-ghost use Rattle.codegen.specs.Exact.{optimised_fields_of};
-ghost use Rattle.optimisation.specs.constants.Exact.{simplified_of, unrolled_of};
+ghost use Rattle.hepurita.specs.Below.{IsImage, IsWantOfMemory, optimised_fields_of, simplified_of, unrolled_of};
 ghost use Rattle.hepurita.specs.CodeFor.{IsCodeFor};
 ghost use Rattle.hepurita.specs.Exact.{after, finished_of};
-ghost use Rattle.codegen.specs.image_fields.Fields.{IsImage};
-ghost use Rattle.language.specs.WantOfMemory.{IsWantOfMemory};
 
 use branch_removal::{StraightCode, replaced_is_removed};
 use codegen::{Code, generate_optimised};

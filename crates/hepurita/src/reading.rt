@@ -1,10 +1,8 @@
 // Arguments from the texts that spell them.
 
 ghost use Rattle.std.specs.Prelude.{◌≡◌, ◌≢◌, ◌↔◌, Some, None, Err, map, IfOk, OnOk};
-ghost use Rattle.language.specs.declared.arguments.fault.ArgumentFault.{ArgumentFault};
+ghost use Rattle.hepurita.specs.Below.{AreWithin, ArgumentFault, Stop, words_of};
 ghost use Rattle.language.specs.arguments.Texts.{numbers_of, fault_of_texts};
-ghost use Rattle.language.specs.arguments.Within.{words_of, AreWithin};
-ghost use Rattle.rv_machine.specs.declared.stops.Stop.{Stop};
 
 use crate::fault::RunFault;
 use language::arguments::{ReadError, read};

@@ -1,7 +1,7 @@
 // The outcome that a run leaves in its frame, and the space for it, which is made before the run.
 
 ghost use Rattle.std.specs.Prelude.{◌≡◌, ◌+◌, ◌^◌, ◌<◌, IfOk};
-ghost use Rattle.codegen.specs.Loaded.{arrays_in, results_in};
+ghost use Rattle.hepurita.specs.Below.{arrays_in, results_in};
 ghost use Rattle.hepurita.specs.Frames.{IsSpaceFor};
 
 use crate::elements::{element_size, numbers};

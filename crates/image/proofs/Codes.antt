@@ -1,14 +1,7 @@
 -- Codes and what they stand for.
 use Rattle.std.proofs.Common.{◌≡◌, ℕ, zero, suc, ◌^◌, ◌<◌, true, ltb, refl, arith}
 use Rattle.std.proofs.lemmas.Bool.Decides.{nat_tests}
-use Rattle.language.specs.declared.signature.Form.{Form}
-use Rattle.language.specs.declared.signature.Form.TheVariants.{SingleWord}
-use Rattle.language.specs.declared.signature.Kind.{Kind}
-use Rattle.language.specs.declared.signature.Kind.TheVariants.{Boolean}
-use Rattle.language.specs.declared.signature.Label.{Label}
-use Rattle.language.specs.declared.signature.Label.TheVariants.{Public}
-use Rattle.word.specs.declared.profile.Profile.{Profile}
-use Rattle.word.specs.declared.profile.Profile.TheVariants.{P1}
+use Rattle.image.specs.Below.{Boolean, Form, Kind, Label, P1, Profile, Public, SingleWord}
 use Rattle.image.specs.Reading.{coded_form, coded_kind, coded_label, is_profile, numbered_profile, row}
 use Rattle.image.specs.declared.field.Field.{Field}
 use Rattle.image.specs.declared.field.Field.TheVariants as fields

@@ -17,14 +17,9 @@ use Rattle.image.specs.private.Spelling.{spelled_result, spelled_slot, spelling}
 use Rattle.image.proofs.Codes.{form_back, form_is, kind_back, kind_is, label_back, label_is}
 use Rattle.image.proofs.Codes.{profile_back, profile_is}
 use Rattle.image.proofs.Texts.{Front, IsRead, IsText, IsWritten, and_then, behind, number}
-use Rattle.codegen.specs.image_fields.Fields.{AreSlots, Fields, IsImage, IsResultSlot, IsSlot, is_length, result_end}
-use Rattle.codegen.specs.image_fields.Fields.{slot_end, slots_end}
-use Rattle.codegen.specs.image_fields.Limits.{most_frame_bytes}
-use Rattle.codegen.specs.declared.image_fields.slot.ResultSlot.{ResultSlot}
-use Rattle.codegen.specs.declared.image_fields.slot.Slot.{Slot}
-use Rattle.language.specs.declared.signature.Form.{Form}
+use Rattle.image.specs.Below.{AreSlots, Fields, Form, is_length, IsImage, IsResultSlot, IsSlot, most_frame_bytes}
+use Rattle.image.specs.Below.{result_end, ResultSlot, SingleWord, Slot, slot_end, slots_end}
 use Rattle.language.specs.declared.signature.Param.{Param}
-use Rattle.language.specs.declared.signature.Form.TheVariants.{SingleWord}
 
 -- ---- ranges
 

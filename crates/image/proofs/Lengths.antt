@@ -5,8 +5,7 @@ use Rattle.std.specs.List.{flat_map}
 use Rattle.image.specs.Limits.{longest_image}
 use Rattle.image.specs.declared.field.Field.TheVariants as fields
 use Rattle.image.specs.private.Spelling.{spelled, spelled_result, spelled_slot, spelling}
-use Rattle.codegen.specs.image_fields.Fields.{Fields, IsImage}
-use Rattle.codegen.specs.declared.image_fields.slot.ResultSlot.{ResultSlot}
+use Rattle.image.specs.Below.{Fields, IsImage, ResultSlot}
 
 all_long : {A : Type 0} (text : A → List ℕ) (n : ℕ) → ((x : A) → length (text x) ≡ n) → (items : List A)
     → length (flat_map text items) ≡ n * length items

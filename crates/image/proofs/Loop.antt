@@ -9,7 +9,7 @@ use Rattle.image.specs.declared.fault.ImageFault.{ImageFault}
 use Rattle.image.specs.declared.field.Field.TheVariants as fields
 use Rattle.image.specs.declared.reading.Reader.{Reader}
 use Rattle.image.specs.private.Following.{FaultIs, Leads, ahead}
-use Rattle.codegen.specs.image_fields.Fields.{slot_end}
+use Rattle.image.specs.Below.{slot_end}
 
 -- a fault that is passed on, after steps that lead there
 pub passed : {T : Type 0} (format later : Format) (next : T

@@ -1,7 +1,6 @@
 -- Where slots end.
 use Rattle.std.proofs.Common.{◌≡◌, ℕ, suc, ◌-◌, ◌≤◌, List, [], ◌∷◌, length, get_or, refl, arith}
-use Rattle.codegen.specs.image_fields.Fields.{slot_end, slots_end}
-use Rattle.codegen.specs.declared.image_fields.slot.Slot.{Slot}
+use Rattle.image.specs.Below.{Slot, slot_end, slots_end}
 
 -- slots end where the last of them does
 pub slots_end_at_last : (low : ℕ) (d : Slot) (slots : List Slot) → 1 ≤ length slots

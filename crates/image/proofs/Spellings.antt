@@ -7,7 +7,7 @@ use Rattle.image.specs.private.Spelling.{spelling}
 use Rattle.image.proofs.Bytes.{back_bytes, front_bytes}
 use Rattle.image.proofs.Images.{image_read, image_written}
 use Rattle.image.proofs.Texts.{read_text, text_bytes, text_read}
-use Rattle.codegen.specs.image_fields.Fields.{Fields, IsImage}
+use Rattle.image.specs.Below.{Fields, IsImage}
 
 -- ---- what is spelled
 

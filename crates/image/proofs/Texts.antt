@@ -9,7 +9,7 @@ use Rattle.byteorder.specs.Numbers.{little_number-reads_back, length-bytes_low_f
 use Rattle.image.specs.Format.{Format, ends, field, read_by}
 use Rattle.image.specs.Reading.{AreBytes}
 use Rattle.image.specs.declared.fault.ImageFault.{ImageFault}
-use Rattle.codegen.specs.image_fields.Fields.{Fields}
+use Rattle.image.specs.Below.{Fields}
 use Rattle.image.proofs.Bytes.{number_back, number_bytes, number_fits}
 
 -- a number that is allowed stands in the first bytes

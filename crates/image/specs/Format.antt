@@ -5,7 +5,7 @@ use Rattle.image.specs.declared.fault.ImageRule.{ImageRule}
 use Rattle.image.specs.declared.fault.ImageRule.TheVariants.{Truncated, TrailingBytes}
 use Rattle.image.specs.declared.fault.ImageFault.{ImageFault}
 use Rattle.image.specs.declared.fault.ImageFault.TheVariants.{Field}
-use Rattle.codegen.specs.image_fields.Fields.{Fields}
+use Rattle.image.specs.Below.{Fields}
 
 -- The end, where all is known. Or a number of so many bytes, the lowest first, which the rule wants to be allowed,
 -- and what follows a value: which fields come later may depend on it.

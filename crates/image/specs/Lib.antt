@@ -4,3 +4,4 @@ pub mod Format
 pub mod Reading
 pub mod Text
 pub mod private
+pub mod Below

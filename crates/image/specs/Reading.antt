@@ -2,25 +2,17 @@
 use Rattle.std.specs.Prelude.{◌≡◌, ℕ, zero, suc, ◌%◌, ◌<◌, Bool, true, ◌&&◌, List, [], ◌∷◌, length, get_or, Option}
 use Rattle.std.specs.Prelude.{Some, None, Result, Ok, Err, nat_lt, nat_le, ◌==◌}
 use Rattle.std.specs.List.{AllByRecursion}
-use Rattle.language.specs.declared.signature.Kind.{Kind}
-use Rattle.language.specs.declared.signature.Kind.TheVariants.{Boolean, Uint8, Uint16, Uint32}
-use Rattle.language.specs.declared.signature.Label.{Label}
-use Rattle.language.specs.declared.signature.Label.TheVariants.{Public, Secret}
-use Rattle.language.specs.declared.signature.Form.{Form}
-use Rattle.language.specs.declared.signature.Form.TheVariants.{SingleWord, FixedArray, MutableArray}
-use Rattle.codegen.specs.declared.image_fields.slot.Slot.{Slot}
-use Rattle.codegen.specs.declared.image_fields.slot.ResultSlot.{ResultSlot}
+use Rattle.image.specs.Below.{Boolean, Fields, FixedArray, Form, is_length, Kind, Label, most_frame_bytes}
+use Rattle.image.specs.Below.{most_parameters, most_steps, most_words, MutableArray, P1, P2, Public, result_end}
+use Rattle.image.specs.Below.{ResultSlot, Secret, SingleWord, Slot, slot_end, slots_end, Uint16, Uint32, Uint8}
 use Rattle.image.specs.declared.fault.ImageRule.{ImageRule}
 use Rattle.image.specs.declared.fault.ImageRule.TheVariants.{Magic, Version, Profile, FieldOutOfRange}
 use Rattle.image.specs.declared.field.Field.{Field as ImageField}
 use Rattle.image.specs.declared.field.Field.TheVariants as fields
 use Rattle.image.specs.declared.fault.ImageFault.{ImageFault}
 use Rattle.image.specs.declared.fault.ImageFault.TheVariants.{Field, Memory}
-use Rattle.codegen.specs.image_fields.Fields.{Fields, slot_end, slots_end, result_end, is_length}
-use Rattle.codegen.specs.image_fields.Limits.{most_parameters, most_frame_bytes, most_steps, most_words}
 use Rattle.image.specs.Limits.{magic_number, format_version}
 use Rattle.word.specs.declared.profile.Profile as observer
-use Rattle.word.specs.declared.profile.Profile.TheVariants.{P1, P2}
 use Rattle.image.specs.Format.{Format, ends, field, read_by}
 
 -- profiles by their numbers, 1 and 2

@@ -1,5 +1,5 @@
 ghost use Rattle.std.specs.Prelude.{◌≡◌};
-ghost use Rattle.codegen.specs.image_fields.Fields.{Fields, IsImage};
+ghost use Rattle.image.specs.Below.{Fields, IsImage};
 
 use codegen::Code;
 use codegen::image_fields::{ImageFields, ResultSlot, Slot};
@@ -13,7 +13,7 @@ pub struct Image {
 }
 
 impl Model for Image {
-    ghost use Rattle.codegen.specs.image_fields.Fields.{Fields};
+    ghost use Rattle.image.specs.Below.{Fields};
 
     ghost Value = { Fields };
 

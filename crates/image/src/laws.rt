@@ -1,7 +1,7 @@
 //! Bytes and fields determine each other.
 
 ghost use Rattle.std.specs.Prelude.{◌≡◌, ◌↔◌, ℕ, ◌++◌, List, []};
-ghost use Rattle.codegen.specs.image_fields.Fields.{Fields, IsImage};
+ghost use Rattle.image.specs.Below.{Fields, IsImage};
 ghost use Rattle.image.specs.Reading.{AreBytes, Spells};
 
 /// The fields that some bytes spell are those that an image may have.

@@ -1,8 +1,6 @@
 ghost use Rattle.std.specs.Prelude.{◌≡◌, ◌≤◌, ◌<◌, ◌^◌, ◌-◌, ℕ, List, length, Option, Ok, IfOk, MatchResult, true};
 ghost use Rattle.byteorder.specs.Endian.{little_number};
-ghost use Rattle.codegen.specs.image_fields.Fields.{Fields, IsImage, slots_end};
-ghost use Rattle.codegen.specs.declared.image_fields.slot.Slot.{Slot as SlotOf};
-ghost use Rattle.codegen.specs.declared.image_fields.slot.ResultSlot.{ResultSlot as ResultSlotOf};
+ghost use Rattle.image.specs.Below.{Fields, IsImage, ResultSlot as ResultSlotOf, Slot as SlotOf, slots_end};
 ghost use Rattle.image.specs.Format.{Format, ends};
 ghost use Rattle.image.specs.Reading.{AreBytes, IsUnlessMemory, image_format, layout_end, one, reading};
 ghost use Rattle.image.specs.Reading.{result_format, row, slot_format, slots_format, words_format};

@@ -5,3 +5,4 @@ pub mod statistics
 pub mod image_statistics
 pub mod source_statistics
 pub mod vectors
+pub mod Below

@@ -6,7 +6,7 @@
 
 ghost use Rattle.std.specs.Prelude.{◌≡◌, None, Ok, IfOk, IfErr, IfSome};
 ghost use Rattle.std.specs.String.{string_bytes};
-ghost use Rattle.codegen.specs.image_fields.Fields.{IsImage};
+ghost use Rattle.image_reports.specs.Below.{IsImage};
 ghost use Rattle.image_reports.specs.image_statistics.ImageText.{BeginsOtherwise, SaysFields, IsFaultOf};
 ghost use Rattle.image_reports.specs.statistics.FieldsText.{fields_text};
 

@@ -9,13 +9,7 @@ mod sizes;
 
 ghost use Rattle.std.specs.Prelude.{◌≡◌, [], ◌++◌, IfOk, IfErr, IfSome};
 ghost use Rattle.std.specs.String.{string_bytes};
-ghost use Rattle.branch_removal.specs.Exact.{straight_of};
-ghost use Rattle.codegen.specs.Exact.{fields_of};
-ghost use Rattle.hepurita.specs.Told.{IsRefusalOf};
-ghost use Rattle.inline.specs.Numbering.{flattened};
-ghost use Rattle.language.specs.Signature.{exported};
-ghost use Rattle.language.specs.Tree.{program_tree};
-ghost use Rattle.language.specs.WantOfMemory.{IsWantOfMemory};
+ghost use Rattle.image_reports.specs.Below.{exported, fields_of, flattened, IsRefusalOf, IsWantOfMemory, program_tree, straight_of};
 ghost use Rattle.image_reports.specs.source_statistics.SourceText.{costs_text, export_lines, SaysCosts};
 
 use crate::source_statistics::sizes::push_sizes;

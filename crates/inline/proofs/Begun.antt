@@ -6,22 +6,13 @@ use Rattle.std.proofs.lemmas.Option.{none-some}
 use lib.Pointwise.{bytes_decides}
 use Rattle.inline.specs.declared.flat.FlatVariable.{FlatVariable}
 use Rattle.inline.specs.declared.numbering.Numbered.{Numbered}
-use Rattle.word.specs.declared.place.Place.{Place}
+use Rattle.inline.specs.Below.{AreNew, ArePassed, Array, array_given, array_of, as_array, as_mutable_array, as_word}
+use Rattle.inline.specs.Below.{ExprTree, FixedArray, Form, found, HasType, is_mutable, is_word, IsPassed, IsVariable}
+use Rattle.inline.specs.Below.{labelled, MutableArray, name, none_passed, one_is_new, one_passed, ParameterTree, Place}
+use Rattle.inline.specs.Below.{same_name, Scope, SharesNone, SingleWord, Suits, with_parameters, Word, WordType}
 use Rattle.inline.specs.Flat.{word_as, array_as, elements_by}
 use Rattle.inline.specs.FlatTyping.{Types, types_after_all}
 use Rattle.inline.specs.Numbering.{Numbers, naming, begun, passed, passed_variables, number_given, own_variable}
-use Rattle.language.specs.declared.signature.Form.{Form}
-use Rattle.language.specs.declared.signature.Form.TheVariants.{SingleWord, FixedArray, MutableArray}
-use Rattle.language.specs.declared.typing.ValueType.TheVariants.{Word, Array}
-use Rattle.language.specs.declared.typing.WordType.{WordType}
-use Rattle.language.specs.Meaning.{is_word}
-use Rattle.language.specs.Tree.{ExprTree, name, ParameterTree}
-use Rattle.language.specs.Types.{Scope}
-use Rattle.language.specs.Typing.{with_parameters, is_mutable, same_name}
-use Rattle.language.specs.WellTyped.{labelled, HasType, Suits, IsVariable, IsPassed, as_word, as_array}
-use Rattle.language.specs.WellTyped.{as_mutable_array, array_given, array_of, SharesNone, ArePassed, none_passed}
-use Rattle.language.specs.WellTyped.{one_passed, AreNew, one_is_new}
-use Rattle.language.specs.names.Scope.{found}
 use Rattle.inline.proofs.Below.{found-new, found-kept, found-split}
 use Rattle.inline.proofs.Linked.{Linked, Serves, entry, later, linked_beside}
 use Rattle.inline.proofs.Parameters.{linked_parameter, linked_own, itself}

@@ -8,17 +8,10 @@ use Rattle.inline.specs.FlatTyping.{Types, types_after_all}
 use Rattle.inline.specs.Numbering.{Numbers, Callable, callable, callables, begun, passed, passed_variables, block}
 use Rattle.inline.specs.Numbering.{call_block, call_value, call_result}
 use Rattle.inline.specs.Path.{either, first_fault}
-use Rattle.language.specs.declared.signature.Label.{Label}
-use Rattle.language.specs.declared.typing.Callee.{Callee}
-use Rattle.language.specs.declared.typing.ValueType.{ValueType}
-use Rattle.language.specs.Grammatical.{AreAllSmall}
-use Rattle.language.specs.Meaning.{Calls, argument_faults, body_faults, body_ends, copied_out, is_word}
+use Rattle.inline.specs.Below.{AreAllSmall, ArePassed, argument_faults, body_ends, body_faults, Callee, Calls, CallTree}
+use Rattle.inline.specs.Below.{copied_out, ExprTree, is_mutable, is_word, IsCall, Label, none_passed, of_procedure}
+use Rattle.inline.specs.Below.{one_passed, ParameterTree, ProcedureTree, result_value, Scope, State, ValueType}
 use Rattle.language.specs.Meaning as meaning
-use Rattle.language.specs.State.{State}
-use Rattle.language.specs.Tree.{ExprTree, CallTree, ParameterTree, ProcedureTree}
-use Rattle.language.specs.Types.{Scope}
-use Rattle.language.specs.Typing.{is_mutable, result_value}
-use Rattle.language.specs.WellTyped.{ArePassed, none_passed, one_passed, IsCall, of_procedure}
 use Rattle.inline.proofs.Below.{known-named}
 use Rattle.inline.proofs.Begun.{Enters, array_passed, enters, distinct_none}
 use Rattle.inline.proofs.Called.{Agrees, Spares, IsKept, Ready}

@@ -10,18 +10,11 @@ use Rattle.inline.specs.FlatSize.{term_nodes, terms_nodes, body_nodes, value_nod
 use Rattle.inline.specs.Numbering.{Numbers, Callable, callable, callables, passed, passed_variables, begun}
 use Rattle.inline.specs.Numbering.{call_block, call_variables, call_result, call_value, value_given, value_of}
 use Rattle.inline.specs.Numbering.{declared_in_all, dropped_block, dropped_variables, names_after_all, block, term}
-use Rattle.language.specs.declared.signature.Label.{Label}
-use Rattle.language.specs.declared.typing.ValueType.{ValueType}
-use Rattle.language.specs.declared.typing.ValueType.TheVariants.{Word}
-use Rattle.language.specs.declared.typing.WordType.{WordType}
-use Rattle.language.specs.Meaning.{is_word, word_arguments}
-use Rattle.language.specs.Size.{Extent, nodes_in, nodes_in_all, nodes_passed, called_nodes, return_nodes, block_nodes}
-use Rattle.language.specs.Size.{block_words, words_of_called, passed_words, extent_of, extents_of}
-use Rattle.language.specs.Tree.{ExprTree, number, truth, name, prefix, binary, rotate, convert, select, element}
-use Rattle.language.specs.Tree.{CallTree, ParameterTree, ProcedureTree, ReturnTree}
-use Rattle.language.specs.Types.{Scope}
-use Rattle.language.specs.Typing.{result_value}
-use Rattle.language.specs.WellTyped.{ArePassed, none_passed, one_passed, IsCall, of_procedure}
+use Rattle.inline.specs.Below.{ArePassed, binary, block_nodes, block_words, called_nodes, CallTree, convert, element}
+use Rattle.inline.specs.Below.{ExprTree, Extent, extent_of, extents_of, is_word, IsCall, Label, name, nodes_in}
+use Rattle.inline.specs.Below.{nodes_in_all, nodes_passed, none_passed, number, of_procedure, one_passed, ParameterTree}
+use Rattle.inline.specs.Below.{passed_words, prefix, ProcedureTree, result_value, return_nodes, ReturnTree, rotate}
+use Rattle.inline.specs.Below.{Scope, select, truth, ValueType, Word, word_arguments, words_of_called, WordType}
 use Rattle.inline.proofs.Begun.{own_word}
 use Rattle.inline.proofs.ChainTypes.{chain-nodes}
 use Rattle.inline.proofs.Below.{known-named}

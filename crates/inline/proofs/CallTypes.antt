@@ -7,20 +7,13 @@ use Rattle.inline.specs.FlatTyping.{Types, AreTyped, IsResult, Suits, types_afte
 use Rattle.inline.specs.Numbering.{Numbers, Callable, callable, callables, passed, passed_variables, call_block}
 use Rattle.inline.specs.Numbering.{call_variables, call_result, call_value, value_given, value_of, declared_in_all}
 use Rattle.inline.specs.Numbering.{names_after_all, block, dropped_block, dropped_variables}
-use Rattle.language.specs.declared.signature.Label.{Label}
-use Rattle.language.specs.declared.signature.Label.TheVariants.{Public, Secret}
+use Rattle.inline.specs.Below.{AreAllSmall, AreNew, ArePassed, assigns_public, body_scope, callee, calls_one, CallTree}
+use Rattle.inline.specs.Below.{ExprTree, is_word, IsCall, joined, Label, labelled, may_assign, none_passed}
+use Rattle.inline.specs.Below.{of_procedure, one_passed, ParameterTree, ProcedureTree, Public, result_value, Scope}
+use Rattle.inline.specs.Below.{Secret, ValueType, with_procedure, Word, WordType}
 use Rattle.language.specs.declared.typing.Declared.TheVariants.{Procedure}
-use Rattle.language.specs.declared.typing.ValueType.{ValueType}
-use Rattle.language.specs.declared.typing.ValueType.TheVariants.{Word}
-use Rattle.language.specs.declared.typing.WordType.{WordType}
-use Rattle.language.specs.Grammatical.{AreAllSmall}
-use Rattle.language.specs.Meaning.{is_word}
-use Rattle.language.specs.Tree.{ExprTree, CallTree, ParameterTree, ProcedureTree}
-use Rattle.language.specs.Types.{Scope, found, callee, joined}
-use Rattle.language.specs.Typing.{may_assign, calls_one, assigns_public, body_scope, result_value}
-use Rattle.language.specs.Typing.{with_procedure}
+use Rattle.language.specs.Types.{found}
 use Rattle.language.specs.WellTyped as rules
-use Rattle.language.specs.WellTyped.{labelled, AreNew, ArePassed, none_passed, one_passed, IsCall, of_procedure}
 use Rattle.inline.proofs.Begun.{word_given, own_word, enters, distinct_none}
 use Rattle.inline.proofs.ChainTypes.{chain-types, chain-typed}
 use Rattle.inline.proofs.Below.{known-named}

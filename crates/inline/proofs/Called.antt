@@ -1,6 +1,8 @@
 -- What is known of procedures that may be called, and of the names where they are.
 use Rattle.std.proofs.Common.{◌≡◌, ℕ, ◌+◌, ◌<◌, ◌≤◌, true, List, Option, Some, None, arith, length-append}
-use Rattle.word.specs.declared.profile.Profile.{Profile}
+use Rattle.inline.specs.Below.{AreNew, AreWellTyped, BlockTree, Bodies, declared, found, IsWellTyped, Label}
+use Rattle.inline.specs.Below.{no_statement, one_more, Place, ProcedureTree, Profile, Returned, Scope, scope_after}
+use Rattle.inline.specs.Below.{scope_after_all, State, StatementTree, Variable, with_parameters, WordType}
 use Rattle.inline.specs.declared.flat.FlatVariable.{FlatVariable}
 use Rattle.inline.specs.declared.numbering.Numbered.{Numbered}
 use Rattle.inline.specs.Flat.{TermTree}
@@ -9,17 +11,7 @@ use Rattle.inline.specs.FlatTyping.{Types, with_type, types_after_all}
 use Rattle.inline.specs.Numbering.{Numbers, callables, naming, statement, block, names_after, names_after_all}
 use Rattle.inline.specs.Numbering.{value_of, declared_in, declared_in_all, numbers_taken, numbers_taken_all}
 use Rattle.inline.specs.Path.{either, first_fault}
-use Rattle.language.specs.declared.typing.Declared.TheVariants.{Variable}
-use Rattle.language.specs.declared.signature.Label.{Label}
-use Rattle.language.specs.declared.typing.WordType.{WordType}
-use Rattle.language.specs.Meaning.{Bodies, Returned}
-use Rattle.language.specs.State.{State, Word}
-use Rattle.language.specs.Tree.{StatementTree, BlockTree, ProcedureTree}
-use Rattle.word.specs.declared.place.Place.{Place}
-use Rattle.language.specs.Types.{Scope, declared}
-use Rattle.language.specs.Typing.{with_parameters, scope_after, scope_after_all}
-use Rattle.language.specs.WellTyped.{AreNew, IsWellTyped, AreWellTyped, no_statement, one_more}
-use Rattle.language.specs.names.Scope.{found}
+use Rattle.language.specs.State.{Word}
 use Rattle.inline.proofs.Comes.{Comes}
 use Rattle.inline.proofs.Linked.{Linked, later, linked_declared, variable_as}
 use Rattle.inline.proofs.Listed.{linked_after}

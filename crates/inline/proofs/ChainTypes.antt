@@ -5,7 +5,7 @@ use Rattle.inline.specs.Flat.{FlatTree, declare, array, hold, FlatBlock, nothing
 use Rattle.inline.specs.FlatSize.{body_nodes}
 use Rattle.inline.specs.FlatTyping.{Types, with_type, AreTyped, types_after, types_after_all, declarations_in}
 use Rattle.inline.specs.FlatTyping.{declarations_in_all, IsNumbered, AreNumbered}
-use Rattle.language.specs.declared.signature.Label.{Label}
+use Rattle.inline.specs.Below.{Label}
 use Rattle.inline.proofs.Linked.{with_type-other}
 
 pub chain-types : (types : Types) (a b : FlatBlock)

@@ -1,8 +1,7 @@
 -- What a part of the source comes to, beside the first fault on the path of the flat one.
 use Rattle.std.proofs.Common.{◌≡◌, [], ◌∷◌, ◌++◌, Option, Some, None, refl, sym, ap, ◌∙◌}
-use Rattle.word.specs.declared.place.Place.{Place}
+use Rattle.inline.specs.Below.{Ending, faults, gives, Place}
 use Rattle.inline.specs.Path.{Path, fault_at, either, first_fault}
-use Rattle.language.specs.Meaning.{Ending, gives, faults}
 
 -- It comes to a result that is as it should be, where there is no fault, or else it meets that fault.
 pub data Comes {A : Type 0} (Is : Ending A → Type 0) (Good : A → Type 0) : Option Place → Type 0 where

@@ -5,23 +5,15 @@ use Rattle.std.proofs.lemmas.Bool.{cases_Bool}
 use Rattle.std.proofs.lemmas.Option.{none-some, same_Some}
 use Rattle.std.specs.Str.{bytes_eq}
 use lib.Pointwise.{bytes_decides}
-use Rattle.word.specs.declared.place.Place.{Place}
+use Rattle.inline.specs.Below.{ArePassed, Array, array_of, as_array, as_mutable_array, as_word, copied_out, ExprTree}
+use Rattle.inline.specs.Below.{FixedArray, Form, found, gone_back, is_mutable, is_word, IsVariable, labelled}
+use Rattle.inline.specs.Below.{MutableArray, name, none_passed, one_passed, ParameterTree, Place, Scope, SingleWord}
+use Rattle.inline.specs.Below.{State}
 use Rattle.inline.specs.declared.numbering.Numbered.{Numbered}
 use Rattle.inline.specs.Flat.{array_as, elements_by, numbers_in}
 use Rattle.inline.specs.FlatMeaning.{Values}
 use Rattle.inline.specs.FlatTyping.{Types}
 use Rattle.inline.specs.Numbering.{Numbers, naming, begun, number_given, number_of, own_variable}
-use Rattle.language.specs.declared.signature.Form.{Form}
-use Rattle.language.specs.declared.signature.Form.TheVariants.{SingleWord, FixedArray, MutableArray}
-use Rattle.language.specs.declared.typing.ValueType.TheVariants.{Array}
-use Rattle.language.specs.Meaning.{is_word, copied_out, gone_back}
-use Rattle.language.specs.State.{State}
-use Rattle.language.specs.Tree.{ExprTree, name, ParameterTree}
-use Rattle.language.specs.Types.{Scope}
-use Rattle.language.specs.Typing.{is_mutable}
-use Rattle.language.specs.WellTyped.{labelled, IsVariable, as_word, as_array, as_mutable_array, array_of, ArePassed}
-use Rattle.language.specs.WellTyped.{none_passed, one_passed}
-use Rattle.language.specs.names.Scope.{found}
 use Rattle.inline.proofs.Begun.{NamesGiven}
 use Rattle.inline.proofs.Called.{Spares}
 use Rattle.inline.proofs.Linked.{Linked, entry}

@@ -5,19 +5,16 @@ use Rattle.std.proofs.lemmas.Bool.Decides.{nat_tests}
 use Rattle.std.proofs.lemmas.List.{map-append}
 use Rattle.inline.proofs.CountLemmas.{block_alike, statement_alike}
 use Rattle.inline.specs.Counts.{AreCountsOf}
-use Rattle.language.specs.Limits.{most_bodies, most_declared_bytes, most_nodes}
-use Rattle.language.specs.Shares.{counted, counted_share, excess, largest, most_counted, statement_shares}
-use Rattle.language.specs.Size.{Extents, bodies_cost, bodies_of, bytes_cost, declared_bytes, limits_passed, nodes_cost}
-use Rattle.language.specs.Size.{nodes_of, statement_bodies, statement_bytes, statement_nodes}
-use Rattle.language.specs.Tree.{BlockTree, nothing, first, ProcedureTree, StatementTree, place_of}
-use Rattle.language.specs.Types.{because, when}
+use Rattle.inline.specs.Below.{because, BlockTree, bodies_cost, bodies_of, bytes_cost, counted, counted_share}
+use Rattle.inline.specs.Below.{declared_bytes, excess, Extents, first, largest, limits_passed, most_bodies}
+use Rattle.inline.specs.Below.{most_counted, most_declared_bytes, most_nodes, nodes_cost, nodes_of, nothing, Place}
+use Rattle.inline.specs.Below.{place_of, ProcedureTree, Share, statement_bodies, statement_bytes, statement_nodes}
+use Rattle.inline.specs.Below.{statement_shares, StatementTree, when}
 use Rattle.language.specs.declared.cost.Cost.{Cost}
 use Rattle.language.specs.declared.rule.Rule.TheVariants.{InlinedSize, DeclaredBytes}
 use Rattle.language.specs.declared.typing.Violation.{Violation}
 use Rattle.language.specs.declared.why.Counted.TheVariants as what
-use Rattle.language.specs.declared.why.Share.{Share}
 use Rattle.language.specs.declared.why.Why.TheVariants.{TooMuch}
-use Rattle.word.specs.declared.place.Place.{Place}
 
 module _ (counts extents : Extents) (same : AreCountsOf counts extents) where
   shares_alike : (one other : StatementTree → ℕ) → ((s : StatementTree) → counted (one s) ≡ counted (other s))

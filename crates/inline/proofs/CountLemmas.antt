@@ -2,12 +2,11 @@
 use Rattle.std.proofs.Common.{◌≡◌, ℕ, Option, Some, None, refl, arith}
 use Rattle.std.specs.Option.{option_map}
 use Rattle.inline.specs.Counts.{AreCountsOf, counted_extent}
-use Rattle.language.specs.Shares.{counted}
-use Rattle.language.specs.Size.{Extent, Extents, called_nodes, right_nodes, statement_nodes, block_nodes}
-use Rattle.language.specs.Size.{words_of_called, right_words, statement_words, block_words, bodies_of_called}
-use Rattle.language.specs.Size.{right_bodies, statement_bodies, block_bodies, extent_of}
-use Rattle.language.specs.Tree.{CallTree, RightTree, called, computed, StatementTree, declaration, array, assignment}
-use Rattle.language.specs.Tree.{element_assignment, call, conditional, loop, BlockTree, nothing, first, ProcedureTree}
+use Rattle.inline.specs.Below.{array, assignment, block_bodies, block_nodes, block_words, BlockTree, bodies_of_called}
+use Rattle.inline.specs.Below.{call, called, called_nodes, CallTree, computed, conditional, counted, declaration}
+use Rattle.inline.specs.Below.{element_assignment, Extent, extent_of, Extents, first, loop, nothing, ProcedureTree}
+use Rattle.inline.specs.Below.{right_bodies, right_nodes, right_words, RightTree, statement_bodies, statement_nodes}
+use Rattle.inline.specs.Below.{statement_words, StatementTree, words_of_called}
 
 -- so many nodes, words and open bodies count the same as so many others
 pub record AreAlike (n w b m v d : ℕ) : Type 0 where

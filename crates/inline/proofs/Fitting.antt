@@ -6,31 +6,22 @@ use Rattle.std.specs.Int.Bits.{and_lt}
 use Rattle.std.proofs.Math.Nat.{div-le_self, mod-le}
 use Rattle.std.proofs.lemmas.Bool.{cases_lt}
 use Rattle.std.proofs.lemmas.List.{get_or_past}
-use Rattle.word.specs.declared.profile.Profile.{Profile}
-use Rattle.word.specs.declared.width.Width.{Width}
+use Rattle.inline.specs.Below.{arithmetic, BinaryOperator, Boolean, complemented, division, equality, IsNumberKind}
+use Rattle.inline.specs.Below.{Kind, logic, Makes, multiplication, operated, operation_of, order, prefix_value}
+use Rattle.inline.specs.Below.{PrefixOperator, Profile, quotient, remainder, shift, Takes, truth_of, Width, width_of}
+use Rattle.inline.specs.Below.{word_of, WordType, wrapped}
 use Rattle.word.specs.declared.width.Width.TheVariants.{W8}
-use Rattle.word.specs.Operators.{complemented, wrapped, word_of, quotient, remainder}
 use Rattle.word.specs.Widths.{IsWord}
 use Rattle.inline.specs.Fitting.{IsWithinKind, Fits}
 use Rattle.inline.specs.Flat.{TermTree, word_as, array_as}
 use Rattle.inline.specs.FlatMeaning.{Values, value_in}
 use Rattle.inline.specs.FlatTyping.{Types, HasType, of_number, of_truth, of_variable, of_prefix, of_binary}
 use Rattle.inline.specs.FlatTyping.{of_rotation, of_conversion, of_selection, of_element, Suits}
-use Rattle.language.specs.declared.signature.Kind.{Kind}
-use Rattle.language.specs.declared.signature.Kind.TheVariants.{Boolean}
-use Rattle.language.specs.declared.operators.BinaryOperator.{BinaryOperator}
 use Rattle.language.specs.declared.operators.BinaryOperator.TheVariants.{Either, Both, Equal, Unequal, Less}
 use Rattle.language.specs.declared.operators.BinaryOperator.TheVariants.{LessOrEqual, Greater, GreaterOrEqual, BitOr}
 use Rattle.language.specs.declared.operators.BinaryOperator.TheVariants.{BitXor, BitAnd, ShiftLeft, ShiftRight, Add}
 use Rattle.language.specs.declared.operators.BinaryOperator.TheVariants.{Subtract, Multiply, Divide, Remainder}
-use Rattle.language.specs.declared.operators.PrefixOperator.{PrefixOperator}
 use Rattle.language.specs.declared.operators.PrefixOperator.TheVariants.{Not, Complement, Negate}
-use Rattle.language.specs.declared.typing.WordType.{WordType}
-use Rattle.language.specs.Operators.{operation_of}
-use Rattle.language.specs.Grammatical.{IsNumberKind}
-use Rattle.language.specs.Operators.{operated, prefix_value, truth_of, width_of}
-use Rattle.language.specs.WellTyped.{Makes, arithmetic, multiplication, division, shift, equality, order, logic}
-use Rattle.language.specs.WellTyped.{Takes}
 
 -- Words.
 

@@ -6,7 +6,8 @@ use Rattle.std.proofs.lemmas.Bool.{cases_Bool, cond_both}
 use Rattle.std.proofs.lemmas.List.{length-set, length-replicate, length-map}
 use Rattle.std.proofs.lemmas.List.Elements.{All-nil, All-cons, All-set, All-replicate}
 use Rattle.std.proofs.lemmas.Option.{none-some, same_Some}
-use Rattle.language.specs.arguments.Within.{AreWithin, IsWithin, greatest_of, words_of}
+use Rattle.inline.specs.Below.{AreWithin, Arg, Boolean, greatest_of, IsWithin, joined, Kind, Label, Param, Public}
+use Rattle.inline.specs.Below.{words_of, WordType}
 use Rattle.inline.specs.declared.flat.FlatVariable.{FlatVariable}
 use Rattle.inline.specs.Fitting.{IsWithinKind, IsHeld, Fits}
 use Rattle.inline.specs.Flat.{TermTree, FlatTree, declare, array, assign, put, hold, skip, branch, loop, FlatBlock}
@@ -14,14 +15,6 @@ use Rattle.inline.specs.Flat.{nothing, first, FlatProgram, word_as, array_as, de
 use Rattle.inline.specs.FlatMeaning.{Values, with_value, value_in, elements, after, after_all, given, end_of}
 use Rattle.inline.specs.FlatTyping.{Types, with_type, AllSuit, HasCount, IsTyped, AreTyped, IsTypedProgram}
 use Rattle.inline.specs.FlatTyping.{counter_type, types_after, types_after_all, parameter_types, end_types}
-use Rattle.language.specs.declared.signature.Kind.{Kind}
-use Rattle.language.specs.declared.signature.Kind.TheVariants.{Boolean}
-use Rattle.language.specs.declared.signature.Label.{Label}
-use Rattle.language.specs.declared.signature.Label.TheVariants.{Public}
-use Rattle.language.specs.declared.signature.Param.{Param}
-use Rattle.language.specs.declared.typing.WordType.{WordType}
-use Rattle.language.specs.declared.values.Arg.{Arg}
-use Rattle.language.specs.Types.{joined}
 use Rattle.inline.proofs.Chains.{turns_keep}
 use Rattle.inline.proofs.Fitting.{value_fits, suited_fits, some_bit}
 use Rattle.inline.proofs.Parameters.{argument_count}

@@ -4,7 +4,13 @@ use Rattle.std.proofs.Common.{map, Option, Some, None, slice_index, slice_set, r
 use Rattle.std.proofs.Common.{inr}
 use Rattle.std.proofs.lemmas.Bool.{cases_Bool}
 use Rattle.std.proofs.lemmas.List.{length-set, length-replicate, length-map}
-use Rattle.word.specs.declared.place.Place.{Place}
+use Rattle.inline.specs.Below.{a_turn, accepts, AreAllSmall, ArePlain, Array, ArrayType, assignment_faults, BlockTree}
+use Rattle.inline.specs.Below.{bounds_fault, call_faults, condition_faults, counting, declaration_faults, declines}
+use Rattle.inline.specs.Below.{ends, EvaluatesAll, expr_faults, ExprTree, first_value_faults, goes_on, IsPlain}
+use Rattle.inline.specs.Below.{IsVariable, Kind, Label, labelled, later_faults, loops, made_array, no_turn, none_left}
+use Rattle.inline.specs.Below.{of_expr, operand_faults, Place, ProcedureTree, right_faults, Runs, RunsAll, Scope}
+use Rattle.inline.specs.Below.{single, State, StatementTree, stops, target_faults, this_faults, turn_faults, Turns}
+use Rattle.inline.specs.Below.{Uint32, with_element, with_some, with_value, word_given, WordType, written}
 use Rattle.inline.specs.Flat as flat_tree
 use Rattle.inline.specs.Flat.{word_as, array_as, TermTree}
 use Rattle.inline.specs.FlatMeaning.{Values, value_in, path_in, path_in_all, elements, after_all, path_at, path_along}
@@ -16,25 +22,9 @@ use Rattle.inline.specs.Numbering.{Numbers, callables, number_of, size_of, term,
 use Rattle.inline.specs.Numbering.{names_after_all, numbers_taken_all, right, right_end, call_block, call_value}
 use Rattle.inline.specs.Numbering.{call_result, call_variables, dropped_block, value_given}
 use Rattle.inline.specs.Path.{Path, either, first_fault}
-use Rattle.language.specs.declared.signature.Kind.{Kind}
-use Rattle.language.specs.declared.signature.Kind.TheVariants.{Uint32}
-use Rattle.language.specs.declared.signature.Label.{Label}
-use Rattle.language.specs.declared.typing.ArrayType.{ArrayType}
-use Rattle.language.specs.declared.typing.ValueType.TheVariants.{Array}
-use Rattle.language.specs.declared.typing.WordType.{WordType}
-use Rattle.language.specs.Grammatical.{AreAllSmall, IsPlain, ArePlain}
-use Rattle.language.specs.Meaning.{EvaluatesAll, operand_faults, none_left, one_more, this_faults, later_faults}
-use Rattle.language.specs.Meaning.{made_array, counting, with_some, with_element, word_given, of_expr, expr_faults}
-use Rattle.language.specs.Meaning.{Runs, RunsAll, Turns, no_turn, turn_faults, a_turn, declares, declaration_faults}
-use Rattle.language.specs.Meaning.{declares_array, first_value_faults, assigns, assignment_faults, target_faults}
-use Rattle.language.specs.Meaning.{right_faults, assigns_element, calls, call_faults, condition_faults, accepts}
-use Rattle.language.specs.Meaning.{declines, bounds_fault, loops, ends, stops, goes_on}
-use Rattle.language.specs.State.{State, single, with_value}
+use Rattle.language.specs.Meaning.{one_more, declares, declares_array, assigns, assigns_element, calls}
 use Rattle.language.specs.State as state
-use Rattle.language.specs.Tree.{ExprTree, StatementTree, BlockTree, ProcedureTree, written}
-use Rattle.language.specs.Types.{Scope}
 use Rattle.language.specs.WellTyped as rules
-use Rattle.language.specs.WellTyped.{labelled, IsVariable}
 use Rattle.inline.proofs.Called.{Spares, Ready, ready_later, ready_declared, ready_after}
 use Rattle.inline.proofs.CallEnds.{call_means}
 use Rattle.inline.proofs.Chains.{after_chain, fault_chain}

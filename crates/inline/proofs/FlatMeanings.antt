@@ -2,9 +2,10 @@
 use Rattle.std.proofs.Common.{◌≡◌, ℕ, List, [], ◌++◌, length, map, Option, None, Some, refl, ap, ap₂, ◌∙◌}
 use Rattle.std.specs.List.{AllByRecursion}
 use Rattle.std.specs.Option.{option_map}
-use Rattle.word.specs.declared.place.Place.{Place}
-use Rattle.word.specs.declared.profile.Profile.{Profile}
-use Rattle.language.specs.arguments.Within.{AreWithin}
+use Rattle.inline.specs.Below.{AreWithin, Arg, Bodies, body_scope, ends_well, exported, final_arrays, Gives, gives}
+use Rattle.inline.specs.Below.{holding, IsGrammatical, IsSmallReturn, meets_fault, Place, ProcedureTree, Profile}
+use Rattle.inline.specs.Below.{ProgramTree, Results, return_faults, returns, returns_nothing, ReturnTree, RunsAll}
+use Rattle.inline.specs.Below.{Scope, State, statements_fault, violations, with_procedure, WordType}
 use Rattle.inline.specs.Flat.{TermTree}
 use Rattle.inline.specs.FlatMeaning.{Values, given, value_in, path_along, path_of_result, after_all, outcome_of}
 use Rattle.inline.specs.FlatMeaning.{ending_by, ending_of}
@@ -12,16 +13,7 @@ use Rattle.inline.specs.FlatTyping.{Types, parameter_types}
 use Rattle.inline.specs.Numbering.{Numbers, param_of, callables, parameter_names, names_after_all, value_of}
 use Rattle.inline.specs.Numbering.{flattened, block, term, declared_in_all}
 use Rattle.inline.specs.Path.{first_fault}
-use Rattle.language.specs.declared.typing.WordType.{WordType}
-use Rattle.language.specs.declared.values.Arg.{Arg}
-use Rattle.language.specs.Grammatical.{IsGrammatical, IsSmallReturn}
-use Rattle.language.specs.Meaning.{Bodies, statements_fault, returns, returns_nothing, return_faults, Gives}
-use Rattle.language.specs.Meaning.{ends_well, meets_fault, RunsAll, exported, final_arrays, gives, holding}
-use Rattle.language.specs.Results.{Results}
-use Rattle.language.specs.State.{State, Word}
-use Rattle.language.specs.Tree.{ProcedureTree, ProgramTree, ReturnTree}
-use Rattle.language.specs.Types.{Scope}
-use Rattle.language.specs.Typing.{body_scope, violations, with_procedure}
+use Rattle.language.specs.State.{Word}
 use Rattle.language.specs.WellTyped as rules
 use Rattle.inline.proofs.Called.{Agrees, HasResult, nothing_given, a_word, Behaves, BodyComes, IsKept, Ready}
 use Rattle.inline.proofs.Called.{ready_after_all}

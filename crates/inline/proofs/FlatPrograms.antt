@@ -4,21 +4,14 @@ use Rattle.std.proofs.Math.Seq.{take-append_seam}
 use Rattle.std.proofs.lemmas.Bool.{or_parts}
 use Rattle.std.proofs.lemmas.List.{length-map}
 use Rattle.std.specs.List.{AllByRecursion}
-use Rattle.word.specs.declared.profile.Profile.{Profile}
+use Rattle.inline.specs.Below.{assigns_public, block_assigns, body_scope, exported, IsGrammatical, IsProcedure}
+use Rattle.inline.specs.Below.{IsSmallReturn, joined, Label, nothing_returned, parameters_assign, ParameterTree}
+use Rattle.inline.specs.Below.{ProcedureTree, Profile, ProgramTree, Public, Returns, ReturnTree, Scope, Secret}
+use Rattle.inline.specs.Below.{value_returned, violations, with_procedure, WordType}
 use Rattle.inline.specs.Flat.{declaration_of}
 use Rattle.inline.specs.FlatTyping.{Types, IsTypedProgram, IsResult, parameter_types}
 use Rattle.inline.specs.Numbering.{Numbers, param_of, parameter_names, flattened, callables, declared_in_all}
 use Rattle.inline.specs.Numbering.{value_of}
-use Rattle.language.specs.declared.signature.Label.{Label}
-use Rattle.language.specs.declared.signature.Label.TheVariants.{Public, Secret}
-use Rattle.language.specs.declared.typing.WordType.{WordType}
-use Rattle.language.specs.Grammatical.{IsGrammatical, IsSmallReturn}
-use Rattle.language.specs.Meaning.{exported}
-use Rattle.language.specs.Tree.{ParameterTree, ProcedureTree, ProgramTree, ReturnTree}
-use Rattle.language.specs.Types.{Scope, joined}
-use Rattle.language.specs.Typing.{assigns_public, parameters_assign, block_assigns, with_procedure, body_scope}
-use Rattle.language.specs.Typing.{violations}
-use Rattle.language.specs.WellTyped.{Returns, nothing_returned, value_returned, IsProcedure}
 use Rattle.inline.proofs.CallTypes.{TypedBody}
 use Rattle.inline.proofs.FlatTypes.{IsHushed, typed_block}
 use Rattle.inline.proofs.Hiding.{hides_none, hides_parameters}

@@ -9,26 +9,15 @@ use Rattle.inline.specs.Numbering.{Numbers, Callables, callables, call_variables
 use Rattle.inline.specs.Numbering.{right_block, right_variables, right, declared_in, declared_in_all, numbers_taken}
 use Rattle.inline.specs.Numbering.{numbers_taken_all, naming, names_after, statement, block, param_of}
 use Rattle.inline.specs.Numbering.{parameter_names, return_names, flattened}
-use Rattle.language.specs.declared.signature.Form.{Form}
-use Rattle.language.specs.declared.signature.Form.TheVariants.{SingleWord}
-use Rattle.language.specs.declared.signature.Label.{Label}
-use Rattle.language.specs.declared.signature.Param.{Param}
-use Rattle.language.specs.declared.typing.ValueType.TheVariants.{Word}
-use Rattle.language.specs.declared.typing.WordType.{WordType}
-use Rattle.language.specs.Grammatical.{HasLength, HasForm, IsGrammatical}
-use Rattle.language.specs.Meaning.{exported}
-use Rattle.language.specs.Size.{Extents, extents_of, right_nodes, right_words, statement_nodes, block_nodes}
-use Rattle.language.specs.Size.{held_words, parameter_words, statement_words, block_words}
-use Rattle.language.specs.Size.{size_violations}
-use Rattle.language.specs.Tree.{ExprTree, RightTree, StatementTree, element_assignment, BlockTree, ParameterTree}
-use Rattle.language.specs.Tree.{ProcedureTree, ProgramTree, ReturnTree, written}
-use Rattle.language.specs.Types.{Scope}
-use Rattle.language.specs.Typing.{violations, with_procedure}
-use Rattle.language.specs.WellTyped.{Gives, of_call, of_value, IsWellTyped, declares, declares_array, assigns}
-use Rattle.language.specs.WellTyped.{assigns_element, calls, chooses, repeats, AreWellTyped, no_statement, one_more}
-use Rattle.language.specs.WellTyped.{IsProcedure, Returns, nothing_returned, value_returned}
-use Rattle.word.specs.declared.place.Place.{Place}
-use Rattle.word.specs.declared.profile.Profile.{Profile}
+use Rattle.inline.specs.Below.{AreWellTyped, assigns, assigns_element, block_nodes, block_words, BlockTree, calls}
+use Rattle.inline.specs.Below.{chooses, declares, declares_array, element_assignment, exported, ExprTree, Extents}
+use Rattle.inline.specs.Below.{extents_of, Form, HasForm, HasLength, held_words, IsGrammatical, IsProcedure}
+use Rattle.inline.specs.Below.{IsWellTyped, Label, no_statement, nothing_returned, of_call, of_value, one_more, Param}
+use Rattle.inline.specs.Below.{parameter_words, ParameterTree, Place, ProcedureTree, Profile, ProgramTree, repeats}
+use Rattle.inline.specs.Below.{Returns, ReturnTree, right_nodes, right_words, RightTree, Scope, SingleWord}
+use Rattle.inline.specs.Below.{size_violations, statement_nodes, statement_words, StatementTree, value_returned}
+use Rattle.inline.specs.Below.{violations, with_procedure, Word, WordType, written}
+use Rattle.language.specs.WellTyped.{Gives}
 use Rattle.inline.proofs.Below.{few_of}
 use Rattle.inline.proofs.CallSizes.{same_nodes, same_all, same_result, GoTogether, value_there, dropped_nodes}
 use Rattle.inline.proofs.CallSizes.{dropped_words, words-append, SizedBody, call_sized}

@@ -12,21 +12,14 @@ use Rattle.inline.specs.Numbering.{Numbers, Callables, callables, call_block, ca
 use Rattle.inline.specs.Numbering.{right_block, right_variables, right, element_block, element_variables}
 use Rattle.inline.specs.Numbering.{dropped_variables, statement, block, number_of, size_of, declared_in}
 use Rattle.inline.specs.Numbering.{declared_in_all, numbers_taken_all, term}
-use Rattle.language.specs.declared.signature.Kind.TheVariants.{Boolean}
-use Rattle.language.specs.declared.signature.Label.{Label}
-use Rattle.language.specs.declared.signature.Label.TheVariants.{Public, Secret}
-use Rattle.language.specs.declared.typing.ArrayType.{ArrayType}
-use Rattle.language.specs.declared.typing.ValueType.TheVariants.{Word, Array}
-use Rattle.language.specs.declared.typing.WordType.{WordType}
-use Rattle.language.specs.Grammatical.{AreSmall, AreAllSmall, AreSmallValues, IsSmallRight, IsPlain, ArePlain}
-use Rattle.language.specs.Tree.{ExprTree, RightTree, StatementTree, BlockTree, ProcedureTree, written}
-use Rattle.language.specs.Types.{Scope, joined}
-use Rattle.language.specs.Typing.{block_assigns, right_assigns, statement_assigns}
+use Rattle.inline.specs.Below.{AreAllSmall, ArePlain, AreSmall, AreSmallValues, AreWellTyped, Array, ArrayType, assigns}
+use Rattle.inline.specs.Below.{assigns_element, block_assigns, BlockTree, Boolean, calls, chooses, declares}
+use Rattle.inline.specs.Below.{declares_array, ExprTree, FlowsTo, IsPlain, IsSmallRight, IsVariable, IsWellTyped}
+use Rattle.inline.specs.Below.{joined, Label, labelled, no_statement, of_call, of_value, one_more, Place, ProcedureTree}
+use Rattle.inline.specs.Below.{Public, public_flows, repeats, right_assigns, RightTree, Scope, Secret, secret_flows}
+use Rattle.inline.specs.Below.{statement_assigns, StatementTree, Word, WordType, written}
 use Rattle.language.specs.WellTyped as rules
-use Rattle.language.specs.WellTyped.{labelled, IsVariable, FlowsTo, public_flows, secret_flows, Gives, of_call}
-use Rattle.language.specs.WellTyped.{of_value, IsWellTyped, declares, declares_array, assigns, assigns_element, calls}
-use Rattle.language.specs.WellTyped.{chooses, repeats, AreWellTyped, no_statement, one_more}
-use Rattle.word.specs.declared.place.Place.{Place}
+use Rattle.language.specs.WellTyped.{Gives}
 use Rattle.inline.proofs.CallTypes.{TypedBody, call_fits, result_suits, dropped_typed}
 use Rattle.inline.proofs.ChainTypes.{chain-types, chain-typed, types_before}
 use Rattle.inline.proofs.Hiding.{Hides, hides_after, hides_counter}

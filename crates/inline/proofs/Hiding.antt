@@ -1,19 +1,12 @@
 -- A scope in which nothing public may be assigned to.
 use Rattle.std.proofs.Common.{◌≡◌, ℕ, Bool, true, false, List, Some, inl, inr, refl, sym, ap, ◌∙◌, true≢false}
 use Rattle.std.proofs.lemmas.Bool.{or_parts}
-use Rattle.language.specs.declared.signature.Form.{Form}
-use Rattle.language.specs.declared.signature.Form.TheVariants.{SingleWord}
-use Rattle.language.specs.declared.signature.Label.{Label}
-use Rattle.language.specs.declared.signature.Label.TheVariants.{Public, Secret}
-use Rattle.language.specs.declared.typing.Declared.TheVariants.{Variable}
-use Rattle.language.specs.declared.typing.VariableType.{VariableType}
-use Rattle.language.specs.Tree.{ParameterTree, ProcedureTree, StatementTree}
-use Rattle.word.specs.declared.place.Place.{Place}
-use Rattle.language.specs.Types.{Scope, found, declared, label_of}
-use Rattle.language.specs.Typing.{is_mutable, is_public_mutable, counter_as, parameter_value, parameters_assign}
-use Rattle.language.specs.Typing.{right_assigns, scope_after, statement_assigns, with_parameters}
-use Rattle.language.specs.WellTyped.{IsWellTyped, declares, declares_array}
-use Rattle.language.specs.WellTyped.{AreNew, no_parameter, one_is_new}
+use Rattle.inline.specs.Below.{AreNew, counter_as, declared, declares, declares_array, Form, is_mutable}
+use Rattle.inline.specs.Below.{is_public_mutable, IsWellTyped, Label, label_of, no_parameter, one_is_new}
+use Rattle.inline.specs.Below.{parameter_value, parameters_assign, ParameterTree, Place, ProcedureTree, Public}
+use Rattle.inline.specs.Below.{right_assigns, Scope, scope_after, Secret, SingleWord, statement_assigns, StatementTree}
+use Rattle.inline.specs.Below.{Variable, VariableType, with_parameters}
+use Rattle.language.specs.Types.{found}
 use Rattle.inline.proofs.Linked.{same_variable}
 use Rattle.inline.proofs.Below.{found-split}
 use Rattle.inline.proofs.Parameters.{NoVariables}

@@ -11,19 +11,14 @@ use Rattle.inline.specs.FlatTyping.{counter_type}
 use Rattle.inline.specs.Numbering.{Numbers, callables, naming, number_of, term, statement, block, names_after}
 use Rattle.inline.specs.Numbering.{numbers_taken, right, right_block, right_end, call_block, call_value, call_result}
 use Rattle.inline.specs.Numbering.{call_variables, dropped_block}
-use Rattle.language.specs.declared.signature.Label.{Label}
-use Rattle.language.specs.declared.typing.Declared.TheVariants.{Variable}
-use Rattle.language.specs.declared.typing.WordType.{WordType}
-use Rattle.language.specs.Tree.{StatementTree, BlockTree, ProcedureTree}
-use Rattle.language.specs.Types.{Scope}
-use Rattle.language.specs.WellTyped.{labelled, of_value, of_call, IsWellTyped, declares, declares_array, assigns}
-use Rattle.language.specs.WellTyped.{assigns_element, calls, chooses, repeats, AreWellTyped, no_statement, one_more}
+use Rattle.inline.specs.Below.{AreWellTyped, assigns, assigns_element, BlockTree, calls, chooses, declares}
+use Rattle.inline.specs.Below.{declares_array, found, IsWellTyped, Label, labelled, no_statement, of_call, of_value}
+use Rattle.inline.specs.Below.{one_more, ProcedureTree, repeats, Scope, StatementTree, Variable, WordType}
 use Rattle.inline.specs.Flat.{TermTree}
 use Rattle.inline.proofs.Called.{Spares, Ready, ready_later, ready_declared, ready_after}
 use Rattle.inline.proofs.CallEnds.{call_means}
 use Rattle.inline.proofs.Chains.{after_chain, turns_keep}
 use Rattle.inline.proofs.Linked.{entry, variable_as}
-use Rattle.language.specs.names.Scope.{found}
 use Rattle.inline.proofs.Below.{found-split}
 use Rattle.inline.proofs.Rights.{right_means}
 use Rattle.inline.proofs.States.{with_value-other}

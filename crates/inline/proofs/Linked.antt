@@ -9,15 +9,8 @@ use Rattle.inline.specs.declared.flat.FlatVariable.{FlatVariable}
 use Rattle.inline.specs.declared.numbering.Numbered.{Numbered}
 use Rattle.inline.specs.FlatTyping.{Types, with_type}
 use Rattle.inline.specs.Numbering.{Numbers, numbered, number_of, naming}
-use Rattle.language.specs.names.Scope.{found}
-use Rattle.language.specs.declared.typing.ArrayType.{ArrayType}
-use Rattle.language.specs.declared.typing.ValueType.{ValueType}
-use Rattle.language.specs.declared.typing.ValueType.TheVariants.{Word, Array}
-use Rattle.language.specs.declared.typing.VariableType.{VariableType}
-use Rattle.language.specs.declared.typing.WordType.{WordType}
-use Rattle.language.specs.declared.typing.Declared.TheVariants.{Variable}
-use Rattle.language.specs.Types.{Scope, declared}
-use Rattle.word.specs.declared.place.Place.{Place}
+use Rattle.inline.specs.Below.{Array, ArrayType, declared, found, Place, Scope, ValueType, Variable, VariableType, Word}
+use Rattle.inline.specs.Below.{WordType}
 use Rattle.inline.proofs.Below.{found-kept, found-new, found-other, found-split}
 
 -- what a name stands for in the scope, where it is a variable that is declared so

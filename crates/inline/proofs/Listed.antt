@@ -14,19 +14,12 @@ use Rattle.inline.specs.Numbering.{right_block, right_variables, value_given, el
 use Rattle.inline.specs.Numbering.{dropped_block, dropped_variables, declared_in, declared_in_all, numbers_taken}
 use Rattle.inline.specs.Numbering.{numbers_taken_all, names_after, naming, statement, block, single, number_of}
 use Rattle.inline.specs.Numbering.{size_of, right_end, names_after_all}
-use Rattle.word.specs.declared.place.Place.{Place}
-use Rattle.language.specs.declared.typing.WordType.{WordType}
-use Rattle.language.specs.Meaning.{is_word}
-use Rattle.language.specs.Tree.{ExprTree, ParameterTree, ProcedureTree, RightTree, called, computed, StatementTree}
-use Rattle.language.specs.Tree.{declaration, array, assignment, element_assignment, call, conditional, loop}
-use Rattle.language.specs.Tree.{BlockTree, nothing, first}
-use Rattle.language.specs.Types.{Scope}
-use Rattle.language.specs.declared.signature.Label.{Label}
-use Rattle.language.specs.Typing.{scope_after, scope_after_all}
-use Rattle.language.specs.WellTyped.{labelled, IsWellTyped, declares, declares_array, AreWellTyped, no_statement}
-use Rattle.language.specs.WellTyped.{one_more}
+use Rattle.inline.specs.Below.{AreWellTyped, array, assignment, BlockTree, call, called, computed, conditional}
+use Rattle.inline.specs.Below.{declaration, declares, declares_array, element_assignment, ExprTree, first, first_known}
+use Rattle.inline.specs.Below.{is_word, IsWellTyped, Known, known_from, known_of, Label, labelled, loop, no_statement}
+use Rattle.inline.specs.Below.{nothing, nothing_known, one_more, ParameterTree, Place, ProcedureTree, RightTree, Scope}
+use Rattle.inline.specs.Below.{scope_after, scope_after_all, StatementTree, with_known, WordType}
 use Rattle.std.specs.Str.{bytes_eq}
-use Rattle.language.specs.Known.{Known, known_of, known_from, nothing_known, first_known, with_known}
 use Rattle.inline.proofs.ChainTypes.{chain-declarations, chain-numbered, kept_by_numbered, chain-types}
 use Rattle.inline.proofs.Linked.{Linked, later, linked_beside, linked_declared}
 

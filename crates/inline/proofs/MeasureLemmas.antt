@@ -5,10 +5,7 @@ use Rattle.inline.specs.declared.measured.Measured.{Measured}
 use Rattle.inline.specs.declared.measured.Size.{Size}
 use Rattle.inline.specs.Counts.{AreCountsOf, counted_extent}
 use Rattle.inline.specs.Measured.{extent_of_measured, extents_in, procedure_size}
-use Rattle.language.specs.declared.tree.Procedure.{Procedure}
-use Rattle.language.specs.Shares.{counted}
-use Rattle.language.specs.Size.{Extents, extent_of, passed_words}
-use Rattle.language.specs.Tree.{ProcedureTree, procedure_tree}
+use Rattle.inline.specs.Below.{counted, extent_of, Extents, passed_words, Procedure, procedure_tree, ProcedureTree}
 
 -- what is counted by counts, with so many words of parameters, is what is counted by what they count
 pub procedure_alike : (counts extents : Extents) (p : ProcedureTree) {size : Size} {words : ℕ} (w : ℕ)

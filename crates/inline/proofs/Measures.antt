@@ -3,16 +3,9 @@ use Rattle.std.proofs.Common.{◌≡◌, ◌<◌, ◌≤◌, ℕ, ◌+◌, ◌*�
 use Rattle.std.specs.Option.{option_map}
 use Rattle.inline.proofs.Below.{known_by_name, made}
 use Rattle.inline.proofs.NumberingLemmas.{conditional_whole, loop_whole}
-use Rattle.word.specs.declared.place.Place.{Place}
-use Rattle.language.specs.declared.tree.Counter.{Counter}
-use Rattle.language.specs.declared.tree.Expr.{Expr}
-use Rattle.language.specs.declared.tree.Procedure.{Procedure}
-use Rattle.language.specs.declared.tree.Statement.{Statement, If, For}
-use Rattle.language.specs.Meaning.{named}
-use Rattle.language.specs.Size.{Extents, block_nodes, call_nodes, extent_of, extents_of, nodes_in, right_nodes}
-use Rattle.language.specs.Size.{statement_nodes}
-use Rattle.language.specs.Tree.{CallTree, RightTree, StatementTree, block_tree, expr_tree, procedure_tree}
-use Rattle.language.specs.Tree.{statement_tree}
+use Rattle.inline.specs.Below.{block_nodes, block_tree, call_nodes, CallTree, Counter, Expr, expr_tree, extent_of}
+use Rattle.inline.specs.Below.{Extents, extents_of, For, If, named, nodes_in, Place, Procedure, procedure_tree}
+use Rattle.inline.specs.Below.{right_nodes, RightTree, Statement, statement_nodes, statement_tree, StatementTree}
 
 abbrev pub extents_by : List Procedure → Extents
 extents_by earlier = extents_of (map procedure_tree earlier)

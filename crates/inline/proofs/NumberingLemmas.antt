@@ -6,21 +6,15 @@ use Rattle.std.proofs.lemmas.List.{append_assoc, append-nil}
 use Rattle.std.proofs.Math.Seq.{take-append_seam}
 use Rattle.inline.specs.declared.numbering.Numbered.{Numbered}
 use Rattle.inline.specs.Flat.{word_as, array_as}
-use Rattle.language.specs.declared.tree.Counter.{Counter}
-use Rattle.language.specs.WellTyped.{labelled}
+use Rattle.inline.specs.Below.{block_tree, BlockTree, conditional, Counter, declaration, Expr, expr_tree, For, found}
+use Rattle.inline.specs.Below.{If, labelled, named, Place, Procedure, procedure_tree, Statement, statement_tree}
+use Rattle.inline.specs.Below.{StatementTree}
 use Rattle.inline.specs.Numbering.{Callables, Numbers, names_after, names_after_all, right_end, numbers_taken}
 use Rattle.inline.specs.Numbering.{callable}
-use Rattle.language.specs.names.Scope.{declared, found}
-use Rattle.word.specs.declared.place.Place.{Place}
-use Rattle.language.specs.declared.tree.Expr.{Expr}
-use Rattle.language.specs.declared.tree.Statement.{Statement, If, For}
-use Rattle.language.specs.Tree.{StatementTree, declaration, conditional, BlockTree, expr_tree, statement_tree}
-use Rattle.language.specs.Tree.{block_tree, procedure_tree}
+use Rattle.language.specs.names.Scope.{declared}
 use Rattle.language.specs.Tree as source
 use Rattle.std.specs.Option.{option_map}
 use Rattle.inline.specs.Callees.{called_by}
-use Rattle.language.specs.declared.tree.Procedure.{Procedure}
-use Rattle.language.specs.Meaning.{named}
 use Rattle.inline.proofs.Below.{conditional_tree, loop_tree, known_by_name, made}
 
 -- Calls.

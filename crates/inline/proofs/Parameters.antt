@@ -5,9 +5,11 @@ use Rattle.std.proofs.Common.{length-append, zero}
 use Rattle.std.proofs.lemmas.Bool.{cases_Bool}
 use Rattle.std.proofs.lemmas.Option.{none-some, same_Some, slice_get_past}
 use Rattle.std.specs.Str.{bytes_eq}
-use Rattle.word.specs.declared.profile.Profile.{Profile}
+use Rattle.inline.specs.Below.{AreNew, AreWithin, Arg, argument_value, declared, final_array, final_arrays, Form, found}
+use Rattle.inline.specs.Below.{HasShape, holding, is_mutable, Kind, MutableArray, one_is_new, parameter_as}
+use Rattle.inline.specs.Below.{parameter_value, ParameterTree, Profile, Scope, SingleWord, State, Value, Variable}
+use Rattle.inline.specs.Below.{VariableType, with_parameters, words_of}
 use lib.Pointwise.{bytes_decides}
-use Rattle.language.specs.arguments.Within.{AreWithin, HasShape, words_of}
 use Rattle.inline.specs.declared.flat.FlatVariable.{FlatVariable}
 use Rattle.inline.specs.declared.numbering.Numbered.{Numbered}
 use Rattle.inline.specs.Flat.{declaration_of, elements_by, numbers_in}
@@ -15,20 +17,7 @@ use Rattle.inline.specs.FlatMeaning.{Values, given, array_of, arrays_from}
 use Rattle.inline.specs.FlatTyping.{Types, with_type, types_of}
 use Rattle.inline.specs.Numbering as numbering
 use Rattle.inline.specs.Numbering.{Numbers, param_of, naming}
-use Rattle.language.specs.names.Scope.{found}
-use Rattle.language.specs.declared.signature.Form.{Form}
-use Rattle.language.specs.declared.signature.Form.TheVariants.{SingleWord, MutableArray}
-use Rattle.language.specs.declared.signature.Kind.{Kind}
-use Rattle.language.specs.declared.typing.Declared.TheVariants.{Variable}
-use Rattle.language.specs.declared.typing.VariableType.{VariableType}
-use Rattle.language.specs.declared.values.Arg.{Arg}
 use Rattle.language.specs.declared.values.Arg.TheVariants.{Word, Array}
-use Rattle.language.specs.Meaning.{holding, argument_value, final_array, final_arrays}
-use Rattle.language.specs.State.{State, Value}
-use Rattle.language.specs.Tree.{ParameterTree}
-use Rattle.language.specs.Types.{Scope, declared}
-use Rattle.language.specs.Typing.{with_parameters, parameter_as, parameter_value, is_mutable}
-use Rattle.language.specs.WellTyped.{AreNew, one_is_new}
 use Rattle.inline.proofs.Below.{found-new, found-other, found-kept}
 use Rattle.inline.proofs.Linked.{Linked, Serves, serves_itself, widened, later, entry, value_as, variable_as}
 use Rattle.inline.proofs.Linked.{linked_beside, linked_named, not_named, with_type-same}

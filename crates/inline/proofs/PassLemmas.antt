@@ -8,10 +8,8 @@ use Rattle.inline.proofs.BlockLemmas.{chain_chain, chain_nothing}
 use Rattle.inline.specs.declared.flat.FlatVariable.{FlatVariable}
 use Rattle.inline.specs.Flat.{FlatBlock, chain}
 use Rattle.inline.specs.Numbering.{Numbers, begun, passed, passed_variables}
-use Rattle.language.specs.Meaning.{is_word}
-use Rattle.language.specs.declared.tree.Expr.{Expr}
+use Rattle.inline.specs.Below.{Expr, expr_tree, ExprTree, is_word, parameter_tree, ParameterTree}
 use Rattle.language.specs.declared.tree.Parameter.{Parameter}
-use Rattle.language.specs.Tree.{ExprTree, ParameterTree, expr_tree, parameter_tree}
 
 -- what is done and what is left come to all of it
 pub record Passes (names : Numbers) (done : FlatBlock) (own : Numbers) (now : List FlatVariable)

@@ -11,19 +11,13 @@ use Rattle.inline.specs.FlatMeaning as flat_meaning
 use Rattle.inline.specs.FlatTyping.{Types}
 use Rattle.inline.specs.Numbering.{Numbers, naming, begun, passed, number_given, own_variable, term}
 use Rattle.inline.specs.Path.{first_fault}
-use Rattle.language.specs.declared.signature.Form.{Form}
-use Rattle.language.specs.declared.signature.Form.TheVariants.{SingleWord}
-use Rattle.language.specs.declared.typing.WordType.{WordType}
-use Rattle.language.specs.Grammatical.{AreAllSmall}
-use Rattle.language.specs.Meaning.{is_word, EvaluatesAll, none_left, one_more, this_faults, later_faults}
-use Rattle.language.specs.Meaning.{word_arguments, argument_held, words_left, array_named, with_some}
+use Rattle.inline.specs.Below.{AreAllSmall, ArePassed, argument_held, array_named, EvaluatesAll, ExprTree, Form, found}
+use Rattle.inline.specs.Below.{is_word, later_faults, none_left, none_passed, one_passed, ParameterTree, Scope, single}
+use Rattle.inline.specs.Below.{SingleWord, State, this_faults, Value, with_some, word_arguments, words_left, WordType}
+use Rattle.language.specs.Meaning.{one_more}
 use Rattle.language.specs.Meaning as meaning
-use Rattle.language.specs.State.{State, Value, Word, single}
-use Rattle.language.specs.Tree.{ExprTree, ParameterTree}
-use Rattle.language.specs.Types.{Scope}
+use Rattle.language.specs.State.{Word}
 use Rattle.language.specs.WellTyped as rules
-use Rattle.language.specs.WellTyped.{ArePassed, none_passed, one_passed}
-use Rattle.language.specs.names.Scope.{found}
 use Rattle.inline.proofs.Begun.{word_given, array_passed, kept_begun}
 use Rattle.inline.proofs.Comes.{Comes, well, then_comes, also, across}
 use Rattle.inline.proofs.Linked.{Linked, entry, later, not_named}

@@ -7,21 +7,14 @@ use Rattle.std.proofs.lemmas.Option.{none-some, same_Some, slice_get_past}
 use Rattle.std.specs.List.{AllByRecursion}
 use Rattle.std.specs.Str.{bytes_eq}
 use lib.Pointwise.{bytes_decides}
-use Rattle.word.specs.declared.profile.Profile.{Profile}
-use Rattle.language.specs.declared.signature.Label.{Label}
-use Rattle.language.specs.declared.typing.Callee.{Callee}
-use Rattle.language.specs.declared.typing.Declared.TheVariants.{Procedure, Variable}
-use Rattle.language.specs.declared.typing.VariableType.{VariableType}
-use Rattle.language.specs.Meaning.{exported, named}
-use Rattle.language.specs.Tree.{ParameterTree, ProcedureTree, ProgramTree, StatementTree}
-use Rattle.word.specs.declared.place.Place.{Place}
-use Rattle.language.specs.Types.{Scope, empty, found, declared}
-use Rattle.language.specs.Typing.{assigns_public, parameter_as, scope_after, violations, with_parameters}
-use Rattle.language.specs.Typing.{with_procedure}
-use Rattle.language.specs.WellTyped.{IsWellTyped, declares, declares_array, IsProcedure, AreProcedures, no_procedure}
-use Rattle.language.specs.WellTyped.{one_procedure}
+use Rattle.inline.specs.Below.{AreProcedures, assigns_public, Callee, declared, declares, declares_array, empty}
+use Rattle.inline.specs.Below.{exported, first_known, IsProcedure, IsWellTyped, Label, named, no_procedure}
+use Rattle.inline.specs.Below.{one_procedure, parameter_as, ParameterTree, Place, ProcedureTree, Profile, ProgramTree}
+use Rattle.inline.specs.Below.{Scope, scope_after, StatementTree, Variable, VariableType, violations, with_parameters}
+use Rattle.inline.specs.Below.{with_procedure}
+use Rattle.language.specs.declared.typing.Declared.TheVariants.{Procedure}
+use Rattle.language.specs.Types.{found}
 use Rattle.language.proofs.typing_laws_lemmas.Programs.{programs}
-use Rattle.language.specs.Known.{first_known}
 use Rattle.inline.proofs.Below.{found-new, found-other, found-split}
 use Rattle.inline.proofs.Parameters.{NoVariables, get_front, get_last}
 

@@ -6,16 +6,10 @@ use Rattle.inline.specs.FlatMeaning.{Values, value_in, path_in, after_all, path_
 use Rattle.inline.specs.Numbering.{Numbers, callables, single, call_block, call_value, call_result, value_given}
 use Rattle.inline.specs.Numbering.{right_block, right}
 use Rattle.inline.specs.Path.{either, first_fault}
-use Rattle.language.specs.declared.signature.Label.{Label}
-use Rattle.language.specs.declared.typing.ValueType.TheVariants.{Word}
-use Rattle.language.specs.declared.typing.WordType.{WordType}
-use Rattle.language.specs.Grammatical.{IsSmallRight}
-use Rattle.language.specs.Meaning.{Rights, of_call, of_expr, expr_faults, Returned, word_given}
-use Rattle.language.specs.State.{State}
+use Rattle.inline.specs.Below.{called, CallTree, expr_faults, IsSmallRight, Label, of_expr, ProcedureTree, result_value}
+use Rattle.inline.specs.Below.{Returned, Rights, RightTree, Scope, State, Word, word_given, WordType}
+use Rattle.language.specs.Meaning.{of_call}
 use Rattle.language.specs.State as state
-use Rattle.language.specs.Tree.{RightTree, called, CallTree, ProcedureTree}
-use Rattle.language.specs.Types.{Scope}
-use Rattle.language.specs.Typing.{result_value}
 use Rattle.language.specs.WellTyped as rules
 use Rattle.inline.proofs.Called.{HasResult, a_word, Spares, Ready}
 use Rattle.inline.proofs.CallEnds.{call_means}

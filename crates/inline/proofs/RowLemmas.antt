@@ -8,7 +8,7 @@ use Rattle.inline.specs.declared.flat.FlatStatement.{items_hidden-the_row-FlatSt
 use Rattle.inline.specs.declared.flat.Term.{Term}
 use Rattle.inline.specs.Flat.{term_tree, flat_tree, flat_block, branch, loop}
 use Rattle.inline.specs.Flat as flat
-use Rattle.language.specs.declared.signature.Label.{Label}
+use Rattle.inline.specs.Below.{Label}
 
 flat_rows : (n : _) (row : Row_of-FlatStatement n)
     → flat.row_tree row ≡ flat_block (items-the_row-FlatStatement n row)

@@ -11,11 +11,8 @@ use Rattle.inline.specs.FlatMeaning.{Values}
 use Rattle.inline.specs.FlatMeaning as flat
 use Rattle.inline.specs.FlatTyping.{Types}
 use Rattle.inline.specs.Numbering.{Numbers, Callables, naming, names_after, names_after_all, numbers_taken}
-use Rattle.language.specs.names.Scope.{found}
-use Rattle.language.specs.State.{State, Value, with_value}
-use Rattle.language.specs.Tree.{StatementTree, declaration, array}
-use Rattle.language.specs.Tree.{BlockTree, nothing, first}
-use Rattle.language.specs.Types.{Scope}
+use Rattle.inline.specs.Below.{array, BlockTree, declaration, first, found, nothing, Scope, State, StatementTree, Value}
+use Rattle.inline.specs.Below.{with_value}
 use Rattle.inline.proofs.Linked.{Linked, entry, not_named}
 use Rattle.inline.proofs.Below.{found-new, found-other, found-kept}
 use Rattle.inline.proofs.Terms.{Holds, Shows}

@@ -4,11 +4,10 @@ use Rattle.std.proofs.Common.{Some, None, refl, sym, ap, ◌∙◌}
 use Rattle.std.proofs.lemmas.List.{drop_more}
 use Rattle.std.specs.Option.{option_map}
 use Rattle.std.specs.Str.{bytes_eq}
-use Rattle.language.specs.declared.tree.Procedure.{Procedure}
-use Rattle.language.specs.Known.{Known, first_known, known_from, with_known}
-use Rattle.language.specs.Tree.{ProcedureTree, procedure_tree}
+use Rattle.inline.specs.Below.{first_known, found, Known, known_from, Procedure, procedure_tree, ProcedureTree}
+use Rattle.inline.specs.Below.{with_known}
 use Rattle.language.proofs.names_lemmas.Lookup.{first_of_two, found_declared}
-use Rattle.language.specs.names.Scope.{found, declared}
+use Rattle.language.specs.names.Scope.{declared}
 
 -- what an entry tells, what is counted of what is known, and how that is made of a procedure
 module _ {Entry Made Told : Type 0} (told : Entry → Told) (count : Made → Told)

@@ -1,8 +1,11 @@
 -- A well-typed expression keeps its type, and comes to the same, once its names are numbers.
 use Rattle.std.proofs.Common.{◌≡◌, ℕ, ◌==◌, ◌&&◌, Bool, true, false, not, if◌then◌else◌, nat_lt, List, [], ◌∷◌}
 use Rattle.std.proofs.Common.{length, Option, Some, None, slice_index, refl, sym, ap, ap₂, ◌∙◌, subst}
-use Rattle.word.specs.declared.place.Place.{Place}
-use Rattle.word.specs.declared.profile.Profile.{Profile}
+use Rattle.inline.specs.Below.{applied, AreSmall, ArrayType, binary, by_operands, divides, element, element_held}
+use Rattle.inline.specs.Below.{Ending, Evaluates, ExprTree, faults, found, gives, joined, Kind, Label, labelled}
+use Rattle.inline.specs.Below.{later_faults, multiplies, none_left, operand_faults, operated, operation_kind}
+use Rattle.inline.specs.Below.{operation_of, Place, Profile, Public, Scope, single, State, this_faults, Uint32, Value}
+use Rattle.inline.specs.Below.{width_of, Word, word_held, WordType}
 use Rattle.inline.specs.declared.flat.FlatVariable.{FlatVariable}
 use Rattle.inline.specs.declared.numbering.Numbered.{Numbered}
 use Rattle.inline.specs.Flat.{word_as, array_as, numbers_in}
@@ -11,28 +14,12 @@ use Rattle.inline.specs.FlatTyping as flat
 use Rattle.inline.specs.FlatTyping.{Types, HasType, Suits}
 use Rattle.inline.specs.Numbering.{Numbers, number_of, size_of, kind_in, label_in, term}
 use Rattle.inline.specs.Path.{indexed, divided, multiplied, fault_at, either, first_fault}
-use Rattle.language.specs.names.Scope.{found}
-use Rattle.language.specs.declared.signature.Kind.{Kind}
-use Rattle.language.specs.declared.signature.Kind.TheVariants.{Uint32}
-use Rattle.language.specs.declared.signature.Label.{Label}
-use Rattle.language.specs.declared.signature.Label.TheVariants.{Public}
 use Rattle.language.specs.declared.operation.Operation.{Operation}
-use Rattle.language.specs.declared.typing.ArrayType.{ArrayType}
-use Rattle.language.specs.declared.typing.ValueType.TheVariants.{Word}
-use Rattle.language.specs.declared.typing.WordType.{WordType}
-use Rattle.language.specs.ExprTyping.{operation_kind}
-use Rattle.language.specs.Operators.{operation_of}
-use Rattle.language.specs.Grammatical.{AreSmall}
-use Rattle.language.specs.Meaning.{Ending, Evaluates, by_operands, operand_faults, none_left, one_more, this_faults}
-use Rattle.language.specs.Meaning.{later_faults, gives, faults, word_held, element_held, applied}
-use Rattle.language.specs.Operators.{divides, multiplies, operated, width_of}
+use Rattle.language.specs.Meaning.{one_more}
 use Rattle.language.specs.OperatorWords.{binary_word, prefix_word, rotated_word, converted_word, selected_word}
-use Rattle.language.specs.State.{State, Value, single, array}
+use Rattle.language.specs.State.{array}
 use Rattle.language.specs.State as state
-use Rattle.language.specs.Tree.{ExprTree, binary, element}
-use Rattle.language.specs.Types.{Scope, joined}
 use Rattle.language.specs.WellTyped as rules
-use Rattle.language.specs.WellTyped.{labelled}
 use Rattle.inline.proofs.Comes.{Comes, well, fails, then_comes, also, either-assoc, either-none, across}
 use Rattle.inline.proofs.Linked.{Known, Linked}
 

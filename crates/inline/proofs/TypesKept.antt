@@ -5,7 +5,7 @@ use Rattle.inline.specs.declared.flat.FlatVariable.{FlatVariable}
 use Rattle.inline.specs.Flat.{FlatTree, declare, array, hold, FlatBlock, nothing}
 use Rattle.inline.specs.Flat.{first, word_as, array_as}
 use Rattle.inline.specs.FlatTyping.{Types, counter_type, IsTyped, AreTyped, types_after, types_after_all}
-use Rattle.language.specs.declared.signature.Label.{Label}
+use Rattle.inline.specs.Below.{Label}
 use Rattle.inline.proofs.Linked.{with_type-other}
 
 -- what is new is none of what is in scope

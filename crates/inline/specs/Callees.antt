@@ -1,8 +1,7 @@
 -- The procedures that a body may call, as they stand in memory.
 use Rattle.std.specs.Prelude.{List, map}
 use Rattle.inline.specs.Numbering.{Callables, callables}
-use Rattle.language.specs.declared.tree.Procedure.{Procedure}
-use Rattle.language.specs.Tree.{procedure_tree}
+use Rattle.inline.specs.Below.{Procedure, procedure_tree}
 
 -- what is known behind these
 abbrev pub called_by : List Procedure → Callables

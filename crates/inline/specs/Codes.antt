@@ -16,10 +16,7 @@ use Rattle.language.specs.contracts.typing.WordType as word
 use Rattle.word.specs.contracts.place.Place as place
 use Rattle.word.specs.contracts.profile.Profile as profile
 use Rattle.word.specs.contracts.width.Width as width
-use Rattle.word.specs.declared.place.Place.{Place}
-use Rattle.word.specs.declared.profile.Profile.{Profile}
-use Rattle.language.specs.declared.signature.Param.{Param}
-use Rattle.language.specs.declared.typing.WordType.{WordType}
+use Rattle.inline.specs.Below.{Param, Place, Profile, WordType}
 
 abbrev head : Gv → Gv
 head gnil = gnil

@@ -1,8 +1,7 @@
 -- What is counted of procedures.
 use Rattle.std.specs.Prelude.{◌≡◌, ℕ, List}
 use Rattle.std.specs.Option.{option_map}
-use Rattle.language.specs.Shares.{counted}
-use Rattle.language.specs.Size.{Extent, Extents}
+use Rattle.inline.specs.Below.{counted, Extent, Extents}
 
 abbrev pub counted_extent : Extent → Extent
 counted_extent e = record {

@@ -4,8 +4,7 @@ use Rattle.inline.specs.declared.flat.FlatVariable.{FlatVariable}
 use Rattle.inline.specs.Flat.{numbers_in}
 use Rattle.inline.specs.FlatMeaning.{Values}
 use Rattle.inline.specs.FlatTyping.{Types}
-use Rattle.language.specs.declared.signature.Kind.{Kind}
-use Rattle.language.specs.Types.{bits_of}
+use Rattle.inline.specs.Below.{bits_of, Kind}
 
 -- a bool is 0 or 1, and a number is below 2 to its width
 abbrev pub IsWithinKind : Kind → ℕ → Type 0

@@ -6,20 +6,8 @@ use Rattle.inline.specs.declared.flat.Term.{Select', Element'}
 use Rattle.inline.specs.declared.flat.FlatStatement.{FlatStatement, Declare, DeclareArray, Assign, AssignElement}
 use Rattle.inline.specs.declared.flat.FlatStatement.{Hold, Skip, Branch', Loop', Row_of-FlatStatement}
 use Rattle.inline.specs.declared.flat.FlatStatement.{end_of-FlatStatement, more_of-FlatStatement}
-use Rattle.language.specs.declared.signature.Form.{Form}
-use Rattle.language.specs.declared.signature.Form.TheVariants.{SingleWord, FixedArray, MutableArray}
-use Rattle.language.specs.declared.signature.Param.{Param}
-use Rattle.language.specs.declared.signature.Kind.{Kind}
-use Rattle.language.specs.declared.signature.Kind.TheVariants.{Uint32}
-use Rattle.language.specs.declared.signature.Label.{Label}
-use Rattle.language.specs.declared.signature.Label.TheVariants.{Public}
-use Rattle.language.specs.declared.operators.BinaryOperator.{BinaryOperator}
-use Rattle.language.specs.declared.operators.PrefixOperator.{PrefixOperator}
-use Rattle.language.specs.declared.typing.WordType.{WordType}
-use Rattle.language.specs.Typing.{is_mutable}
-use Rattle.word.specs.declared.place.Place.{Place}
-use Rattle.word.specs.declared.profile.Profile.{Profile}
-use Rattle.word.specs.declared.width.Width.{Width}
+use Rattle.inline.specs.Below.{BinaryOperator, FixedArray, Form, is_mutable, Kind, Label, MutableArray, Param, Place}
+use Rattle.inline.specs.Below.{PrefixOperator, Profile, Public, SingleWord, Uint32, Width, WordType}
 
 -- An expression; where the width of an operand decides what a node means, the node has it: the left operand's. A node
 -- that may meet a fault has its place.

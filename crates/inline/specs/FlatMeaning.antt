@@ -3,22 +3,14 @@
 use Rattle.std.specs.Prelude.{ℕ, zero, suc, ◌+◌, ◌-◌, ◌==◌, List, [], ◌∷◌, ◌++◌, map, replicate, drop, Option, None}
 use Rattle.std.specs.Prelude.{Some, if◌then◌else◌, slice_index, slice_set}
 use Rattle.std.specs.Option.{option_map}
-use Rattle.language.specs.arguments.Within.{words_of}
+use Rattle.inline.specs.Below.{Arg, BinaryOperator, converted, divides, Ending, faults, FixedArray, Form, gives}
+use Rattle.inline.specs.Below.{multiplies, MutableArray, operated, Param, Place, prefix_value, Results, rotated_left}
+use Rattle.inline.specs.Below.{SingleWord, width_of, word_of, words_of}
 use Rattle.inline.specs.declared.flat.FlatVariable.{FlatVariable}
 use Rattle.inline.specs.Flat.{TermTree, number, truth, variable, prefix, binary, rotate, convert, select, element}
 use Rattle.inline.specs.Flat.{FlatTree, declare, array, assign, put, hold, skip, branch, loop, FlatBlock, nothing}
 use Rattle.inline.specs.Flat.{first, FlatProgram, numbers_in}
 use Rattle.inline.specs.Path.{bounded, indexed, divided, multiplied, Path, first_fault}
-use Rattle.language.specs.Meaning.{Ending, gives, faults}
-use Rattle.language.specs.Operators.{divides, multiplies, operated, prefix_value, width_of}
-use Rattle.language.specs.Results.{Results}
-use Rattle.language.specs.declared.signature.Form.{Form}
-use Rattle.language.specs.declared.signature.Form.TheVariants.{SingleWord, FixedArray, MutableArray}
-use Rattle.language.specs.declared.signature.Param.{Param}
-use Rattle.language.specs.declared.operators.BinaryOperator.{BinaryOperator}
-use Rattle.language.specs.declared.values.Arg.{Arg}
-use Rattle.word.specs.Operators.{rotated_left, converted, word_of}
-use Rattle.word.specs.declared.place.Place.{Place}
 
 -- What the variables hold: a word is a list of one number, an array the list of its elements. A bool is 0 or 1.
 abbrev pub Values : Type 0

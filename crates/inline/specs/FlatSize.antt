@@ -6,12 +6,8 @@ use Rattle.inline.specs.Flat.{TermTree, number, truth, variable, prefix, binary,
 use Rattle.inline.specs.Flat.{FlatTree, declare, array, assign, put, hold, skip, branch, loop, FlatBlock, nothing}
 use Rattle.inline.specs.Flat.{first, FlatProgram, declaration_of}
 pub use Rattle.inline.specs.Limits.{most_variable_bytes}
-use Rattle.language.specs.Limits.{most_nodes, most_declared_bytes, most_elements}
-use Rattle.language.specs.declared.signature.Form.{Form}
-use Rattle.language.specs.declared.signature.Form.TheVariants.{SingleWord, FixedArray, MutableArray}
-use Rattle.language.specs.declared.signature.Param.{Param}
-use Rattle.language.specs.Size.{array_words}
-use Rattle.language.specs.declared.typing.WordType.{WordType}
+use Rattle.inline.specs.Below.{array_words, FixedArray, Form, most_declared_bytes, most_elements, most_nodes}
+use Rattle.inline.specs.Below.{MutableArray, Param, SingleWord, WordType}
 
 -- the nodes of an expression
 abbrev pub term_nodes : TermTree → ℕ

@@ -6,22 +6,9 @@ pub use Rattle.inline.specs.Flat.{counter_type}
 use Rattle.inline.specs.Flat.{TermTree, number, truth, variable, prefix, binary, rotate, convert, select, element}
 use Rattle.inline.specs.Flat.{FlatTree, declare, array, assign, put, hold, skip, branch, loop, FlatBlock, nothing}
 use Rattle.inline.specs.Flat.{first, FlatProgram, word_as, array_as, declaration_of}
-use Rattle.language.specs.declared.signature.Kind.{Kind}
-use Rattle.language.specs.declared.signature.Kind.TheVariants.{Boolean, Uint32}
-use Rattle.language.specs.declared.signature.Label.{Label}
-use Rattle.language.specs.declared.signature.Label.TheVariants.{Public, Secret}
-use Rattle.language.specs.declared.signature.Param.{Param}
-use Rattle.language.specs.declared.operators.BinaryOperator.{BinaryOperator}
-use Rattle.language.specs.declared.operators.PrefixOperator.{PrefixOperator}
-use Rattle.language.specs.declared.typing.WordType.{WordType}
-use Rattle.language.specs.Operators.{operation_of}
-use Rattle.language.specs.Grammatical.{IsNumberKind}
-use Rattle.language.specs.Operators.{width_of}
-use Rattle.language.specs.Types.{bits_of, joined}
-use Rattle.language.specs.WellTyped.{labelled, Makes, Takes}
-use Rattle.word.specs.declared.place.Place.{Place}
-use Rattle.word.specs.declared.profile.Profile.{Profile}
-use Rattle.word.specs.declared.width.Width.{Width}
+use Rattle.inline.specs.Below.{BinaryOperator, bits_of, Boolean, IsNumberKind, joined, Kind, Label, labelled, Makes}
+use Rattle.inline.specs.Below.{operation_of, Param, Place, PrefixOperator, Profile, Public, Secret, Takes, Uint32}
+use Rattle.inline.specs.Below.{Width, width_of, WordType}
 
 -- the observer, and what the variables in scope are declared as
 pub record Types : Type 0 where

@@ -11,3 +11,4 @@ pub mod FlatSize
 pub mod Counts
 pub mod Measured
 pub mod Kept
+pub mod Below

@@ -3,12 +3,10 @@ use Rattle.std.specs.Prelude.{ℕ, ◌+◌, List, map}
 use Rattle.std.specs.Option.{option_map}
 use Rattle.inline.specs.declared.measured.Measured.{Measured}
 use Rattle.inline.specs.declared.measured.Size.{Size}
-use Rattle.language.specs.Shares.{counted}
-use Rattle.language.specs.Size.{Extent, Extents, call_nodes, words_of_called, bodies_of_called, right_nodes}
-use Rattle.language.specs.Size.{right_words, right_bodies, statement_nodes, statement_words, statement_bodies}
-use Rattle.language.specs.Size.{block_nodes, block_words, block_bodies, nodes_of, bodies_of, parameter_words}
-use Rattle.language.specs.Tree.{CallTree, RightTree, StatementTree, BlockTree, ProcedureTree, parameter_tree}
-use Rattle.language.specs.names.Scope.{found}
+use Rattle.inline.specs.Below.{block_bodies, block_nodes, block_words, BlockTree, bodies_of, bodies_of_called}
+use Rattle.inline.specs.Below.{call_nodes, CallTree, counted, Extent, Extents, found, nodes_of, parameter_tree}
+use Rattle.inline.specs.Below.{parameter_words, ProcedureTree, right_bodies, right_nodes, right_words, RightTree}
+use Rattle.inline.specs.Below.{statement_bodies, statement_nodes, statement_words, StatementTree, words_of_called}
 
 abbrev pub counted_size : ℕ → ℕ → ℕ → Size
 counted_size nodes words bodies = record { nodes = counted nodes; words = counted words; bodies = counted bodies }

@@ -4,32 +4,19 @@
 use Rattle.std.specs.Prelude.{ℕ, ◌+◌, false, List, [], ◌∷◌, ◌++◌, length, map, Option, None, Some, unwrap_or}
 use Rattle.std.specs.Prelude.{if◌then◌else◌}
 use Rattle.std.specs.Option.{option_map}
-use Rattle.language.specs.names.Scope.{found, declared}
+use Rattle.inline.specs.Below.{array, assignment, binary, BlockTree, Boolean, call, called, computed, conditional}
+use Rattle.inline.specs.Below.{convert, declaration, element, element_assignment, ExprTree, extents_of, first, found}
+use Rattle.inline.specs.Below.{is_word, joined, Kind, Known, known_of, Label, labelled, loop, name, nodes_of, nothing}
+use Rattle.inline.specs.Below.{number, operation_kind, operation_of, ParameterTree, Place, prefix, ProcedureTree}
+use Rattle.inline.specs.Below.{Profile, Public, ReturnTree, RightTree, rotate, select, StatementTree, truth, width_of}
+use Rattle.inline.specs.Below.{WordType, written}
+use Rattle.language.specs.names.Scope.{declared}
 use Rattle.inline.specs.declared.flat.FlatVariable.{FlatVariable}
 use Rattle.inline.specs.Flat.{TermTree, FlatTree, FlatBlock, FlatProgram, chain, word_as, array_as, declaration_of}
 use Rattle.inline.specs.Flat.{numbers_in, counter_type}
 use Rattle.inline.specs.Flat as flat
 use Rattle.inline.specs.declared.numbering.Numbered.{Numbered}
-use Rattle.language.specs.declared.signature.Kind.{Kind}
-use Rattle.language.specs.declared.signature.Kind.TheVariants.{Boolean}
-use Rattle.language.specs.declared.signature.Label.{Label}
-use Rattle.language.specs.declared.signature.Label.TheVariants.{Public}
-use Rattle.language.specs.declared.typing.WordType.{WordType}
-use Rattle.word.specs.declared.place.Place.{Place}
-use Rattle.word.specs.declared.profile.Profile.{Profile}
-use Rattle.language.specs.ExprTyping.{operation_kind}
-use Rattle.language.specs.Operators.{operation_of}
-use Rattle.language.specs.Operators.{width_of}
 pub use Rattle.language.specs.Signature.{param_of}
-use Rattle.language.specs.Known.{Known, known_of}
-use Rattle.language.specs.Meaning.{is_word}
-use Rattle.language.specs.Size.{nodes_of, extents_of}
-use Rattle.language.specs.Tree.{ExprTree, number, truth, name, prefix, binary, rotate, convert, select, element}
-use Rattle.language.specs.Tree.{RightTree, called, computed, StatementTree, declaration, array, assignment}
-use Rattle.language.specs.Tree.{element_assignment, call, conditional, loop, BlockTree, nothing, first, ParameterTree}
-use Rattle.language.specs.Tree.{ReturnTree, ProcedureTree, written}
-use Rattle.language.specs.Types.{joined}
-use Rattle.language.specs.WellTyped.{labelled}
 
 -- the names in scope, each with its number and what it is declared as
 abbrev pub Numbers : Type 0

@@ -2,8 +2,7 @@
 -- meets them.
 use Rattle.std.specs.Prelude.{ℕ, ◌-◌, ◌<◌, ◌≤◌, ◌==◌, nat_lt, List, [], ◌∷◌, ◌++◌, Option, Some, None, if◌then◌else◌}
 use Rattle.std.specs.Prelude.{slice_index}
-use Rattle.word.specs.declared.place.Place.{Place}
-use Rattle.word.specs.declared.profile.Profile.{Profile}
+use Rattle.inline.specs.Below.{Place, Profile}
 use Rattle.word.specs.declared.profile.Profile.TheVariants.{P1, P2}
 
 pub data Mark : Type 0 where

@@ -3,7 +3,7 @@
 ghost use Rattle.std.specs.Prelude.{◌≡◌, ◌++◌, ◌∷◌, [], length, map, IfOk, OnOk};
 ghost use Rattle.inline.specs.Flat.{chain, flat_block, flat_tree};
 ghost use Rattle.inline.specs.Numbering.{begun, number_given, passed, passed_variables, single};
-ghost use Rattle.language.specs.Tree.{expr_tree, parameter_tree};
+ghost use Rattle.inline.specs.Below.{expr_tree, parameter_tree};
 
 use crate::numbering::{Numbered, Numbering, add};
 use crate::{FlatStatement, FlatVariable};

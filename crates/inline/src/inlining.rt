@@ -3,11 +3,7 @@
 ghost use Rattle.std.specs.Prelude.{◌≡◌, [], List, Some, length, map, IfOk, IfErr};
 ghost use Rattle.inline.specs.Kept.{IsFlat};
 ghost use Rattle.inline.specs.Numbering.{flattened};
-ghost use Rattle.language.specs.FirstViolation.{IsRefusedFor, IsToldOf};
-ghost use Rattle.language.specs.Signature.{exported};
-ghost use Rattle.language.specs.Size.{extents_of, nodes_of, size_violations};
-ghost use Rattle.language.specs.Tree.{ProcedureTree, procedure_tree, program_tree};
-ghost use Rattle.language.specs.WantOfMemory.{IsWantOfMemory};
+ghost use Rattle.inline.specs.Below.{exported, extents_of, IsRefusedFor, IsToldOf, IsWantOfMemory, nodes_of, procedure_tree, ProcedureTree, program_tree, size_violations};
 
 use crate::Flat;
 use crate::numbering::Numbering;

@@ -2,8 +2,7 @@
 
 ghost use Rattle.std.specs.List.{AllByRecursion};
 ghost use Rattle.std.specs.Prelude.{◌≡◌, [], List, Some, length, map};
-ghost use Rattle.word.specs.declared.profile.Profile.{Profile};
-ghost use Rattle.language.specs.arguments.Within.{AreWithin};
+ghost use Rattle.inline.specs.Below.{AreWithin, Arg, exported, Gives, IsGrammatical, Label, ProcedureTree, Profile, ProgramTree, size_violations, violations, WordType};
 ghost use Rattle.inline.specs.declared.flat.FlatVariable.{FlatVariable};
 ghost use Rattle.inline.specs.Fitting.{Fits, IsWithinKind};
 ghost use Rattle.inline.specs.Flat.{FlatBlock, FlatProgram, FlatTree, TermTree};
@@ -11,14 +10,6 @@ ghost use Rattle.inline.specs.FlatMeaning.{Values, after, after_all, end_of, end
 ghost use Rattle.inline.specs.FlatSize.{IsSized};
 ghost use Rattle.inline.specs.FlatTyping.{AreTyped, HasType, IsTyped, IsTypedProgram, Suits, Types, end_types, parameter_types, types_after, types_after_all};
 ghost use Rattle.inline.specs.Numbering.{flattened, param_of};
-ghost use Rattle.language.specs.declared.signature.Label.{Label};
-ghost use Rattle.language.specs.declared.typing.WordType.{WordType};
-ghost use Rattle.language.specs.declared.values.Arg.{Arg};
-ghost use Rattle.language.specs.Grammatical.{IsGrammatical};
-ghost use Rattle.language.specs.Meaning.{Gives, exported};
-ghost use Rattle.language.specs.Size.{size_violations};
-ghost use Rattle.language.specs.Tree.{ProcedureTree, ProgramTree};
-ghost use Rattle.language.specs.Typing.{violations};
 
 /// The export of a program that violates no rule is well typed for the same observer once its names are numbers, with the
 /// bodies that it calls in it.

@@ -2,7 +2,7 @@
 
 ghost use Rattle.std.specs.Prelude.{◌≡◌, ◌+◌, ◌*◌, ◌/◌};
 ghost use Rattle.inline.specs.Limits.{most_variable_bytes};
-ghost use Rattle.language.specs.Limits.{most_nodes, most_declared_bytes};
+ghost use Rattle.inline.specs.Below.{most_declared_bytes, most_nodes};
 
 /// The most bytes that its variables take: what the source may declare, and a word of 4 bytes for every three of
 /// the most nodes, since each value that is held besides stands for three nodes or more.

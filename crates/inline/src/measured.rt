@@ -1,6 +1,6 @@
 ghost use Rattle.std.specs.Prelude.{◌≡◌, ◌+◌, ◌*◌, max};
 ghost use Rattle.inline.specs.Measured.{counted_size};
-ghost use Rattle.language.specs.Shares.{counted};
+ghost use Rattle.inline.specs.Below.{counted};
 
 use language::Parameter;
 

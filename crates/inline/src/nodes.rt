@@ -1,10 +1,7 @@
 // How many nodes expressions have. A count stops at the greatest number.
 
 ghost use Rattle.std.specs.Prelude.{◌≡◌, map};
-ghost use Rattle.language.specs.Meaning.{word_arguments};
-ghost use Rattle.language.specs.Shares.{counted};
-ghost use Rattle.language.specs.Size.{nodes_in, nodes_in_all, nodes_passed};
-ghost use Rattle.language.specs.Tree.{expr_tree, parameter_tree};
+ghost use Rattle.inline.specs.Below.{counted, expr_tree, nodes_in, nodes_in_all, nodes_passed, parameter_tree, word_arguments};
 
 use language::{Expr, Form, Parameter};
 

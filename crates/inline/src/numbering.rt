@@ -5,9 +5,7 @@ ghost use Rattle.std.specs.Option.{option_map};
 ghost use Rattle.inline.specs.Flat as flat;
 ghost use Rattle.inline.specs.Flat.{array_as, counter_type, declaration_of, flat_tree, term_tree, word_as};
 ghost use Rattle.inline.specs.Numbering as numbered;
-ghost use Rattle.language.specs.Tree.{expr_tree, parameter_tree, return_tree, written};
-ghost use Rattle.language.specs.Types.{joined};
-ghost use Rattle.language.specs.WellTyped.{labelled};
+ghost use Rattle.inline.specs.Below.{expr_tree, joined, labelled, parameter_tree, return_tree, written};
 
 use crate::typed::{binary, element, prefix, rotate, select};
 use crate::{FlatStatement, FlatVariable, Term};

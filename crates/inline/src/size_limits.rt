@@ -2,12 +2,7 @@
 
 ghost use Rattle.std.specs.Prelude.{◌≡◌, ◌<◌, ◌≤◌, ◌*◌, ◌||◌, [], is_none, length, map, nat_lt, IfErr, IfOk, IfSome};
 ghost use Rattle.inline.specs.Measured.{extents_in};
-ghost use Rattle.language.specs.FirstViolation.{IsNamed, IsRefusedFor, IsToldOf};
-ghost use Rattle.language.specs.Limits.{most_bodies, most_declared_bytes, most_nodes};
-ghost use Rattle.language.specs.Shares.{excess};
-ghost use Rattle.language.specs.Size.{extents_of, limits_passed, nodes_of, size_violations};
-ghost use Rattle.language.specs.Tree.{procedure_tree};
-ghost use Rattle.language.specs.WantOfMemory.{IsWantOfMemory};
+ghost use Rattle.inline.specs.Below.{excess, extents_of, IsNamed, IsRefusedFor, IsToldOf, IsWantOfMemory, limits_passed, most_bodies, most_declared_bytes, most_nodes, nodes_of, procedure_tree, size_violations};
 
 use crate::costs::{SizeCosts, costs_of};
 use crate::measured::{Measured, Size};

@@ -3,9 +3,7 @@
 ghost use Rattle.std.specs.Prelude.{◌≡◌, IfOk};
 ghost use Rattle.inline.specs.Flat as flat;
 ghost use Rattle.inline.specs.Flat.{numbers_in, term_tree};
-ghost use Rattle.language.specs.ExprTyping.{operation_kind};
-ghost use Rattle.language.specs.Operators.{operation_of};
-ghost use Rattle.language.specs.Operators.{width_of};
+ghost use Rattle.inline.specs.Below.{operation_kind, operation_of, width_of};
 
 use crate::Term;
 use crate::numbering::Numbered;

@@ -3,17 +3,13 @@ use Rattle.std.proofs.Common.{◌≡◌, ℕ, false, ◌+◌, ◌<◌, ◌≤◌
 use Rattle.std.proofs.Common.{arith}
 use Rattle.std.proofs.lemmas.List.{length-set, get_or-set_same, get_or-set_other}
 use Rattle.std.proofs.lemmas.Option.{slice_get_within}
-use Rattle.inline.specs.declared.flat.FlatVariable.{FlatVariable}
-use Rattle.inline.specs.Flat.{FlatTree, branch, loop, FlatBlock, nothing}
-use Rattle.inline.specs.Flat.{first, word_as}
-use Rattle.inline.specs.FlatTyping.{Types, with_type, counter_type, IsTyped, AreTyped, IsNumbered, AreNumbered}
-use Rattle.inline.specs.FlatTyping.{declarations_in, declarations_in_all, types_after}
+use Rattle.intervals.specs.Below.{AreNumbered, AreTyped, branch, counter_type, declarations_in, declarations_in_all}
+use Rattle.intervals.specs.Below.{first, FlatBlock, FlatTree, FlatVariable, IsNumbered, IsTyped, joined, Label, loop}
+use Rattle.intervals.specs.Below.{nothing, Types, types_after, with_type, word_as}
 use Rattle.intervals.specs.Intervals.{Bounds, interval}
 use Rattle.intervals.specs.Narrowing.{where_true, where_false}
 use Rattle.intervals.specs.Ranges.{bounds_after, counted, counted_all, in_loop, most_turns}
 use Rattle.intervals.proofs.LooseStatements.{AreCounted, AllCounted}
-use Rattle.language.specs.Types.{joined}
-use Rattle.language.specs.declared.signature.Label.{Label}
 
 -- what is set at a number is there, and others stay
 set_here : (turns : List ℕ) (x n : ℕ) → x < length turns → slice_index (slice_set turns x n) x ≡ n

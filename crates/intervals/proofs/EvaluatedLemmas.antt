@@ -2,19 +2,14 @@
 use Rattle.std.proofs.Common.{ℕ, zero, suc, ◌+◌, ◌-◌, ◌*◌, ◌≤◌, ◌==◌, Bool, true, false, if◌then◌else◌, List, [], ◌∷◌}
 use Rattle.std.proofs.Common.{◌++◌, arith}
 use Rattle.std.proofs.Math.Nat.{mul-le-mul_right}
-use Rattle.language.specs.arguments.Within.{AreWithin}
-use Rattle.inline.specs.Flat.{FlatTree, branch, loop, FlatBlock, nothing}
-use Rattle.inline.specs.Flat.{first, FlatProgram}
-use Rattle.inline.specs.FlatMeaning.{Values, with_value, value_in, path_in, path_of_turns, after, after_all, path_at}
-use Rattle.inline.specs.FlatMeaning.{path_along, path_of_result, path_of, given, end_of}
-use Rattle.inline.specs.FlatSize.{value_nodes}
-use Rattle.inline.specs.Path.{Path, bounded, AreFine}
+use Rattle.intervals.specs.Below.{after, after_all, AreFine, AreWithin, Arg, bounded, branch, end_of, first, FlatBlock}
+use Rattle.intervals.specs.Below.{FlatProgram, FlatTree, given, loop, nothing, Path, path_along, path_at, path_in}
+use Rattle.intervals.specs.Below.{path_of, path_of_result, path_of_turns, value_in, value_nodes, Values, with_value}
 use Rattle.intervals.specs.Evaluated.{evaluated, evaluated_all, evaluated_in_turns, evaluated_by}
 use Rattle.intervals.specs.Loose.{IsSafe}
 use Rattle.intervals.specs.Work.{tree_work, body_work}
 use Rattle.intervals.proofs.Below.{fine_back, fine_front}
 use Rattle.intervals.proofs.StrictRuns.{strict_is_loose}
-use Rattle.language.specs.declared.values.Arg.{Arg}
 
 module _ (most : List ℕ) where
   -- turns, each of which is within so many nodes where its path is fine

@@ -1,26 +1,17 @@
 -- Intervals, narrowing, turns and work by small examples: each is computed.
 use Rattle.std.proofs.Common.{◌≡◌, ℕ, List, [], ◌∷◌, length, false, true, None, Some, refl}
-use Rattle.inline.specs.declared.flat.FlatVariable.{FlatVariable}
-use Rattle.inline.specs.Flat.{TermTree, number, truth, variable, binary, rotate, convert, select, element, nothing}
-use Rattle.inline.specs.Flat.{first, declare, put, hold, skip, loop, FlatBlock, FlatProgram, word_as, array_as}
-use Rattle.language.specs.declared.interval.Interval.{Interval}
+use Rattle.intervals.specs.Below.{Add, array_as, binary, BinaryOperator, BitAnd, BitOr, BitXor, Both, Complement}
+use Rattle.intervals.specs.Below.{convert, declare, Divide, element, Equal, first, FlatBlock, FlatProgram, FlatVariable}
+use Rattle.intervals.specs.Below.{Greater, hold, Interval, Label, labelled, Less, LessOrEqual, loop, Multiply, Negate}
+use Rattle.intervals.specs.Below.{nothing, number, Public, put, Remainder, rotate, Secret, select, ShiftLeft}
+use Rattle.intervals.specs.Below.{ShiftRight, skip, Subtract, TermTree, truth, Uint16, Uint32, Uint8, variable, W32, W8}
+use Rattle.intervals.specs.Below.{Width, word_as}
 use Rattle.intervals.specs.Intervals.{Bounds, between, interval, operated_interval, prefix_interval, converted_interval}
 use Rattle.intervals.specs.Narrowing.{where_false, where_true}
 use Rattle.intervals.specs.Ranges.{counter_interval, most_turns, range_violations, turns_of}
 use Rattle.intervals.specs.Work.{work_of, work_violations}
-use Rattle.language.specs.declared.signature.Kind.TheVariants.{Uint8, Uint16, Uint32}
-use Rattle.language.specs.declared.signature.Label.{Label}
-use Rattle.language.specs.declared.signature.Label.TheVariants.{Public, Secret}
-use Rattle.language.specs.declared.operators.BinaryOperator.{BinaryOperator}
-use Rattle.language.specs.declared.operators.BinaryOperator.TheVariants.{Both, Equal, Less, LessOrEqual, Greater, BitOr}
-use Rattle.language.specs.declared.operators.BinaryOperator.TheVariants.{BitXor, BitAnd, ShiftLeft, ShiftRight, Add}
-use Rattle.language.specs.declared.operators.BinaryOperator.TheVariants.{Subtract, Multiply, Divide, Remainder}
-use Rattle.language.specs.declared.operators.PrefixOperator.TheVariants.{Complement, Negate}
-use Rattle.language.specs.WellTyped.{labelled}
 use Rattle.word.specs.Places.{origin}
 use Rattle.word.specs.declared.profile.Profile.TheVariants.{P1}
-use Rattle.word.specs.declared.width.Width.{Width}
-use Rattle.word.specs.declared.width.Width.TheVariants.{W8, W32}
 
 -- Operators: what an operator gives on operands between two bounds, where it wraps, and where it does not.
 

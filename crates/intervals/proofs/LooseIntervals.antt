@@ -6,27 +6,15 @@ use Rattle.std.proofs.Math.Nat.{le-max_left, le-max_right, le-min, min-le_left, 
 use Rattle.std.proofs.lemmas.Bool.{and_parts, cond_both}
 use Rattle.std.proofs.lemmas.Bool.Decides.{nat_tests}
 use Rattle.std.proofs.lemmas.Nat.{and_le_l, and_le_r, le-div, mul-le, pow_pos}
-use Rattle.language.specs.declared.interval.Interval.{Interval}
+use Rattle.intervals.specs.Below.{Add, BinaryOperator, BitAnd, bits, bits_of, Boolean, Both, Complement, converted}
+use Rattle.intervals.specs.Below.{difference, Divide, Either, Equal, Greater, GreaterOrEqual, Interval, IsWithinKind}
+use Rattle.intervals.specs.Below.{IsWord, Kind, Less, LessOrEqual, Multiply, Negate, Not, operated, prefix_value}
+use Rattle.intervals.specs.Below.{PrefixOperator, Remainder, shifted_right, ShiftRight, Subtract, truth_of, Uint16}
+use Rattle.intervals.specs.Below.{Uint32, Uint8, Unequal, W16, W32, W8, Width, width_of, word_of}
 use Rattle.intervals.specs.Intervals.{between, either_truth, greatest, full, full_of, fitting, shifted_interval}
 use Rattle.intervals.specs.Intervals.{operated_interval, prefix_interval, converted_interval, hull}
-use Rattle.language.specs.Operators.{operated, prefix_value, truth_of, width_of}
-use Rattle.language.specs.declared.operators.BinaryOperator.{BinaryOperator}
-use Rattle.language.specs.declared.operators.BinaryOperator.TheVariants.{Either, Both, Equal, Unequal, Less, LessOrEqual}
-use Rattle.language.specs.declared.operators.BinaryOperator.TheVariants.{Greater, GreaterOrEqual, BitAnd}
-use Rattle.language.specs.declared.operators.BinaryOperator.TheVariants.{ShiftRight, Add, Subtract, Multiply}
-use Rattle.language.specs.declared.operators.BinaryOperator.TheVariants.{Divide, Remainder}
 use Rattle.intervals.proofs.Below.{complement_fits, number_fits, wrapped_fits}
-use Rattle.inline.specs.Fitting.{IsWithinKind}
 use Rattle.language.specs.Grammatical.{IsNumberKind}
-use Rattle.language.specs.Types.{bits_of}
-use Rattle.language.specs.declared.signature.Kind.{Kind}
-use Rattle.language.specs.declared.signature.Kind.TheVariants.{Boolean, Uint8, Uint16, Uint32}
-use Rattle.language.specs.declared.operators.PrefixOperator.{PrefixOperator}
-use Rattle.language.specs.declared.operators.PrefixOperator.TheVariants.{Not, Complement, Negate}
-use Rattle.word.specs.Operators.{converted, difference, shifted_right, word_of}
-use Rattle.word.specs.Widths.{bits, IsWord}
-use Rattle.word.specs.declared.width.Width.{Width}
-use Rattle.word.specs.declared.width.Width.TheVariants.{W8, W16, W32}
 
 abbrev pub IsIn : Interval → ℕ → Type 0
 IsIn i v = (i.low ≤ v) × (v ≤ i.high)

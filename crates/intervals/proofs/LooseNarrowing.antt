@@ -7,12 +7,9 @@ use Rattle.std.proofs.Math.Nat.{le-min, max-le}
 use Rattle.std.proofs.lemmas.Bool.{and_parts, cases_Bool}
 use Rattle.std.proofs.lemmas.Bool.Decides.{nat_tests}
 use Rattle.std.proofs.lemmas.Option.{none-some, same_Some}
-use Rattle.inline.specs.declared.flat.FlatVariable.{FlatVariable}
-use Rattle.inline.specs.Flat.{word_as, TermTree, variable}
-use Rattle.inline.specs.FlatMeaning.{Values}
-use Rattle.inline.specs.FlatTyping.{Types, types_of, HasType, of_variable, of_binary}
-use Rattle.inline.specs.Path.{Path}
-use Rattle.language.specs.declared.interval.Interval.{Interval}
+use Rattle.intervals.specs.Below.{BinaryOperator, Both, Equal, FlatVariable, HasType, Interval, Label, Less}
+use Rattle.intervals.specs.Below.{LessOrEqual, of_binary, of_variable, operated, Path, Profile, Public, Secret}
+use Rattle.intervals.specs.Below.{TermTree, truth_of, Types, types_of, Values, variable, word_as, word_of, WordType}
 use Rattle.intervals.specs.declared.said.Said.{Said}
 use Rattle.intervals.specs.Intervals.{Bounds, known, with_bound, between, full_at, interval}
 use Rattle.intervals.specs.Loose.{Comes, to_variable, to_binary, to_anything}
@@ -23,14 +20,6 @@ use Rattle.intervals.proofs.LooseIntervals.{IsIn}
 use Rattle.intervals.proofs.LooseTerms.{Holds, IsKept, both_public, element_of, full_of_variable, loose_in}
 use Rattle.intervals.proofs.LooseTerms.{secret_is_not}
 use Rattle.intervals.proofs.LooseTypes.{one_type}
-use Rattle.language.specs.Operators.{operated, truth_of}
-use Rattle.language.specs.declared.signature.Label.{Label}
-use Rattle.language.specs.declared.signature.Label.TheVariants.{Public, Secret}
-use Rattle.language.specs.declared.operators.BinaryOperator.{BinaryOperator}
-use Rattle.language.specs.declared.operators.BinaryOperator.TheVariants.{Both, Equal, Less, LessOrEqual}
-use Rattle.language.specs.declared.typing.WordType.{WordType}
-use Rattle.word.specs.Operators.{word_of}
-use Rattle.word.specs.declared.profile.Profile.{Profile}
 
 -- What is known of a variable after something was learned of one.
 

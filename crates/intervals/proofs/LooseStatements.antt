@@ -8,17 +8,14 @@ use Rattle.std.proofs.lemmas.Bool.Decides.{nat_tests}
 use Rattle.std.proofs.lemmas.List.{length-set, length-replicate}
 use Rattle.std.proofs.lemmas.List.Elements.{All-nil, All-cons, All-set, All-replicate}
 use Rattle.std.proofs.lemmas.Option.{same_Some}
-use Rattle.inline.specs.declared.flat.FlatVariable.{FlatVariable}
-use Rattle.inline.specs.Fitting.{IsWithinKind, IsHeld}
-use Rattle.inline.specs.Flat.{TermTree, FlatTree, branch, loop, FlatBlock, nothing, first, word_as, array_as}
-use Rattle.inline.specs.FlatMeaning.{Values, with_value}
-use Rattle.inline.specs.FlatTyping.{Types, types_of, with_type, Suits, AllSuit, HasCount, IsNew, IsTyped, AreTyped}
-use Rattle.inline.specs.FlatTyping.{counter_type, types_after, types_after_all}
-use Rattle.inline.specs.Path.{Path, AreFine, bounded, indexed}
+use Rattle.intervals.specs.Below.{AllSuit, AreFine, AreTyped, array_as, bounded, branch, counter_type, first, FlatBlock}
+use Rattle.intervals.specs.Below.{FlatTree, FlatVariable, HasCount, indexed, Interval, is_secret, IsHeld, IsNew}
+use Rattle.intervals.specs.Below.{IsTyped, IsWithinKind, joined, Label, loop, nothing, Path, Profile, Public, Secret}
+use Rattle.intervals.specs.Below.{Suits, TermTree, Types, types_after, types_after_all, types_of, Values, with_type}
+use Rattle.intervals.specs.Below.{with_value, word_as, WordType}
 use Rattle.intervals.proofs.Below.{some_bit, fine_both, fits_assigned, fits_declared, one_held, with_type-same}
 use Rattle.intervals.proofs.Below.{with_type-other, with_value-same, with_value-other}
 use Rattle.intervals.proofs.Below.{new_number, type_kept, types_kept}
-use Rattle.language.specs.declared.interval.Interval.{Interval}
 use Rattle.intervals.specs.Intervals.{Bounds, known, with_bound, between, interval}
 use Rattle.intervals.specs.Loose.{Comes, ComeAll, none_left, one_more, made, Leads, declares, declares_array, assigns}
 use Rattle.intervals.specs.Loose.{puts, holds as holding, skips, chooses, repeats, Turns, no_turn, a_turn, LeadAll}
@@ -30,11 +27,6 @@ use Rattle.intervals.proofs.LooseIntervals.{IsIn}
 use Rattle.intervals.proofs.LooseNarrowing.{at_number, holds_where_false, holds_where_true}
 use Rattle.intervals.proofs.LooseTerms.{Holds, IsKept, loose_below, loose_fine, loose_fits, loose_in, none_in}
 use Rattle.intervals.proofs.LooseTypes.{IsListed, listed_beside}
-use Rattle.language.specs.Types.{is_secret, joined}
-use Rattle.language.specs.declared.signature.Label.{Label}
-use Rattle.language.specs.declared.signature.Label.TheVariants.{Public, Secret}
-use Rattle.language.specs.declared.typing.WordType.{WordType}
-use Rattle.word.specs.declared.profile.Profile.{Profile}
 
 is_zero : (v : ℕ) → (v == 0) ≡ true → v ≡ 0
 is_zero v h = grind (arith, nat_tests)

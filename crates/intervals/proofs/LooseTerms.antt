@@ -3,16 +3,15 @@
 use Rattle.std.proofs.Common.{◌≡◌, ℕ, ◌<◌, ◌==◌, nat_le, Bool, true, false, if◌then◌else◌, List, [], ◌∷◌, ◌++◌}
 use Rattle.std.proofs.Common.{Option, Some, None, unwrap_or, option_map, slice_index, refl, sym, ap, subst, arith}
 use Rattle.std.proofs.lemmas.Bool.Decides.{nat_tests}
-use Rattle.inline.specs.declared.flat.FlatVariable.{FlatVariable}
-use Rattle.inline.specs.Fitting.{IsWithinKind, Fits}
-use Rattle.inline.specs.Flat.{TermTree, word_as, array_as}
-use Rattle.inline.specs.FlatMeaning.{Values, marks_of}
-use Rattle.inline.specs.FlatTyping.{Types, types_of, HasType, of_number, of_truth, of_variable, of_prefix, of_binary}
-use Rattle.inline.specs.FlatTyping.{of_rotation, of_conversion, of_selection, of_element, counter_type}
-use Rattle.inline.specs.Path.{Path, AreFine, divided, indexed, multiplied}
+use Rattle.intervals.specs.Below.{AreFine, array_as, because, BinaryOperator, Boolean, counter_type, Divide, divided}
+use Rattle.intervals.specs.Below.{divides, Divisor, DivisorMayBeZero, equality, Fits, FlatVariable, HasType, Index}
+use Rattle.intervals.specs.Below.{indexed, IndexOutOfRange, Interval, IsWithinKind, IsWord, joined, Kind, logic, Makes}
+use Rattle.intervals.specs.Below.{marks_of, multiplied, multiplies, of_binary, of_conversion, of_element, of_number}
+use Rattle.intervals.specs.Below.{of_prefix, of_rotation, of_selection, of_truth, of_variable, operated, operation_of}
+use Rattle.intervals.specs.Below.{order, Path, Place, prefix_value, Profile, Public, Remainder, rotated_left, Secret}
+use Rattle.intervals.specs.Below.{TermTree, Types, types_of, Uint32, Values, when, width_of, word_as, WordType}
 use Rattle.intervals.proofs.Below.{bit_fits, fine_both, element_fits, either_fits, number_fits, operated_fits, prefix_fits}
 use Rattle.intervals.proofs.Below.{wrapped_fits}
-use Rattle.language.specs.declared.interval.Interval.{Interval}
 use Rattle.intervals.specs.Intervals.{Bounds, known, full_at, full_of, interval}
 use Rattle.intervals.specs.Loose.{Comes, to_number, to_truth, to_variable, to_prefix, to_binary, to_rotation}
 use Rattle.intervals.specs.Loose.{to_conversion, to_selection, to_element, to_anything}
@@ -20,23 +19,8 @@ use Rattle.intervals.specs.Ranges.{divisor_violations, index_violations, term_vi
 use Rattle.intervals.proofs.LooseIntervals.{IsIn, truth_in, word_in, kind_in, prefix_in, operated_in, converted_in}
 use Rattle.intervals.proofs.LooseIntervals.{hull_in, word_of_kind}
 use Rattle.intervals.proofs.LooseTypes.{IsListed, one_type, joined_public}
-use Rattle.language.specs.Operators.{operation_of, divides, multiplies, operated, prefix_value, width_of}
-use Rattle.language.specs.Types.{because, joined, when}
 use Rattle.language.specs.declared.why.Why.{Why}
-use Rattle.language.specs.declared.why.Why.TheVariants.{Index, Divisor}
-use Rattle.language.specs.declared.rule.Rule.TheVariants.{DivisorMayBeZero, IndexOutOfRange}
-use Rattle.language.specs.declared.signature.Kind.{Kind}
-use Rattle.language.specs.declared.signature.Kind.TheVariants.{Boolean, Uint32}
-use Rattle.language.specs.declared.signature.Label.TheVariants.{Public, Secret}
-use Rattle.language.specs.declared.operators.BinaryOperator.{BinaryOperator}
-use Rattle.language.specs.declared.operators.BinaryOperator.TheVariants.{Divide, Remainder}
-use Rattle.language.specs.declared.typing.WordType.{WordType}
-use Rattle.language.specs.WellTyped.{Makes, equality, order, logic}
 use Rattle.language.specs.WellTyped as typing
-use Rattle.word.specs.Operators.{rotated_left}
-use Rattle.word.specs.Widths.{IsWord}
-use Rattle.word.specs.declared.place.Place.{Place}
-use Rattle.word.specs.declared.profile.Profile.{Profile}
 
 -- a variable keeps its value, which lies within this interval
 pub record IsKept (types : Types) (m : Values) (x : ℕ) (i : Interval) : Type 0 where

@@ -2,19 +2,12 @@
 use Rattle.std.proofs.Common.{◌≡◌, ℕ, ◌==◌, List, Some, inl, inr, slice_get, refl, sym, ap, ap₂, ◌∙◌}
 use Rattle.std.proofs.lemmas.Bool.{cases_Bool, eqb-true}
 use Rattle.std.proofs.lemmas.Option.{same_Some}
-use Rattle.inline.specs.declared.flat.FlatVariable.{FlatVariable}
-use Rattle.inline.specs.Flat.{TermTree, word_as, array_as}
-use Rattle.inline.specs.FlatTyping.{Types, types_of, with_type, HasType, of_number, of_truth, of_variable, of_prefix, of_binary}
-use Rattle.inline.specs.FlatTyping.{of_rotation, of_conversion, of_selection, of_element}
-use Rattle.language.specs.Types.{joined}
-use Rattle.language.specs.declared.signature.Label.{Label}
-use Rattle.language.specs.declared.signature.Label.TheVariants.{Public, Secret}
+use Rattle.intervals.specs.Below.{arithmetic, array_as, Boolean, division, equality, FlatVariable, HasType, joined}
+use Rattle.intervals.specs.Below.{Label, labelled, logic, Makes, multiplication, of_binary, of_conversion, of_element}
+use Rattle.intervals.specs.Below.{of_number, of_prefix, of_rotation, of_selection, of_truth, of_variable, order}
+use Rattle.intervals.specs.Below.{Profile, Public, Secret, shift, TermTree, Types, types_of, with_type, word_as}
+use Rattle.intervals.specs.Below.{WordType}
 use Rattle.language.specs.declared.operation.Operation.{Operation}
-use Rattle.language.specs.declared.typing.WordType.{WordType}
-use Rattle.language.specs.WellTyped.{labelled, Makes, arithmetic, multiplication, division, shift, equality, order}
-use Rattle.language.specs.WellTyped.{logic}
-use Rattle.language.specs.declared.signature.Kind.TheVariants.{Boolean}
-use Rattle.word.specs.declared.profile.Profile.{Profile}
 
 -- what is made of two words of the same types is of one type
 one_made : {one other : Profile} {operation : Operation} {a b c d e f : WordType} → Makes one operation a b c

@@ -3,15 +3,10 @@ use Rattle.std.proofs.Common.{◌≡◌, ℕ, ◌<◌, ◌≤◌, inr, Bool, tru
 use Rattle.std.proofs.Common.{Ok, Err, OnOk, IfErr}
 use Rattle.std.proofs.lemmas.Bool.Decides.{nat_tests}
 use Rattle.std.proofs.lemmas.List.Elements.{All-cons, All-nil}
-use Rattle.inline.specs.Flat.{FlatProgram}
+use Rattle.intervals.specs.Below.{at, FlatProgram, IsFirst, IsNamed, IsNoLaterThan, Place, Plain, TooMuchWork}
+use Rattle.intervals.specs.Below.{Violation, when}
 use Rattle.intervals.specs.Limits.{most_work}
 use Rattle.intervals.specs.Work.{work_of, work_violations}
-use Rattle.language.specs.FirstViolation.{IsFirst, IsNamed, IsNoLaterThan}
-use Rattle.language.specs.Types.{at, when}
-use Rattle.language.specs.declared.rule.Rule.TheVariants.{TooMuchWork}
-use Rattle.language.specs.declared.typing.Violation.{Violation}
-use Rattle.language.specs.declared.why.Why.TheVariants.{Plain}
-use Rattle.word.specs.declared.place.Place.{Place}
 
 abbrev pub too_much : Place → Violation
 too_much place = record { place = place; rule = TooMuchWork; why = Plain }

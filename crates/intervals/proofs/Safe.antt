@@ -5,16 +5,13 @@ use Rattle.std.proofs.Common.{refl, sym, ap, ap₂, ◌∙◌, subst, arith}
 use Rattle.std.proofs.lemmas.Bool.Decides.{nat_tests}
 use Rattle.std.proofs.lemmas.List.{length-replicate}
 use Rattle.std.proofs.lemmas.Option.{none-some, same_Some, slice_get-map}
-use Rattle.language.specs.arguments.Within.{AreWithin}
-use Rattle.inline.specs.declared.flat.FlatVariable.{FlatVariable}
-use Rattle.inline.specs.Fitting.{Fits}
-use Rattle.inline.specs.Flat.{FlatProgram, TermTree, declaration_of, elements_by}
-use Rattle.inline.specs.FlatMeaning.{Values, ending_by, ending_of, given, outcome_of, path_of}
-use Rattle.inline.specs.FlatTyping.{Types, types_of, IsResult, IsTypedProgram, end_types, parameter_types}
-use Rattle.inline.specs.Path.{Mark, decided, bounded, indexed, divided, multiplied, Path, fault_at, either}
-use Rattle.inline.specs.Path.{first_fault, IsFine, AreFine}
+use Rattle.intervals.specs.Below.{AreFine, AreWithin, Arg, bounded, decided, declaration_of, divided, either}
+use Rattle.intervals.specs.Below.{elements_by, end_types, ending_by, ending_of, fault_at, first_fault, Fits, FixedArray}
+use Rattle.intervals.specs.Below.{FlatProgram, FlatVariable, Form, given, gives, indexed, Interval, IsFine, IsResult}
+use Rattle.intervals.specs.Below.{IsTypedProgram, Kind, Label, Mark, multiplied, MutableArray, outcome_of, Param}
+use Rattle.intervals.specs.Below.{parameter_types, Path, path_of, Profile, Public, Secret, SingleWord, TermTree, Types}
+use Rattle.intervals.specs.Below.{types_of, Values, WordType}
 use Rattle.intervals.proofs.Below.{element_fits, fine_both, parameters_fit}
-use Rattle.language.specs.declared.interval.Interval.{Interval}
 use Rattle.intervals.specs.Intervals.{Bounds, full_of, known}
 use Rattle.intervals.specs.Loose.{IsSafe, Returns, nothing_returned, returned}
 use Rattle.intervals.specs.Ranges.{bound_by, bound_of, bounds_after_all, first_bounds, range_violations}
@@ -24,17 +21,7 @@ use Rattle.intervals.proofs.LooseIntervals.{IsIn, kind_in}
 use Rattle.intervals.proofs.LooseStatements.{all_done}
 use Rattle.intervals.proofs.LooseTerms.{Holds, IsKept, loose_fine, none_in}
 use Rattle.intervals.proofs.StrictRuns.{strict_is_loose}
-use Rattle.language.specs.Meaning.{gives}
 use Rattle.language.specs.Typing.{is_mutable}
-use Rattle.language.specs.declared.signature.Form.{Form}
-use Rattle.language.specs.declared.signature.Form.TheVariants.{SingleWord, FixedArray, MutableArray}
-use Rattle.language.specs.declared.signature.Kind.{Kind}
-use Rattle.language.specs.declared.signature.Label.{Label}
-use Rattle.language.specs.declared.signature.Label.TheVariants.{Public, Secret}
-use Rattle.language.specs.declared.signature.Param.{Param}
-use Rattle.language.specs.declared.typing.WordType.{WordType}
-use Rattle.language.specs.declared.values.Arg.{Arg}
-use Rattle.word.specs.declared.profile.Profile.{Profile}
 
 below : (a b : ℕ) → a < b → nat_lt a b ≡ true
 below a b h = grind (arith, nat_tests)

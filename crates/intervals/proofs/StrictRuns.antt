@@ -1,18 +1,16 @@
 -- A strict run is a loose run: it comes to what the body means.
 use Rattle.std.proofs.Common.{ℕ, zero, suc, ◌+◌, ◌-◌, ◌==◌, Bool, true, false, if◌then◌else◌, List, [], ◌∷◌, map}
 use Rattle.std.proofs.Common.{Option, Some, None, refl}
-use Rattle.inline.specs.Flat.{TermTree, number, truth, variable, prefix, binary, rotate, convert, select, element}
-use Rattle.inline.specs.Flat.{FlatTree, declare, array, assign, put, hold, skip, branch, loop, FlatBlock, nothing}
-use Rattle.inline.specs.Flat.{first, FlatProgram}
-use Rattle.inline.specs.FlatMeaning.{Values, with_value, value_in, path_in, path_in_all, turns, path_of_turns, after}
-use Rattle.inline.specs.FlatMeaning.{after_all, path_at, path_along, path_of_result, path_of, given, end_of}
-use Rattle.inline.specs.FlatTyping.{Types, types_of}
+use Rattle.intervals.specs.Below.{after, after_all, Arg, array, assign, binary, branch, convert, declare, element}
+use Rattle.intervals.specs.Below.{end_of, first, FlatBlock, FlatProgram, FlatTree, given, hold, loop, nothing, number}
+use Rattle.intervals.specs.Below.{path_along, path_at, path_in, path_in_all, path_of, path_of_result, path_of_turns}
+use Rattle.intervals.specs.Below.{prefix, put, rotate, select, skip, TermTree, truth, turns, Types, types_of, value_in}
+use Rattle.intervals.specs.Below.{Values, variable, with_value}
 use Rattle.intervals.specs.Loose.{Comes, to_number, to_truth, to_variable, to_prefix, to_binary, to_rotation}
 use Rattle.intervals.specs.Loose.{to_conversion, to_selection, to_element, ComeAll, none_left, one_more, Leads}
 use Rattle.intervals.specs.Loose.{declares, declares_array, assigns, puts, holds, skips, chooses, repeats, Turns}
 use Rattle.intervals.specs.Loose.{no_turn, a_turn, LeadAll, ends, goes_on, Returns, nothing_returned, returned}
 use Rattle.intervals.specs.Loose.{IsLooseRun}
-use Rattle.language.specs.declared.values.Arg.{Arg}
 
 module _ (types : Types) where
   pub comes : (m : Values) (e : TermTree) → Comes types m e (value_in m e) (path_in m e)

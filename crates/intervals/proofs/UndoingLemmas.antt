@@ -5,7 +5,7 @@ use Rattle.std.proofs.Math.Seq.{drop-append_seam}
 use Rattle.std.proofs.lemmas.List.{drop-append-le, take-append-le}
 use Rattle.intervals.specs.Intervals.{Bounds}
 use Rattle.intervals.specs.Undoing.{rewound, CameFrom}
-use Rattle.language.specs.declared.interval.Interval.{Interval}
+use Rattle.intervals.specs.Below.{Interval}
 use Rattle.intervals.specs.declared.known.Change.{Change}
 use Rattle.intervals.specs.declared.known.Known.{Known}
 

@@ -2,20 +2,14 @@
 use Rattle.std.proofs.lemmas.List.Sums.{fold-append}
 use Rattle.std.proofs.Common.{◌≡◌, ℕ, List, Option, Result, Ok, Err, OnOk, ◌++◌, Vec, Global, fold, slice_set, sym}
 use Rattle.std.proofs.Common.{ap, ap₂, ◌∙◌, ◌<◌, ◌+◌, length, drop, get_or, drop-cons, add-one}
-use Rattle.inline.specs.declared.flat.FlatStatement.{FlatStatement, Branch, Loop}
-use Rattle.inline.specs.declared.flat.FlatVariable.{FlatVariable}
-use Rattle.inline.specs.declared.flat.Term.{Term}
-use Rattle.inline.specs.Flat.{term_tree, flat_tree, flat_block, branch, loop, first}
-use Rattle.language.specs.declared.interval.Interval.{Interval}
+use Rattle.intervals.specs.Below.{Branch, branch, first, flat_block, flat_tree, FlatStatement, FlatVariable, Interval}
+use Rattle.intervals.specs.Below.{Label, Loop, loop, sooner, Term, term_tree, Violation}
 use Rattle.intervals.specs.Intervals.{Bounds, interval, with_bound}
 use Rattle.intervals.specs.Narrowing.{met, met_all, where_true, where_false}
 use Rattle.intervals.specs.declared.said.Said.{Said}
 use Rattle.intervals.specs.Ranges.{counted, counted_all, counter_interval, in_loop, most_turns}
 use Rattle.intervals.proofs.Below.{branch_tree, loop_tree}
 use Rattle.intervals.specs.Ranges.{violations, violations_all, term_violations}
-use Rattle.language.specs.Sooner.{sooner}
-use Rattle.language.specs.declared.typing.Violation.{Violation}
-use Rattle.language.specs.declared.signature.Label.{Label}
 
 -- what holds on success follows from what does
 pub on_ok : {T E P Q : Type 0} (result : Result T E) → (P → Q) → OnOk result P → OnOk result Q

@@ -2,14 +2,10 @@
 use Rattle.std.proofs.Common.{◌≡◌, ℕ, ◌+◌, ◌*◌, ◌<◌, List, Vec, Global, inl, inr, slice_index, ap, ◌∙◌, arith}
 use Rattle.std.proofs.lemmas.Bool.{cases_lt}
 use Rattle.std.proofs.Math.Nat.{le-mul_of_pos_right, mul_comm}
-use Rattle.inline.specs.declared.flat.FlatStatement.{FlatStatement, Branch, Loop}
-use Rattle.inline.specs.declared.flat.Term.{Term}
-use Rattle.inline.specs.Flat.{term_tree, flat_tree, flat_block}
-use Rattle.inline.specs.FlatSize.{term_nodes}
+use Rattle.intervals.specs.Below.{Branch, counted, flat_block, flat_tree, FlatStatement, Label, Loop, most_counted}
+use Rattle.intervals.specs.Below.{Term, term_nodes, term_tree}
 use Rattle.intervals.specs.Work.{tree_work, body_work}
 use Rattle.intervals.proofs.Below.{branch_tree, loop_tree}
-use Rattle.language.specs.Shares.{counted, most_counted}
-use Rattle.language.specs.declared.signature.Label.{Label}
 
 -- the work of a branch and of a loop, by the lists of their statements
 pub branch_work : (turns : List ℕ) (statement : FlatStatement) (label : Label) (condition : Term)

@@ -2,7 +2,7 @@
 use Rattle.std.proofs.Common.{ℕ, List, refl}
 use Rattle.std.specs.Coded.{Coded, code_by, coded×, coded_ℕ, coded_list}
 use Rattle.inline.specs.Codes.{coded_program}
-use Rattle.inline.specs.Flat.{FlatProgram}
+use Rattle.intervals.specs.Below.{FlatProgram}
 use Rattle.intervals.specs.Ranged.{RangedProgram}
 
 abbrev pub coded_ranged : Coded RangedProgram

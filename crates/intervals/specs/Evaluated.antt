@@ -1,11 +1,9 @@
 -- How many nodes a run of a body evaluates: of a branch one arm, of a loop the turns that it makes. It is counted
 -- where the body is run as it means, without a fault.
 use Rattle.std.specs.Prelude.{ℕ, zero, suc, ◌+◌, ◌-◌, ◌==◌, [], ◌∷◌, List, if◌then◌else◌}
-use Rattle.inline.specs.Flat.{FlatTree, declare, array, assign, put, hold, skip, branch, loop, FlatBlock, nothing}
-use Rattle.inline.specs.Flat.{first, FlatProgram}
-use Rattle.inline.specs.FlatMeaning.{Values, with_value, value_in, after, after_all, given}
-use Rattle.inline.specs.FlatSize.{term_nodes, terms_nodes, value_nodes}
-use Rattle.language.specs.declared.values.Arg.{Arg}
+use Rattle.intervals.specs.Below.{after, after_all, Arg, array, assign, branch, declare, first, FlatBlock, FlatProgram}
+use Rattle.intervals.specs.Below.{FlatTree, given, hold, loop, nothing, put, skip, term_nodes, terms_nodes, value_in}
+use Rattle.intervals.specs.Below.{value_nodes, Values, with_value}
 
 -- of so many turns, the first at this number: what each makes of a state, and how many nodes each evaluates beside
 -- its own

@@ -2,21 +2,10 @@
 use Rattle.std.specs.Prelude.{ℕ, ◌+◌, ◌-◌, ◌*◌, ◌/◌, ◌%◌, ◌^◌, ◌==◌, ◌&&◌, nat_le, min, max, List, Option, None, Some}
 use Rattle.std.specs.Prelude.{unwrap_or, if◌then◌else◌, slice_get, slice_set}
 use Rattle.std.specs.Option.{option_map}
-use Rattle.inline.specs.declared.flat.FlatVariable.{FlatVariable}
-use Rattle.inline.specs.Flat.{TermTree, number, truth, variable, prefix, binary, rotate, convert, select, element}
-use Rattle.language.specs.declared.interval.Interval.{Interval}
-use Rattle.language.specs.Types.{bits_of}
-use Rattle.language.specs.declared.signature.Kind.{Kind}
-use Rattle.language.specs.declared.signature.Kind.TheVariants.{Uint32}
-use Rattle.language.specs.declared.operators.BinaryOperator.{BinaryOperator}
-use Rattle.language.specs.declared.operators.BinaryOperator.TheVariants.{Either, Both, Equal, Unequal, Less, LessOrEqual}
-use Rattle.language.specs.declared.operators.BinaryOperator.TheVariants.{Greater, GreaterOrEqual, BitAnd}
-use Rattle.language.specs.declared.operators.BinaryOperator.TheVariants.{ShiftRight, Add, Subtract, Multiply}
-use Rattle.language.specs.declared.operators.BinaryOperator.TheVariants.{Divide, Remainder}
-use Rattle.language.specs.declared.operators.PrefixOperator.{PrefixOperator}
-use Rattle.language.specs.declared.operators.PrefixOperator.TheVariants.{Not, Complement, Negate}
-use Rattle.word.specs.Widths.{bits}
-use Rattle.word.specs.declared.width.Width.{Width}
+use Rattle.intervals.specs.Below.{Add, binary, BinaryOperator, BitAnd, bits, bits_of, Both, Complement, convert, Divide}
+use Rattle.intervals.specs.Below.{Either, element, Equal, FlatVariable, Greater, GreaterOrEqual, Interval, Kind, Less}
+use Rattle.intervals.specs.Below.{LessOrEqual, Multiply, Negate, Not, number, prefix, PrefixOperator, Remainder, rotate}
+use Rattle.intervals.specs.Below.{select, ShiftRight, Subtract, TermTree, truth, Uint32, Unequal, variable, Width}
 
 abbrev pub between : ℕ → ℕ → Interval
 between low high = record { low = low; high = high }

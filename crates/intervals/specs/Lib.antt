@@ -9,3 +9,4 @@ pub mod Ranges
 pub mod Work
 pub mod Evaluated
 pub mod Kept
+pub mod Below

@@ -2,25 +2,12 @@
 -- secret may go either way.
 use Rattle.std.specs.Prelude.{◌≡◌, ℕ, zero, suc, ◌+◌, ◌-◌, ◌==◌, List, [], ◌∷◌, ◌++◌, Option, None, Some}
 use Rattle.std.specs.Prelude.{if◌then◌else◌, slice_index, slice_set, replicate, Bool}
-use Rattle.language.specs.arguments.Within.{AreWithin}
-use Rattle.inline.specs.Fitting.{IsWithinKind}
-use Rattle.inline.specs.Flat.{TermTree, number, truth, variable, prefix, binary, rotate, convert, select, element}
-use Rattle.inline.specs.Flat.{FlatTree, declare, array, assign, put, hold, skip, branch, loop, FlatBlock, nothing}
-use Rattle.inline.specs.Flat.{first, FlatProgram}
-use Rattle.inline.specs.FlatMeaning.{Values, with_value, marks_of, given}
-use Rattle.inline.specs.FlatTyping.{Types, types_of, HasType}
-use Rattle.inline.specs.Path.{Path, bounded, indexed, AreFine}
-use Rattle.language.specs.Operators.{operated, prefix_value, width_of}
-use Rattle.language.specs.declared.signature.Kind.{Kind}
-use Rattle.language.specs.declared.signature.Label.{Label}
-use Rattle.language.specs.declared.signature.Label.TheVariants.{Secret}
-use Rattle.language.specs.declared.operators.BinaryOperator.{BinaryOperator}
-use Rattle.language.specs.declared.operators.PrefixOperator.{PrefixOperator}
-use Rattle.language.specs.declared.typing.WordType.{WordType}
-use Rattle.language.specs.declared.values.Arg.{Arg}
-use Rattle.word.specs.Operators.{rotated_left, converted, word_of}
-use Rattle.word.specs.declared.place.Place.{Place}
-use Rattle.word.specs.declared.width.Width.{Width}
+use Rattle.intervals.specs.Below.{AreFine, AreWithin, Arg, array, assign, binary, BinaryOperator, bounded, branch}
+use Rattle.intervals.specs.Below.{convert, converted, declare, element, first, FlatBlock, FlatProgram, FlatTree, given}
+use Rattle.intervals.specs.Below.{HasType, hold, indexed, IsWithinKind, Kind, Label, loop, marks_of, nothing, number}
+use Rattle.intervals.specs.Below.{operated, Path, Place, prefix, prefix_value, PrefixOperator, put, rotate}
+use Rattle.intervals.specs.Below.{rotated_left, Secret, select, skip, TermTree, truth, Types, types_of, Values}
+use Rattle.intervals.specs.Below.{variable, Width, width_of, with_value, word_of, WordType}
 
 -- where the variables of these types hold these values, an expression may come to this value, on this path
 pub data Comes (types : Types) (m : Values) : TermTree → ℕ → Path → Type 0 where

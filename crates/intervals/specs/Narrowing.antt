@@ -2,15 +2,11 @@
 use Rattle.std.specs.Prelude.{ℕ, ◌+◌, ◌-◌, Bool, true, false, nat_lt, nat_le, min, max, List, [], ◌∷◌, ◌++◌, Option}
 use Rattle.std.specs.Prelude.{None, Some, if◌then◌else◌}
 use Rattle.std.specs.Option.{option_to_list}
-use Rattle.inline.specs.declared.flat.FlatVariable.{FlatVariable}
-use Rattle.inline.specs.Flat.{TermTree, variable, binary, number, truth, prefix, rotate, convert, select, element}
-use Rattle.language.specs.declared.interval.Interval.{Interval}
+use Rattle.intervals.specs.Below.{binary, BinaryOperator, Both, convert, element, Equal, FlatVariable, Interval, Label}
+use Rattle.intervals.specs.Below.{Less, LessOrEqual, number, prefix, Public, rotate, Secret, select, TermTree, truth}
+use Rattle.intervals.specs.Below.{variable}
 use Rattle.intervals.specs.declared.said.Said.{Said}
 use Rattle.intervals.specs.Intervals.{Bounds, known, with_bound, between, interval, full_at}
-use Rattle.language.specs.declared.signature.Label.{Label}
-use Rattle.language.specs.declared.signature.Label.TheVariants.{Public, Secret}
-use Rattle.language.specs.declared.operators.BinaryOperator.{BinaryOperator}
-use Rattle.language.specs.declared.operators.BinaryOperator.TheVariants.{Both, Equal, Less, LessOrEqual}
 
 -- What is said.
 

@@ -1,6 +1,6 @@
 -- A body with what is counted for it.
 use Rattle.std.specs.Prelude.{ℕ, List}
-use Rattle.inline.specs.Flat.{FlatProgram}
+use Rattle.intervals.specs.Below.{FlatProgram}
 
 pub record RangedProgram : Type 0 where
   pub flat : FlatProgram

@@ -2,27 +2,14 @@
 -- a run reaches it or not. And how many turns are counted for each loop.
 use Rattle.std.specs.Prelude.{ℕ, ◌-◌, ◌==◌, ◌&&◌, ◌||◌, Bool, not, nat_lt, nat_le, List, [], ◌∷◌, ◌++◌, length, map}
 use Rattle.std.specs.Prelude.{replicate, Option, None, Some, if◌then◌else◌, slice_set}
-use Rattle.inline.specs.declared.flat.FlatVariable.{FlatVariable}
-use Rattle.inline.specs.Flat.{TermTree, number, truth, variable, prefix, binary, rotate, convert, select, element}
-use Rattle.inline.specs.Flat.{FlatTree, declare, array, assign, put, hold, skip, branch, loop, FlatBlock, nothing}
-use Rattle.inline.specs.Flat.{first, FlatProgram}
-use Rattle.language.specs.declared.interval.Interval.{Interval}
+use Rattle.intervals.specs.Below.{array, assign, because, binary, BinaryOperator, branch, convert, declare, divides}
+use Rattle.intervals.specs.Below.{Divisor, DivisorMayBeZero, element, first, FixedArray, FlatBlock, FlatProgram}
+use Rattle.intervals.specs.Below.{FlatTree, FlatVariable, Form, hold, Index, IndexOutOfRange, Interval, is_secret, Kind}
+use Rattle.intervals.specs.Below.{Label, loop, MutableArray, nothing, number, Param, Place, prefix, Public, put, rotate}
+use Rattle.intervals.specs.Below.{Secret, select, SingleWord, skip, TermTree, truth, variable, Violation, when}
+use Rattle.intervals.specs.Below.{WordType}
 use Rattle.intervals.specs.Intervals.{Bounds, with_bound, between, interval, full_of}
 use Rattle.intervals.specs.Narrowing.{where_true, where_false}
-use Rattle.language.specs.Operators.{divides}
-use Rattle.language.specs.declared.operators.BinaryOperator.{BinaryOperator}
-use Rattle.language.specs.Types.{because, is_secret, when}
-use Rattle.language.specs.declared.rule.Rule.TheVariants.{IndexOutOfRange, DivisorMayBeZero}
-use Rattle.language.specs.declared.signature.Form.{Form}
-use Rattle.language.specs.declared.signature.Form.TheVariants.{SingleWord, FixedArray, MutableArray}
-use Rattle.language.specs.declared.signature.Kind.{Kind}
-use Rattle.language.specs.declared.signature.Label.{Label}
-use Rattle.language.specs.declared.signature.Label.TheVariants.{Public, Secret}
-use Rattle.language.specs.declared.signature.Param.{Param}
-use Rattle.language.specs.declared.typing.Violation.{Violation}
-use Rattle.language.specs.declared.why.Why.TheVariants.{Index, Divisor}
-use Rattle.language.specs.declared.typing.WordType.{WordType}
-use Rattle.word.specs.declared.place.Place.{Place}
 
 -- an index of this interval, where an array has so many elements
 abbrev pub index_violations : Place → ℕ → Interval → List Violation

@@ -1,18 +1,13 @@
 -- Work: how many nodes a run evaluates at most, and the limit on it.
 use Rattle.std.specs.Prelude.{◌≡◌, ◌⊎◌, ℕ, ◌+◌, ◌*◌, nat_lt, List, length, Option, slice_index}
-use Rattle.inline.specs.Flat.{FlatTree, declare, array, assign, put, hold, skip, branch, loop, FlatBlock, nothing}
-use Rattle.inline.specs.Flat.{first, FlatProgram}
-use Rattle.inline.specs.FlatSize.{term_nodes, terms_nodes, value_nodes}
+use Rattle.intervals.specs.Below.{array, assign, at, branch, declare, first, FlatBlock, FlatProgram, FlatTree, hold}
+use Rattle.intervals.specs.Below.{IsRefusedFor, IsToldOf, loop, nothing, Place, put, skip, term_nodes, terms_nodes}
+use Rattle.intervals.specs.Below.{TooMuchWork, value_nodes, Violation, when}
 use Rattle.intervals.specs.Ranged.{RangedProgram}
 use Rattle.intervals.specs.Ranges.{range_violations, turns_of}
-use Rattle.language.specs.FirstViolation.{IsRefusedFor, IsToldOf}
 use Rattle.language.specs.declared.refusal.Refusal.{Refusal}
-use Rattle.word.specs.declared.place.Place.{Place}
 use Rattle.intervals.specs.Limits.{most_work}
 use Rattle.language.specs.declared.rule.Rule.{Rule}
-use Rattle.language.specs.declared.rule.Rule.TheVariants.{TooMuchWork}
-use Rattle.language.specs.declared.typing.Violation.{Violation}
-use Rattle.language.specs.Types.{at, when}
 
 abbrev mutual
   -- the work of a statement, with the turns that are counted for each counter: an array is as much as its elements

@@ -1,17 +1,11 @@
 // The laws, which hold of the definitions alone.
 
 ghost use Rattle.std.specs.Prelude.{◌≡◌, ℕ, ◌+◌, ◌≤◌, List, length};
-ghost use Rattle.language.specs.arguments.Within.{AreWithin};
-ghost use Rattle.inline.specs.Flat.{FlatProgram};
-ghost use Rattle.inline.specs.FlatMeaning.{ending_of, outcome_of, path_of};
-ghost use Rattle.inline.specs.FlatSize.{value_nodes};
-ghost use Rattle.inline.specs.FlatTyping.{IsTypedProgram};
+ghost use Rattle.intervals.specs.Below.{AreWithin, Arg, ending_of, FlatProgram, gives, IsTypedProgram, outcome_of, path_of, value_nodes};
 ghost use Rattle.intervals.specs.Evaluated.{evaluated_by};
 ghost use Rattle.intervals.specs.Loose.{IsLooseRun, IsSafe};
 ghost use Rattle.intervals.specs.Ranges.{range_violations, turns_of};
 ghost use Rattle.intervals.specs.Work.{body_work};
-ghost use Rattle.language.specs.Meaning.{gives};
-ghost use Rattle.language.specs.declared.values.Arg.{Arg};
 
 /// What a program means is one of its loose runs.
 pub fn strict_runs_are_loose()

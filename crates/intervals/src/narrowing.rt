@@ -2,7 +2,7 @@
 
 ghost use Rattle.std.specs.Prelude.{◌≡◌, ◌++◌, OnOk};
 ghost use Rattle.std.specs.Option.{option_to_list};
-ghost use Rattle.inline.specs.Flat.{term_tree};
+ghost use Rattle.intervals.specs.Below.{term_tree};
 ghost use Rattle.intervals.specs.Narrowing.{is_both, met_all, named, said_where_false, said_where_true, says, told_false, told_true, told_where_false, told_where_true, where_false, where_true};
 ghost use Rattle.intervals.specs.Undoing.{CameFrom};
 

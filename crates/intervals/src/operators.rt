@@ -2,7 +2,7 @@
 
 ghost use Rattle.std.specs.Prelude.{◌≡◌, min};
 ghost use Rattle.intervals.specs.Intervals.{between, converted_interval, fitting, full, full_of, hull, operated_interval, prefix_interval, shifted_interval};
-ghost use Rattle.language.specs.declared.operators.BinaryOperator.TheVariants.{Divide, Remainder, Subtract};
+ghost use Rattle.intervals.specs.Below.{Divide, Remainder, Subtract};
 
 use crate::Interval;
 use language::{BinaryOperator, Kind, PrefixOperator};

@@ -2,9 +2,7 @@ ghost use Rattle.std.specs.Prelude.{◌≡◌, None, Some, fold, length, map, re
 ghost use Rattle.intervals.specs.Loose.{IsSafe};
 ghost use Rattle.intervals.specs.Ranges.{bound_by, bound_of, first_bounds, range_violations, result_violations, turns_of};
 ghost use Rattle.intervals.specs.Work.{IsRefusedByRanges, IsToldByRanges, ranged, work_violations};
-ghost use Rattle.language.specs.FirstViolation.{IsFirst, IsNamed, TellsOf};
-ghost use Rattle.language.specs.Sooner.{sooner};
-ghost use Rattle.language.specs.declared.typing.Violation.{Violation};
+ghost use Rattle.intervals.specs.Below.{IsFirst, IsNamed, sooner, TellsOf, Violation};
 
 use crate::known::Known;
 use crate::operators::full_of;

@@ -1,8 +1,7 @@
 ghost use Rattle.std.specs.Prelude.{◌≡◌, fold, map};
-ghost use Rattle.inline.specs.Flat.{term_tree, variable};
+ghost use Rattle.intervals.specs.Below.{sooner, term_tree, variable};
 ghost use Rattle.intervals.specs.Intervals.{full_at, interval};
 ghost use Rattle.intervals.specs.Ranges.{index_violations, term_violations, terms_violations};
-ghost use Rattle.language.specs.Sooner.{sooner};
 
 use crate::Interval;
 use crate::known::bound_of;

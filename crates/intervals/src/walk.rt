@@ -1,12 +1,11 @@
 // A walk over a body: what is known of its variables from statement to statement.
 
 ghost use Rattle.std.specs.Prelude.{◌≡◌, fold, map, slice_set, OnOk};
-ghost use Rattle.inline.specs.Flat.{flat_block, flat_tree, term_tree};
+ghost use Rattle.intervals.specs.Below.{flat_block, flat_tree, sooner, term_tree};
 ghost use Rattle.intervals.specs.Intervals.{with_bound};
 ghost use Rattle.intervals.specs.Narrowing.{where_false, where_true};
 ghost use Rattle.intervals.specs.Ranges.{bounds_after, bounds_after_all, counted, counted_all, counter_interval, is_steady, most_turns, violations, violations_all};
 ghost use Rattle.intervals.specs.Undoing.{CameFrom};
-ghost use Rattle.language.specs.Sooner.{sooner};
 
 use crate::Interval;
 use crate::known::Known;

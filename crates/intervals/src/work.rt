@@ -2,10 +2,8 @@
 
 ghost use Rattle.std.specs.Prelude.{◌≡◌, ◌+◌, ◌*◌, map, slice_index};
 ghost use Rattle.std.specs.Option.{option_map};
-ghost use Rattle.inline.specs.Flat.{flat_block, flat_tree, term_tree};
-ghost use Rattle.inline.specs.FlatSize.{term_nodes, terms_nodes, value_nodes};
+ghost use Rattle.intervals.specs.Below.{counted, flat_block, flat_tree, term_nodes, term_tree, terms_nodes, value_nodes};
 ghost use Rattle.intervals.specs.Work.{body_work, tree_work};
-ghost use Rattle.language.specs.Shares.{counted};
 
 use inline::{Flat, FlatStatement, Term};
 

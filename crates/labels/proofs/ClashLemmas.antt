@@ -8,15 +8,11 @@ use Rattle.std.specs.List.{find}
 use Rattle.std.specs.Option.{option_map, option_or}
 use Rattle.std.specs.Str.{bytes_eq}
 use Rattle.std.proofs.Math.Bool.{and-true, and-false}
-use Rattle.word.specs.declared.place.Place.{Place}
+use Rattle.labels.specs.Below.{array_name, clash, Expr, expr_tree, ExprTree, first_clash, is_mutable, name_place}
+use Rattle.labels.specs.Below.{Parameter, parameter_tree, ParameterTree, Passed, passed, Place, same_name, shared}
+use Rattle.labels.specs.Below.{shared_at, Typed}
 use Rattle.language.specs.names.Scope.{found, declared}
-use Rattle.language.specs.declared.tree.Expr.{Expr}
-use Rattle.language.specs.declared.tree.Parameter.{Parameter}
 use Rattle.language.specs.declared.why.SharedArray.{SharedArray}
-use Rattle.language.specs.declared.why.Typed.{Typed}
-use Rattle.language.specs.Tree.{ExprTree, ParameterTree, expr_tree, parameter_tree}
-use Rattle.language.specs.Typing.{Passed, array_name, clash, first_clash, is_mutable, name_place, passed, same_name}
-use Rattle.language.specs.Typing.{shared, shared_at}
 use Rattle.language.proofs.names_lemmas.Lookup.{first_of_two, found_declared}
 use Rattle.labels.specs.private.Arrays.{given_before, with_array, with_changed}
 

@@ -7,16 +7,11 @@ use Rattle.std.specs.List.{AllByRecursion}
 use Rattle.std.specs.Option.{option_map}
 use Rattle.std.proofs.lemmas.List.{get_or-map, length-map, take-map}
 use Rattle.std.proofs.lemmas.Option.{slice_get-map, slice_get_read, slice_get_within}
-use Rattle.word.specs.declared.place.Place.{Place}
+use Rattle.labels.specs.Below.{empty, export_place, export_violations, exported, exports, Place, procedure_tree}
+use Rattle.labels.specs.Below.{procedures_violations, ProcedureTree, ProgramTree, sooner, Violation, violations}
 use Rattle.word.specs.declared.profile.Profile.{Profile}
 use Rattle.language.specs.declared.tree.Procedure.{Procedure}
-use Rattle.language.specs.Signature.{exported}
-use Rattle.language.specs.Tree.{ProcedureTree, ProgramTree, procedure_tree}
-use Rattle.language.specs.Types.{empty}
-use Rattle.language.specs.Typing.{exports, export_place, export_violations, procedures_violations, violations}
-use Rattle.language.specs.declared.typing.Violation.{Violation}
 use Rattle.labels.specs.Exports.{export_index}
-use Rattle.language.specs.Sooner.{sooner}
 use Rattle.language.proofs.SoonerLemmas.{kept_over}
 
 -- the exported procedure, and those before it, if there is one

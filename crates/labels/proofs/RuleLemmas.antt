@@ -4,21 +4,12 @@ use Rattle.std.proofs.Common.{length, refl, ap, sym, ◌∙◌, arith}
 use Rattle.std.proofs.Math.ListN.{get_or}
 use Rattle.std.proofs.lemmas.List.{drop_more}
 use Rattle.std.proofs.lemmas.List.Sums.{fold-append}
-use Rattle.word.specs.declared.place.Place.{Place}
-use Rattle.language.specs.declared.tree.Expr.{Expr}
-use Rattle.language.specs.declared.tree.Parameter.{Parameter}
-use Rattle.language.specs.declared.typing.Violation.{Violation}
-use Rattle.language.specs.declared.rule.Rule.TheVariants.{WidthsDiffer, WrongKind, SecretToPublic}
-use Rattle.language.specs.declared.typing.ValueType.TheVariants.{Word}
+use Rattle.labels.specs.Below.{are_alike, are_met, Argument, argument_violations, argument_why, because_of, Expr}
+use Rattle.labels.specs.Below.{expr_tree, is_hidden, is_secret, Parameter, parameter_tree, Passed, passed}
+use Rattle.labels.specs.Below.{passed_violations, Place, put_why, Scope, SecretToPublic, sooner, Typed, value_rules}
+use Rattle.labels.specs.Below.{Violation, when, widths_differ, WidthsDiffer, Word, WrongKind}
 use Rattle.language.specs.declared.typing.WordType.{WordType}
-use Rattle.language.specs.declared.why.Part.TheVariants.{Argument}
-use Rattle.language.specs.declared.why.Typed.{Typed}
 use Rattle.language.specs.declared.why.TypedPart.{TypedPart}
-use Rattle.language.specs.Tree.{expr_tree, parameter_tree}
-use Rattle.language.specs.Reasons.{put_why}
-use Rattle.language.specs.Types.{Scope, are_alike, are_met, because_of, is_hidden, is_secret, when, widths_differ}
-use Rattle.language.specs.Typing.{Passed, argument_violations, argument_why, passed, passed_violations, value_rules}
-use Rattle.language.specs.Sooner.{sooner}
 
 pub are_met-append : {A : Type 0} (one rest : List A) → are_met (one ++ rest) ≡ (are_met one && are_met rest)
 are_met-append [] rest = refl

@@ -4,28 +4,17 @@ use Rattle.std.proofs.Common.{◌≡◌, ℕ, Bool, Option, fold, true, false, L
 use Rattle.std.proofs.Common.{◌++◌, Vec, Global, length, is_some, cond, take, refl, sym, ap, ap₂, ◌∙◌}
 use Rattle.std.proofs.lemmas.List.{append_assoc, append-nil}
 use Rattle.std.proofs.Math.Seq.{take-append_seam}
-use Rattle.word.specs.declared.place.Place.{Place}
-use Rattle.language.specs.declared.rule.Rule.TheVariants.{NameDeclaredTwice}
+use Rattle.labels.specs.Below.{array, asked_of_one, asked_of_two, at, block_tree, block_violations, BlockTree}
+use Rattle.labels.specs.Below.{bounds_rules, bounds_why, condition_rules, condition_why, control_under, counter_as}
+use Rattle.labels.specs.Below.{declaration, declared, declared_array, declared_as, Expr, expr_tree, expr_violations}
+use Rattle.labels.specs.Below.{first, For, found, If, NameDeclaredTwice, nothing, parameter_as, ParameterTree, Place}
+use Rattle.labels.specs.Below.{ProcedureTree, Scope, scope_after, scope_after_all, SecretControl, shortened, sooner}
+use Rattle.labels.specs.Below.{Statement, statement_tree, statement_violations, StatementTree, Typed, typed_of}
+use Rattle.labels.specs.Below.{Violation, when, with_parameters}
 use Rattle.language.specs.declared.tree.Counter.{Counter}
-use Rattle.language.specs.declared.tree.Expr.{Expr}
-use Rattle.language.specs.declared.tree.Statement.{Statement, If, For}
 use Rattle.language.proofs.BlockLemmas.{conditional_tree, loop_tree}
 use Rattle.language.specs.declared.typing.Declared.{Declared}
-use Rattle.language.specs.Tree.{expr_tree, statement_tree, block_tree, StatementTree, declaration, array}
-use Rattle.language.specs.Tree.{BlockTree, nothing, first, ParameterTree}
-use Rattle.language.specs.Tree.{ProcedureTree}
-use Rattle.language.specs.declared.why.SecretControl.{SecretControl}
-use Rattle.language.specs.declared.why.Typed.{Typed}
-use Rattle.language.specs.declared.typing.Violation.{Violation}
-use Rattle.language.specs.ExprTyping.{expr_violations, typed_of}
 use Rattle.language.specs.names.Scope.{found as found_in}
-use Rattle.language.specs.Reasons.{bounds_why, condition_why, control_under}
-use Rattle.language.specs.Types.{Scope, asked_of_one, asked_of_two, at, declared, found, when}
-use Rattle.language.specs.Typing.{block_violations, bounds_rules, condition_rules}
-use Rattle.language.specs.Typing.{counter_as, declared_array, declared_as, parameter_as, scope_after, scope_after_all}
-use Rattle.language.specs.Typing.{statement_violations, with_parameters}
-use Rattle.language.specs.scopes.Shortened.{shortened}
-use Rattle.language.specs.Sooner.{sooner}
 
 -- names, and what they stand for; and where they are declared
 abbrev Names : Type 0

@@ -1,6 +1,6 @@
 -- What is known of parts, found one after the other.
 use Rattle.std.proofs.Common.{Bool, true, false, Option, None, Some, List, ◌++◌}
-use Rattle.language.specs.declared.why.Typed.{Typed}
+use Rattle.labels.specs.Below.{Typed}
 
 -- what is known of the parts so far, if each was well typed, before that of what is left
 abbrev pub found_before : Bool → List Typed → Option (List Typed) → Option (List Typed)

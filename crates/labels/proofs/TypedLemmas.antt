@@ -2,20 +2,12 @@
 use Rattle.std.proofs.Common.{◌≡◌, ℕ, List, Option, Some, None, fold, refl}
 use Rattle.std.proofs.lemmas.List.Sums.{fold-append}
 use Rattle.std.specs.Option.{option_map, option_or}
-use Rattle.word.specs.declared.place.Place.{Place}
-use Rattle.language.specs.declared.typing.ValueType.{ValueType}
+use Rattle.labels.specs.Below.{asked_of_two, declared_at, element, element_assignment, element_assignment_violations}
+use Rattle.labels.specs.Below.{element_rules, element_type, element_why, expr_violations, ExprTree, found, name}
+use Rattle.labels.specs.Below.{name_type, name_violations, of_one, of_three, of_two, Place, ProcedureTree, right_typed}
+use Rattle.labels.specs.Below.{right_violations, RightTree, Scope, SecretControl, sooner, statement_violations, type_of}
+use Rattle.labels.specs.Below.{Typed, typed_as, typed_of, ValueType, variable, Violation}
 use Rattle.language.specs.declared.typing.VariableType.{VariableType}
-use Rattle.language.specs.declared.typing.Violation.{Violation}
-use Rattle.language.specs.declared.why.SecretControl.{SecretControl}
-use Rattle.language.specs.declared.why.Typed.{Typed}
-use Rattle.language.specs.ExprTyping.{element_rules, element_type, expr_violations, name_type, name_violations, type_of}
-use Rattle.language.specs.ExprTyping.{typed_of}
-use Rattle.language.specs.Reasons.{element_why}
-use Rattle.language.specs.Sooner.{sooner}
-use Rattle.language.specs.Tree.{ExprTree, name, element, RightTree, element_assignment, ProcedureTree}
-use Rattle.language.specs.Types.{Scope, asked_of_two, declared_at, found, of_one, of_two, of_three, typed_as}
-use Rattle.language.specs.Types.{variable}
-use Rattle.language.specs.Typing.{element_assignment_violations, right_typed, right_violations, statement_violations}
 use Rattle.labels.specs.private.Made.{of_operand, of_operands, of_choice}
 
 pub of_one-typed : (a : Option Place) (k : Option ℕ) (type : ValueType → Option ValueType) (o : Option ValueType)

@@ -1,9 +1,5 @@
 ghost use Rattle.std.specs.Prelude.{◌≡◌, ◌&&◌, fold, length, map};
-ghost use Rattle.language.specs.Tree.{expr_tree, parameter_tree};
-ghost use Rattle.language.specs.Types.{are_met};
-ghost use Rattle.language.specs.Typing.{argument_declared, argument_variable, argument_violations, is_immutable, is_mutable};
-ghost use Rattle.language.specs.Typing.{parameter_value, passed, passed_violations};
-ghost use Rattle.language.specs.Sooner.{sooner};
+ghost use Rattle.labels.specs.Below.{are_met, argument_declared, argument_variable, argument_violations, expr_tree, is_immutable, is_mutable, parameter_tree, parameter_value, passed, passed_violations, sooner};
 
 use crate::values::note_argument;
 use language::scopes::Scope;

@@ -1,13 +1,7 @@
 ghost use Rattle.std.specs.Prelude.{◌≡◌, ◌++◌, fold, map, OnOk};
 ghost use Rattle.std.specs.Option.{option_map};
-ghost use Rattle.language.specs.Reasons.{put_why, typed_part};
-ghost use Rattle.language.specs.Tree.{procedure_tree, statement_tree};
-ghost use Rattle.language.specs.Types.{because_of};
-ghost use Rattle.language.specs.declared.tree.Statement.{Assign, AssignElement};
-ghost use Rattle.language.specs.declared.why.Part.TheVariants.{Value, Variable};
-ghost use Rattle.language.specs.declared.why.Typed.{Typed};
-ghost use Rattle.language.specs.Typing.{assignment_violations, change_violations, element_assignment_violations, statement_violations, target_rules};
-ghost use Rattle.language.specs.Sooner.{sooner};
+ghost use Rattle.labels.specs.Below.{Assign, AssignElement, assignment_violations, because_of, change_violations, element_assignment_violations, procedure_tree, put_why, sooner, statement_tree, statement_violations, target_rules, Typed, typed_part, Value};
+ghost use Rattle.language.specs.declared.why.Part.TheVariants.{Variable};
 
 use crate::declarations::right_side;
 use crate::expressions::{expression, name, note_name};

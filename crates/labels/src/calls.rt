@@ -1,13 +1,6 @@
 ghost use Rattle.std.specs.Prelude.{◌≡◌, ◌&&◌, ◌∷◌, [], None, Some, fold, is_some, length, map, IfOk, OnOk, if◌then◌else◌};
 ghost use Rattle.std.specs.Option.{option_map};
-ghost use Rattle.language.specs.Reasons.{control_why};
-ghost use Rattle.language.specs.Tree.{call_tree, expr_tree, procedure_tree};
-ghost use Rattle.language.specs.Types.{are_met, because, callee, found, when};
-ghost use Rattle.language.specs.Typing.{arguments_violations, call_type, call_violations, called_one, clash_violations};
-ghost use Rattle.language.specs.Typing.{known_call_type, known_call_violations, result_value};
-ghost use Rattle.language.specs.declared.rule.Rule.TheVariants.{ArgumentCount, CallAssignsPublicUnderSecretControl};
-ghost use Rattle.language.specs.declared.why.Why.TheVariants.{ArgumentCounts as Counts};
-ghost use Rattle.language.specs.Sooner.{sooner};
+ghost use Rattle.labels.specs.Below.{are_met, ArgumentCount, ArgumentCounts as Counts, arguments_violations, because, call_tree, call_type, call_violations, CallAssignsPublicUnderSecretControl, called_one, callee, clash_violations, control_why, expr_tree, found, known_call_type, known_call_violations, procedure_tree, result_value, sooner, when};
 
 use crate::arguments::note_all_passed;
 use crate::clashes::array_clash;

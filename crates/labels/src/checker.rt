@@ -2,15 +2,9 @@ ghost use Rattle.std.specs.Prelude.{◌≡◌, ◌<◌, None, Some, [], fold, le
 ghost use Rattle.std.specs.List.{AllByRecursion};
 ghost use Rattle.word.specs.Places.{origin};
 ghost use Rattle.word.specs.declared.profile.Profile.TheVariants.{P1};
-ghost use Rattle.language.specs.declared.rule.Rule.TheVariants.{NotExactlyOneExport};
+ghost use Rattle.labels.specs.Below.{empty, export_violations, exported, exports, IsGrammatical, NotExactlyOneExport, procedure_tree, procedures_violations, program_tree, sooner, violations};
 ghost use Rattle.language.specs.FirstViolation.{IsRefusedFor, IsToldOf};
-ghost use Rattle.language.specs.Grammatical.{IsGrammatical};
-ghost use Rattle.language.specs.Signature.{exported};
-ghost use Rattle.language.specs.Tree.{procedure_tree, program_tree};
-ghost use Rattle.language.specs.Types.{empty};
-ghost use Rattle.language.specs.Typing.{export_violations, exports, procedures_violations, violations};
 ghost use Rattle.labels.specs.Exports.{export_index};
-ghost use Rattle.language.specs.Sooner.{sooner};
 
 use crate::procedures::procedure;
 use language::scopes::Scope;

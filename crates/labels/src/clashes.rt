@@ -1,10 +1,8 @@
 ghost use Rattle.std.specs.Prelude.{◌≡◌, [], length, map, IfOk, OnOk, if◌then◌else◌};
 ghost use Rattle.std.specs.Option.{option_map};
 ghost use Rattle.language.specs.names.Scope.{declared, found};
-ghost use Rattle.language.specs.Tree.{expr_tree, parameter_tree};
-ghost use Rattle.language.specs.Typing.{array_name, first_clash, is_mutable, name_place, passed, shared_at};
+ghost use Rattle.labels.specs.Below.{Array, array_name, expr_tree, first_clash, is_mutable, name_place, parameter_tree, passed, shared_at};
 ghost use Rattle.language.specs.declared.typing.ArrayType.{ArrayType};
-ghost use Rattle.language.specs.declared.typing.ValueType.TheVariants.{Array};
 ghost use Rattle.labels.specs.private.Arrays.{given_before, with_array, with_changed};
 
 use language::names::Names;

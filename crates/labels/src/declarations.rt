@@ -1,12 +1,6 @@
 ghost use Rattle.std.specs.Prelude.{◌≡◌, ◌++◌, [], None, fold, is_some, map, OnOk, IfOk};
 ghost use Rattle.std.specs.Option.{option_map};
-ghost use Rattle.language.specs.ExprTyping.{exprs_violations, typed_of_all};
-ghost use Rattle.language.specs.Tree.{procedure_tree, right_tree, statement_tree, written};
-ghost use Rattle.language.specs.declared.tree.Statement.{Declare, DeclareArray};
-ghost use Rattle.language.specs.Types.{found, of_one, typed_as};
-ghost use Rattle.language.specs.Typing.{array_violations, count_violations, declaration_control_violations, declaration_violations};
-ghost use Rattle.language.specs.Typing.{right_typed, right_violations, scope_after, statement_violations, values_violations};
-ghost use Rattle.language.specs.Sooner.{sooner};
+ghost use Rattle.labels.specs.Below.{array_violations, count_violations, declaration_control_violations, declaration_violations, Declare, DeclareArray, exprs_violations, found, of_one, procedure_tree, right_tree, right_typed, right_violations, scope_after, sooner, statement_tree, statement_violations, typed_as, typed_of_all, values_violations, written};
 ghost use Rattle.labels.specs.private.Written.{values_tree};
 
 use crate::calls::call;

@@ -1,12 +1,7 @@
 ghost use Rattle.std.specs.Prelude.{◌≡◌, ◌++◌, ◌∷◌, [], None, is_some, fold, length, map, IfOk, IfSome, OnOk};
 ghost use Rattle.std.specs.Option.{option_map};
-ghost use Rattle.language.specs.ExprTyping.{expr_violations, exprs_violations, name_type, name_violations, typed_of, typed_of_all};
-ghost use Rattle.language.specs.Reasons.{secret_name};
-ghost use Rattle.language.specs.Tree.{expr_tree};
-ghost use Rattle.language.specs.Types.{found as found_in, typed_as, variable, word};
+ghost use Rattle.labels.specs.Below.{expr_tree, expr_violations, exprs_violations, found as found_in, name_type, name_violations, Public, secret_name, sooner, typed_as, typed_of, typed_of_all, variable, word};
 ghost use Rattle.language.specs.declared.signature.Kind.TheVariants.{Boolean};
-ghost use Rattle.language.specs.declared.signature.Label.TheVariants.{Public};
-ghost use Rattle.language.specs.Sooner.{sooner};
 
 use crate::nodes::{binary, choice, convert, element, number, prefix, rotate};
 use crate::reasons::unknown_why;

@@ -1,13 +1,7 @@
 ghost use Rattle.std.specs.Prelude.{◌≡◌, Some, None, fold};
 ghost use Rattle.std.specs.Option.{option_map};
-ghost use Rattle.language.specs.ExprTyping.{binary_rules, binary_type, convert_rules, convert_type, element_rules, element_type, number_rules, prefix_rules, prefix_type, rotate_rules, rotate_type, select_rules, select_type};
+ghost use Rattle.labels.specs.Below.{asked_of_one, asked_of_three, asked_of_two, because, binary_rules, binary_type, choice_why, convert_rules, convert_type, element_rules, element_type, element_why, Number, number_rules, of_one, of_three, of_two, operand_why, operands_why, prefix_rules, prefix_type, Public, rotate_rules, rotate_type, rotate_why, select_rules, select_type, sooner, typed_as, unless, word, WrongKind};
 ghost use Rattle.language.specs.Operators.{operation_of};
-ghost use Rattle.language.specs.Reasons.{choice_why, element_why, operand_why, operands_why, rotate_why};
-ghost use Rattle.language.specs.Types.{asked_of_one, asked_of_three, asked_of_two, because, of_one, of_three, of_two, typed_as, unless, word};
-ghost use Rattle.language.specs.declared.signature.Label.TheVariants.{Public};
-ghost use Rattle.language.specs.declared.why.Why.TheVariants.{Number};
-ghost use Rattle.language.specs.declared.rule.Rule.TheVariants.{WrongKind};
-ghost use Rattle.language.specs.Sooner.{sooner};
 ghost use Rattle.labels.specs.private.Made.{of_choice, of_operand, of_operands};
 
 use crate::reasons::{either_literal, operand_literal, typed_part, whole_literal};

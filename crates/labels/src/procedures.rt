@@ -1,10 +1,6 @@
 ghost use Rattle.std.specs.Prelude.{◌≡◌, [], fold, length, map, OnOk};
 ghost use Rattle.std.specs.Option.{option_map};
-ghost use Rattle.language.specs.Tree.{parameter_tree, procedure_tree, return_tree};
-ghost use Rattle.language.specs.Types.{of_one};
-ghost use Rattle.language.specs.Typing.{missing_violations, parameter_violations, procedure_violations, return_violations};
-ghost use Rattle.language.specs.Typing.{returned_violations, scope_after_all, with_parameters, with_procedure};
-ghost use Rattle.language.specs.Sooner.{sooner};
+ghost use Rattle.labels.specs.Below.{missing_violations, of_one, parameter_tree, parameter_violations, procedure_tree, procedure_violations, return_tree, return_violations, returned_violations, scope_after_all, sooner, with_parameters, with_procedure};
 ghost use Rattle.labels.specs.private.Inside.{inside_violations};
 
 use crate::arguments::parameter_value;

@@ -1,10 +1,5 @@
 ghost use Rattle.std.specs.Prelude.{◌≡◌, ◌++◌, fold, is_some, map, OnOk};
-ghost use Rattle.language.specs.Tree.{block_tree, procedure_tree, statement_tree};
-ghost use Rattle.language.specs.Reasons.{bounds_why, condition_why, control_under};
-ghost use Rattle.language.specs.Types.{asked_of_one, asked_of_two, at, declared, found, when};
-ghost use Rattle.language.specs.Typing.{block_violations, bounds_rules, condition_rules, counter_as, scope_after, scope_after_all, statement_violations};
-ghost use Rattle.language.specs.declared.rule.Rule.TheVariants.{NameDeclaredTwice};
-ghost use Rattle.language.specs.Sooner.{sooner};
+ghost use Rattle.labels.specs.Below.{asked_of_one, asked_of_two, at, block_tree, block_violations, bounds_rules, bounds_why, condition_rules, condition_why, control_under, counter_as, declared, found, NameDeclaredTwice, procedure_tree, scope_after, scope_after_all, sooner, statement_tree, statement_violations, when};
 
 use crate::assignments::{assignment, element_assignment};
 use crate::calls::call;

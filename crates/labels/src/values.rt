@@ -1,9 +1,5 @@
 ghost use Rattle.std.specs.Prelude.{◌≡◌, fold};
-ghost use Rattle.language.specs.Reasons.{put_why, typed_part};
-ghost use Rattle.language.specs.Types.{are_met, because_of};
-ghost use Rattle.language.specs.Typing.{argument_rules, argument_why, control_violations, same_array, shape_rules, value_rules, value_violations};
-ghost use Rattle.language.specs.declared.typing.ValueType.TheVariants.{Array, Word};
-ghost use Rattle.language.specs.Sooner.{sooner};
+ghost use Rattle.labels.specs.Below.{are_met, argument_rules, argument_why, Array, because_of, control_violations, put_why, same_array, shape_rules, sooner, typed_part, value_rules, value_violations, Word};
 
 use crate::reasons::{control_why, literal_as, typed_part};
 use language::{

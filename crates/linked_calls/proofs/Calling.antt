@@ -10,7 +10,7 @@ use Rattle.linked_calls.proofs.Below.{enter_sections, Event, Fields, IsCalled, I
 use Rattle.linked_calls.proofs.Below.{IsSite, LeadsWithin-append, leave_sections, Observation, ProcedureTree}
 use Rattle.linked_calls.proofs.Below.{ProgramTree, Results, results_in, room_base, RunsLinked, saved_registers}
 use Rattle.linked_calls.proofs.Below.{section_turns, Site, State}
-use Rattle.codegen.specs.Anywhere.{IsPlaced, IsBeside, BodyRun}
+use Rattle.linked_calls.specs.Below.{BodyRun, IsBeside, IsPlaced, Load, Store}
 use Rattle.linked_calls.specs.Callable.{Returns, IsCallable, CallsAreLinked}
 use Rattle.linked_calls.proofs.Between.{IsOutsideRoom, body_at, saved_at, enter_turns, leave_turns, Enters}
 use Rattle.linked_calls.proofs.Between.{EntersFrom, EnteringLeads, CanLeave, Leaves, LeavesFrom, LeavesEverywhere}
@@ -22,7 +22,6 @@ use Rattle.linked_calls.proofs.SavedRegisters.{saved_same}
 use Rattle.linked_calls.proofs.Standing.{body_stands}
 use Rattle.linked_calls.proofs.Staying.{arrays_agree, stay_ready}
 use Rattle.linked_calls.proofs.WithinParameters.{arguments_within}
-use Rattle.rv_machine.specs.declared.observation.Event.TheVariants.{Load, Store}
 
 -- Places.
 

@@ -20,7 +20,7 @@ use Rattle.linked_calls.proofs.Loops.{loop}
 use Rattle.linked_calls.proofs.Parts.{load_runs, number_then, same_number}
 use Rattle.linked_calls.proofs.Pieces.{MayAt, Runs, Setting, as_straight, in_turns, makes_on, makes_then, placed}
 use Rattle.linked_calls.proofs.Pieces.{straight_runs, weaken_runs}
-use Rattle.rv_machine.specs.declared.memory.Size.TheVariants.{Word}
+use Rattle.linked_calls.specs.Below.{Word}
 use Rattle.rv_machine.specs.declared.observation.Event.TheVariants as event
 
 -- What holds of both of two, or of the two in both orders, holds of those that are chosen.

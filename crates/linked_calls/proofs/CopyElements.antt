@@ -7,7 +7,7 @@ use Rattle.linked_calls.proofs.Below.{after_all, are_straight, AreFit, AreMet, B
 use Rattle.linked_calls.proofs.Below.{copied_out_code, Data, element_bytes, Event, Instr, IsFit, Kind, LiesIn, meant}
 use Rattle.linked_calls.proofs.Below.{number_at, number_or_zero, Size, sum_of, Uint16, Uint32, Uint8, with_number}
 use Rattle.rv_machine.specs.declared.observation.Event.TheVariants as event
-use Rattle.rv_machine.specs.declared.memory.Size.TheVariants.{Byte, Half, Word}
+use Rattle.linked_calls.specs.Below.{Byte, Half, Word}
 use Rattle.linked_calls.proofs.Bytes.{same_truth, with_number_cut}
 
 -- The two ways.

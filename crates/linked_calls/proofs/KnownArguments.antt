@@ -8,7 +8,7 @@ use Rattle.linked_calls.proofs.Below.{AreApart, arguments_end, array_bytes, arra
 use Rattle.linked_calls.proofs.Below.{CanBeCopied, element_bytes, Fields, FixedArray, Form, IsBesides, IsImage}
 use Rattle.linked_calls.proofs.Below.{IsReadable, Kind, LiesWell, LieWell, most_elements, MutableArray, ReadsAnArray}
 use Rattle.linked_calls.proofs.Below.{ReadsArray, room_base, SingleWord, Site, Size, Slot, WritesAnArray, WritesArray}
-use Rattle.codegen.specs.image_fields.Fields.{AreSlots, is_length, slot_bytes, slot_end}
+use Rattle.linked_calls.specs.Below.{AreSlots, is_length, slot_bytes, slot_end}
 use Rattle.linked_calls.proofs.AllArguments.{AreKnown, IsKnown, KnownArray, KnownWord, spot_at}
 use Rattle.linked_calls.proofs.CopyElements.{elements_fit, some_bytes}
 use Rattle.linked_calls.proofs.Rooms.{RoomNumbers, place_inside}

@@ -12,7 +12,7 @@ use Rattle.linked_calls.proofs.Below.{kept_registers, LeadsWithin, number_at, Pl
 use Rattle.linked_calls.proofs.Below.{restore_code, result_code, results_code, results_in, ResultSlot, room_base}
 use Rattle.linked_calls.proofs.Below.{saved_registers, scratch_registers, Site, State, unwritten, wipe_code}
 use Rattle.linked_calls.proofs.Below.{with_arrays, with_register, with_result, word_in}
-use Rattle.codegen.specs.image_fields.Fields.{IsResultSlot, result_end, slots_end}
+use Rattle.linked_calls.specs.Below.{IsResultSlot, result_end, slots_end}
 use Rattle.linked_calls.proofs.AllArguments.{AreKnown, Begins, call_setting, taken_registers}
 use Rattle.linked_calls.proofs.AllResults.{all_handed_apart, all_handed_are, results_runs}
 use Rattle.linked_calls.proofs.Between.{AreReady, CanLeave, Leaves, LeavesEverywhere, leave_at, leave_turns}

@@ -15,9 +15,9 @@ use Rattle.linked_calls.proofs.Below.{number_or_zero, only_computes, plain_appen
 use Rattle.linked_calls.proofs.Below.{register_kept, register_value, RegisterOperation, registers_after, registers_of}
 use Rattle.linked_calls.proofs.Below.{sign_extended, store_code, stores_code, sum_of, Sw, unwritten, upper_fits}
 use Rattle.linked_calls.proofs.Below.{upper_part, with_number, with_numbers, with_register, with_result, written}
-use Rattle.rv_code.specs.declared.instructions.Instr.TheVariants.{Upper, Load, Store}
+use Rattle.linked_calls.specs.Below.{Upper, Word}
+use Rattle.rv_code.specs.declared.instructions.Instr.TheVariants.{Load, Store}
 use Rattle.rv_machine.specs.declared.observation.Event.TheVariants as event
-use Rattle.rv_machine.specs.declared.memory.Size.TheVariants.{Word}
 use Rattle.linked_calls.proofs.Bytes.{number_there}
 use Rattle.linked_calls.proofs.Pieces.{IsNone, Setting, Runs, silent_runs, straight_runs}
 

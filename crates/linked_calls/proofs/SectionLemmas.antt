@@ -9,7 +9,7 @@ use Rattle.linked_calls.proofs.Below.{frame_room, frame_sections, FrameBase, Fra
 use Rattle.linked_calls.proofs.Below.{leave_code, leave_sections, MutableArray, Register, RestoredRegisters}
 use Rattle.linked_calls.proofs.Below.{results_code, Return, Section, Slot, stack_register, Sub, until_equal}
 use Rattle.linked_calls.proofs.Below.{WipedRoom, zeros_code}
-use Rattle.rv_code.specs.Words.{word_of}
+use Rattle.linked_calls.specs.Below.{word_of}
 
 code_of_both : (image : Fields) (one other : List Section)
     → code_of image (one ++ other) ≡ code_of image one ++ code_of image other

@@ -7,7 +7,7 @@ use Rattle.linked_calls.proofs.Below.{body_words, Code, enter_code, Fields, func
 use Rattle.linked_calls.proofs.Below.{Placed, Site, Stand}
 use Rattle.linked_calls.proofs.Between.{body_at, leave_at}
 use Rattle.linked_calls.proofs.Pieces.{placed}
-use Rattle.rv_code.specs.Words.{word_of}
+use Rattle.linked_calls.specs.Below.{word_of}
 
 -- Words, one list after another.
 

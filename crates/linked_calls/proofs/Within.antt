@@ -6,7 +6,7 @@ use Rattle.linked_calls.proofs.Below.{after, after_all, are_straight, AreFit, Ar
 use Rattle.linked_calls.proofs.Below.{Data, Event, first_fit, first_met, Instr, LeadsWithin, LeadsWithin-append}
 use Rattle.linked_calls.proofs.Below.{Observation, one_within, Placed, rest_fit, rest_met, shown_allowed, shown_by}
 use Rattle.linked_calls.proofs.Below.{stays_within, straight_code_leads}
-use Rattle.codegen.specs.program_logic.StraightCode.{fit_and, met_and, is_straight, next_of, left_by, event_of}
+use Rattle.linked_calls.specs.Below.{event_of, fit_and, is_straight, left_by, met_and, next_of}
 
 -- The code's own accesses are allowed wherever x2 is, of which something holds that no instruction changes.
 module _ (code : Code) (Allowed : ℕ → Option Event → Type 0) (works : ℕ → Bool) (Allows : Option Event → Type 0)

@@ -10,7 +10,7 @@ use Rattle.linked_calls.proofs.Below.{IsReturned, Kind, load_code, meant, meant_
 use Rattle.linked_calls.proofs.Below.{only_computes, registers_after, ResultIsHandedBack, shift_value, SingleWord}
 use Rattle.linked_calls.proofs.Below.{Slli, Slot, Srli, store_code, Uint16, Uint32, Uint8, unwritten, with_number}
 use Rattle.linked_calls.proofs.Below.{with_register, with_result, WordIsTaken}
-use Rattle.rv_machine.specs.declared.memory.Size.TheVariants.{Word}
+use Rattle.linked_calls.specs.Below.{Word}
 use Rattle.rv_machine.specs.declared.observation.Event.TheVariants as event
 use Rattle.word.specs.Operators.{word_of}
 use Rattle.linked_calls.proofs.Bytes.{number_there, same_truth, with_number_cut}

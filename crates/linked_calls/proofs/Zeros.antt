@@ -9,8 +9,7 @@ use Rattle.linked_calls.proofs.Below.{IsStoreIn, IsWiped, IsZeroFrame, Register,
 use Rattle.linked_calls.proofs.Below.{until_equal, unwritten, wipe_code, with_numbers, with_register, with_result}
 use Rattle.linked_calls.proofs.Below.{zeros_code}
 use Rattle.linked_calls.proofs.Bytes.{no_zeros, is_some-with_numbers, zeroed_words, zeros_down, zeros_of, zeros_up}
-use Rattle.rv_machine.specs.declared.memory.Size.TheVariants.{Word}
-use Rattle.rv_machine.specs.declared.observation.Event.TheVariants.{Store}
+use Rattle.linked_calls.specs.Below.{Store, Word}
 use Rattle.linked_calls.proofs.Loops.{loop}
 use Rattle.linked_calls.proofs.Parts.{computes_runs, number_then, stored, stores_runs}
 use Rattle.linked_calls.proofs.Pieces.{Runs, Setting, as_code, in_turns, makes_then, no_code, placed, weaken_runs}

@@ -3,20 +3,15 @@
 use Rattle.std.specs.Prelude.{◌≡◌, ℕ, suc, ◌+◌, ◌-◌, ◌*◌, ◌%◌, ◌<◌, List, length, None}
 use Rattle.language.specs.arguments.Agreement.{Agree}
 use Rattle.language.specs.arguments.PublicResults.{AgreeInPublic}
-use Rattle.codegen.specs.Loaded.{params_of}
+use Rattle.linked_calls.specs.Below.{Arg, Code, Fields, goes_on, IsImage, LeadsWithin, moved_to, Observation, observed}
+use Rattle.linked_calls.specs.Below.{params_of, Results, State, Turn}
 use Rattle.hepurita.specs.Compiled.{IsCompiled}
 use Rattle.hepurita.specs.Meant.{Means}
-use Rattle.codegen.specs.image_fields.Fields.{Fields, IsImage}
-use Rattle.codegen.specs.program_logic.Turns.{LeadsWithin}
-use Rattle.language.specs.Results.{Results}
 use Rattle.language.specs.Tree.{ProcedureTree, ProgramTree}
-use Rattle.language.specs.declared.values.Arg.{Arg}
 use Rattle.linked_calls.specs.Called.{IsOfCall, IsLeft}
 use Rattle.linked_calls.specs.Calls.{Site, IsSite, IsCalled, arguments_of}
 use Rattle.linked_calls.specs.FunctionCode.{function_words}
 use Rattle.linked_calls.specs.Sections.{around_turns}
-use Rattle.rv_machine.specs.Machine.{State, Code, Turn, goes_on, observed, moved_to}
-use Rattle.rv_machine.specs.declared.observation.Observation.{Observation}
 
 -- a call from this state: all its turns but the last, which jumps back, and that one. What it shows is this list
 pub record Returns (program : ProgramTree) (image : Fields) (code : Code) (site : Site) (s : State)

@@ -1,21 +1,11 @@
 -- What a call of a function leaves, and which accesses it makes. The registers are written out here as the calling
 -- convention lists them, since which are kept is promised to C.
 use Rattle.std.specs.Prelude.{◌≡◌, ◌⊎◌, ℕ, ◌+◌, ◌≤◌, List, [], ◌∷◌, drop, All, Option, Some, None, unwrap_or}
-use Rattle.codegen.specs.Loaded.{with_numbers}
-use Rattle.codegen.specs.image_fields.Fields.{Fields}
-use Rattle.codegen.specs.declared.image_fields.slot.Slot.{Slot}
-use Rattle.language.specs.Results.{Results}
-use Rattle.language.specs.Size.{element_bytes}
-use Rattle.language.specs.declared.signature.Form.{Form}
-use Rattle.language.specs.declared.signature.Form.TheVariants.{SingleWord, FixedArray, MutableArray}
+use Rattle.linked_calls.specs.Below.{ByteMap, Div, element_bytes, Event, Fields, FixedArray, Form, Load, Mul}
+use Rattle.linked_calls.specs.Below.{MutableArray, Results, SingleWord, Size, Slot, State, Store, with_numbers}
 use Rattle.linked_calls.specs.Calls.{Site, room_base, arguments_end}
 use Rattle.linked_calls.specs.FunctionCode.{array_bytes}
 use Rattle.linked_calls.specs.Stretches.{AreZeroed, LiesIn}
-use Rattle.rv_machine.specs.Bytes.{ByteMap}
-use Rattle.rv_machine.specs.Machine.{State}
-use Rattle.rv_machine.specs.declared.memory.Size.{Size}
-use Rattle.rv_machine.specs.declared.observation.Event.{Event}
-use Rattle.rv_machine.specs.declared.observation.Event.TheVariants.{Load, Store, Div, Mul}
 
 -- Accesses.
 

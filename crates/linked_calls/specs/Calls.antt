@@ -3,19 +3,12 @@
 -- registers and the distances are written out here, since what they are is promised to C.
 use Rattle.std.specs.Prelude.{◌≡◌, ◌⊎◌, ℕ, ◌+◌, ◌-◌, ◌*◌, ◌%◌, ◌^◌, ◌<◌, ◌≤◌, nat_lt, List, [], ◌∷◌, length, map}
 use Rattle.std.specs.Prelude.{if◌then◌else◌}
-use Rattle.codegen.specs.Anywhere.{Stand}
-use Rattle.codegen.specs.Loaded.{word_in, numbers_at}
-use Rattle.codegen.specs.image_fields.Fields.{Fields}
-use Rattle.codegen.specs.declared.image_fields.slot.Slot.{Slot}
-use Rattle.language.specs.Size.{element_bytes}
-use Rattle.language.specs.declared.signature.Form.{Form}
-use Rattle.language.specs.declared.signature.Form.TheVariants.{SingleWord, FixedArray, MutableArray}
-use Rattle.language.specs.declared.values.Arg.{Arg}
-use Rattle.language.specs.declared.values.Arg.TheVariants.{Word, Array}
+use Rattle.linked_calls.specs.Below.{Arg, Array, Code, element_bytes, Fields, FixedArray, Form, MutableArray}
+use Rattle.linked_calls.specs.Below.{numbers_at, SingleWord, Slot, Stand, State, word_in}
+use Rattle.language.specs.declared.values.Arg.TheVariants.{Word}
 use Rattle.linked_calls.specs.FunctionCode.{function_words, room_of, array_bytes}
 use Rattle.linked_calls.specs.Meant.{meant}
 use Rattle.linked_calls.specs.Stretches.{AreData}
-use Rattle.rv_machine.specs.Machine.{State, Code}
 
 -- where a function's words begin, where the stack pointer is at the call, and where the i-th argument points if it is
 -- an array

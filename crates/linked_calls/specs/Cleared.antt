@@ -3,8 +3,7 @@ use Rattle.std.specs.Prelude.{◌≡◌, ◌≢◌, ℕ, List, length, All, Opti
 use Rattle.linked_calls.specs.Convention.{scratch_registers}
 use Rattle.linked_calls.specs.FunctionCode.{clear_registers_code}
 use Rattle.linked_calls.specs.Does.{Data, Does, AreThere}
-use Rattle.rv_machine.specs.declared.observation.Event.{Event}
-use Rattle.rv_machine.specs.Machine.{Code}
+use Rattle.linked_calls.specs.Below.{Code, Event}
 
 -- no access at all
 abbrev pub IsSilent : ℕ → Option Event → Type 0

@@ -1,21 +1,13 @@
 -- An argument that points to an array: the array is copied into its slot before the body, and back behind it where it
 -- may be changed.
 use Rattle.std.specs.Prelude.{◌≡◌, ◌≢◌, ◌⊎◌, ℕ, ◌+◌, ◌%◌, ◌^◌, ◌<◌, ◌≤◌, List, map, Option, Some, None}
-use Rattle.codegen.specs.Loaded.{with_argument, with_numbers, numbers_at}
+use Rattle.linked_calls.specs.Below.{Array, ByteMap, Code, Div, element_bytes, Event, Fields, FixedArray, Load, Mul}
+use Rattle.linked_calls.specs.Below.{MutableArray, number_at, numbers_at, Slot, Store, with_argument, with_numbers}
 use Rattle.linked_calls.specs.FunctionCode.{argument_offset, array_bytes, argument_code, copy_out_code}
 use Rattle.linked_calls.specs.Sections.{argument_turns, array_turns}
-use Rattle.codegen.specs.image_fields.Fields.{Fields}
-use Rattle.codegen.specs.declared.image_fields.slot.Slot.{Slot}
-use Rattle.language.specs.Size.{element_bytes}
-use Rattle.language.specs.declared.signature.Form.TheVariants.{FixedArray, MutableArray}
-use Rattle.language.specs.declared.values.Arg.TheVariants.{Array}
 use Rattle.linked_calls.specs.Does.{Data, Does, AreThere}
 use Rattle.linked_calls.specs.Meant.{meant}
 use Rattle.linked_calls.specs.Stretches.{AreData, LiesIn}
-use Rattle.rv_machine.specs.Bytes.{ByteMap, number_at}
-use Rattle.rv_machine.specs.declared.observation.Event.{Event}
-use Rattle.rv_machine.specs.declared.observation.Event.TheVariants.{Load, Store, Div, Mul}
-use Rattle.rv_machine.specs.Machine.{Code}
 
 -- where the frame of a call lies, which argument it is, and where the argument points
 pub record Pointed : Type 0 where

@@ -1,14 +1,8 @@
 -- What a piece of code does wherever it stands: from every state of some kind it leads to behind its instructions in
 -- an exact number of turns. What it shows is one list, given before the state, so all such states show the same.
 use Rattle.std.specs.Prelude.{ℕ, ◌+◌, ◌*◌, List, length, map, Option}
-use Rattle.codegen.specs.Anywhere.{Stand}
-use Rattle.codegen.specs.program_logic.StraightCode.{Contents, state_at}
-use Rattle.codegen.specs.program_logic.Turns.{LeadsWithin}
-use Rattle.rv_code.specs.declared.instructions.Instr.{Instr}
-use Rattle.rv_code.specs.Words.{word_of}
-use Rattle.rv_machine.specs.declared.observation.Event.{Event}
-use Rattle.rv_machine.specs.declared.observation.Observation.{Observation}
-use Rattle.rv_machine.specs.Machine.{State, Code}
+use Rattle.linked_calls.specs.Below.{Code, Contents, Event, Instr, LeadsWithin, Observation, Stand, State, state_at}
+use Rattle.linked_calls.specs.Below.{word_of}
 
 -- what a state holds beside its program counter: registers and bytes
 abbrev pub Data : Type 0

@@ -6,27 +6,15 @@
 -- passes it on the stack.
 use Rattle.std.specs.Prelude.{ℕ, ◌+◌, ◌-◌, ◌*◌, ◌^◌, ◌==◌, List, [], ◌∷◌, ◌++◌, length, map, Option, Some, None}
 use Rattle.std.specs.Prelude.{if◌then◌else◌}
-use Rattle.codegen.specs.Anywhere.{body_words}
-use Rattle.codegen.specs.expression_code.TermCode.{load_code, store_code, constant_code, cut_code, is_not_zero_code, load_by}
+use Rattle.linked_calls.specs.Below.{Add, Addi, Bne, body_words, Boolean, Branch, constant_code, cut_code}
+use Rattle.linked_calls.specs.Below.{element_bytes, Fields, FixedArray, Form, Immediate, Instr, is_not_zero_code}
+use Rattle.linked_calls.specs.Below.{JumpRegister, Kind, load_by, load_code, MutableArray, Register, ResultSlot}
+use Rattle.linked_calls.specs.Below.{SingleWord, Slot, store_code, Sub, Uint16, Uint32, Uint8, word_of}
 use Rattle.linked_calls.specs.Convention.{link_register, stack_register, saved_registers, argument_registers}
 use Rattle.linked_calls.specs.Convention.{result_register, scratch_registers, whole_blocks}
-use Rattle.codegen.specs.image_fields.Fields.{Fields}
-use Rattle.codegen.specs.declared.image_fields.slot.ResultSlot.{ResultSlot}
-use Rattle.codegen.specs.declared.image_fields.slot.Slot.{Slot}
 use Rattle.language.specs.Operators.{width_of}
-use Rattle.language.specs.Size.{element_bytes}
-use Rattle.language.specs.declared.signature.Form.{Form}
-use Rattle.language.specs.declared.signature.Form.TheVariants.{SingleWord, FixedArray, MutableArray}
-use Rattle.language.specs.declared.signature.Kind.{Kind}
-use Rattle.language.specs.declared.signature.Kind.TheVariants.{Boolean, Uint8, Uint16, Uint32}
-use Rattle.rv_code.specs.Words.{word_of}
-use Rattle.rv_code.specs.declared.instructions.Instr.{Instr}
-use Rattle.rv_code.specs.declared.instructions.Instr.TheVariants.{Immediate, Register, Branch, JumpRegister, Load}
-use Rattle.rv_code.specs.declared.instructions.Instr.TheVariants.{Store}
-use Rattle.rv_code.specs.declared.operations.BranchTest.TheVariants.{Bne}
-use Rattle.rv_code.specs.declared.operations.ImmediateOperation.TheVariants.{Addi}
+use Rattle.rv_code.specs.declared.instructions.Instr.TheVariants.{Load, Store}
 use Rattle.rv_code.specs.declared.operations.LoadOperation.TheVariants.{Lw}
-use Rattle.rv_code.specs.declared.operations.RegisterOperation.TheVariants.{Add, Sub}
 use Rattle.rv_code.specs.declared.operations.StoreOperation.{StoreOperation}
 use Rattle.rv_code.specs.declared.operations.StoreOperation.TheVariants.{Sb, Sh, Sw}
 

@@ -11,3 +11,4 @@ pub mod Sections
 pub mod Stretches
 pub mod Words
 pub mod Zeros
+pub mod Below

@@ -1,7 +1,6 @@
 -- What a raw word that a caller passes means.
 use Rattle.std.specs.Prelude.{ℕ, ◌%◌, ◌^◌, ◌==◌, not}
-use Rattle.language.specs.declared.signature.Kind.{Kind}
-use Rattle.language.specs.declared.signature.Kind.TheVariants.{Boolean, Uint8, Uint16, Uint32}
+use Rattle.linked_calls.specs.Below.{Boolean, Kind, Uint16, Uint32, Uint8}
 use Rattle.word.specs.Operators.{word_of}
 
 -- a bool is whether it is not 0, a number its low bits

@@ -2,7 +2,8 @@
 -- make.
 use Rattle.std.specs.Prelude.{ℕ, ◌+◌, ◌-◌, ◌*◌, ◌/◌, ◌==◌, List, [], ◌∷◌, ◌++◌, length, map, sum, if◌then◌else◌}
 use Rattle.std.specs.List.{flat_map}
-use Rattle.codegen.specs.expression_code.TermCode.{constant_code}
+use Rattle.linked_calls.specs.Below.{Add, constant_code, Fields, FixedArray, Form, Instr, JumpRegister, MutableArray}
+use Rattle.linked_calls.specs.Below.{Register, SingleWord, Slot, Sub}
 use Rattle.linked_calls.specs.Convention.{link_register, stack_register, saved_registers, argument_registers}
 use Rattle.linked_calls.specs.Convention.{scratch_registers}
 use Rattle.linked_calls.specs.FunctionCode.{above_frame, frame_room, room_of, stores_code, loads_code, until_equal}
@@ -14,13 +15,6 @@ use Rattle.linked_calls.specs.declared.section.Section.TheVariants.{RoomAboveFra
 use Rattle.linked_calls.specs.declared.section.Section.TheVariants.{FrameBase, ClearedFrame, ArgumentIn, ResultOut}
 use Rattle.linked_calls.specs.declared.section.Section.TheVariants.{ArrayOut, FrameTop, RestoredRegisters}
 use Rattle.linked_calls.specs.declared.section.Section.TheVariants.{CallersStack, WipedRoom, ClearedRegisters, Return}
-use Rattle.codegen.specs.image_fields.Fields.{Fields}
-use Rattle.codegen.specs.declared.image_fields.slot.Slot.{Slot}
-use Rattle.language.specs.declared.signature.Form.{Form}
-use Rattle.language.specs.declared.signature.Form.TheVariants.{SingleWord, FixedArray, MutableArray}
-use Rattle.rv_code.specs.declared.instructions.Instr.{Instr}
-use Rattle.rv_code.specs.declared.instructions.Instr.TheVariants.{Register, JumpRegister}
-use Rattle.rv_code.specs.declared.operations.RegisterOperation.TheVariants.{Add, Sub}
 
 -- the sections of a frame that has room
 abbrev pub frame_sections : ℕ → List Section

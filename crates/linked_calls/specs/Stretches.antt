@@ -1,7 +1,6 @@
 -- Stretches of bytes: data, zeros, and accesses that lie in them.
 use Rattle.std.specs.Prelude.{◌≡◌, ◌⊎◌, ℕ, ◌+◌, ◌<◌, ◌≤◌, true, Some, is_some}
-use Rattle.rv_machine.specs.Bytes.{ByteMap}
-use Rattle.rv_machine.specs.declared.memory.Size.{Size}
+use Rattle.linked_calls.specs.Below.{ByteMap, Size}
 use Rattle.rv_machine.specs.Sizes.{byte_count}
 
 -- all bytes of a stretch are data

@@ -1,21 +1,15 @@
 -- An argument that is a word, of which what it means is put into its slot before the body, and the result behind it.
 use Rattle.std.specs.Prelude.{◌≡◌, ◌≢◌, ℕ, ◌+◌, ◌%◌, ◌^◌, ◌<◌, ◌≤◌, length, Option, Some, None}
-use Rattle.codegen.specs.Loaded.{with_argument, word_in}
+use Rattle.linked_calls.specs.Below.{Code, Event, Fields, ResultSlot, SingleWord, Slot, with_argument, word_in}
 use Rattle.linked_calls.specs.Convention.{result_register}
 use Rattle.linked_calls.specs.FunctionCode.{argument_offset, argument_code, result_code}
 use Rattle.linked_calls.specs.Sections.{argument_turns}
-use Rattle.codegen.specs.image_fields.Fields.{Fields}
-use Rattle.codegen.specs.declared.image_fields.slot.ResultSlot.{ResultSlot}
-use Rattle.codegen.specs.declared.image_fields.slot.Slot.{Slot}
-use Rattle.language.specs.declared.signature.Form.TheVariants.{SingleWord}
 use Rattle.language.specs.declared.values.Arg.TheVariants.{Word}
 use Rattle.linked_calls.specs.Does.{Data, Does, AreThere}
 use Rattle.linked_calls.specs.Meant.{meant}
 use Rattle.linked_calls.specs.Stretches.{AreData}
 use Rattle.rv_machine.specs.declared.memory.Size.TheVariants as sizes
-use Rattle.rv_machine.specs.declared.observation.Event.{Event}
 use Rattle.rv_machine.specs.declared.observation.Event.TheVariants as event
-use Rattle.rv_machine.specs.Machine.{Code}
 
 -- the raw argument and the slot are words at multiples of 4, below 2^32
 pub record CanBePut (image : Fields) (slot : Slot) (frame i : ℕ) : Type 0 where

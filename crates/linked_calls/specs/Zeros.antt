@@ -1,13 +1,10 @@
 -- The frame of a call, zeroed before the body, and all its room, zeroed behind it.
 use Rattle.std.specs.Prelude.{◌≡◌, ◌≢◌, ℕ, ◌+◌, ◌%◌, ◌^◌, ◌<◌, ◌≤◌, ◌==◌, length, Option, Some, None, if◌then◌else◌}
-use Rattle.codegen.specs.expression_code.TermCode.{constant_code}
+use Rattle.linked_calls.specs.Below.{Code, constant_code, Div, Event, Load, Mul, Store}
 use Rattle.linked_calls.specs.FunctionCode.{frame_code, wipe_code}
 use Rattle.linked_calls.specs.Sections.{block_turns}
 use Rattle.linked_calls.specs.Does.{Data, Does, AreThere}
 use Rattle.linked_calls.specs.Stretches.{AreData, AreZeroed, LiesIn}
-use Rattle.rv_machine.specs.declared.observation.Event.{Event}
-use Rattle.rv_machine.specs.declared.observation.Event.TheVariants.{Load, Store, Div, Mul}
-use Rattle.rv_machine.specs.Machine.{Code}
 
 -- stores that lie in a stretch and not below the stack pointer, and no other access
 abbrev pub IsStoreIn : ℕ → ℕ → ℕ → Option Event → Type 0

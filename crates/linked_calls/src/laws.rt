@@ -1,8 +1,7 @@
 // What a function's code does, and what its pieces do, wherever they stand. These hold of the definitions alone.
 
 ghost use Rattle.std.specs.Prelude.{◌≡◌, ◌++◌, map};
-ghost use Rattle.codegen.specs.Anywhere.{body_words};
-ghost use Rattle.codegen.specs.image_fields.Fields.{Fields};
+ghost use Rattle.linked_calls.specs.Below.{body_words, Fields, word_of};
 ghost use Rattle.linked_calls.specs.Callable.{CallsAreLinked};
 ghost use Rattle.linked_calls.specs.Cleared.{RegistersAreCleared};
 ghost use Rattle.linked_calls.specs.Copies.{ArrayIsTaken, ArrayIsHandedBack};
@@ -10,7 +9,6 @@ ghost use Rattle.linked_calls.specs.FunctionCode.{function_words};
 ghost use Rattle.linked_calls.specs.Sections.{code_of, enter_sections, leave_sections};
 ghost use Rattle.linked_calls.specs.Words.{ResultIsHandedBack, WordIsTaken};
 ghost use Rattle.linked_calls.specs.Zeros.{FrameIsZeroed, RoomIsWiped};
-ghost use Rattle.rv_code.specs.Words.{word_of};
 
 /// The function of every compiled procedure can be called from wherever its words stand in code. From each state in which
 /// it is called by the standard calling convention it goes back to its caller, in an exact number of turns around those of

@@ -3,16 +3,10 @@ use Rattle.std.proofs.Common.{◌≡◌, ◌≢◌, ℕ, List, ◌++◌, take, d
 use Rattle.std.proofs.Common.{append_assoc}
 use Rattle.std.proofs.lemmas.List.{take-append-drop}
 use Rattle.std.proofs.lemmas.Option.{none-some, same_Some}
-use Rattle.language.specs.declared.arguments.fault.ArgumentFault.{ArgumentFault}
-use Rattle.codegen.specs.image_fields.Fields.{Fields}
-use Rattle.language.specs.declared.values.Arg.{Arg}
-use Rattle.rv_machine.specs.declared.observation.Observation.{Observation}
-use Rattle.rv_machine.specs.declared.stops.Stop.{Stop}
+use Rattle.listing.specs.Below.{Arg, ArgumentFault, Fields, ImageEnds, Observation, Stop, Writes, WritesPart}
 use Rattle.listing.proofs.Below.{Runs-determined}
-use Rattle.streams.specs.Streams.{Writes, WritesPart}
 use Rattle.listing.specs.declared.fault.LeakFault.{LeakFault}
 use Rattle.listing.specs.declared.fault.LeakFault.TheVariants.{Argument, Memory, Write}
-use Rattle.hepurita.specs.Uncut.{ImageEnds}
 use Rattle.listing.specs.Leaked.{Leaks, refused, out_of_memory, cut_off, ran, IsLeak}
 use Rattle.listing.specs.Listings.{listing}
 

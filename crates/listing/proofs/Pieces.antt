@@ -5,7 +5,7 @@ use Rattle.std.specs.Prelude.{if◌then◌else◌}
 use Rattle.std.specs.Result.{is_ok}
 use Rattle.std.proofs.Math.Seq.{take-append-add}
 use Rattle.std.proofs.lemmas.List.{take-append-le}
-use Rattle.streams.specs.Streams.{GainsPart}
+use Rattle.listing.specs.Below.{GainsPart}
 
 -- one piece after others
 pub put-more : (begun before after pieces piece : List ℕ) → before ≡ begun ++ pieces → after ≡ before ++ piece

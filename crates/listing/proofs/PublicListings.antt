@@ -1,16 +1,9 @@
 -- The listings of two runs that show the same and have stopped are one list of bytes.
 use Rattle.std.proofs.Common.{◌≡◌, ℕ, ◌<◌, List, sym, ap, ◌∙◌, ⊎_elim, arith}
-use Rattle.codegen.specs.Loaded.{results_in}
-use Rattle.hepurita.specs.Bases.{frame_base}
+use Rattle.listing.specs.Below.{Arg, Budget, Ecall, Fields, frame_base, Observation, ProgramTree, results_in, State}
+use Rattle.listing.specs.Below.{Stop}
 use Rattle.hepurita.specs.Compiled.{Means}
 use Rattle.hepurita.specs.CutOff.{IsRightSoFar}
-use Rattle.codegen.specs.image_fields.Fields.{Fields}
-use Rattle.language.specs.Tree.{ProgramTree}
-use Rattle.language.specs.declared.values.Arg.{Arg}
-use Rattle.rv_machine.specs.Machine.{State}
-use Rattle.rv_machine.specs.declared.observation.Observation.{Observation}
-use Rattle.rv_machine.specs.declared.stops.Stop.{Stop}
-use Rattle.rv_machine.specs.declared.stops.Stop.TheVariants.{Ecall, Budget}
 use Rattle.listing.specs.Listings.{listing}
 
 -- with as many turns as the image states it has stopped

@@ -1,17 +1,12 @@
 -- A run, a turn at a time, and what is written of it.
 use Rattle.std.proofs.Common.{◌≡◌, ℕ, suc, ◌+◌, ◌-◌, ◌<◌, ◌≤◌, List, [], ◌∷◌, ◌++◌, Option, Some, None, Result, Ok}
 use Rattle.std.proofs.Common.{Err, IfOk, OnOk, OnErr, refl, sym, ap, ◌∙◌, subst, append_assoc, append-nil, arith}
-use Rattle.streams.specs.Streams.{GainsPart, Writes, WritesPart}
-use Rattle.rv_machine.specs.declared.observation.Observation.{Observation}
-use Rattle.rv_machine.specs.declared.stops.Stop.{Stop}
-use Rattle.rv_machine.specs.declared.stops.Stop.TheVariants.{Budget}
-use Rattle.rv_machine.specs.Entries.{Entry, entries_of}
-use Rattle.rv_machine.specs.Leakage.{Leads, stays, turns, halts, Runs, halted, spent}
-use Rattle.rv_machine.specs.Machine.{State, Code, goes_on, stops, Turn}
+use Rattle.listing.specs.Below.{Budget, Code, entries_of, Entry, GainsPart, goes_on, halted, halts, Leads, listed}
+use Rattle.listing.specs.Below.{Observation, Runs, spent, State, stays, Stop, stops, Turn, Turned, turns, Writes}
+use Rattle.listing.specs.Below.{WritesPart}
 use Rattle.listing.proofs.Below.{Leads-more, entries_of-append, Runs-more, turn_stops, run_of_state}
 use Rattle.listing.specs.Lines.{entry_line, entry_lines, lines_of, stop_line}
 use Rattle.listing.specs.Listings.{listing, Ends, IsListing}
-use Rattle.rv_machine.specs.Turned.{listed, Turned}
 use Rattle.rv_machine.specs.Turned as turned
 use Rattle.listing.proofs.Pieces.{put-more, part-inside, part-at_end}
 

@@ -1,9 +1,8 @@
 -- The listing of code: a line for each word, with its address and its text.
 use Rattle.std.specs.Prelude.{◌≡◌, ◌≢◌, ℕ, ◌+◌, List, [], ◌∷◌, ◌++◌, codes, Option, Some, None}
 use Rattle.rv_code.specs.declared.instructions.Instr.{Instr}
-use Rattle.rv_code.specs.Text.{text_of}
+use Rattle.listing.specs.Below.{Code, text_of, word_at}
 use Rattle.rv_code.specs.Words.{word_of, IsInstr}
-use Rattle.rv_machine.specs.Machine.{Code, word_at}
 use Rattle.listing.specs.Lines.{word_head}
 
 -- the text of a word: that of its instruction, or `illegal` where it is the word of none

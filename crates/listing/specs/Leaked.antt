@@ -1,14 +1,8 @@
 -- What is answered where the run of an image is to be listed, and which bytes are its listing.
 use Rattle.std.specs.Prelude.{◌≡◌, ℕ, List, Some, None, Result, Ok, Err}
 use Rattle.language.specs.arguments.Faults.{fault_of}
-use Rattle.language.specs.declared.arguments.fault.ArgumentFault.{ArgumentFault}
-use Rattle.codegen.specs.Loaded.{params_of, code_at, loaded_at}
-use Rattle.hepurita.specs.Bases.{code_base, frame_base}
-use Rattle.codegen.specs.image_fields.Fields.{Fields}
-use Rattle.language.specs.declared.values.Arg.{Arg}
-use Rattle.hepurita.specs.Uncut.{ImageEnds}
-use Rattle.rv_machine.specs.declared.observation.Observation.{Observation}
-use Rattle.rv_machine.specs.declared.stops.Stop.{Stop}
+use Rattle.listing.specs.Below.{Arg, ArgumentFault, code_at, code_base, Fields, frame_base, ImageEnds, loaded_at}
+use Rattle.listing.specs.Below.{Observation, params_of, Stop}
 use Rattle.listing.specs.declared.fault.LeakFault.{LeakFault}
 use Rattle.listing.specs.declared.fault.LeakFault.TheVariants.{Argument, Memory, Write}
 use Rattle.listing.specs.Listings.{IsListing}

@@ -2,3 +2,4 @@ pub mod Code
 pub mod Leaked
 pub mod Lines
 pub mod Listings
+pub mod Below

@@ -4,9 +4,7 @@ use Rattle.rv_machine.specs.declared.memory.Size.{Size}
 use Rattle.rv_machine.specs.declared.memory.Size.TheVariants.{Byte, Half, Word}
 use Rattle.rv_machine.specs.declared.observation.Event.{Event}
 use Rattle.rv_machine.specs.declared.observation.Event.TheVariants.{Load, Store, Div, Mul}
-use Rattle.rv_machine.specs.declared.observation.Observation.{Observation}
-use Rattle.rv_machine.specs.declared.stops.Stop.{Stop}
-use Rattle.rv_machine.specs.Entries.{Entry, program_counter, event, entries_of}
+use Rattle.listing.specs.Below.{entries_of, Entry, event, Observation, program_counter, Stop}
 use Rattle.rv_machine.specs.Stops.{stop_name}
 
 -- the character of a hexadecimal digit: `0` to `9`, then `a` to `f`

@@ -1,9 +1,6 @@
 -- The listings of runs: a line for each entry that an observer sees, and then the stop.
 use Rattle.std.specs.Prelude.{◌≡◌, ℕ, ◌++◌, List}
-use Rattle.rv_machine.specs.declared.observation.Observation.{Observation}
-use Rattle.rv_machine.specs.declared.stops.Stop.{Stop}
-use Rattle.rv_machine.specs.Machine.{State, Code}
-use Rattle.hepurita.specs.Uncut.{RunsUncut}
+use Rattle.listing.specs.Below.{Code, Observation, RunsUncut, State, Stop}
 use Rattle.listing.specs.Lines.{lines_of, stop_line}
 
 -- the listing of what was seen, and of this stop

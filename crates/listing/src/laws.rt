@@ -2,14 +2,9 @@
 
 ghost use Rattle.std.specs.Prelude.{ℕ, ◌≡◌, ◌≢◌, List, ◌++◌, Result, Err};
 ghost use Rattle.language.specs.arguments.Agreement.{Agree};
-ghost use Rattle.codegen.specs.Loaded.{params_of};
+ghost use Rattle.listing.specs.Below.{Arg, Fields, params_of, ProcedureTree, ProgramTree, Stop, Writes, WritesPart};
 ghost use Rattle.hepurita.specs.Answers.{Builds};
 ghost use Rattle.hepurita.specs.declared.optimised.Optimisation.{Optimisation};
-ghost use Rattle.codegen.specs.image_fields.Fields.{Fields};
-ghost use Rattle.language.specs.Tree.{ProcedureTree, ProgramTree};
-ghost use Rattle.language.specs.declared.values.Arg.{Arg};
-ghost use Rattle.rv_machine.specs.declared.stops.Stop.{Stop};
-ghost use Rattle.streams.specs.Streams.{Writes, WritesPart};
 ghost use Rattle.listing.specs.declared.fault.LeakFault.{LeakFault};
 ghost use Rattle.listing.specs.Leaked.{Leaks, IsLeak};
 ghost use Rattle.word.specs.declared.profile.Profile.{Profile};

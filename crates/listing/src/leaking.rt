@@ -1,9 +1,7 @@
 // What an observer sees of an image's run, written to a sink.
 
 ghost use Rattle.std.specs.Prelude.{◌≡◌, ◌≢◌, Err, IsTrue, IfOk, IfErr, IsErrOf};
-ghost use Rattle.streams.specs.Streams.{Writes, WritesPart};
-ghost use Rattle.word.specs.Counts.{one_more};
-ghost use Rattle.rv_machine.specs.declared.stops.Stop.{Stop};
+ghost use Rattle.listing.specs.Below.{one_more, Stop, Writes, WritesPart};
 ghost use Rattle.listing.specs.Leaked.{Leaks, IsLeak};
 
 use crate::fault::LeakFault;

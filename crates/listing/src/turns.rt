@@ -1,15 +1,9 @@
 // The lines of a run, written a turn at a time.
 
 ghost use Rattle.std.specs.Prelude.{◌≡◌, ◌++◌, ◌∷◌, [], Option, List, IsTrue, IfOk, OnOk, OnErr};
-ghost use Rattle.streams.specs.Streams.{GainsPart, Writes, WritesPart};
-ghost use Rattle.word.specs.Counts.{one_more};
-ghost use Rattle.rv_machine.specs.Harts.{state_of};
-ghost use Rattle.rv_machine.specs.Regions.{code_of};
-ghost use Rattle.rv_machine.specs.declared.observation.Observation.{Observation};
-ghost use Rattle.rv_machine.specs.declared.stops.Stop.{Stop};
+ghost use Rattle.listing.specs.Below.{code_of, GainsPart, listed, Observation, one_more, state_of, Stop, Turned, Writes, WritesPart};
 ghost use Rattle.listing.specs.Lines.{lines_of, stop_line};
 ghost use Rattle.listing.specs.Listings.{Ends, IsListing};
-ghost use Rattle.rv_machine.specs.Turned.{listed, Turned};
 
 use crate::lines;
 use rv_machine::hart::Hart;

@@ -3,10 +3,8 @@
 ghost use Rattle.std.specs.Prelude.{◌≡◌, ℕ, ◌+◌, ◌*◌, ◌^◌, ◌<◌, ◌++◌, List, length, IfOk, OnOk};
 ghost use Rattle.std.specs.Option.{option_map};
 ghost use Rattle.std.specs.String.{string_bytes};
-ghost use Rattle.codegen.specs.Loaded.{code_at};
-ghost use Rattle.hepurita.specs.Bases.{code_base};
+ghost use Rattle.listing.specs.Below.{code_at, code_base, word_at};
 ghost use Rattle.listing.specs.Code.{IsTextOf, IsLineAt, IsLineOf, ListsCode, word_line};
-ghost use Rattle.rv_machine.specs.Machine.{word_at};
 
 use crate::lines::head_of_word;
 use hepurita::CODE_BASE;

@@ -1,7 +1,7 @@
 // Which variables are words of one type.
 
 ghost use Rattle.std.specs.Prelude.{◌≡◌, slice_get};
-ghost use Rattle.language.specs.Types.{same_label};
+ghost use Rattle.optimisation.specs.Below.{same_label};
 ghost use Rattle.optimisation.specs.private.SameWords.{are_alike, is_word, same_words};
 
 use inline::FlatVariable;

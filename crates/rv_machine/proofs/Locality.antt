@@ -16,7 +16,7 @@ use Rattle.rv_machine.specs.Machine.{State, Code, Ending, goes_on, stops, loaded
 use Rattle.rv_machine.specs.Machine.{with_link, moved_to, ending_of, Turn, pc_misaligned, not_code, no_instruction}
 use Rattle.rv_machine.specs.Machine.{executes}
 use Rattle.rv_machine.specs.Sizes.{byte_count}
-use Rattle.word.specs.declared.profile.Profile.{Profile}
+use Rattle.rv_machine.specs.Below.{Profile}
 use Rattle.rv_machine.proofs.ByteLaws.{is_inside, is_outside, place, with_number_inside, with_number_outside}
 use Rattle.rv_machine.proofs.ByteLaws.{joined_parts, some_within, is_some-with_number}
 

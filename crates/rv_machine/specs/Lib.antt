@@ -21,3 +21,4 @@ pub mod Sizes
 pub mod Stops
 pub mod System
 pub mod Turned
+pub mod Below

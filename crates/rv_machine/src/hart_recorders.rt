@@ -1,7 +1,7 @@
 // The plain recorder of several harts.
 
 ghost use Rattle.std.specs.Prelude.{◌≡◌, true, []};
-ghost use Rattle.word.specs.Counts.{one_more};
+ghost use Rattle.rv_machine.specs.Below.{one_more};
 
 use crate::hart_recording::{HartObservation, HartRecorder};
 use crate::observation::Observation;

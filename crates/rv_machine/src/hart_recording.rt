@@ -3,7 +3,7 @@
 ghost use Rattle.std.specs.Prelude.{◌≡◌, ℕ, Bool, List, [], ◌∷◌, OnOk, OnErr};
 ghost use Rattle.rv_machine.specs.HartRecording.{kept_of};
 ghost use Rattle.rv_machine.specs.declared.hart_recording.HartObservation.{HartObservation};
-ghost use Rattle.word.specs.Counts.{one_more};
+ghost use Rattle.rv_machine.specs.Below.{one_more};
 
 use crate::observation::Observation;
 use std::alloc::AllocError;

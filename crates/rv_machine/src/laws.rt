@@ -1,16 +1,7 @@
 // Laws of the machine, which hold of the definitions alone.
 
 ghost use Rattle.std.specs.Prelude.{◌≡◌, ◌≢◌, ◌↔◌, ℕ, ◌+◌, ◌%◌, ◌^◌, ◌<◌, ◌≤◌, ◌⊎◌, Bool, true, false, List, All, ◌∷◌, [], ◌++◌, length, take, Option, Some, None, is_some, slice_get};
-ghost use Rattle.rv_code.specs.declared.instructions.Instr.{Instr};
-ghost use Rattle.rv_code.specs.declared.operations.UpperOperation.{UpperOperation};
-ghost use Rattle.rv_code.specs.declared.operations.BranchTest.{BranchTest};
-ghost use Rattle.rv_code.specs.declared.operations.ImmediateOperation.{ImmediateOperation};
-ghost use Rattle.rv_code.specs.declared.operations.ShiftOperation.{ShiftOperation};
-ghost use Rattle.rv_code.specs.declared.operations.RegisterOperation.{RegisterOperation};
-ghost use Rattle.rv_code.specs.declared.operations.MultiplyOperation.{MultiplyOperation};
-ghost use Rattle.rv_code.specs.declared.operations.DivideOperation.{DivideOperation};
-ghost use Rattle.rv_code.specs.declared.operations.LoadOperation.{LoadOperation};
-ghost use Rattle.rv_code.specs.declared.operations.StoreOperation.{StoreOperation};
+ghost use Rattle.rv_machine.specs.Below.{BranchTest, DivideOperation, ImmediateOperation, Instr, LoadOperation, MultiplyOperation, RegisterOperation, ShiftOperation, StoreOperation, UpperOperation};
 ghost use Rattle.rv_machine.specs.declared.observation.Observation.{Observation};
 ghost use Rattle.rv_machine.specs.declared.hart_recording.HartObservation.{HartObservation};
 ghost use Rattle.rv_machine.specs.declared.stops.Stop.{Stop};

@@ -8,7 +8,7 @@ ghost use Rattle.rv_machine.specs.Harts.{state_of};
 ghost use Rattle.rv_machine.specs.Machine.{State, Turn, word_at, product_shown, ending_of};
 ghost use Rattle.rv_machine.specs.Plans.{ends_as, stop_of, IsPossible};
 ghost use Rattle.rv_machine.specs.Regions.{code_of};
-ghost use Rattle.word.specs.declared.profile.Profile.{Profile};
+ghost use Rattle.rv_machine.specs.Below.{Profile};
 
 use crate::code::{CodeRegion, CodeWord};
 use crate::effects::{Effect, effect_of, load_size, store_size};

@@ -1,7 +1,7 @@
 // The two plain recorders.
 
 ghost use Rattle.std.specs.Prelude.{◌≡◌, true, false, []};
-ghost use Rattle.word.specs.Counts.{one_more};
+ghost use Rattle.rv_machine.specs.Below.{one_more};
 
 use crate::observation::Observation;
 use crate::recording::Recorder;

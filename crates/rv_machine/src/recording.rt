@@ -2,7 +2,7 @@
 
 ghost use Rattle.std.specs.Prelude.{◌≡◌, ℕ, ◌+◌, Bool, List, [], ◌∷◌, IsOk, OnOk, OnErr};
 ghost use Rattle.rv_machine.specs.Recording.{kept};
-ghost use Rattle.word.specs.Counts.{one_more};
+ghost use Rattle.rv_machine.specs.Below.{one_more};
 ghost use Rattle.rv_machine.specs.declared.observation.Observation.{Observation};
 
 use crate::observation::Observation;

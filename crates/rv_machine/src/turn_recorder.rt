@@ -2,7 +2,7 @@
 
 ghost use Rattle.std.specs.Prelude.{◌≡◌, [], slice_get};
 ghost use Rattle.rv_machine.specs.ListRecording.{recorded, refused, has_room};
-ghost use Rattle.word.specs.Counts.{one_more};
+ghost use Rattle.rv_machine.specs.Below.{one_more};
 
 use crate::observation::Observation;
 use crate::recording::Recorder;

@@ -5,12 +5,9 @@ use Rattle.std.proofs.Math.Path.{fun_ext}
 use Rattle.std.proofs.lemmas.List.{drop_all, drop_more}
 use Rattle.std.proofs.lemmas.Slice.Eq.{bytes_eq-Decides}
 use Rattle.std.specs.Str.{bytes_eq}
-use Rattle.language.specs.declared.tree.Expr.{Expr}
-use Rattle.language.specs.declared.tree.Parameter.{Parameter}
-use Rattle.language.specs.declared.values.Arg.{Arg}
-use Rattle.language.specs.Meaning.{argument_held, argument_value, begun, holding, with_some, words_left}
-use Rattle.language.specs.State.{State, Value, Word, empty, with_value}
-use Rattle.language.specs.Tree.{ParameterTree, expr_tree, parameter_tree}
+use Rattle.source_eval.specs.Below.{Arg, argument_held, argument_value, begun, empty, Expr, expr_tree, holding}
+use Rattle.source_eval.specs.Below.{Parameter, parameter_tree, ParameterTree, State, Value, with_some, with_value, Word}
+use Rattle.source_eval.specs.Below.{words_left}
 use Rattle.source_eval.proofs.LoopLemmas.{next_of, none_after}
 
 -- the first of two values

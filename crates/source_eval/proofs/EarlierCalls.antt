@@ -1,8 +1,8 @@
 -- Programs whose calls are of earlier procedures.
 use Rattle.std.proofs.Common.{◌≡◌, ℕ, List, [], ◌∷◌, ◌++◌, Some}
-use Rattle.language.specs.Meaning.{named}
-use Rattle.language.specs.Tree.{RightTree, called, computed, StatementTree, declaration, array, assignment}
-use Rattle.language.specs.Tree.{element_assignment, call, conditional, loop, BlockTree, nothing, first, ProcedureTree}
+use Rattle.source_eval.specs.Below.{array, assignment, BlockTree, call, called, computed, conditional, declaration}
+use Rattle.source_eval.specs.Below.{element_assignment, first, loop, named, nothing, ProcedureTree, RightTree}
+use Rattle.source_eval.specs.Below.{StatementTree}
 use Rattle.source_eval.proofs.Below.{Found}
 
 -- one of these procedures has the name

@@ -5,24 +5,20 @@ use Rattle.std.proofs.Common.{append-nil, append_assoc}
 use Rattle.std.proofs.lemmas.Bool.{cases_Bool}
 use Rattle.std.proofs.lemmas.Option.{none-some, same_Some}
 use Rattle.std.specs.Str.{bytes_eq}
-use Rattle.word.specs.declared.place.Place.{Place}
-use Rattle.language.specs.declared.values.Arg.{Arg}
-use Rattle.language.specs.Evaluation.{ended, tick, inside, value, values, passed, call_run, right_run, turns, run}
-use Rattle.language.specs.Evaluation.{run_all, return_run, body_run, found_run, program_run, runnable, runnables}
-use Rattle.language.specs.Meaning.{gives, element_held, named, Evaluates, by_operands, operand_faults, EvaluatesAll}
-use Rattle.language.specs.Meaning.{none_left, one_more, this_faults, later_faults, word_arguments, begun, exported}
-use Rattle.language.specs.Meaning.{holding, written, counting, Calls, argument_faults, body_faults, body_ends, Bodies}
-use Rattle.language.specs.Meaning.{statements_fault, returns_nothing, returns, return_faults, Rights, of_call}
-use Rattle.language.specs.Meaning.{of_expr, expr_faults, Runs, declares, declaration_faults, declares_array}
-use Rattle.language.specs.Meaning.{first_value_faults, assigns, assignment_faults, target_faults, right_faults}
-use Rattle.language.specs.Meaning.{assigns_element, calls, call_faults, condition_faults, accepts, declines}
-use Rattle.language.specs.Meaning.{bounds_fault, loops, Turns, no_turn, turn_faults, a_turn, RunsAll, ends, stops}
-use Rattle.language.specs.Meaning.{goes_on, Gives, ends_well, meets_fault}
-use Rattle.language.specs.Operators.{truth_of}
-use Rattle.language.specs.State.{State, Word}
-use Rattle.language.specs.Tree.{ExprTree, element, CallTree, RightTree, called, computed, StatementTree, declaration}
-use Rattle.language.specs.Tree.{array, assignment, element_assignment, call, conditional, loop, BlockTree, nothing}
-use Rattle.language.specs.Tree.{first, ReturnTree, ProcedureTree, ProgramTree}
+use Rattle.source_eval.specs.Below.{a_turn, accepts, Arg, argument_faults, array, assignment, assignment_faults}
+use Rattle.source_eval.specs.Below.{assigns, assigns_element, begun, BlockTree, Bodies, body_ends, body_faults}
+use Rattle.source_eval.specs.Below.{body_run, bounds_fault, by_operands, call, call_faults, call_run, called, Calls}
+use Rattle.source_eval.specs.Below.{calls, CallTree, computed, condition_faults, conditional, counting, declaration}
+use Rattle.source_eval.specs.Below.{declaration_faults, declares, declares_array, declines, element, element_assignment}
+use Rattle.source_eval.specs.Below.{element_held, ended, ends, ends_well, Evaluates, EvaluatesAll, exported}
+use Rattle.source_eval.specs.Below.{expr_faults, ExprTree, first, first_value_faults, found_run, Gives, gives, goes_on}
+use Rattle.source_eval.specs.Below.{holding, inside, later_faults, loop, loops, meets_fault, named, no_turn, none_left}
+use Rattle.source_eval.specs.Below.{nothing, of_call, of_expr, one_more, operand_faults, passed, Place, ProcedureTree}
+use Rattle.source_eval.specs.Below.{program_run, ProgramTree, return_faults, return_run, returns, returns_nothing}
+use Rattle.source_eval.specs.Below.{ReturnTree, right_faults, right_run, Rights, RightTree, run, run_all, runnable}
+use Rattle.source_eval.specs.Below.{runnables, Runs, RunsAll, State, statements_fault, StatementTree, stops}
+use Rattle.source_eval.specs.Below.{target_faults, this_faults, tick, truth_of, turn_faults, Turns, turns, value}
+use Rattle.source_eval.specs.Below.{values, Word, word_arguments, written}
 use Rattle.source_eval.proofs.Below.{Found, known-named}
 use Rattle.source_eval.proofs.EarlierCalls.{IsNamed, RightKnown, StatementKnown, BlockKnown, CallEarlier}
 use Rattle.source_eval.proofs.RunEnds.{then-either}

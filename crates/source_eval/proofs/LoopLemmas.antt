@@ -7,17 +7,12 @@ use Rattle.std.proofs.lemmas.Bool.Decides.{nat_tests}
 use Rattle.std.proofs.lemmas.Result.{err_from_is_err_and}
 use Rattle.std.specs.Result.{IfErr, IsErrAnd}
 use Rattle.std.proofs.lemmas.Bool.{ltb-false}
-use Rattle.language.specs.declared.signature.Form.{Form}
-use Rattle.language.specs.declared.signature.Form.TheVariants.{SingleWord, FixedArray, MutableArray}
-use Rattle.language.specs.declared.tree.Expr.{Expr}
-use Rattle.language.specs.declared.tree.Parameter.{Parameter}
-use Rattle.language.specs.declared.tree.Statement.{Statement}
-use Rattle.language.specs.Evaluation.{Run, Runnables, values, value, passed, run, run_all}
-use Rattle.language.specs.Meaning.{word_arguments, is_word, copied_out, made_array}
-use Rattle.language.specs.declared.signature.Kind.{Kind}
-use Rattle.language.specs.State.{State, array}
+use Rattle.source_eval.specs.Below.{block_tree, copied_out, Expr, expr_tree, ExprTree, FixedArray, Form, is_word, Kind}
+use Rattle.source_eval.specs.Below.{made_array, MutableArray, Parameter, parameter_tree, ParameterTree, passed, Run}
+use Rattle.source_eval.specs.Below.{run, run_all, Runnables, SingleWord, State, Statement, statement_tree, value}
+use Rattle.source_eval.specs.Below.{values, word_arguments}
+use Rattle.language.specs.State.{array}
 use Rattle.language.specs.State as state
-use Rattle.language.specs.Tree.{ExprTree, ParameterTree, expr_tree, parameter_tree, statement_tree, block_tree}
 use Rattle.source_eval.specs.Metering.{Ended, Stopped}
 use Rattle.source_eval.specs.Views.{word_of}
 use Rattle.source_eval.specs.declared.fault.EvalFault.{EvalFault}

@@ -4,20 +4,15 @@ use Rattle.std.proofs.Common.{Option, Some, None, is_some, inl, inr, refl, ap, a
 use Rattle.std.proofs.lemmas.Bool.{cases_Bool}
 use Rattle.std.proofs.lemmas.Option.{none-some, slice_get_within}
 use Rattle.std.specs.Str.{bytes_eq}
-use Rattle.word.specs.declared.place.Place.{Place}
-use Rattle.word.specs.declared.profile.Profile.{Profile}
+use Rattle.source_eval.specs.Below.{array, assigns_public, BlockTree, CallTree, declaration, export_place, exported}
+use Rattle.source_eval.specs.Below.{exports, named, parameter_as, ParameterTree, Place, ProcedureTree, Profile}
+use Rattle.source_eval.specs.Below.{ProgramTree, RightTree, scope_after, StatementTree, with_parameters, with_procedure}
 use Rattle.language.specs.declared.signature.Label.{Label}
 use Rattle.language.specs.declared.typing.Callee.{Callee}
 use Rattle.language.specs.declared.typing.Declared.TheVariants.{Procedure, Variable}
 use Rattle.language.specs.declared.typing.ValueType.{ValueType}
 use Rattle.language.specs.declared.typing.VariableType.{VariableType}
-use Rattle.language.specs.Meaning.{named, exported}
-use Rattle.language.specs.Tree.{CallTree, RightTree, StatementTree, declaration, array}
-use Rattle.language.specs.Tree.{BlockTree, ParameterTree, ProcedureTree}
-use Rattle.language.specs.Tree.{ProgramTree}
 use Rattle.language.specs.Types.{Scope, found, declared, callee}
-use Rattle.language.specs.Typing.{assigns_public, scope_after, parameter_as, with_parameters, with_procedure}
-use Rattle.language.specs.Typing.{export_place, exports}
 use Rattle.language.specs.WellTyped.{IsCall, of_procedure, Gives, of_call, of_value, IsWellTyped, declares}
 use Rattle.language.specs.WellTyped.{declares_array, assigns, assigns_element, calls, chooses, repeats, AreWellTyped}
 use Rattle.language.specs.WellTyped.{no_statement, one_more, AreProcedures, no_procedure, one_procedure}

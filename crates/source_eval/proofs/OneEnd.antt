@@ -1,13 +1,7 @@
 -- A program that violates no rule comes to exactly one end.
 use Rattle.std.proofs.Common.{◌≡◌, List, length, sym}
 use Rattle.std.proofs.lemmas.List.{nil_from_length}
-use Rattle.language.specs.declared.values.Arg.{Arg}
-use Rattle.language.specs.Evaluation.{program_run}
-use Rattle.language.specs.Meaning.{Ending, Gives}
-use Rattle.language.specs.Results.{Results}
-use Rattle.language.specs.Tree.{ProgramTree}
-use Rattle.language.specs.Typing.{violations}
-use Rattle.word.specs.declared.profile.Profile.{Profile}
+use Rattle.source_eval.specs.Below.{Arg, Ending, Gives, Profile, program_run, ProgramTree, Results, violations}
 use Rattle.source_eval.proofs.EndsHad.{program-had}
 use Rattle.source_eval.proofs.NamedCalls.{one-exported, all-call-earlier}
 use Rattle.source_eval.proofs.WorkedOut.{worked-out}

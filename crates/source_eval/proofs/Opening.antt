@@ -3,19 +3,15 @@ use Rattle.std.proofs.Common.{◌≡◌, ℕ, zero, suc, ◌+◌, ◌-◌, ◌�
 use Rattle.std.proofs.Common.{Option, Some, None, max, sym, subst, arith}
 use Rattle.std.proofs.Math.Nat.{max-le, le-max_left, le-max_right}
 use Rattle.std.specs.Str.{bytes_eq}
-use Rattle.language.specs.declared.values.Arg.{Arg}
-use Rattle.language.specs.Evaluation.{Run, Runnable, Runnables, runnable, runnables, tick, inside, andthen, continued}
-use Rattle.language.specs.Evaluation.{value, passed, call_run, right_run, turns, run, run_all, body_run, found_run}
-use Rattle.language.specs.Evaluation.{export_run, program_run}
+use Rattle.source_eval.specs.Below.{andthen, Arg, array, assignment, begun, block_bodies, BlockTree, bodies_of}
+use Rattle.source_eval.specs.Below.{bodies_of_called, body_run, call, call_run, called, CallTree, computed, conditional}
+use Rattle.source_eval.specs.Below.{continued, counting, declaration, element_assignment, Ending, export_run, exported}
+use Rattle.source_eval.specs.Below.{ExprTree, Extent, extent_of, Extents, extents_of, faults, first, found_run, gives}
+use Rattle.source_eval.specs.Below.{holding, inside, loop, nothing, passed, ProcedureTree, program_run, ProgramTree}
+use Rattle.source_eval.specs.Below.{right_bodies, right_run, RightTree, Run, run, run_all, Runnable, runnable}
+use Rattle.source_eval.specs.Below.{Runnables, runnables, State, statement_bodies, StatementTree, tick, truth_of, turns}
+use Rattle.source_eval.specs.Below.{value, word_arguments}
 use Rattle.language.specs.Known.{first_known, known_from, nothing_known, with_known}
-use Rattle.language.specs.Meaning.{Ending, gives, faults, begun, counting, exported, holding, word_arguments}
-use Rattle.language.specs.Operators.{truth_of}
-use Rattle.language.specs.Size.{Extent, Extents, bodies_of, bodies_of_called, right_bodies, statement_bodies}
-use Rattle.language.specs.Size.{block_bodies, extent_of, extents_of}
-use Rattle.language.specs.State.{State}
-use Rattle.language.specs.Tree.{ExprTree, CallTree, RightTree, called, computed, StatementTree, declaration, array}
-use Rattle.language.specs.Tree.{assignment, element_assignment, call, conditional, loop, BlockTree, nothing, first}
-use Rattle.language.specs.Tree.{ProcedureTree, ProgramTree}
 use Rattle.source_eval.proofs.RunLemmas.{value_opens, passed_open, return_opens, array_opens}
 
 -- a part and a next one

@@ -1,18 +1,14 @@
 -- Programs and what they come to, worked out by the definitions alone.
 use Rattle.std.specs.Prelude.{◌≡◌, ℕ, true, false, List, [], ◌∷◌, Option, Some, None}
 use Rattle.std.proofs.Common.{refl}
-use Rattle.word.specs.declared.place.Place.{Place}
-use Rattle.language.specs.declared.signature.Form.{Form}
-use Rattle.language.specs.declared.signature.Form.TheVariants.{SingleWord, MutableArray}
+use Rattle.source_eval.specs.Below.{andthen, assignment, binary, BlockTree, call, computed, conditional, declaration}
+use Rattle.source_eval.specs.Below.{element, element_assignment, ExprTree, faults, first, Form, gives, inside, loop}
+use Rattle.source_eval.specs.Below.{MutableArray, name, nothing, number, ParameterTree, Place, ProcedureTree}
+use Rattle.source_eval.specs.Below.{program_run, ProgramTree, ReturnTree, SingleWord, tick, truth}
 use Rattle.language.specs.declared.signature.Kind.TheVariants.{Boolean, Uint32}
 use Rattle.language.specs.declared.signature.Label.TheVariants.{Public, Secret}
 use Rattle.language.specs.declared.operators.BinaryOperator.TheVariants.{Less, Add, Divide}
 use Rattle.language.specs.declared.values.Arg.TheVariants as arg
-use Rattle.language.specs.Evaluation.{tick, andthen, inside, program_run}
-use Rattle.language.specs.Meaning.{gives, faults}
-use Rattle.language.specs.Tree.{ExprTree, number, truth, name, binary, element, computed, declaration, assignment}
-use Rattle.language.specs.Tree.{element_assignment, call, conditional, loop, BlockTree, nothing, first, ParameterTree}
-use Rattle.language.specs.Tree.{ReturnTree, ProcedureTree, ProgramTree}
 
 abbrev here : Place
 here = record { offset = 0; line = 1; column = 1 }

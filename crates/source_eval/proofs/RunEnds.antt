@@ -1,10 +1,8 @@
 -- What continued runs come to; an expression's value by those of its operands.
 use Rattle.std.proofs.Common.{◌≡◌, ◌≢◌, ℕ, List, [], ◌∷◌, refl, sym, ap, ◌∙◌}
-use Rattle.word.specs.declared.place.Place.{Place}
-use Rattle.language.specs.Evaluation.{Run, ended, given, tick, andthen, continued, value, values}
-use Rattle.language.specs.Meaning.{Ending, gives, faults, operands, applied}
-use Rattle.language.specs.State.{State, Word}
-use Rattle.language.specs.Tree.{ExprTree, number, truth, name, prefix, binary, rotate, convert, select, element}
+use Rattle.source_eval.specs.Below.{andthen, applied, binary, continued, convert, element, ended, Ending, ExprTree}
+use Rattle.source_eval.specs.Below.{faults, given, gives, name, number, operands, Place, prefix, rotate, Run, select}
+use Rattle.source_eval.specs.Below.{State, tick, truth, value, values, Word}
 
 pub mismatch : {A : Type 0} (a : A) (place : Place) → gives a ≢ faults place
 mismatch a place h = cc

@@ -1,16 +1,13 @@
 -- How runs spend a budget, part by part.
 use Rattle.std.proofs.Common.{◌≡◌, ℕ, suc, ◌+◌, ◌-◌, ◌<◌, ◌≤◌, inl, inr, List, [], ◌∷◌, ◌++◌, Option, Some, None}
 use Rattle.std.proofs.Common.{append_assoc, append-nil, refl, arith}
-use Rattle.language.specs.declared.signature.Kind.{Kind}
-use Rattle.language.specs.Evaluation.{Run, given, tick, andthen, later, continued, value, values, passed, turns}
-use Rattle.language.specs.Evaluation.{array_run, loop_run, return_run, run, run_all, Runnables}
-use Rattle.language.specs.Meaning.{Ending, gives, faults, written}
-use Rattle.language.specs.State.{State, Word}
+use Rattle.source_eval.specs.Below.{andthen, array_run, binary, BlockTree, continued, convert, element, Ending}
+use Rattle.source_eval.specs.Below.{ExprTree, faults, first, given, gives, Kind, later, loop_run, name, number, passed}
+use Rattle.source_eval.specs.Below.{prefix, return_run, ReturnTree, rotate, Run, run, run_all, Runnables, select, State}
+use Rattle.source_eval.specs.Below.{StatementTree, tick, truth, turns, value, values, Word, written}
 use Rattle.source_eval.specs.Metering.{Ended, Stopped}
 use Rattle.source_eval.specs.declared.fault.EvalFault.{EvalFault}
 use Rattle.source_eval.specs.declared.fault.EvalFault.TheVariants.{Argument, NoMeaning, Budget, Memory}
-use Rattle.language.specs.Tree.{ExprTree, number, truth, name, prefix, binary, rotate, convert, select, element}
-use Rattle.language.specs.Tree.{StatementTree, BlockTree, first, ReturnTree}
 
 then-none : {A B : Type 0} (nodes bodies : ℕ) (ending : Ending A) (next : A → Run B) → bodies ≡ 0
     → ((a : A) → (next a).bodies ≡ 0) → (continued nodes bodies ending next).bodies ≡ 0

@@ -4,24 +4,14 @@ use Rattle.std.proofs.Common.{refl, sym, ap, ap₂, ◌∙◌, arith}
 use Rattle.std.proofs.lemmas.Result.{on_ok_weaker}
 use Rattle.std.specs.Option.{option_map}
 use Rattle.std.specs.Result.{OnOk}
-use Rattle.word.specs.declared.place.Place.{Place}
+use Rattle.source_eval.specs.Below.{Arg, begun, block_tree, BlockTree, body_run, branch_run, call_run, call_tree}
+use Rattle.source_eval.specs.Below.{called_run, CallTree, copied_out, counting, export_run, Expr, expr_tree, ExprTree}
+use Rattle.source_eval.specs.Below.{final_arrays, For, given, holding, If, inside, loop_run, most_bodies, named}
+use Rattle.source_eval.specs.Below.{Parameter, parameter_tree, passed, Place, Procedure, procedure_tree, Results}
+use Rattle.source_eval.specs.Below.{results, Returned, Run, run, run_all, Runnable, runnable, Runnables, State}
+use Rattle.source_eval.specs.Below.{Statement, statement_tree, turns, value, Word, word_arguments}
 use Rattle.language.specs.declared.tree.Call.{Call}
-use Rattle.language.specs.declared.tree.Expr.{Expr}
-use Rattle.language.specs.declared.tree.Parameter.{Parameter}
-use Rattle.language.specs.declared.tree.Procedure.{Procedure}
-use Rattle.language.specs.declared.tree.Statement.{Statement, If, For}
 use Rattle.language.specs.declared.tree.Counter.{Counter}
-use Rattle.language.specs.Evaluation.{Run, Runnable, Runnables, runnable, given, inside, passed, value, body_run}
-use Rattle.language.specs.Evaluation.{branch_run, call_run, called_run, loop_run, export_run, results, turns, run}
-use Rattle.language.specs.Evaluation.{run_all}
-use Rattle.language.specs.Limits.{most_bodies}
-use Rattle.language.specs.Meaning.{named, Returned, word_arguments, begun, copied_out, counting, final_arrays}
-use Rattle.language.specs.Meaning.{holding}
-use Rattle.language.specs.declared.values.Arg.{Arg}
-use Rattle.language.specs.Results.{Results}
-use Rattle.language.specs.State.{State, Word}
-use Rattle.language.specs.Tree.{CallTree, ExprTree, BlockTree, block_tree, call_tree, expr_tree, parameter_tree}
-use Rattle.language.specs.Tree.{procedure_tree, statement_tree}
 use Rattle.source_eval.specs.Metering.{Ended, Stopped, known_of}
 use Rattle.source_eval.proofs.Below.{conditional_tree, loop_tree, known-named}
 use Rattle.source_eval.specs.declared.fault.EvalFault.{EvalFault}

@@ -1,10 +1,9 @@
 -- The end that is worked out for expressions is one that the rules give.
 use Rattle.std.proofs.Common.{List, [], ◌∷◌, sym, subst}
-use Rattle.language.specs.Evaluation.{Run, ended, given, tick, andthen, value, values, passed}
-use Rattle.language.specs.Meaning.{operands, applied, Evaluates, by_operands, operand_faults, EvaluatesAll, none_left}
-use Rattle.language.specs.Meaning.{one_more, this_faults, later_faults}
-use Rattle.language.specs.State.{State, Word}
-use Rattle.language.specs.Tree.{ExprTree, number, truth, name, prefix, binary, rotate, convert, select, element}
+use Rattle.source_eval.specs.Below.{andthen, applied, binary, by_operands, convert, element, ended, Evaluates}
+use Rattle.source_eval.specs.Below.{EvaluatesAll, ExprTree, given, later_faults, name, none_left, number, one_more}
+use Rattle.source_eval.specs.Below.{operand_faults, operands, passed, prefix, rotate, Run, select, State, this_faults}
+use Rattle.source_eval.specs.Below.{tick, truth, value, values, Word}
 use Rattle.source_eval.proofs.RunEnds.{then-either, value-by-operands}
 
 node-had : (s : State) (e : ExprTree) → EvaluatesAll s (operands e) (values s (operands e)).ends

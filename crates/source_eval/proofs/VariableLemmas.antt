@@ -8,8 +8,7 @@ use Rattle.std.specs.HashMap.{get_by, UpdatesBy}
 use Rattle.std.specs.Option.{option_map, option_copied}
 use Rattle.std.specs.Str.{bytes_eq}
 use denote.Bor.{Bor}
-use Rattle.language.specs.Meaning.{with_element, with_some}
-use Rattle.language.specs.State.{Word, with_value}
+use Rattle.source_eval.specs.Below.{with_element, with_some, with_value, Word}
 use Rattle.source_eval.specs.Views.{held, value_of}
 use Rattle.source_eval.specs.declared.values.Value.{Value}
 use Rattle.source_eval.specs.declared.variables.Variables.{Variables}

@@ -1,23 +1,19 @@
 -- Each derivation of an end gives the end that is worked out.
 use Rattle.std.proofs.Common.{◌≡◌, ℕ, ◌+◌, ◌-◌, suc, List, [], ◌∷◌, refl, ◌∙◌, arith}
-use Rattle.language.specs.declared.values.Arg.{Arg}
-use Rattle.language.specs.Evaluation.{ended, tick, inside, andthen, value, values, passed, call_run, right_run}
-use Rattle.language.specs.Evaluation.{turns, run, run_all, body_run, program_run, runnable}
-use Rattle.language.specs.Evaluation.{runnables}
-use Rattle.language.specs.Meaning.{Ending, gives, faults, operands, element_held, Evaluates}
-use Rattle.language.specs.Meaning.{by_operands, operand_faults, EvaluatesAll, none_left, one_more, this_faults}
-use Rattle.language.specs.Meaning.{later_faults, Returned, written, counting, Calls}
-use Rattle.language.specs.Meaning.{argument_faults, body_faults, body_ends, Bodies, statements_fault, returns_nothing}
-use Rattle.language.specs.Meaning.{returns, return_faults, Rights, of_call, of_expr, expr_faults, Runs, declares}
-use Rattle.language.specs.Meaning.{declaration_faults, declares_array, first_value_faults, assigns, assignment_faults}
-use Rattle.language.specs.Meaning.{target_faults, right_faults, assigns_element, calls, call_faults, condition_faults}
-use Rattle.language.specs.Meaning.{accepts, declines, bounds_fault, loops, Turns, no_turn, turn_faults, a_turn}
-use Rattle.language.specs.Meaning.{RunsAll, ends, stops, goes_on, Gives, ends_well, meets_fault}
-use Rattle.language.specs.Results.{Results}
-use Rattle.language.specs.State.{State, Word}
-use Rattle.language.specs.Tree.{ExprTree, element, CallTree, RightTree, called, computed, StatementTree, declaration}
-use Rattle.language.specs.Tree.{array, assignment, element_assignment, call, conditional, loop, BlockTree, nothing}
-use Rattle.language.specs.Tree.{first, ProcedureTree, ProgramTree}
+use Rattle.source_eval.specs.Below.{a_turn, accepts, andthen, Arg, argument_faults, array, assignment}
+use Rattle.source_eval.specs.Below.{assignment_faults, assigns, assigns_element, BlockTree, Bodies, body_ends}
+use Rattle.source_eval.specs.Below.{body_faults, body_run, bounds_fault, by_operands, call, call_faults, call_run}
+use Rattle.source_eval.specs.Below.{called, Calls, calls, CallTree, computed, condition_faults, conditional, counting}
+use Rattle.source_eval.specs.Below.{declaration, declaration_faults, declares, declares_array, declines, element}
+use Rattle.source_eval.specs.Below.{element_assignment, element_held, ended, Ending, ends, ends_well, Evaluates}
+use Rattle.source_eval.specs.Below.{EvaluatesAll, expr_faults, ExprTree, faults, first, first_value_faults, Gives}
+use Rattle.source_eval.specs.Below.{gives, goes_on, inside, later_faults, loop, loops, meets_fault, no_turn, none_left}
+use Rattle.source_eval.specs.Below.{nothing, of_call, of_expr, one_more, operand_faults, operands, passed}
+use Rattle.source_eval.specs.Below.{ProcedureTree, program_run, ProgramTree, Results, return_faults, Returned, returns}
+use Rattle.source_eval.specs.Below.{returns_nothing, right_faults, right_run, Rights, RightTree, run, run_all, runnable}
+use Rattle.source_eval.specs.Below.{runnables, Runs, RunsAll, State, statements_fault, StatementTree, stops}
+use Rattle.source_eval.specs.Below.{target_faults, this_faults, tick, turn_faults, Turns, turns, value, values, Word}
+use Rattle.source_eval.specs.Below.{written}
 use Rattle.source_eval.proofs.Below.{known-named}
 use Rattle.source_eval.proofs.RunEnds.{first-faults, first-gives, value-by-operands}
 

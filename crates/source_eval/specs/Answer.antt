@@ -1,15 +1,9 @@
 -- What `eval` answers.
 use Rattle.std.specs.Prelude.{ℕ, ◌||◌, nat_lt, List, [], map, Option, Some, None, Result, Ok, Err, if◌then◌else◌}
-use Rattle.language.specs.arguments.Faults.{fault_of}
+use Rattle.source_eval.specs.Below.{Arg, Ending, exported, fault_of, faults, gives, most_bodies, param_of}
+use Rattle.source_eval.specs.Below.{ProcedureTree, program_run, ProgramTree, Results, Run}
 use Rattle.language.specs.declared.arguments.fault.ArgumentFault.{ArgumentFault}
 use Rattle.language.specs.declared.signature.Param.{Param}
-use Rattle.language.specs.declared.values.Arg.{Arg}
-use Rattle.language.specs.Evaluation.{Run, program_run}
-use Rattle.language.specs.Limits.{most_bodies}
-use Rattle.language.specs.Meaning.{Ending, gives, faults}
-use Rattle.language.specs.Results.{Results}
-use Rattle.language.specs.Signature.{exported, param_of}
-use Rattle.language.specs.Tree.{ProcedureTree, ProgramTree}
 use Rattle.source_eval.specs.declared.fault.EvalFault.{EvalFault}
 use Rattle.source_eval.specs.declared.fault.EvalFault.TheVariants.{Argument, NoMeaning, Budget}
 

@@ -1,11 +1,8 @@
 -- How the running of a part spends a budget. The contracts of private functions cite it, and no public one does.
 use Rattle.std.specs.Prelude.{◌≡◌, ℕ, ◌+◌, ◌<◌, ◌≤◌, ◌⊎◌, List, Option, map}
 use Rattle.std.specs.Option.{option_map}
-use Rattle.language.specs.Evaluation.{Run, Runnables, runnables}
-use Rattle.language.specs.Meaning.{Ending, gives, faults, Returned}
-use Rattle.language.specs.State.{State}
-use Rattle.language.specs.Tree.{procedure_tree}
-use Rattle.language.specs.declared.tree.Procedure.{Procedure}
+use Rattle.source_eval.specs.Below.{Ending, faults, gives, Procedure, procedure_tree, Returned, Run, Runnables}
+use Rattle.source_eval.specs.Below.{runnables, State}
 use Rattle.source_eval.specs.Views.{word_of}
 use Rattle.source_eval.specs.declared.fault.EvalFault.{EvalFault}
 use Rattle.source_eval.specs.declared.fault.EvalFault.TheVariants.{Argument, NoMeaning, Budget, Memory}

@@ -2,7 +2,8 @@
 use Rattle.std.specs.Option.{option_map}
 use Rattle.std.specs.Str.{bytes_eq}
 use Rattle.indexmap.specs.IndexMap.{get_by}
-use Rattle.language.specs.State.{State, single, array}
+use Rattle.source_eval.specs.Below.{single, State}
+use Rattle.language.specs.State.{array}
 use Rattle.language.specs.State as state
 use Rattle.source_eval.specs.declared.values.Value.{Value}
 use Rattle.source_eval.specs.declared.values.Value.TheVariants.{Single, Array}

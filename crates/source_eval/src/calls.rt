@@ -2,9 +2,7 @@
 
 ghost use Rattle.std.specs.Prelude.{◌≡◌, map, IfOk, IfErr, OnOk};
 ghost use Rattle.std.specs.Option.{option_map};
-ghost use Rattle.language.specs.Meaning.{argument_held, array_named, begun, copied_out, gone_back, words_left};
-ghost use Rattle.language.specs.State.{empty};
-ghost use Rattle.language.specs.Tree.{expr_tree, parameter_tree};
+ghost use Rattle.source_eval.specs.Below.{argument_held, array_named, begun, copied_out, empty, expr_tree, gone_back, parameter_tree, words_left};
 ghost use Rattle.source_eval.specs.Views.{held, value_of, word_of};
 ghost use Rattle.source_eval.specs.declared.fault.EvalFault.TheVariants.{Memory};
 

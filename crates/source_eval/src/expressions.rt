@@ -1,9 +1,7 @@
 // The values of expressions.
 
 ghost use Rattle.std.specs.Prelude.{map, IfOk, IfErr};
-ghost use Rattle.language.specs.Evaluation.{value, values, passed};
-ghost use Rattle.language.specs.Meaning.{word_arguments};
-ghost use Rattle.language.specs.Tree.{expr_tree, parameter_tree};
+ghost use Rattle.source_eval.specs.Below.{expr_tree, parameter_tree, passed, value, values, word_arguments};
 ghost use Rattle.source_eval.specs.Metering.{Ended, Stopped};
 ghost use Rattle.source_eval.specs.Views.{held, word_of};
 

@@ -1,15 +1,7 @@
 // The laws, which join the two forms of the meaning: its rules, and the function that works it out.
 
 ghost use Rattle.std.specs.Prelude.{◌≡◌, ◌≤◌, List, [], Some, length};
-ghost use Rattle.language.specs.declared.values.Arg.{Arg};
-ghost use Rattle.language.specs.Evaluation.{program_run};
-ghost use Rattle.language.specs.Meaning.{Ending, Gives};
-ghost use Rattle.language.specs.Results.{Results};
-ghost use Rattle.language.specs.Signature.{exported};
-ghost use Rattle.language.specs.Size.{bodies_of, extents_of};
-ghost use Rattle.language.specs.Tree.{ProcedureTree, ProgramTree};
-ghost use Rattle.language.specs.Typing.{violations};
-ghost use Rattle.word.specs.declared.profile.Profile.{Profile};
+ghost use Rattle.source_eval.specs.Below.{Arg, bodies_of, Ending, exported, extents_of, Gives, ProcedureTree, Profile, program_run, ProgramTree, Results, violations};
 
 /// Whatever end the rules give a program, it is the one that is worked out.
 pub fn meaning_is_worked_out()

@@ -1,8 +1,7 @@
 // What the operators make of words.
 
 ghost use Rattle.std.specs.Prelude.{◌≡◌, ◌==◌, ◌&&◌, IfOk, IfErr, if◌then◌else◌};
-ghost use Rattle.language.specs.Meaning.{gives, faults};
-ghost use Rattle.language.specs.Operators.{divides};
+ghost use Rattle.source_eval.specs.Below.{divides, faults, gives};
 ghost use Rattle.language.specs.OperatorWords.{binary_word, converted_word, prefix_word, rotated_word, selected_word};
 ghost use Rattle.source_eval.specs.Metering.{IsFault};
 ghost use Rattle.source_eval.specs.Views.{word_of};

@@ -3,9 +3,7 @@
 
 ghost use Rattle.std.specs.Prelude.{◌≡◌, ◌≤◌, ◌<◌, map, Some, None, OnOk, IfOk, IfErr};
 ghost use Rattle.std.specs.Option.{option_map};
-ghost use Rattle.language.specs.Evaluation.{array_run, body_run, branch_run, call_run, element_run, loop_run, return_run, right_run, run, run_all, set_run};
-ghost use Rattle.language.specs.Meaning.{counting, made_array, word_given};
-ghost use Rattle.language.specs.Tree.{block_tree, call_tree, expr_tree, procedure_tree, right_tree, return_tree, statement_tree};
+ghost use Rattle.source_eval.specs.Below.{array_run, block_tree, body_run, branch_run, call_run, call_tree, counting, element_run, expr_tree, loop_run, made_array, procedure_tree, return_run, return_tree, right_run, right_tree, run, run_all, set_run, statement_tree, word_given};
 ghost use Rattle.source_eval.specs.Metering.{Ended, Stopped, known_of, returned};
 ghost use Rattle.source_eval.specs.Views.{held, value_of, word_of};
 ghost use Rattle.source_eval.specs.declared.fault.EvalFault.TheVariants.{Memory};

@@ -2,15 +2,11 @@
 use Rattle.std.proofs.Common.{◌≡◌, ℕ, ◌<◌, ◌≤◌, Some, inl, inr, List, length, sym, subst, refl, arith, Bool, true}
 use Rattle.std.proofs.Common.{false}
 use Rattle.std.specs.Prelude.{nat_lt}
-use Rattle.language.specs.declared.refusal.Refusal.{Refusal}
-use Rattle.language.specs.declared.rule.Rule.TheVariants.{TextTooLong}
-use Rattle.language.specs.declared.why.Why.TheVariants.{Plain}
+use Rattle.syntax.specs.Below.{IsWantOfMemory, origin, Plain, Refusal, TextTooLong}
 use Rattle.syntax.specs.Lexeme.{Lexeme}
 use Rattle.syntax.specs.Reading.{refused, Answers, Reads, too_long, by_tokens, OneAnswer, IsRefusedAs}
 use Rattle.syntax.specs.Limits.{text_limit}
 use Rattle.syntax.specs.Tokens.{Ending, Lexes}
-use Rattle.word.specs.Places.{origin}
-use Rattle.language.specs.WantOfMemory.{IsWantOfMemory}
 use Rattle.syntax.proofs.MachineAnswers.{one_answer_for_tokens, lt-true, lt-false}
 use Rattle.syntax.proofs.TokenLaws.{one_list}
 

@@ -9,9 +9,10 @@ use Rattle.std.specs.Prelude.{nat_le}
 use Rattle.std.specs.List.{AllByRecursion}
 use Rattle.syntax.specs.declared.lexer.piece.Piece.{Piece}
 use Rattle.syntax.specs.declared.lexer.piece.Piece.TheVariants as piece
-use Rattle.word.specs.declared.place.Place.{Place}
-use Rattle.language.specs.Limits.{most_elements}
-use Rattle.language.specs.declared.signature.Kind.{Kind}
+use Rattle.syntax.specs.Below.{AreAllSmall, ArePlain, AreSmall, AreSmallValues, BlockTree, CallTree, ExprTree, HasForm}
+use Rattle.syntax.specs.Below.{IsArrayLength, IsGrammatical, IsNumberKind, IsPlain, IsSmallReturn, IsSmallRight, Kind}
+use Rattle.syntax.specs.Below.{most_elements, ParameterTree, Place, ProcedureTree, ProgramTree, ReturnTree, RightTree}
+use Rattle.syntax.specs.Below.{StatementTree}
 use Rattle.syntax.specs.declared.token.TokenKind.{TokenKind}
 use Rattle.syntax.specs.declared.token.TokenKind.TheVariants as token
 use Rattle.syntax.specs.declared.token.Keyword.TheVariants.{Uint8 as Uint8Word, Uint16 as Uint16Word}
@@ -30,15 +31,11 @@ use Rattle.syntax.specs.Grammar.{a_word, a_fixed_array, a_mutable_array, MorePar
 use Rattle.syntax.specs.Grammar.{one_more_parameter, Parameters, no_parameters, some_parameters, ResultType, a_void}
 use Rattle.syntax.specs.Grammar.{a_type, BodyEnd, no_return, a_return, Exported, not_exported, an_export, Procedure}
 use Rattle.syntax.specs.Grammar.{a_procedure, Procedures, no_procedure, one_procedure, a_program as a_program_rule}
-use Rattle.language.specs.Grammatical.{IsNumberKind, IsArrayLength, AreSmall, AreAllSmall, IsSmallRight}
-use Rattle.language.specs.Grammatical.{AreSmallValues, IsPlain, ArePlain, HasForm, IsSmallReturn, IsGrammatical}
 use Rattle.syntax.specs.Lexeme.{Lexeme}
 use Rattle.syntax.specs.Reading.{Reads, by_tokens, Answers, a_program, accepted}
 use Rattle.syntax.specs.Spelling as spelling
 use Rattle.syntax.specs.Spelling.{Spells}
 use Rattle.syntax.specs.Tokens.{Ending, LexesFrom, past_space, past_token}
-use Rattle.language.specs.Tree.{ExprTree, CallTree, RightTree, StatementTree, BlockTree, ParameterTree, ReturnTree}
-use Rattle.language.specs.Tree.{ProcedureTree, ProgramTree}
 
 -- a number that a token writes is a word
 abbrev IsSmallToken : TokenKind → Type 0

@@ -5,7 +5,7 @@ use Rattle.std.proofs.lemmas.Bool.Decides.{nat_tests}
 use Rattle.std.proofs.lemmas.List.{append-nil}
 use Rattle.std.specs.Prelude.{nat_lt}
 use Rattle.std.specs.Option.{option_and_then}
-use Rattle.language.specs.declared.rule.Rule.TheVariants.{Nesting}
+use Rattle.syntax.specs.Below.{Nesting, ProgramTree}
 use Rattle.syntax.specs.Grammar.{IsProgram, IsBeginning}
 use Rattle.syntax.specs.Lexeme.{Lexeme}
 use Rattle.syntax.specs.Nesting.{Nest, outside, after, after_all, AreWithin, AreWithinFrom}
@@ -13,7 +13,6 @@ use Rattle.syntax.specs.Limits.{nesting_limit}
 use Rattle.syntax.specs.Reading.{Answer, refused, Answers, a_program, unexpected, unexpected_end, too_deep, bad_token}
 use Rattle.syntax.specs.Reading.{OneAnswerForTokens, OneProgram}
 use Rattle.syntax.specs.Tokens.{Ending, ends_at, stops}
-use Rattle.language.specs.Tree.{ProgramTree}
 use Rattle.syntax.specs.private.Machine.{State, step, at_end, program, run, verdict, token_answer, ending_answer}
 use Rattle.syntax.proofs.MachineSound.{and_then_some}
 use Rattle.syntax.proofs.MachineSound.{begins_by_run, program_by_run}

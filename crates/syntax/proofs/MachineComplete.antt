@@ -3,10 +3,8 @@ use Rattle.std.proofs.Common.{◌≡◌, ℕ, Bool, false, List, [], ◌∷◌, 
 use Rattle.std.proofs.Common.{append_assoc}
 use Rattle.std.proofs.lemmas.List.{append-nil}
 use Rattle.std.specs.Option.{option_and_then}
-use Rattle.word.specs.declared.place.Place.{Place}
-use Rattle.language.specs.declared.signature.Kind.{Kind}
-use Rattle.language.specs.declared.signature.Label.{Label}
-use Rattle.language.specs.declared.typing.WordType.{WordType}
+use Rattle.syntax.specs.Below.{BlockTree, CallTree, first, Kind, Label, nothing, ParameterTree, Place, ProcedureTree}
+use Rattle.syntax.specs.Below.{ProgramTree, ReturnTree, StatementTree, WordType}
 use Rattle.syntax.specs.Grammar.{label_of, word_of, a_call, Mutable, no_mut, a_mut, ArrayType, an_array_type}
 use Rattle.syntax.specs.Grammar.{Statement, a_declaration, an_array, an_assignment, an_element_assignment}
 use Rattle.syntax.specs.Grammar.{a_call_statement, a_conditional_statement, a_loop, Conditional, a_conditional}
@@ -18,8 +16,6 @@ use Rattle.syntax.specs.Grammar.{an_export, Procedure, a_procedure, Procedures, 
 use Rattle.syntax.specs.Grammar.{IsProgram, a_program, IsBeginning}
 use Rattle.syntax.specs.Lexeme.{Lexeme}
 use Rattle.language.specs.Tree as tree
-use Rattle.language.specs.Tree.{CallTree, StatementTree, BlockTree, nothing, first, ParameterTree, ReturnTree}
-use Rattle.language.specs.Tree.{ProcedureTree, ProgramTree}
 use Rattle.syntax.specs.declared.parser.statement.Start.{Start}
 use Rattle.syntax.specs.private.Machine.{State, procedures, one, more_parameters, statements, otherwise, fits}
 use Rattle.syntax.specs.private.Machine.{starts_with}

@@ -7,12 +7,10 @@ use Rattle.std.proofs.lemmas.List.{append-nil}
 use Rattle.std.proofs.lemmas.Option.{same_Some}
 use Rattle.std.specs.Prelude.{nat_le}
 use Rattle.std.specs.Option.{option_and_then}
-use Rattle.language.specs.declared.signature.Kind.{Kind}
-use Rattle.language.specs.declared.signature.Label.{Label}
+use Rattle.syntax.specs.Below.{BinaryOperator, ExprTree, Kind, Label, RightTree}
 use Rattle.syntax.specs.declared.token.TokenKind.{TokenKind}
 use Rattle.syntax.specs.declared.token.TokenKind.TheVariants as token
 use Rattle.syntax.specs.declared.token.Sign.TheVariants.{RotateLeft}
-use Rattle.language.specs.declared.operators.BinaryOperator.{BinaryOperator}
 use Rattle.syntax.specs.Grammar.{operator_of, prefix_of, conversion_of, level_of, left_level_of, label_of, word_of}
 use Rattle.syntax.specs.Grammar.{length_of, amount_of, ExprAt, a_number, a_true, a_false, a_name, an_element}
 use Rattle.syntax.specs.Grammar.{in_brackets, a_conversion, a_select, a_prefix, a_rotation, a_binary, MoreExprs}
@@ -21,7 +19,6 @@ use Rattle.syntax.specs.Grammar.{some_arguments, a_call, RightSide, a_call_value
 use Rattle.syntax.specs.Grammar.{some_values}
 use Rattle.syntax.specs.Lexeme.{Lexeme}
 use Rattle.language.specs.Tree as tree
-use Rattle.language.specs.Tree.{ExprTree, RightTree}
 use Rattle.syntax.specs.declared.parser.operator.Begins.{Begins}
 use Rattle.syntax.specs.declared.parser.operator.Begins.TheVariants.{Name as by_name}
 use Rattle.syntax.specs.declared.parser.operator.Link.{Link}

@@ -19,15 +19,12 @@ use Rattle.syntax.specs.declared.parser.operator.Link.TheVariants.{Operator as b
 use Rattle.syntax.specs.declared.parser.statement.Start.{Start}
 use Rattle.syntax.specs.declared.parser.statement.Start.TheVariants.{Declaration as by_label, Target as by_target}
 use Rattle.syntax.specs.declared.parser.statement.Start.TheVariants.{Conditional as by_if, Loop as by_for}
-use Rattle.language.specs.declared.signature.Kind.{Kind}
-use Rattle.language.specs.declared.signature.Label.{Label}
+use Rattle.syntax.specs.Below.{BinaryOperator, Kind, Label, PrefixOperator}
 use Rattle.syntax.specs.declared.token.TokenKind.{TokenKind}
 use Rattle.syntax.specs.declared.token.TokenKind.TheVariants as token
 use Rattle.syntax.specs.declared.token.Keyword.TheVariants.{True, False, If, For, Select}
 use Rattle.syntax.specs.declared.token.Sign.TheVariants.{RotateLeft, OpenRound, OpenSquare}
-use Rattle.language.specs.declared.operators.BinaryOperator.{BinaryOperator}
 use Rattle.language.specs.declared.operators.BinaryOperator.TheVariants as operator
-use Rattle.language.specs.declared.operators.PrefixOperator.{PrefixOperator}
 use Rattle.syntax.specs.Grammar.{prefix_of, operator_of, level_of, left_level_of, label_of, conversion_of}
 use Rattle.syntax.specs.private.Machine.{fits, begins_of, link_of, link_level, starts_with}
 use Rattle.syntax.specs.declared.token.Sign.TheVariants as sign

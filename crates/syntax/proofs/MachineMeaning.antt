@@ -1,15 +1,11 @@
 -- What a state of the machine stands for: the tokens that finish the program from there on.
 use Rattle.std.proofs.Common.{◌≡◌, ℕ, List, ◌∷◌, ◌++◌, Option, Some}
-use Rattle.word.specs.declared.place.Place.{Place}
-use Rattle.language.specs.declared.signature.Kind.{Kind}
-use Rattle.language.specs.declared.signature.Label.{Label}
-use Rattle.language.specs.declared.typing.WordType.{WordType}
+use Rattle.syntax.specs.Below.{BlockTree, ExprTree, Kind, Label, ParameterTree, Place, ProcedureTree, ProgramTree}
+use Rattle.syntax.specs.Below.{ReturnTree, WordType}
 use Rattle.syntax.specs.declared.token.TokenKind.{TokenKind}
 use Rattle.syntax.specs.Grammar.{ExprAt, MoreExprs, MoreParameters, Statements, Otherwise, Procedures, label_of}
 use Rattle.syntax.specs.Grammar.{word_of, length_of, amount_of}
 use Rattle.syntax.specs.Lexeme.{Lexeme}
-use Rattle.language.specs.Tree.{ExprTree, BlockTree, ParameterTree, ReturnTree, ProcedureTree}
-use Rattle.language.specs.Tree.{ProgramTree}
 use Rattle.syntax.specs.private.Machine.{State, procedures, one, either, a_label, a_kind, a_length, an_amount}
 use Rattle.syntax.specs.private.Machine.{more_parameters, expr, more, more_exprs, statements, otherwise}
 

@@ -7,16 +7,12 @@ use Rattle.std.proofs.lemmas.Bool.Decides.{nat_tests}
 use Rattle.std.proofs.lemmas.Option.{same_Some}
 use Rattle.std.specs.Prelude.{nat_le}
 use Rattle.std.specs.Option.{option_map, option_and_then}
-use Rattle.word.specs.declared.place.Place.{Place}
-use Rattle.word.specs.Places.{origin}
-use Rattle.language.specs.declared.signature.Kind.TheVariants.{Boolean}
-use Rattle.language.specs.declared.signature.Label.{Label}
-use Rattle.language.specs.declared.signature.Label.TheVariants.{Public as PublicLabel}
+use Rattle.syntax.specs.Below.{BlockTree, Boolean, ExprTree, first, Label, nothing, origin, ParameterTree, Place}
+use Rattle.syntax.specs.Below.{ProcedureTree, ProgramTree, Public as PublicLabel, ReturnTree, StatementTree, WordType}
 use Rattle.syntax.specs.declared.token.TokenKind.{TokenKind}
 use Rattle.syntax.specs.declared.token.TokenKind.TheVariants as token
 use Rattle.syntax.specs.declared.token.Keyword.TheVariants.{Public, Bool as BoolWord}
 use Rattle.syntax.specs.declared.token.Sign.TheVariants.{CloseRound}
-use Rattle.language.specs.declared.typing.WordType.{WordType}
 use Rattle.syntax.specs.Grammar.{label_of, word_of, length_of, amount_of, ExprAt, a_number, a_true, a_false, a_name}
 use Rattle.syntax.specs.Grammar.{an_element, in_brackets, a_conversion, a_select, a_prefix, a_rotation, a_binary}
 use Rattle.syntax.specs.Grammar.{no_more, one_more, an_array_type, no_statement, one_statement, no_else, Statement}
@@ -26,8 +22,6 @@ use Rattle.syntax.specs.Grammar.{a_type, BodyEnd, no_return, a_return, Exported,
 use Rattle.syntax.specs.Grammar.{a_procedure, no_procedure, one_procedure, IsProgram, a_program, IsBeginning}
 use Rattle.syntax.specs.Lexeme.{Lexeme}
 use Rattle.language.specs.Tree as tree
-use Rattle.language.specs.Tree.{ExprTree, StatementTree, BlockTree, nothing, first, ParameterTree, ReturnTree}
-use Rattle.language.specs.Tree.{ProcedureTree, ProgramTree}
 use Rattle.syntax.specs.declared.parser.operator.Link.{Link}
 use Rattle.syntax.specs.declared.parser.operator.Link.TheVariants.{Operator as by_operator, Rotation as by_rotation}
 use Rattle.syntax.specs.declared.parser.statement.Start.{Start}

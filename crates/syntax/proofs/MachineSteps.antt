@@ -4,9 +4,7 @@ use Rattle.std.proofs.Common.{if◌then◌else◌}
 use Rattle.std.proofs.lemmas.Bool.Decides.{nat_tests}
 use Rattle.std.specs.Prelude.{nat_le}
 use Rattle.std.specs.Option.{option_map}
-use Rattle.language.specs.declared.signature.Kind.{Kind}
-use Rattle.language.specs.declared.signature.Label.{Label}
-use Rattle.language.specs.Tree.{ExprTree, StatementTree, BlockTree, nothing, first, ParameterTree}
+use Rattle.syntax.specs.Below.{BlockTree, ExprTree, first, Kind, Label, nothing, ParameterTree, StatementTree}
 use Rattle.syntax.specs.declared.parser.operator.Begins.{Begins}
 use Rattle.syntax.specs.declared.parser.operator.Link.{Link}
 use Rattle.syntax.specs.declared.parser.statement.Start.{Start}

@@ -11,7 +11,7 @@ use Rattle.syntax.specs.private.Machine.{State, procedures, more_exprs, more_par
 use Rattle.syntax.specs.private.Machine.{step, at_end, procedure, verdict, ending_answer}
 use Rattle.syntax.specs.private.Machine.{token_answer}
 use Rattle.syntax.specs.private.ParserViews.{ahead, nest}
-use Rattle.language.specs.Tree.{ExprTree, BlockTree, ParameterTree, ProcedureTree}
+use Rattle.syntax.specs.Below.{BlockTree, ExprTree, ParameterTree, ProcedureTree}
 use Rattle.syntax.proofs.MachineSteps.{after_exprs, after_parameters, before_else}
 use Rattle.syntax.specs.declared.token.TokenKind.{TokenKind}
 

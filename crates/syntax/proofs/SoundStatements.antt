@@ -1,7 +1,7 @@
 -- What the machine reads of expressions and statements is in the grammar.
 use Rattle.std.proofs.Common.{◌≡◌, ℕ, Bool, true, false, List, ◌∷◌, Option, Some}
-use Rattle.language.specs.declared.signature.Kind.{Kind}
-use Rattle.language.specs.declared.signature.Label.{Label}
+use Rattle.syntax.specs.Below.{BlockTree, CallTree, ExprTree, first, Kind, Label, nothing, ProgramTree, RightTree}
+use Rattle.syntax.specs.Below.{StatementTree}
 use Rattle.syntax.specs.declared.token.TokenKind.{TokenKind}
 use Rattle.syntax.specs.declared.token.TokenKind.TheVariants as token
 use Rattle.syntax.specs.declared.token.Keyword.TheVariants.{If, Else}
@@ -15,7 +15,6 @@ use Rattle.syntax.specs.Grammar.{Conditional, a_conditional, a_block, Otherwise,
 use Rattle.syntax.specs.Grammar.{an_else_if}
 use Rattle.syntax.specs.Lexeme.{Lexeme}
 use Rattle.language.specs.Tree as tree
-use Rattle.language.specs.Tree.{ExprTree, CallTree, RightTree, StatementTree, BlockTree, nothing, first, ProgramTree}
 use Rattle.syntax.specs.declared.parser.operator.Begins.{Begins}
 use Rattle.syntax.specs.declared.parser.operator.Begins.TheVariants.{Number as by_number, Truth as by_truth}
 use Rattle.syntax.specs.declared.parser.operator.Begins.TheVariants.{Name as by_name, Bracket as by_bracket}

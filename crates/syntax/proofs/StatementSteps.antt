@@ -5,7 +5,7 @@ use Rattle.syntax.specs.declared.parser.Parser.{Parser}
 use Rattle.language.specs.declared.tree.Statement.{Statement}
 use Rattle.syntax.specs.private.Machine.{State, statements}
 use Rattle.syntax.specs.private.ParserViews.{ahead}
-use Rattle.language.specs.Tree.{BlockTree, nothing, first, statement_tree, block_tree}
+use Rattle.syntax.specs.Below.{block_tree, BlockTree, first, nothing, statement_tree}
 
 -- some statements, and then a block
 abbrev pub followed_by : List Statement → BlockTree → BlockTree

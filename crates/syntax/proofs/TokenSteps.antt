@@ -4,10 +4,9 @@ use Rattle.std.proofs.Common.{arith, append_assoc, length-append}
 use Rattle.std.specs.List.{All, AllByRecursion}
 use Rattle.std.proofs.lemmas.List.{append-nil, map_push, take_at, drop_at, drop-drop}
 use Rattle.std.proofs.lemmas.List.Elements.{All-from_recursion}
-use Rattle.word.specs.declared.place.Place.{Place}
+use Rattle.syntax.specs.Below.{BadNumber as BadNumberRule, Place, UnknownCharacter}
 use Rattle.syntax.specs.declared.token.Token.{Token}
 use Rattle.syntax.specs.declared.lexer.piece.Piece.TheVariants.{Space, Token as TokenPiece, BadNumber}
-use Rattle.language.specs.declared.rule.Rule.TheVariants.{UnknownCharacter, BadNumber as BadNumberRule}
 use Rattle.syntax.specs.declared.lexer.piece.Piece.{Piece}
 use Rattle.syntax.proofs.TokenLaws.{spelled_some}
 use Rattle.syntax.specs.Lexeme.{Lexeme, lexeme, lexemes}

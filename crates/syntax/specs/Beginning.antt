@@ -4,7 +4,7 @@ use Rattle.std.specs.Prelude.{List, [], ◌∷◌, ◌↔◌}
 use Rattle.syntax.specs.Cases.{Single, IsOne, Phrase, procedures, Part, one, all, Case}
 use Rattle.syntax.specs.Grammar.{IsProgram, IsBeginning}
 use Rattle.syntax.specs.Lexeme.{Lexeme}
-use Rattle.language.specs.Tree.{ProgramTree}
+use Rattle.syntax.specs.Below.{ProgramTree}
 
 mutual
   -- the tokens up to the rest are a whole phrase

@@ -1,8 +1,7 @@
 -- The grammar case by case, without trees: what stands one after another in each phrase. Grammar.antt has the same
 -- cases with their trees, under the same names.
 use Rattle.std.specs.Prelude.{◌≡◌, ℕ, ◌+◌, ◌≤◌, List, [], ◌∷◌, Option, Some}
-use Rattle.language.specs.declared.signature.Kind.{Kind}
-use Rattle.language.specs.declared.signature.Label.{Label}
+use Rattle.syntax.specs.Below.{BinaryOperator, Kind, Label, PrefixOperator}
 use Rattle.syntax.specs.declared.token.Keyword.{Keyword}
 use Rattle.syntax.specs.declared.token.Keyword.TheVariants.{Export, Void, Mut, Uint32, True, False, If, Else, For}
 use Rattle.syntax.specs.declared.token.Keyword.TheVariants.{From, To, Return, Select}
@@ -12,8 +11,6 @@ use Rattle.syntax.specs.declared.token.Sign.TheVariants.{OpenSquare, CloseSquare
 use Rattle.syntax.specs.declared.token.Suffix.{Suffix}
 use Rattle.syntax.specs.declared.token.TokenKind.{TokenKind}
 use Rattle.syntax.specs.declared.token.TokenKind.TheVariants as token
-use Rattle.language.specs.declared.operators.BinaryOperator.{BinaryOperator}
-use Rattle.language.specs.declared.operators.PrefixOperator.{PrefixOperator}
 use Rattle.syntax.specs.Grammar.{prefix_of, operator_of, level_of, left_level_of, rotation_level, prefix_level}
 use Rattle.syntax.specs.Grammar.{label_of, word_of, conversion_of, amount_of, length_of}
 use Rattle.syntax.specs.Lexeme.{Lexeme}

@@ -4,14 +4,13 @@
 use Rattle.std.specs.Prelude.{◌≡◌, ℕ, ◌+◌, ◌≤◌, Bool, true, false, ◌&&◌, if◌then◌else◌, List, [], ◌∷◌, ◌++◌, Option}
 use Rattle.std.specs.Prelude.{Some, None}
 use Rattle.std.specs.Prelude.{nat_le}
-use Rattle.word.specs.declared.place.Place.{Place}
-use Rattle.language.specs.Limits.{most_elements}
-use Rattle.language.specs.declared.signature.Form.TheVariants.{SingleWord, FixedArray, MutableArray}
-use Rattle.language.specs.declared.signature.Kind.{Kind}
-use Rattle.language.specs.declared.signature.Kind.TheVariants.{Boolean, Uint8 as Uint8Kind, Uint16 as Uint16Kind}
-use Rattle.language.specs.declared.signature.Kind.TheVariants.{Uint32 as Uint32Kind}
-use Rattle.language.specs.declared.signature.Label.{Label}
-use Rattle.language.specs.declared.signature.Label.TheVariants.{Public as PublicLabel, Secret as SecretLabel}
+use Rattle.syntax.specs.Below.{array, assignment, binary, BinaryOperator, BlockTree, Boolean, call, called, CallTree}
+use Rattle.syntax.specs.Below.{computed, conditional, convert, declaration, element, element_assignment, ExprTree}
+use Rattle.syntax.specs.Below.{first, FixedArray, Kind, Label, loop, most_elements, MutableArray, name, nothing, number}
+use Rattle.syntax.specs.Below.{ParameterTree, Place, prefix, PrefixOperator, ProcedureTree, ProgramTree}
+use Rattle.syntax.specs.Below.{Public as PublicLabel, ReturnTree, RightTree, rotate, Secret as SecretLabel, select}
+use Rattle.syntax.specs.Below.{SingleWord, StatementTree, truth, Uint16 as Uint16Kind, Uint32 as Uint32Kind}
+use Rattle.syntax.specs.Below.{Uint8 as Uint8Kind, WordType}
 use Rattle.syntax.specs.declared.token.TokenKind.{TokenKind}
 use Rattle.syntax.specs.declared.token.TokenKind.TheVariants as token
 use Rattle.syntax.specs.declared.token.Keyword.TheVariants.{Export, Void, Public, Secret, Mut, Bool as BoolWord}
@@ -25,20 +24,13 @@ use Rattle.syntax.specs.declared.token.Sign.TheVariants.{Assign, Plus, Minus, St
 use Rattle.syntax.specs.declared.token.Sign.TheVariants.{Caret, Tilde, Bang, Below, Above}
 use Rattle.syntax.specs.declared.token.Suffix.{Suffix}
 use Rattle.syntax.specs.declared.token.Suffix.TheVariants.{U8, U16, U32}
-use Rattle.language.specs.declared.operators.BinaryOperator.{BinaryOperator}
 use Rattle.language.specs.declared.operators.BinaryOperator.TheVariants.{Either, Both, Equal, Unequal, Less, LessOrEqual}
 use Rattle.language.specs.declared.operators.BinaryOperator.TheVariants.{Greater, GreaterOrEqual, BitOr, BitXor, BitAnd}
 use Rattle.language.specs.declared.operators.BinaryOperator.TheVariants.{ShiftLeft as ShiftedLeft}
 use Rattle.language.specs.declared.operators.BinaryOperator.TheVariants.{ShiftRight as ShiftedRight, Add, Subtract}
 use Rattle.language.specs.declared.operators.BinaryOperator.TheVariants.{Multiply, Divide, Remainder}
-use Rattle.language.specs.declared.operators.PrefixOperator.{PrefixOperator}
 use Rattle.language.specs.declared.operators.PrefixOperator.TheVariants.{Not, Complement, Negate}
-use Rattle.language.specs.declared.typing.WordType.{WordType}
 use Rattle.syntax.specs.Lexeme.{Lexeme}
-use Rattle.language.specs.Tree.{ExprTree, number, truth, name, prefix, binary, rotate, convert, select, element}
-use Rattle.language.specs.Tree.{CallTree, RightTree, called, computed, StatementTree, declaration, array, assignment}
-use Rattle.language.specs.Tree.{element_assignment, call, conditional, loop, BlockTree, nothing, first, ParameterTree}
-use Rattle.language.specs.Tree.{ReturnTree, ProcedureTree, ProgramTree}
 
 -- the token is of this kind
 abbrev pub Is : TokenKind → Lexeme → Type 0

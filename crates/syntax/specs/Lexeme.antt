@@ -1,6 +1,6 @@
 -- Tokens as values, without where they lie in memory.
 use Rattle.std.specs.Prelude.{ℕ, List, map}
-use Rattle.word.specs.declared.place.Place.{Place}
+use Rattle.syntax.specs.Below.{Place}
 use Rattle.syntax.specs.declared.token.Token.{Token}
 use Rattle.syntax.specs.declared.token.TokenKind.{TokenKind}
 

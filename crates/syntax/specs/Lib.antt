@@ -8,3 +8,4 @@ pub mod Beginning
 pub mod Nesting
 pub mod Reading
 pub mod private
+pub mod Below

@@ -1,19 +1,13 @@
 -- How a text is answered: by its tree, or by the first refusal, reading from the left.
 use Rattle.std.specs.Prelude.{◌≡◌, ℕ, ◌<◌, ◌≤◌, List, [], ◌∷◌, ◌++◌, length, Some, ◌⊎◌}
-use Rattle.word.specs.Places.{origin}
-use Rattle.word.specs.declared.place.Place.{Place}
-use Rattle.language.specs.declared.refusal.Refusal.{Refusal}
-use Rattle.language.specs.declared.rule.Rule.{Rule}
-use Rattle.language.specs.declared.rule.Rule.TheVariants.{UnexpectedToken, Nesting, TextTooLong}
-use Rattle.language.specs.declared.why.Why.TheVariants.{Plain}
+use Rattle.syntax.specs.Below.{IsWantOfMemory, Nesting, origin, Place, Plain, ProgramTree, Refusal, Rule, TextTooLong}
+use Rattle.syntax.specs.Below.{UnexpectedToken}
 use Rattle.syntax.specs.Grammar.{IsProgram, IsBeginning}
 use Rattle.syntax.specs.Lexeme.{Lexeme}
 use Rattle.syntax.specs.Nesting.{outside, after, after_all, AreWithin}
 use Rattle.syntax.specs.Limits.{text_limit}
 use Rattle.syntax.specs.Limits.{nesting_limit}
 use Rattle.syntax.specs.Tokens.{Ending, ends_at, stops, Lexes}
-use Rattle.language.specs.Tree.{ProgramTree}
-use Rattle.language.specs.WantOfMemory.{IsWantOfMemory}
 
 pub data Answer : Type 0 where
   accepted : (tree : ProgramTree) → Answer

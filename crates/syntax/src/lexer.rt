@@ -3,9 +3,7 @@ ghost use Rattle.std.specs.List.{All};
 ghost use Rattle.syntax.specs.Lexeme.{lexemes};
 ghost use Rattle.syntax.specs.Limits.{text_limit};
 ghost use Rattle.syntax.specs.Tokens.{Lexes, OneList, IsSliceOf, ending};
-ghost use Rattle.word.specs.Places.{origin};
-ghost use Rattle.language.specs.WantOfMemory.{IsWantOfMemory};
-ghost use Rattle.language.specs.declared.why.Why.TheVariants.{Plain};
+ghost use Rattle.syntax.specs.Below.{IsWantOfMemory, origin, Plain};
 
 mod letters;
 mod number;

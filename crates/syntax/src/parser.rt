@@ -1,14 +1,11 @@
 ghost use Rattle.std.specs.Prelude.{◌≡◌, ℕ, ◌<◌, List, length, Contains, IfOk, IfErr, IsErrAnd, MatchResult};
-ghost use Rattle.word.specs.Places.{origin};
+ghost use Rattle.syntax.specs.Below.{IsGrammatical, origin, Plain, ProcedureTree, program_tree, ProgramTree};
 ghost use Rattle.syntax.specs.Limits.{text_limit};
-ghost use Rattle.language.specs.Grammatical.{IsGrammatical};
 ghost use Rattle.syntax.specs.Lexeme.{lexemes};
 ghost use Rattle.syntax.specs.private.Machine.{program as program_state};
 ghost use Rattle.syntax.specs.private.ParserViews.{ahead, FaultIs};
 ghost use Rattle.syntax.specs.Reading.{Answers, Reads, IsRefusedAs, OneProgram, OneAnswer, accepted, refused};
 ghost use Rattle.syntax.specs.Tokens.{ending};
-ghost use Rattle.language.specs.Tree.{ProcedureTree, ProgramTree, program_tree};
-ghost use Rattle.language.specs.declared.why.Why.TheVariants.{Plain};
 
 mod declaration;
 mod expression;

@@ -7,27 +7,13 @@ use Rattle.std.specs.Option.{option_map}
 use Rattle.branch_removal.specs.Straight.{StraightTree, set, array, put, take, branch, repeats}
 use Rattle.branch_removal.specs.Straight.{StraightBlock, nothing, first}
 use Rattle.inline.specs.contracts.flat.FlatVariablePartialEq.TheImpl.{eq-value}
-use Rattle.inline.specs.declared.flat.FlatVariable.{FlatVariable}
-use Rattle.inline.specs.Flat.{TermTree, number, truth, variable, prefix, binary, rotate, convert, select, element}
-use Rattle.inline.specs.Flat.{counter_type, word_as}
-use Rattle.inline.specs.FlatTyping.{Types}
-use Rattle.language.specs.ExprTyping.{binary_type, convert_type, number_rules, prefix_type, rotate_type, select_type}
-use Rattle.language.specs.Operators.{width_of}
-use Rattle.language.specs.Types.{are_met, is_bool, is_hidden, is_narrow, is_number, is_numeric, is_secret, kind_of}
-use Rattle.language.specs.Types.{of_one, of_three, of_two, unless, word}
-use Rattle.language.specs.Typing.{value_rules}
-use Rattle.language.specs.declared.operators.BinaryOperator.{BinaryOperator}
-use Rattle.language.specs.declared.operators.PrefixOperator.{PrefixOperator}
+use Rattle.branch_removal.specs.Below.{are_met, binary, binary_type, BinaryOperator, bits, Boolean, convert}
+use Rattle.branch_removal.specs.Below.{convert_type, counter_type, element, FlatVariable, is_bool, is_hidden, is_narrow}
+use Rattle.branch_removal.specs.Below.{is_number, is_numeric, is_secret, kind_of, Label, number, number_rules, of_one}
+use Rattle.branch_removal.specs.Below.{of_three, of_two, prefix, prefix_type, PrefixOperator, Profile, Public, rotate}
+use Rattle.branch_removal.specs.Below.{rotate_type, select, select_type, TermTree, truth, Types, unless, value_rules}
+use Rattle.branch_removal.specs.Below.{ValueType, variable, Width, width_of, Word, word, word_as, WordType}
 use Rattle.language.specs.declared.signature.Kind.{Kind}
-use Rattle.language.specs.declared.signature.Kind.TheVariants.{Boolean}
-use Rattle.language.specs.declared.signature.Label.{Label}
-use Rattle.language.specs.declared.signature.Label.TheVariants.{Public}
-use Rattle.language.specs.declared.typing.ValueType.{ValueType}
-use Rattle.language.specs.declared.typing.ValueType.TheVariants.{Word}
-use Rattle.language.specs.declared.typing.WordType.{WordType}
-use Rattle.word.specs.Widths.{bits}
-use Rattle.word.specs.declared.profile.Profile.{Profile}
-use Rattle.word.specs.declared.width.Width.{Width}
 
 -- Variables.
 

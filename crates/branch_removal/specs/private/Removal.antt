@@ -4,12 +4,9 @@ use Rattle.std.specs.Prelude.{ℕ, ◌+◌, Option, None, Some, max}
 use Rattle.branch_removal.specs.Straight.{StraightTree, set, take, repeats}
 use Rattle.branch_removal.specs.Straight.{StraightBlock, nothing, first, chain, StraightProgram}
 use Rattle.branch_removal.specs.Straight as straight
-use Rattle.inline.specs.Flat.{TermTree, FlatTree, declare, assign, hold, skip, branch, loop, FlatBlock}
-use Rattle.inline.specs.Flat.{FlatProgram}
+use Rattle.branch_removal.specs.Below.{assign, branch, declare, FlatBlock, FlatProgram, FlatTree, hold, Label, loop}
+use Rattle.branch_removal.specs.Below.{Public, RangedProgram, Secret, skip, TermTree}
 use Rattle.inline.specs.Flat as flat
-use Rattle.intervals.specs.Ranged.{RangedProgram}
-use Rattle.language.specs.declared.signature.Label.{Label}
-use Rattle.language.specs.declared.signature.Label.TheVariants.{Public, Secret}
 
 -- the block of one statement
 abbrev pub single : StraightTree → StraightBlock

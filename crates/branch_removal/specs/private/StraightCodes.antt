@@ -4,15 +4,11 @@ use Rattle.std.specs.Coded.{Coded, code_by, coded×, coded_ℕ, coded_list, code
 use base.Stored.{Gv, gnil, gnum, gcons}
 use Rattle.inline.specs.Codes.{coded_term}
 use Rattle.inline.specs.contracts.flat.FlatVariable as variable
-use Rattle.inline.specs.declared.flat.FlatVariable.{FlatVariable}
-use Rattle.inline.specs.Flat.{TermTree}
+use Rattle.branch_removal.specs.Below.{FlatVariable, Param, Profile, TermTree, WordType}
 use Rattle.language.specs.contracts.signature.Param as param
 use Rattle.language.specs.contracts.typing.WordType as word
-use Rattle.language.specs.declared.signature.Param.{Param}
-use Rattle.language.specs.declared.typing.WordType.{WordType}
 use Rattle.word.specs.contracts.place.Place as place
 use Rattle.word.specs.contracts.profile.Profile as profile
-use Rattle.word.specs.declared.profile.Profile.{Profile}
 use Rattle.branch_removal.specs.Straight.{StraightTree, set, array, put, take, branch, repeats}
 use Rattle.branch_removal.specs.Straight.{StraightBlock, nothing, first, StraightProgram}
 

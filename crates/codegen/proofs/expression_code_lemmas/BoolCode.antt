@@ -4,10 +4,8 @@ use Rattle.std.proofs.Common.{◌≡◌, ℕ, zero, suc, ◌<◌, ◌&&◌, ◌|
 use Rattle.codegen.proofs.expression_code_lemmas.Below.{Allocation, BinaryOperator, emitted_operator, IsWithinKind}
 use Rattle.codegen.proofs.expression_code_lemmas.Below.{marks_of, of_bits, operated, Place, Profile, Width, word_of}
 use Rattle.codegen.proofs.expression_code_lemmas.Below.{WordType}
-use Rattle.language.specs.declared.operators.BinaryOperator.TheVariants.{Either, Both}
+use Rattle.codegen.specs.Below.{Both, Either, logic, Makes, operation_of, truth_of}
 use Rattle.std.proofs.lemmas.Bool.{cond_both}
-use Rattle.language.specs.Operators.{operation_of, truth_of}
-use Rattle.language.specs.WellTyped.{Makes, logic}
 
 -- functions of two bools are the same where they are at 0 and at 1
 of_two : (f g : ℕ → ℕ → ℕ) → f 0 0 ≡ g 0 0 → f 0 1 ≡ g 0 1 → f 1 0 ≡ g 1 0 → f 1 1 ≡ g 1 1 → (a b : ℕ) → a < 2 → b < 2

@@ -3,8 +3,7 @@
 use Rattle.std.proofs.Common.{◌≡◌, ◌≢◌, ℕ, ◌+◌, ◌*◌, ◌^◌, ◌<◌, Bool, true, false, cond, nat_lt, List, [], ◌∷◌, ◌++◌}
 use Rattle.std.proofs.Common.{refl, ap, ap₂, ◌∙◌, arith, ◌==◌, ne_eqb, ◌%◌, Some, slice_get, slice_index, sym}
 use Rattle.rv_code.specs.declared.instructions.Instr.TheVariants as instr
-use Rattle.rv_code.specs.declared.operations.UpperOperation.TheVariants.{Lui}
-use Rattle.rv_code.specs.declared.operations.RegisterOperation.TheVariants.{Add}
+use Rattle.codegen.specs.Below.{Add, Boolean, Lui, Uint16}
 use Rattle.codegen.proofs.expression_code_lemmas.Below.{address_code, address_of, after_append, byte_count, cheaper}
 use Rattle.codegen.proofs.expression_code_lemmas.Below.{element_bytes, Instr, Kind, load_by, load_size, loaded_value}
 use Rattle.codegen.proofs.expression_code_lemmas.Below.{lower_part, lt-ltb, nat_tests, none, only_computes}
@@ -14,7 +13,6 @@ use Rattle.codegen.proofs.expression_code_lemmas.Below.{as_code, ByteMap, elemen
 use Rattle.codegen.proofs.expression_code_lemmas.Below.{kind_at, Known, near_code, near_element, number_at}
 use Rattle.codegen.proofs.expression_code_lemmas.Below.{number_or_zero, Path, Place, quiet, TermTree, value_in}
 use Rattle.codegen.proofs.expression_code_lemmas.Below.{variable_offset, WordType}
-use Rattle.language.specs.declared.signature.Kind.TheVariants.{Boolean, Uint16}
 use Rattle.codegen.proofs.expression_code_lemmas.Arithmetic.{upper_fits, lower_fits, near_address}
 use Rattle.codegen.proofs.expression_code_lemmas.OperatorCode.{either_of, dd, td, d0, d32, q0, q32, low_beside}
 use Rattle.codegen.proofs.expression_code_lemmas.OperatorCode.{kept_beside}

@@ -13,7 +13,7 @@ use Rattle.codegen.proofs.expression_code_lemmas.Below.{with_value-bytes, with_v
 use Rattle.codegen.proofs.expression_code_lemmas.Frame.{Setting, Before, After, Steps, Runs, setting}
 use Rattle.codegen.proofs.expression_code_lemmas.Moves.{register-at, is_written, is_left}
 use Rattle.codegen.proofs.expression_code_lemmas.WorkRegisters.{IsFree}
-use Rattle.inline.specs.Path.{seen as seen_of}
+use Rattle.codegen.specs.Below.{seen as seen_of}
 use Rattle.codegen.proofs.program_logic_lemmas.Face.{Kind}
 use Rattle.rv_code.specs.declared.instructions.Instr.TheVariants as instr
 use Rattle.rv_machine.specs.declared.observation.Event.TheVariants as event

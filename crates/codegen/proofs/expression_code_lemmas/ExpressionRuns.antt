@@ -39,8 +39,7 @@ use Rattle.codegen.proofs.expression_code_lemmas.Elements.{near_runs, picked}
 use Rattle.codegen.proofs.expression_code_lemmas.OperandRuns.{found, found_apart, found_free, found_is, HasSlot, Lies}
 use Rattle.codegen.proofs.expression_code_lemmas.OperandRuns.{made, Operands, none_yet, one_fetched, one_more, operands}
 use Rattle.codegen.proofs.expression_code_lemmas.OperandRuns.{placed, Slots, steps_of, still_ready, Typed}
-use Rattle.language.specs.Operators.{operation_of}
-use Rattle.language.specs.WellTyped.{Makes}
+use Rattle.codegen.specs.Below.{Makes, operation_of}
 
 module _ (z : Setting) (free : ℕ) (aligned : free % 4 ≡ 0) (above : base_of z ≤ free) where
   abbrev slots : Slots

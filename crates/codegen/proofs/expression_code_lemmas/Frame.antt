@@ -7,7 +7,7 @@ use Rattle.codegen.proofs.expression_code_lemmas.Below.{Instr, code_by, IsAlloca
 use Rattle.codegen.proofs.expression_code_lemmas.Below.{number_at-suc, number_at-zero, Path, seen-append, Size, State}
 use Rattle.codegen.proofs.expression_code_lemmas.Below.{StraightState, temporaries_offset, with_number}
 use Rattle.codegen.proofs.expression_code_lemmas.Below.{with_number_above, with_number_below}
-use Rattle.inline.specs.Path.{seen as seen_of}
+use Rattle.codegen.specs.Below.{seen as seen_of}
 use Rattle.codegen.proofs.program_logic_lemmas.Face as logic
 use Rattle.rv_machine.specs.declared.observation.Event.TheVariants as event
 

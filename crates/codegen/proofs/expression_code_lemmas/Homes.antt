@@ -8,7 +8,7 @@ use Rattle.codegen.proofs.expression_code_lemmas.Below.{word_as, WordType}
 use Rattle.codegen.proofs.expression_code_lemmas.Frame.{Setting}
 use Rattle.codegen.proofs.expression_code_lemmas.Values.{Ready, value_word}
 use Rattle.codegen.proofs.expression_code_lemmas.WorkRegisters.{when_some}
-use Rattle.language.specs.declared.signature.Kind.TheVariants.{Uint32}
+use Rattle.codegen.specs.Below.{Uint32}
 
 -- a conversion that keeps words keeps each
 pub word_kept : (a : Allocation) (kind : Kind) → keeps_words a kind ≡ true → (v : ℕ) → v < 2 ^ 32

@@ -16,9 +16,7 @@ use Rattle.codegen.proofs.expression_code_lemmas.Frame.{Setting, Before, After, 
 use Rattle.codegen.proofs.expression_code_lemmas.Frame.{frame_there, frame_runs}
 use Rattle.codegen.proofs.program_logic_lemmas.Face.{Became, IsFit, IsMet}
 use Rattle.rv_code.specs.declared.instructions.Instr.TheVariants as instr
-use Rattle.rv_code.specs.declared.operations.LoadOperation.TheVariants.{Lw}
-use Rattle.rv_code.specs.declared.operations.RegisterOperation.TheVariants.{Add}
-use Rattle.rv_code.specs.declared.operations.UpperOperation.TheVariants.{Lui}
+use Rattle.codegen.specs.Below.{Add, Lui, Lw}
 use Rattle.rv_machine.specs.declared.memory.Size.TheVariants.{Byte}
 
 -- Registers.

@@ -25,16 +25,10 @@ use Rattle.codegen.proofs.expression_code_lemmas.WorkRegisters.{ArePair, IsFree,
 use Rattle.codegen.specs.declared.expression_code.numbers.Finish.TheVariants.{Alone, GivesZero, GivesMore, Narrowed}
 use Rattle.codegen.specs.declared.expression_code.numbers.NumberStep.TheVariants.{WithImmediate}
 use Rattle.codegen.specs.expression_code.NumberRows.{above_zero, low_bits, masked, shifted}
-use Rattle.inline.specs.Flat.{number, truth}
-use Rattle.language.specs.declared.operators.BinaryOperator.TheVariants.{Equal, Unequal, Less, LessOrEqual, Greater}
-use Rattle.language.specs.declared.operators.BinaryOperator.TheVariants.{GreaterOrEqual, BitOr, BitXor, BitAnd}
-use Rattle.language.specs.declared.operators.BinaryOperator.TheVariants.{ShiftLeft, ShiftRight, Add, Subtract, Multiply}
-use Rattle.rv_code.specs.declared.operations.ImmediateOperation.{ImmediateOperation}
-use Rattle.rv_code.specs.declared.operations.ImmediateOperation.TheVariants.{Addi, Sltiu, Xori, Ori, Andi}
-use Rattle.rv_code.specs.declared.operations.ShiftOperation.{ShiftOperation}
-use Rattle.rv_code.specs.declared.operations.ShiftOperation.TheVariants.{Slli, Srli}
-use Rattle.word.specs.Operators.{negated}
-use Rattle.word.specs.declared.width.Width.TheVariants.{W8, W32}
+use Rattle.codegen.specs.Below.{Addi, Andi, BitAnd, BitOr, BitXor, Equal, Greater, GreaterOrEqual, ImmediateOperation}
+use Rattle.codegen.specs.Below.{Less, LessOrEqual, Multiply, negated, number, Ori, ShiftLeft, ShiftOperation}
+use Rattle.codegen.specs.Below.{ShiftRight, Slli, Sltiu, Srli, Subtract, truth, Unequal, W32, W8, Xori}
+use Rattle.language.specs.declared.operators.BinaryOperator.TheVariants.{Add}
 
 -- Numbers.
 

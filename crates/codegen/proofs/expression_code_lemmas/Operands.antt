@@ -10,14 +10,9 @@ use Rattle.codegen.proofs.expression_code_lemmas.Below.{number_or_zero, only_com
 use Rattle.codegen.proofs.expression_code_lemmas.Below.{Place, quiet, register_left, register_of, registers_after}
 use Rattle.codegen.proofs.expression_code_lemmas.Below.{row_of, slot_of, slots_to, State, StraightState, temporary}
 use Rattle.codegen.proofs.expression_code_lemmas.Below.{TermTree, weaken, Width, with_number, working_register}
-use Rattle.language.specs.declared.operators.BinaryOperator.TheVariants.{Multiply, Divide, Remainder}
+use Rattle.codegen.specs.Below.{byte_count, Divide, Divu, Makes, Mul, Multiply, operation_of, Remainder, Remu}
+use Rattle.codegen.specs.Below.{store_size, StoreOperation, Sw}
 use Rattle.rv_code.specs.declared.instructions.Instr.TheVariants as instr
-use Rattle.rv_code.specs.declared.operations.DivideOperation.TheVariants.{Divu, Remu}
-use Rattle.rv_code.specs.declared.operations.MultiplyOperation.TheVariants.{Mul}
-use Rattle.rv_code.specs.declared.operations.StoreOperation.TheVariants.{Sw}
-use Rattle.rv_code.specs.declared.operations.StoreOperation.{StoreOperation}
-use Rattle.rv_machine.specs.Effects.{store_size}
-use Rattle.rv_machine.specs.Sizes.{byte_count}
 use Rattle.codegen.proofs.expression_code_lemmas.Events.{Moves, multiplying, dividing}
 use Rattle.codegen.proofs.expression_code_lemmas.Frame.{Setting, Steps, Before, Runs, HeldAt, held_regs}
 use Rattle.codegen.proofs.expression_code_lemmas.WorkRegisters.{IsFree, ArePair, at_operand, not_written}
@@ -29,8 +24,6 @@ use Rattle.codegen.proofs.expression_code_lemmas.TermLengths.{narrow_length, ope
 use Rattle.codegen.proofs.expression_code_lemmas.BoolCode.{emitted_marks, emitted_same}
 use Rattle.codegen.proofs.expression_code_lemmas.Values.{Kept, Leaves, Holds, Wrote, wrote_kept, wrote_there}
 use Rattle.std.proofs.lemmas.Bool.{cases_Bool, cond_both}
-use Rattle.language.specs.Operators.{operation_of}
-use Rattle.language.specs.WellTyped.{Makes}
 
 -- a temporary is in a register, and only a spare register has changed
 pub record Fetched (z : Setting) (r spare v : ℕ) (s t : State) : Type 0 where

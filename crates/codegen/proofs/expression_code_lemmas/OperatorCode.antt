@@ -14,14 +14,11 @@ use Rattle.codegen.proofs.expression_code_lemmas.Below.{register_left, register_
 use Rattle.codegen.proofs.expression_code_lemmas.Below.{row_of, shift_value, sign_extended, Step, turned, Width}
 use Rattle.codegen.proofs.expression_code_lemmas.Below.{with_register, word_of}
 use Rattle.rv_code.specs.declared.instructions.Instr.TheVariants as instr
-use Rattle.rv_code.specs.declared.operations.ImmediateOperation.TheVariants.{Addi, Andi}
-use Rattle.rv_code.specs.declared.operations.ShiftOperation.TheVariants.{Slli, Srli}
+use Rattle.codegen.specs.Below.{Addi, Andi, Both, Divide, Either, Mul, Multiply, Remainder, ShiftLeft, ShiftRight, Slli}
+use Rattle.codegen.specs.Below.{Srli, Subtract, W16, W32, W8}
 use Rattle.rv_code.specs.declared.operations.RegisterOperation.TheVariants as register
-use Rattle.rv_code.specs.declared.operations.MultiplyOperation.TheVariants.{Mul}
-use Rattle.language.specs.declared.operators.BinaryOperator.TheVariants.{Either, Both, ShiftLeft, ShiftRight, Add}
-use Rattle.language.specs.declared.operators.BinaryOperator.TheVariants.{Subtract, Multiply, Divide, Remainder}
+use Rattle.language.specs.declared.operators.BinaryOperator.TheVariants.{Add}
 use Rattle.language.specs.declared.operators.PrefixOperator.TheVariants.{Not, Complement, Negate}
-use Rattle.word.specs.declared.width.Width.TheVariants.{W8, W16, W32}
 use Rattle.codegen.proofs.expression_code_lemmas.Arithmetic.{parts, chosen, chosen_or_zero}
 use Rattle.codegen.proofs.expression_code_lemmas.WorkRegisters.{IsFree, ArePair}
 

@@ -10,7 +10,7 @@ use Rattle.codegen.proofs.expression_code_lemmas.Below.{element_bytes, elements_
 use Rattle.codegen.proofs.expression_code_lemmas.Below.{Kind, Label, numbers_in, Param, words_by, words_of, WordType}
 use Rattle.std.proofs.lemmas.Option.{same_Some, slice_get_within, slice_get-get_or}
 pub use Rattle.codegen.specs.expression_code.Layout.{bytes_by, bytes_of, place_of}
-use Rattle.language.specs.declared.signature.Form.TheVariants.{SingleWord}
+use Rattle.codegen.specs.Below.{SingleWord}
 
 -- A variable's numbers lie in its words.
 

@@ -18,12 +18,10 @@ use Rattle.codegen.proofs.expression_code_lemmas.Below.{right_row, rotate, rotat
 use Rattle.codegen.proofs.expression_code_lemmas.Below.{step_code, store_code, temporary, term_nodes, TermTree, Types}
 use Rattle.codegen.proofs.expression_code_lemmas.Below.{types_of, variable, variable_location, Width, WordType}
 use Rattle.codegen.proofs.expression_code_lemmas.Below.{working_register}
-use Rattle.language.specs.declared.signature.Kind.TheVariants.{Boolean}
+use Rattle.codegen.specs.Below.{Boolean, Both, Either, Multiply, W8}
 use Rattle.codegen.specs.declared.expression_code.numbers.Finish.TheVariants.{Narrowed}
 use Rattle.codegen.specs.declared.expression_code.numbers.NumberStep.TheVariants.{KeepsLow}
-use Rattle.language.specs.declared.operators.BinaryOperator.TheVariants.{Either, Both, Multiply}
 use Rattle.language.specs.declared.operators.PrefixOperator.TheVariants as prefixes
-use Rattle.word.specs.declared.width.Width.TheVariants.{W8}
 
 -- Variables.
 

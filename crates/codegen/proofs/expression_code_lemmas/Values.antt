@@ -9,7 +9,7 @@ use Rattle.codegen.proofs.expression_code_lemmas.Below.{operand, Profile, result
 use Rattle.codegen.proofs.expression_code_lemmas.Below.{TermTree, types_of, value_fits, value_in, Values, with_number}
 use Rattle.codegen.proofs.expression_code_lemmas.Below.{with_number_below, WordType}
 use Rattle.std.proofs.lemmas.Bool.{cond_both}
-use Rattle.language.specs.declared.signature.Kind.TheVariants.{Uint32}
+use Rattle.codegen.specs.Below.{Uint32}
 use Rattle.codegen.proofs.expression_code_lemmas.Frame.{Setting, base_of, HeldAt, Held}
 use Rattle.codegen.proofs.expression_code_lemmas.Arithmetic.{mask_of}
 use Rattle.codegen.proofs.expression_code_lemmas.WorkRegisters.{IsHome, works_in, works_at, home_stays, lower_stays}

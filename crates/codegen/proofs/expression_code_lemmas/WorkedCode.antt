@@ -6,19 +6,12 @@ use Rattle.codegen.proofs.expression_code_lemmas.Below.{Allocation, binary, conv
 use Rattle.codegen.proofs.expression_code_lemmas.Below.{Instr, into_code, Place, rotate, select, TermTree, variable}
 use Rattle.codegen.proofs.expression_code_lemmas.Below.{word_as, WordType}
 use Rattle.codegen.specs.expression_code.Allocation.{plain}
-use Rattle.inline.specs.Flat.{array_as, number}
-use Rattle.language.specs.declared.signature.Kind.TheVariants.{Uint8, Uint32}
+use Rattle.codegen.specs.Below.{Addi, Andi, array_as, BitAnd, Both, LessOrEqual, Lui, Lw, Mul, Multiply, number}
+use Rattle.codegen.specs.Below.{ShiftLeft, Slli, Sltiu, Srli, Subtract, Uint32, Uint8, Unequal, W32}
 use Rattle.language.specs.declared.signature.Label.TheVariants.{Public}
-use Rattle.language.specs.declared.operators.BinaryOperator.TheVariants.{Add, BitAnd, Both, LessOrEqual, Multiply}
-use Rattle.language.specs.declared.operators.BinaryOperator.TheVariants.{ShiftLeft, Subtract, Unequal}
+use Rattle.language.specs.declared.operators.BinaryOperator.TheVariants.{Add}
 use Rattle.rv_code.specs.declared.instructions.Instr.TheVariants as instr
-use Rattle.rv_code.specs.declared.operations.ImmediateOperation.TheVariants.{Addi, Andi, Sltiu}
-use Rattle.rv_code.specs.declared.operations.LoadOperation.TheVariants.{Lw}
-use Rattle.rv_code.specs.declared.operations.MultiplyOperation.TheVariants.{Mul}
 use Rattle.rv_code.specs.declared.operations.RegisterOperation.TheVariants as register
-use Rattle.rv_code.specs.declared.operations.ShiftOperation.TheVariants.{Slli, Srli}
-use Rattle.rv_code.specs.declared.operations.UpperOperation.TheVariants.{Lui}
-use Rattle.word.specs.declared.width.Width.TheVariants.{W32}
 
 abbrev uint32 : WordType
 uint32 = record { kind = Uint32; label = Public }

@@ -7,12 +7,8 @@ use Rattle.codegen.proofs.program_logic_lemmas.StraightRuns.{both_left, both_rig
 use Rattle.codegen.proofs.program_logic_lemmas.Symbols.{register_kept}
 use Rattle.codegen.specs.program_logic.StraightCode.{Contents, is_straight, are_straight, after, after_all, AreFit}
 use Rattle.codegen.specs.program_logic.StraightCode.{AreMet}
-use Rattle.rv_code.specs.declared.instructions.Instr.{Instr}
-use Rattle.rv_code.specs.declared.instructions.Instr.TheVariants.{Upper, Immediate, Shift, Register, Load, Store}
-use Rattle.rv_code.specs.declared.operations.UpperOperation.TheVariants.{Lui}
-use Rattle.rv_machine.specs.Effects.{sign_extended, immediate_value, shift_value, register_value}
-use Rattle.rv_machine.specs.Registers.{register, with_register}
-use Rattle.rv_machine.specs.declared.observation.Event.{Event}
+use Rattle.codegen.specs.Below.{Event, Immediate, immediate_value, Instr, Load, Lui, Register, register, register_value}
+use Rattle.codegen.specs.Below.{Shift, shift_value, sign_extended, Store, Upper, with_register}
 
 -- the register that an instruction writes, where it only computes
 abbrev pub written_register : Instr → ℕ

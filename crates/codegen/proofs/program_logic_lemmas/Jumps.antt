@@ -10,18 +10,12 @@ use Rattle.codegen.proofs.program_logic_lemmas.PlacedLaws.{Placed-left, Placed-r
 use Rattle.codegen.specs.program_logic.Jumps.{skip, over, back, branch_code}
 use Rattle.codegen.specs.program_logic.Pieces.{Setting, Before, After, Steps, Leak, always, both, Ends, Runs, Still}
 use Rattle.codegen.specs.program_logic.Placed.{Placed}
-use Rattle.rv_code.specs.declared.instructions.Instr.{Instr}
+use Rattle.codegen.specs.Below.{Bne, branch_target, BranchTest, holds, Instr, IsInstr, jump_target, moved_to, next}
+use Rattle.codegen.specs.Below.{Observation, register, State, with_link, with_register}
 use Rattle.rv_code.specs.declared.instructions.Instr.TheVariants as instr
-use Rattle.rv_code.specs.Words.{IsInstr}
-use Rattle.rv_code.specs.declared.operations.BranchTest.{BranchTest}
-use Rattle.rv_code.specs.declared.operations.BranchTest.TheVariants.{Bne}
 use Rattle.codegen.proofs.program_logic_lemmas.Below.{with_link-pc, with_link-regs, with_link-bytes, moved_to-pc}
 use Rattle.codegen.proofs.program_logic_lemmas.Below.{moved_to-regs, moved_to-bytes, jump_leads, branch_leads}
 use Rattle.codegen.proofs.program_logic_lemmas.Below.{branch_passes}
-use Rattle.rv_machine.specs.Effects.{holds, jump_target, branch_target}
-use Rattle.rv_machine.specs.Machine.{State, with_link, moved_to, next}
-use Rattle.rv_machine.specs.Registers.{register, with_register}
-use Rattle.rv_machine.specs.declared.observation.Observation.{Observation}
 
 dropped : (regs : ℕ → ℕ) (v : ℕ) → with_register regs 0 v ≡ regs
 dropped regs v = fun_ext (λ r. grind (arith, nat_tests))

@@ -11,13 +11,8 @@ use Rattle.codegen.specs.program_logic.Jumps.{skip, over, back, loop_code, again
 use Rattle.codegen.specs.program_logic.Pieces.{Setting, Before, After, Steps, none, Leak, always, both, Ends, Straight}
 use Rattle.codegen.specs.program_logic.Pieces.{Runs, Still, turns_after, turns_path}
 use Rattle.codegen.specs.program_logic.Placed.{Placed}
-use Rattle.rv_code.specs.Words.{IsInstr}
-use Rattle.rv_code.specs.declared.instructions.Instr.{Instr}
+use Rattle.codegen.specs.Below.{Bne, branch_target, Instr, IsInstr, register, State}
 use Rattle.rv_code.specs.declared.instructions.Instr.TheVariants as instr
-use Rattle.rv_code.specs.declared.operations.BranchTest.TheVariants.{Bne}
-use Rattle.rv_machine.specs.Effects.{branch_target}
-use Rattle.rv_machine.specs.Machine.{State}
-use Rattle.rv_machine.specs.Registers.{register}
 
 -- A loop that tests first, and goes on as long as a register is not 0.
 

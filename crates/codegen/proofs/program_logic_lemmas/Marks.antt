@@ -2,9 +2,7 @@
 use Rattle.std.proofs.Common.{◌≡◌, ℕ, List, [], ◌∷◌, ◌++◌, Option, Some, None, refl, ap, ◌∙◌}
 use Rattle.codegen.proofs.program_logic_lemmas.Pieces.{ends_by}
 use Rattle.codegen.specs.program_logic.Pieces.{Setting, Steps, Before, After, Runs}
-use Rattle.rv_code.specs.declared.instructions.Instr.{Instr}
-use Rattle.rv_machine.specs.Machine.{State}
-use Rattle.rv_machine.specs.declared.observation.Observation.{Observation}
+use Rattle.codegen.specs.Below.{Instr, Observation, State}
 
 -- a kind of marks that the observer sees, with what they carry, and what is known of that where the path is fine
 pub record Kind (z : Setting) (A : Type 0) (Good : A → Type 0) : Type 0 where

@@ -6,13 +6,9 @@ use Rattle.std.proofs.lemmas.List.Elements.{All-append, All-cons, All-nil}
 use Rattle.codegen.proofs.program_logic_lemmas.PlacedLaws.{Placed-left, Placed-right}
 use Rattle.codegen.specs.program_logic.Pieces.{Setting, Before, After, Steps, none, Leak, always, both, Ends, Runs}
 use Rattle.codegen.specs.program_logic.Pieces.{Then}
-use Rattle.rv_code.specs.declared.instructions.Instr.{Instr}
+use Rattle.codegen.specs.Below.{Event, Instr, Leads, Observation, State}
 use Rattle.codegen.proofs.program_logic_lemmas.TurnLaws.{LeadsKeeping-append, one_kept}
 use Rattle.codegen.specs.program_logic.Turns.{stays_kept}
-use Rattle.rv_machine.specs.Leakage.{Leads}
-use Rattle.rv_machine.specs.Machine.{State}
-use Rattle.rv_machine.specs.declared.observation.Event.{Event}
-use Rattle.rv_machine.specs.declared.observation.Observation.{Observation}
 
 -- what is seen of two parts, and then more
 pub seen_then : (z : Setting) (one other rest : List z.Mark)

@@ -1,9 +1,7 @@
 -- Parts of placed code are placed.
 use Rattle.std.proofs.Common.{◌≡◌, ℕ, suc, ◌+◌, ◌*◌, ◌^◌, ◌<◌, List, [], ◌∷◌, ◌++◌, length, sym, subst, arith}
 use Rattle.codegen.specs.program_logic.Placed.{Placed}
-use Rattle.rv_code.specs.Words.{IsInstr}
-use Rattle.rv_code.specs.declared.instructions.Instr.{Instr}
-use Rattle.rv_machine.specs.Machine.{State, Code, IsAt}
+use Rattle.codegen.specs.Below.{Code, Instr, IsAt, IsInstr, State}
 
 pub Placed-left : (code : Code) (p : ℕ) (xs ys : List Instr) → Placed code p (xs ++ ys) → Placed code p xs
 Placed-left code p [] ys h = tt

@@ -10,23 +10,13 @@ use Rattle.codegen.specs.program_logic.Placed.{Placed}
 use Rattle.codegen.specs.program_logic.StraightCode.{Contents, state_at, is_straight, are_straight, next_of, left_by}
 use Rattle.codegen.specs.program_logic.StraightCode.{with_result, number_or_zero, after, after_all, event_of, shown_by}
 use Rattle.codegen.specs.program_logic.StraightCode.{fit_and, AreFit, IsMet, met_and, AreMet}
-use Rattle.rv_code.specs.Words.{IsInstr}
-use Rattle.rv_code.specs.declared.instructions.Instr.{Instr}
-use Rattle.rv_code.specs.declared.instructions.Instr.TheVariants.{Upper, Immediate, Shift, Register, Load, Store}
-use Rattle.rv_code.specs.declared.operations.LoadOperation.{LoadOperation}
-use Rattle.rv_code.specs.declared.operations.StoreOperation.{StoreOperation}
-use Rattle.rv_code.specs.declared.operations.UpperOperation.TheVariants.{Lui}
+use Rattle.codegen.specs.Below.{address_of, byte_count, Code, Event, Immediate, Instr, IsAt, IsInstr, Leads, Load}
+use Rattle.codegen.specs.Below.{load_size, loaded_value, LoadOperation, Lui, number_at, Observation, Register, register}
+use Rattle.codegen.specs.Below.{Shift, State, stays, Store, store_size, StoreOperation, Upper, with_number, with_stored}
 use Rattle.codegen.proofs.program_logic_lemmas.Below.{Leads-append, upper_leads, immediate_leads, shift_leads}
 use Rattle.codegen.proofs.program_logic_lemmas.Below.{register_leads, load_leads, store_leads}
-use Rattle.rv_machine.specs.Bytes.{number_at, with_number}
-use Rattle.rv_machine.specs.Effects.{load_size, loaded_value, store_size, address_of}
-use Rattle.rv_machine.specs.Leakage.{Leads, stays}
-use Rattle.rv_machine.specs.Machine.{State, Code, IsAt, with_value, with_stored}
-use Rattle.rv_machine.specs.Registers.{register}
-use Rattle.rv_machine.specs.Sizes.{byte_count}
-use Rattle.rv_machine.specs.declared.observation.Event.{Event}
+use Rattle.rv_machine.specs.Machine.{with_value}
 use Rattle.rv_machine.specs.declared.observation.Event.TheVariants as event
-use Rattle.rv_machine.specs.declared.observation.Observation.{Observation}
 
 pub both_left : (a b : Bool) → (a && b) ≡ true → a ≡ true
 both_left a b h = (and_parts a b h).0

@@ -13,16 +13,9 @@ use Rattle.codegen.specs.program_logic.StraightCode.{Contents, contents_of, stat
 use Rattle.codegen.specs.program_logic.StraightCode.{next_of, left_by, after, after_all, shown_by, fit_and, AreFit}
 use Rattle.codegen.specs.program_logic.StraightCode.{met_and, AreMet}
 use Rattle.codegen.specs.program_logic.Turns.{LeadsKeeping, stays_kept}
-use Rattle.rv_code.specs.declared.instructions.Instr.{Instr}
-use Rattle.rv_code.specs.declared.instructions.Instr.TheVariants.{Store}
+use Rattle.codegen.specs.Below.{byte_count, ByteMap, Event, Instr, register, State, Store, store_size, with_number}
 use Rattle.codegen.proofs.program_logic_lemmas.Below.{is_some-with_number}
-use Rattle.rv_machine.specs.Bytes.{ByteMap, with_number}
-use Rattle.rv_machine.specs.Effects.{store_size}
-use Rattle.rv_machine.specs.Machine.{State}
-use Rattle.rv_machine.specs.Registers.{register}
-use Rattle.rv_machine.specs.Sizes.{byte_count}
 use Rattle.rv_machine.specs.declared.memory.Size.{Size}
-use Rattle.rv_machine.specs.declared.observation.Event.{Event}
 use Rattle.rv_machine.specs.declared.observation.Event.TheVariants as event
 
 -- each instruction that writes such registers, with an allowed access, keeps what is to be kept

@@ -9,14 +9,8 @@ use Rattle.codegen.proofs.program_logic_lemmas.PlacedLaws.{Placed-below, Placed-
 use Rattle.codegen.specs.program_logic.Tests.{leave, unless_code}
 use Rattle.codegen.specs.program_logic.Pieces.{After, Before, Ends, Runs, Setting, Steps, Still, always}
 use Rattle.codegen.specs.program_logic.Placed.{Placed}
-use Rattle.rv_code.specs.Words.{IsInstr}
-use Rattle.rv_code.specs.declared.instructions.Instr.{Instr}
+use Rattle.codegen.specs.Below.{branch_target, BranchTest, holds, Instr, IsInstr, Observation, register, State}
 use Rattle.rv_code.specs.declared.instructions.Instr.TheVariants as instr
-use Rattle.rv_code.specs.declared.operations.BranchTest.{BranchTest}
-use Rattle.rv_machine.specs.Effects.{branch_target, holds}
-use Rattle.rv_machine.specs.Machine.{State}
-use Rattle.rv_machine.specs.Registers.{register}
-use Rattle.rv_machine.specs.declared.observation.Observation.{Observation}
 
 ahead : (p n : ℕ) → 2 * n + 2 < 2 ^ 11 → p + 4 + 4 * n < 2 ^ 32 → branch_target p (2 * n + 2) ≡ p + 4 + 4 * n
 ahead p n near below = grind (arith, nat_tests)

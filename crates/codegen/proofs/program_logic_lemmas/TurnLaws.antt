@@ -3,10 +3,7 @@ use Rattle.std.proofs.Common.{◌≡◌, ℕ, ◌+◌, List, [], ◌∷◌, ◌+
 use Rattle.std.proofs.lemmas.List.Elements.{All-head, All-tail}
 use Rattle.codegen.specs.program_logic.Turns.{LeadsKeeping, stays_kept, turns_kept, LeadsWithin, stays_within}
 use Rattle.codegen.specs.program_logic.Turns.{turns_within}
-use Rattle.rv_machine.specs.Leakage.{Leads, stays, turns}
-use Rattle.rv_machine.specs.Machine.{State, Code}
-use Rattle.rv_machine.specs.declared.observation.Event.{Event}
-use Rattle.rv_machine.specs.declared.observation.Observation.{Observation}
+use Rattle.codegen.specs.Below.{Code, Event, Leads, Observation, State, stays, turns}
 
 -- What each keeps.
 

@@ -8,7 +8,7 @@ use Rattle.std.specs.Prelude.{if◌then◌else◌, slice_get, unwrap_or}
 use Rattle.codegen.specs.expression_code.Registers.{value_register, address_register}
 use Rattle.codegen.specs.declared.expression_code.locations.Location.{Location}
 use Rattle.codegen.specs.declared.expression_code.locations.Location.TheVariants.{InRegister, InSlot}
-use Rattle.inline.specs.declared.flat.FlatVariable.{FlatVariable}
+use Rattle.codegen.specs.Below.{FlatVariable}
 
 -- the register that an operator finds a word in: its own, or a spare one that it is fetched into
 abbrev pub register_of : Location → ℕ → ℕ

@@ -8,22 +8,12 @@ use Rattle.codegen.specs.expression_code.Inside.{IsInside}
 use Rattle.codegen.specs.expression_code.Layout.{bytes_of, place_of, result_offset}
 use Rattle.codegen.specs.expression_code.Registers.{frame_register}
 use Rattle.codegen.specs.expression_code.TermCode.{expr_code, operand}
-use Rattle.branch_removal.specs.Heights.{height_of}
+use Rattle.codegen.specs.Below.{AreFine, Code, Fits, FlatVariable, height_of, Instr, Leads, number_at, numbers_in}
+use Rattle.codegen.specs.Below.{Observation, Path, path_in, seen, State, term_nodes, TermTree, types_of, value_in}
+use Rattle.codegen.specs.Below.{Values}
 use Rattle.codegen.specs.declared.expression_code.locations.Location.{Location}
 use Rattle.codegen.specs.declared.expression_code.locations.Location.TheVariants.{InRegister, InSlot}
-use Rattle.inline.specs.declared.flat.FlatVariable.{FlatVariable}
-use Rattle.inline.specs.Fitting.{Fits}
-use Rattle.inline.specs.Flat.{TermTree, numbers_in}
-use Rattle.inline.specs.FlatMeaning.{Values, value_in, path_in}
-use Rattle.inline.specs.FlatSize.{term_nodes}
-use Rattle.inline.specs.FlatTyping.{types_of}
-use Rattle.inline.specs.Path.{Path, AreFine, seen}
 pub use Rattle.codegen.specs.program_logic.Placed.{Placed}
-use Rattle.rv_code.specs.declared.instructions.Instr.{Instr}
-use Rattle.rv_machine.specs.Bytes.{number_at}
-use Rattle.rv_machine.specs.Leakage.{Leads}
-use Rattle.rv_machine.specs.Machine.{State, Code}
-use Rattle.rv_machine.specs.declared.observation.Observation.{Observation}
 
 -- where code begins, where the frame lies and how many bytes it has, the variables in it and how registers are given
 -- out, where the slots of temporaries begin, and the place that the value comes into

@@ -1,7 +1,6 @@
 -- Accesses that stay inside a frame.
 use Rattle.std.specs.Prelude.{ℕ, ◌+◌, ◌≤◌, Option, Some, None}
-use Rattle.rv_machine.specs.Sizes.{byte_count}
-use Rattle.rv_machine.specs.declared.observation.Event.{Event}
+use Rattle.codegen.specs.Below.{byte_count, Event}
 use Rattle.rv_machine.specs.declared.observation.Event.TheVariants.{Load, Store, Div, Mul}
 
 -- a load or a store stays inside the frame

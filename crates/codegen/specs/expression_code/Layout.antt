@@ -7,12 +7,7 @@ use Rattle.codegen.specs.expression_code.Allocation.{Allocation, home_of, at_hom
 use Rattle.codegen.specs.declared.expression_code.locations.Location.{Location}
 use Rattle.codegen.specs.declared.expression_code.locations.Location.TheVariants.{InSlot}
 use Rattle.codegen.specs.declared.image_fields.slot.Slot.{Slot}
-use Rattle.inline.specs.declared.flat.FlatVariable.{FlatVariable}
-use Rattle.inline.specs.Flat.{declaration_of}
-use Rattle.inline.specs.FlatSize.{words_of, declared_words}
-use Rattle.language.specs.Size.{element_bytes}
-use Rattle.language.specs.declared.signature.Kind.{Kind}
-use Rattle.language.specs.declared.signature.Param.{Param}
+use Rattle.codegen.specs.Below.{declaration_of, declared_words, element_bytes, FlatVariable, Kind, Param, words_of}
 
 -- what is laid out: variables, control values, and loops one in the other; and how registers are given out
 pub record Frame : Type 0 where

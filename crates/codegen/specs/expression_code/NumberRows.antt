@@ -9,16 +9,10 @@ use Rattle.codegen.specs.declared.expression_code.numbers.Finish.{Finish}
 use Rattle.codegen.specs.declared.expression_code.numbers.NumberRow.{NumberRow}
 use Rattle.codegen.specs.declared.expression_code.numbers.NumberStep.TheVariants.{WithImmediate, ByAmount, AboveZero}
 use Rattle.codegen.specs.declared.expression_code.numbers.NumberStep.TheVariants.{KeepsLow}
-use Rattle.inline.specs.Flat.{TermTree, number, truth}
-use Rattle.language.specs.declared.operators.BinaryOperator.{BinaryOperator}
+use Rattle.codegen.specs.Below.{Addi, Andi, BinaryOperator, ImmediateOperation, negated, number, Ori, ShiftOperation}
+use Rattle.codegen.specs.Below.{Slli, Sltiu, Srli, TermTree, truth, turned_of, W32, Xori}
 use Rattle.language.specs.declared.operators.BinaryOperator.TheVariants as operators
-use Rattle.language.specs.Operators.{turned_of}
-use Rattle.rv_code.specs.declared.operations.ImmediateOperation.{ImmediateOperation}
-use Rattle.rv_code.specs.declared.operations.ImmediateOperation.TheVariants.{Addi, Sltiu, Xori, Ori, Andi}
-use Rattle.rv_code.specs.declared.operations.ShiftOperation.{ShiftOperation}
-use Rattle.rv_code.specs.declared.operations.ShiftOperation.TheVariants.{Slli, Srli}
-use Rattle.word.specs.Operators.{negated, word_of}
-use Rattle.word.specs.declared.width.Width.TheVariants.{W32}
+use Rattle.word.specs.Operators.{word_of}
 
 -- the word that an expression is known to be
 abbrev pub number_of : TermTree → Option ℕ

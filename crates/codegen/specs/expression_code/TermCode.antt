@@ -15,34 +15,18 @@ use Rattle.codegen.specs.declared.expression_code.locations.Location.{Location}
 use Rattle.codegen.specs.declared.expression_code.locations.Location.TheVariants.{InRegister, InSlot}
 use Rattle.codegen.specs.expression_code.Registers.{zero_register, frame_register, address_register, first_spare}
 use Rattle.codegen.specs.expression_code.Registers.{second_spare, third_spare}
-use Rattle.inline.specs.declared.flat.FlatVariable.{FlatVariable}
-use Rattle.inline.specs.Flat.{TermTree, number, truth, variable, prefix, binary, rotate, convert, select, element}
-use Rattle.rv_code.specs.declared.instructions.Instr.{Instr}
-use Rattle.rv_code.specs.declared.instructions.Instr.TheVariants.{Upper, Immediate, Shift, Register, Multiply, Divide}
-use Rattle.rv_code.specs.declared.instructions.Instr.TheVariants.{Load, Store}
-use Rattle.rv_code.specs.declared.operations.UpperOperation.TheVariants.{Lui}
-use Rattle.rv_code.specs.declared.operations.ImmediateOperation.TheVariants.{Addi, Sltiu, Andi}
-use Rattle.rv_code.specs.declared.operations.ShiftOperation.TheVariants.{Slli, Srli}
+use Rattle.codegen.specs.Below.{Add, Addi, And, Andi, binary, BinaryOperator, bits, Boolean, convert, Divu, element}
+use Rattle.codegen.specs.Below.{element_bytes, FlatVariable, Immediate, Instr, Kind, Lbu, Lhu, Load, LoadOperation, Lui}
+use Rattle.codegen.specs.Below.{Lw, Mul, number, Or, prefix, Register, Remu, rotate, select, Shift, Sll, Slli, Sltiu}
+use Rattle.codegen.specs.Below.{Sltu, Srl, Srli, Store, Sub, Sw, TermTree, truth, Uint16, Uint32, Uint8, Upper}
+use Rattle.codegen.specs.Below.{variable, W16, W32, W8, Width, width_of, Xor}
+use Rattle.rv_code.specs.declared.instructions.Instr.TheVariants.{Multiply, Divide}
 use Rattle.rv_code.specs.declared.operations.RegisterOperation.{RegisterOperation}
-use Rattle.rv_code.specs.declared.operations.RegisterOperation.TheVariants.{Add, Sub, Sll, Sltu, Xor, Srl, Or, And}
-use Rattle.rv_code.specs.declared.operations.MultiplyOperation.TheVariants.{Mul}
 use Rattle.rv_code.specs.declared.operations.DivideOperation.{DivideOperation}
-use Rattle.rv_code.specs.declared.operations.DivideOperation.TheVariants.{Divu, Remu}
-use Rattle.rv_code.specs.declared.operations.LoadOperation.{LoadOperation}
-use Rattle.rv_code.specs.declared.operations.LoadOperation.TheVariants.{Lw, Lbu, Lhu}
-use Rattle.rv_code.specs.declared.operations.StoreOperation.TheVariants.{Sw}
-use Rattle.language.specs.declared.signature.Kind.{Kind}
-use Rattle.language.specs.declared.signature.Kind.TheVariants.{Boolean, Uint8, Uint16, Uint32}
-use Rattle.language.specs.declared.operators.BinaryOperator.{BinaryOperator}
 use Rattle.language.specs.declared.operators.BinaryOperator.TheVariants as operators
 use Rattle.language.specs.declared.operators.PrefixOperator.{PrefixOperator}
 use Rattle.language.specs.declared.operators.PrefixOperator.TheVariants as prefixes
-use Rattle.language.specs.Operators.{width_of}
-use Rattle.language.specs.Size.{element_bytes}
-use Rattle.word.specs.declared.width.Width.{Width}
-use Rattle.word.specs.declared.width.Width.TheVariants.{W8, W16, W32}
 use Rattle.word.specs.Operators.{word_of}
-use Rattle.word.specs.Widths.{bits}
 
 -- A number as an upper part, in units of 4096, and a lower part that is sign-extended.
 

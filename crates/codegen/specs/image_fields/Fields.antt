@@ -3,12 +3,7 @@ use Rattle.std.specs.Prelude.{◌≡◌, ℕ, ◌+◌, ◌*◌, ◌%◌, ◌^◌
 use Rattle.std.specs.Prelude.{length, Option, IfSome}
 use Rattle.std.specs.List.{AllByRecursion}
 use Rattle.word.specs.declared.profile.Profile.{Profile}
-use Rattle.language.specs.declared.signature.Kind.{Kind}
-use Rattle.language.specs.declared.signature.Form.{Form}
-use Rattle.language.specs.declared.signature.Form.TheVariants.{SingleWord, FixedArray, MutableArray}
-use Rattle.language.specs.declared.typing.WordType.{WordType}
-use Rattle.language.specs.Limits.{most_elements}
-use Rattle.language.specs.Size.{held_words}
+use Rattle.codegen.specs.Below.{FixedArray, Form, held_words, Kind, most_elements, MutableArray, SingleWord, WordType}
 use Rattle.codegen.specs.image_fields.Limits.{most_parameters, most_frame_bytes, most_steps, most_words}
 use Rattle.codegen.specs.declared.image_fields.slot.Slot.{Slot}
 use Rattle.codegen.specs.declared.image_fields.slot.ResultSlot.{ResultSlot}

@@ -8,13 +8,8 @@ use Rattle.codegen.specs.private.Jumps.{branch_code, unless_code}
 use Rattle.codegen.specs.private.Words.{gives_zero, read_code, read_register}
 use Rattle.codegen.specs.expression_code.Allocation.{Allocation}
 use Rattle.codegen.specs.expression_code.Registers.{zero_register, value_register, second_register}
-use Rattle.inline.specs.declared.flat.FlatVariable.{FlatVariable}
-use Rattle.inline.specs.Flat.{TermTree, binary}
-use Rattle.language.specs.declared.operators.BinaryOperator.{BinaryOperator}
-use Rattle.language.specs.declared.operators.BinaryOperator.TheVariants.{Equal, Unequal, Less, LessOrEqual, Greater}
-use Rattle.language.specs.declared.operators.BinaryOperator.TheVariants.{GreaterOrEqual}
-use Rattle.rv_code.specs.declared.instructions.Instr.{Instr}
-use Rattle.rv_code.specs.declared.operations.BranchTest.TheVariants.{Beq, Bne, Bltu, Bgeu}
+use Rattle.codegen.specs.Below.{Beq, Bgeu, binary, BinaryOperator, Bltu, Bne, Equal, FlatVariable, Greater}
+use Rattle.codegen.specs.Below.{GreaterOrEqual, Instr, Less, LessOrEqual, TermTree, Unequal}
 
 -- Comparisons.
 

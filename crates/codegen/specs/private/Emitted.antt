@@ -1,8 +1,10 @@
 -- The instructions that are emitted for statements.
 use Rattle.std.specs.Prelude.{ℕ, ◌+◌, ◌*◌, ◌==◌, Bool, true, false, List, [], ◌∷◌, ◌++◌, Option, None, Some}
 use Rattle.std.specs.Prelude.{if◌then◌else◌}
-use Rattle.branch_removal.specs.Straight.{StraightTree, set, array, put, take, branch, repeats}
-use Rattle.branch_removal.specs.Straight.{StraightBlock, nothing, first}
+use Rattle.codegen.specs.Below.{Add, Addi, And, array, array_words, Boolean, branch, element_bytes, first, FlatVariable}
+use Rattle.codegen.specs.Below.{Immediate, Instr, Kind, Load, Lui, nothing, put, Register, repeats, Sb, set, Sh, Store}
+use Rattle.codegen.specs.Below.{StoreOperation, StraightBlock, StraightTree, Sub, Sw, take, TermTree, Uint16, Uint32}
+use Rattle.codegen.specs.Below.{Uint8, Upper, Xor}
 pub use Rattle.codegen.specs.private.Compared.{branching_code}
 use Rattle.codegen.specs.private.Jumps.{loop_code}
 pub use Rattle.codegen.specs.private.Erased.{erase_code, erase_under_code}
@@ -22,18 +24,6 @@ use Rattle.codegen.specs.expression_code.TermCode.{address_code, load_by, kind_a
 use Rattle.codegen.specs.expression_code.TermCode.{fetch_code, into_code}
 use Rattle.codegen.specs.declared.expression_code.locations.Location.{Location}
 use Rattle.codegen.specs.declared.expression_code.locations.Location.TheVariants.{InRegister, InSlot}
-use Rattle.inline.specs.declared.flat.FlatVariable.{FlatVariable}
-use Rattle.inline.specs.Flat.{TermTree}
-use Rattle.rv_code.specs.declared.instructions.Instr.{Instr}
-use Rattle.rv_code.specs.declared.instructions.Instr.TheVariants.{Upper, Immediate, Register, Load, Store}
-use Rattle.rv_code.specs.declared.operations.UpperOperation.TheVariants.{Lui}
-use Rattle.rv_code.specs.declared.operations.ImmediateOperation.TheVariants.{Addi}
-use Rattle.rv_code.specs.declared.operations.RegisterOperation.TheVariants.{Add, Sub, Xor, And}
-use Rattle.rv_code.specs.declared.operations.StoreOperation.{StoreOperation}
-use Rattle.rv_code.specs.declared.operations.StoreOperation.TheVariants.{Sb, Sh, Sw}
-use Rattle.language.specs.declared.signature.Kind.{Kind}
-use Rattle.language.specs.declared.signature.Kind.TheVariants.{Boolean, Uint8, Uint16, Uint32}
-use Rattle.language.specs.Size.{element_bytes, array_words}
 
 -- A control value is a mask: all ones where it is true, and 0 where it is not. It is in its home, or in its slot, or
 -- nowhere, where nothing reads it.

@@ -5,10 +5,7 @@ use Rattle.codegen.specs.expression_code.Registers.{value_register, second_regis
 use Rattle.codegen.specs.expression_code.TermCode.{fetch_code, load_code, store_code}
 use Rattle.codegen.specs.declared.expression_code.locations.Location.{Location}
 use Rattle.codegen.specs.declared.expression_code.locations.Location.TheVariants.{InRegister, InSlot}
-use Rattle.rv_code.specs.declared.instructions.Instr.{Instr}
-use Rattle.rv_code.specs.declared.instructions.Instr.TheVariants.{Immediate, Register}
-use Rattle.rv_code.specs.declared.operations.ImmediateOperation.TheVariants.{Xori}
-use Rattle.rv_code.specs.declared.operations.RegisterOperation.TheVariants.{And}
+use Rattle.codegen.specs.Below.{And, Immediate, Instr, Register, Xori}
 
 -- of two registers, 0 where the mask is all ones, and the old word where it is 0, into another; t is written too
 abbrev pub erase_code : ℕ → ℕ → ℕ → ℕ → List Instr

@@ -2,9 +2,9 @@
 -- none names it.
 use Rattle.std.specs.Prelude.{ℕ, ◌+◌, ◌==◌, ◌&&◌, ◌||◌, Bool, false, not, nat_lt, List, [], ◌∷◌, length}
 use Rattle.std.specs.Prelude.{Option, None, Some, is_none, if◌then◌else◌}
-use Rattle.branch_removal.specs.Straight.{StraightTree, set, array, put, take, branch, repeats}
-use Rattle.branch_removal.specs.Straight.{StraightBlock, nothing, first, StraightProgram}
-use Rattle.inline.specs.Flat.{TermTree, number, truth, variable, prefix, binary, rotate, convert, select, element}
+use Rattle.codegen.specs.Below.{array, binary, branch, convert, element, first, nothing, number, prefix, put, repeats}
+use Rattle.codegen.specs.Below.{rotate, select, set, StraightBlock, StraightProgram, StraightTree, take, TermTree}
+use Rattle.codegen.specs.Below.{truth, variable}
 
 -- whether an expression names a variable
 abbrev pub names_in : ℕ → TermTree → Bool

@@ -1,18 +1,12 @@
 -- The image that is generated for straight code.
 use Rattle.std.specs.Prelude.{ℕ, ◌+◌, ◌*◌, List, [], ◌∷◌, ◌++◌, Option, None, Some, length, map, nat_le, if◌then◌else◌}
 use Rattle.std.specs.Option.{option_map}
-use Rattle.branch_removal.specs.Straight.{StraightProgram}
-use Rattle.rv_code.specs.declared.instructions.Instr.{Instr}
-use Rattle.rv_code.specs.declared.instructions.Instr.TheVariants.{Ecall}
-use Rattle.rv_code.specs.Words.{word_of}
+use Rattle.codegen.specs.Below.{depth_in_all, Ecall, FlatVariable, Instr, program_height, StraightProgram, TermTree}
+use Rattle.codegen.specs.Below.{word_of, WordType}
 use Rattle.codegen.specs.image_fields.Fields.{Fields}
 use Rattle.codegen.specs.declared.image_fields.slot.ResultSlot.{ResultSlot}
-use Rattle.inline.specs.declared.flat.FlatVariable.{FlatVariable}
-use Rattle.inline.specs.Flat.{TermTree}
-use Rattle.language.specs.declared.typing.WordType.{WordType}
 use Rattle.codegen.specs.private.Emitted.{block_code, assign_code}
 use Rattle.codegen.specs.private.Fresh.{homes_but, starts_fresh}
-use Rattle.branch_removal.specs.Heights.{depth_in_all, program_height}
 use Rattle.codegen.specs.expression_code.Allocation.{Allocation, slots_to}
 use Rattle.codegen.specs.expression_code.Layout.{slots_from, result_offset, temporaries_offset, word_offset}
 use Rattle.codegen.specs.expression_code.TermCode.{load_code}

@@ -8,7 +8,7 @@ use Rattle.codegen.specs.program_logic.Jumps as jumps
 pub use Rattle.codegen.specs.program_logic.Jumps.{skip, over, back, branch_code}
 use Rattle.codegen.specs.program_logic.Tests as tests
 pub use Rattle.codegen.specs.program_logic.Tests.{leave}
-use Rattle.rv_code.specs.declared.instructions.Instr.{Instr}
+use Rattle.codegen.specs.Below.{Instr}
 
 -- the first list unless two registers pass a test, and else the second
 abbrev pub unless_code : Test → List Instr → List Instr → List Instr

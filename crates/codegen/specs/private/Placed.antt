@@ -1,14 +1,10 @@
 -- Statements whose variables and control values are there, and whose temporaries lie in the frame.
 use Rattle.std.specs.Prelude.{ℕ, ◌+◌, ◌*◌, ◌<◌, ◌≤◌, List, [], ◌∷◌, length}
-use Rattle.branch_removal.specs.Straight.{StraightTree, set, array, put, take, branch, repeats}
-use Rattle.branch_removal.specs.Straight.{StraightBlock, nothing, first}
-use Rattle.branch_removal.specs.StraightTyping.{IsAmong as IsControl}
+use Rattle.codegen.specs.Below.{array, branch, first, FlatVariable, height_of, IsAmong as IsControl, nothing, put}
+use Rattle.codegen.specs.Below.{repeats, set, StraightBlock, StraightTree, take, TermTree}
 use Rattle.codegen.specs.expression_code.Allocation.{Allocation, slots_to}
 use Rattle.codegen.specs.expression_code.Layout.{variable_offset, temporaries_offset}
 use Rattle.codegen.specs.expression_code.TermCode.{IsAmong}
-use Rattle.branch_removal.specs.Heights.{height_of}
-use Rattle.inline.specs.declared.flat.FlatVariable.{FlatVariable}
-use Rattle.inline.specs.Flat.{TermTree}
 
 -- an expression over the first so many variables into a place, where so many temporaries have registers, and the
 -- slots of the others begin at an offset

@@ -1,7 +1,7 @@
 -- Which control values are read: code keeps no others.
 use Rattle.std.specs.Prelude.{◌≡◌, ℕ, ◌==◌, false, Bool, List, map, Option, None, Some, slice_get, unwrap_or}
-use Rattle.branch_removal.specs.Straight.{StraightTree, set, array, put, take, branch, repeats}
-use Rattle.branch_removal.specs.Straight.{StraightBlock, nothing, first, StraightProgram}
+use Rattle.codegen.specs.Below.{array, branch, first, nothing, put, repeats, set, StraightBlock, StraightProgram}
+use Rattle.codegen.specs.Below.{StraightTree, take}
 use Rattle.codegen.specs.private.Uses.{control_weights_of}
 
 -- whether nothing reads each control value of a program, by its number: no place that reads it counts

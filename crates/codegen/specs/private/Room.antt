@@ -2,20 +2,14 @@
 use Rattle.std.specs.Prelude.{◌+◌, ◌*◌, ◌≤◌, length, map}
 use Rattle.std.specs.List.{AllByRecursion}
 use Rattle.branch_removal.specs.Bounds.{block_work}
-use Rattle.branch_removal.specs.Straight.{StraightProgram}
-use Rattle.branch_removal.specs.StraightTyping.{IsTypedStraight}
-use Rattle.branch_removal.specs.Heights.{depth_in_all}
+use Rattle.codegen.specs.Below.{declaration_of, declared_words, depth_in_all, HasLength, IsTypedStraight}
+use Rattle.codegen.specs.Below.{most_declared_bytes, most_nodes, most_work, Param, program_height, StraightProgram}
+use Rattle.codegen.specs.Below.{value_nodes}
 use Rattle.codegen.specs.private.Generated.{home_count}
 use Rattle.codegen.specs.private.Reads.{AllReadKept}
-use Rattle.branch_removal.specs.Heights.{program_height}
 use Rattle.codegen.specs.expression_code.Allocation.{Allocation, IsAllocation}
 use Rattle.codegen.specs.expression_code.Layout.{Frame}
-use Rattle.inline.specs.Flat.{declaration_of}
 use Rattle.inline.specs.Limits.{most_variable_bytes}
-use Rattle.inline.specs.FlatSize.{HasLength, declared_words, value_nodes}
-use Rattle.intervals.specs.Limits.{most_work}
-use Rattle.language.specs.Limits.{most_nodes, most_declared_bytes}
-use Rattle.language.specs.declared.signature.Param.{Param}
 
 pub record HasRoom (p : StraightProgram) : Type 0 where
   pub typed : IsTypedStraight p

@@ -2,9 +2,7 @@
 -- own kind needs no instruction.
 use Rattle.std.specs.Prelude.{Bool, true, false, if◌then◌else◌}
 use Rattle.codegen.specs.expression_code.Allocation.{Allocation}
-use Rattle.inline.specs.Flat.{TermTree, convert}
-use Rattle.language.specs.declared.signature.Kind.{Kind}
-use Rattle.language.specs.declared.signature.Kind.TheVariants.{Uint8, Uint16}
+use Rattle.codegen.specs.Below.{convert, Kind, TermTree, Uint16, Uint8}
 
 -- whether the store of an element of one kind cuts a value as a conversion to the other does
 abbrev pub cuts : Kind → Kind → Bool

@@ -1,9 +1,8 @@
 -- How much each word of a program is used: variables, and in the same way control values, over the places in which they
 -- are read.
 use Rattle.std.specs.Prelude.{ℕ, List, ◌++◌, Option, None, Some, replicate}
-use Rattle.branch_removal.specs.Straight.{StraightTree, set, array, put, take, branch, repeats}
-use Rattle.branch_removal.specs.Straight.{StraightBlock, nothing, first, StraightProgram}
-use Rattle.branch_removal.specs.Uses.{used, weight_inside, weights_of}
+use Rattle.codegen.specs.Below.{array, branch, first, nothing, put, repeats, set, StraightBlock, StraightProgram}
+use Rattle.codegen.specs.Below.{StraightTree, take, used, weight_inside, weights_of}
 
 abbrev pub used_within : ℕ → Option ℕ → List ℕ → List ℕ
 used_within weight None weights = weights

@@ -7,9 +7,7 @@ pub use Rattle.codegen.specs.expression_code.TermCode.{home_of_term}
 use Rattle.codegen.specs.expression_code.TermCode.{into_code, move_code, store_code}
 use Rattle.codegen.specs.declared.expression_code.locations.Location.{Location}
 use Rattle.codegen.specs.declared.expression_code.locations.Location.TheVariants.{InRegister, InSlot}
-use Rattle.inline.specs.declared.flat.FlatVariable.{FlatVariable}
-use Rattle.inline.specs.Flat.{TermTree}
-use Rattle.rv_code.specs.declared.instructions.Instr.{Instr}
+use Rattle.codegen.specs.Below.{FlatVariable, Instr, TermTree}
 
 -- The value of an expression, read where it is: in its home, where it has one, and else in the register that it is
 -- brought into.

@@ -1,8 +1,6 @@
 -- Instructions that are run by turns or not at all: what stands between jumps.
 use Rattle.std.specs.Prelude.{ℕ, ◌+◌, ◌-◌, ◌*◌, ◌^◌, List, [], ◌∷◌, ◌++◌, length}
-use Rattle.rv_code.specs.declared.instructions.Instr.{Instr}
-use Rattle.rv_code.specs.declared.instructions.Instr.TheVariants.{Jump, Branch}
-use Rattle.rv_code.specs.declared.operations.BranchTest.TheVariants.{Bne}
+use Rattle.codegen.specs.Below.{Bne, Branch, Instr, Jump}
 
 -- over the next instruction, where a register is not 0
 abbrev pub skip : ℕ → Instr

@@ -10,10 +10,7 @@ use Rattle.std.proofs.Common.{zero, suc}
 use Rattle.codegen.specs.program_logic.Placed.{Placed}
 use Rattle.codegen.specs.program_logic.StraightCode.{contents_of, after_all}
 use Rattle.codegen.specs.program_logic.Turns.{LeadsKeeping}
-use Rattle.rv_code.specs.declared.instructions.Instr.{Instr}
-use Rattle.rv_machine.specs.Machine.{State, Code}
-use Rattle.rv_machine.specs.declared.observation.Event.{Event}
-use Rattle.rv_machine.specs.declared.observation.Observation.{Observation}
+use Rattle.codegen.specs.Below.{Code, Event, Instr, Observation, State}
 
 -- only the program counter has changed
 pub record Still (s t : State) : Type 0 where

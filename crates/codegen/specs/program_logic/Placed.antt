@@ -1,8 +1,6 @@
 -- Instructions that stand in code.
 use Rattle.std.specs.Prelude.{◌≡◌, ℕ, ◌+◌, ◌%◌, ◌^◌, ◌<◌, List, [], ◌∷◌, Some}
-use Rattle.rv_code.specs.declared.instructions.Instr.{Instr}
-use Rattle.rv_code.specs.Words.{word_of}
-use Rattle.rv_machine.specs.Machine.{Code, word_at}
+use Rattle.codegen.specs.Below.{Code, Instr, word_at, word_of}
 
 -- the words of these instructions stand at an address and after it
 abbrev pub Placed : Code → ℕ → List Instr → Type 0

@@ -4,18 +4,11 @@
 -- addresses, where data is.
 use Rattle.std.specs.Prelude.{◌≡◌, ℕ, ◌+◌, ◌*◌, ◌%◌, ◌^◌, Bool, true, false, ◌&&◌, nat_lt, List, [], ◌∷◌, Option}
 use Rattle.std.specs.Prelude.{Some, None, is_some}
-use Rattle.rv_code.specs.declared.instructions.Instr.{Instr}
-use Rattle.rv_code.specs.declared.instructions.Instr.TheVariants.{Upper, Immediate, Shift, Register, Load, Store}
-use Rattle.rv_code.specs.declared.operations.UpperOperation.TheVariants.{Lui}
-use Rattle.rv_machine.specs.Bytes.{ByteMap, number_at, with_number}
-use Rattle.rv_machine.specs.Effects.{sign_extended, immediate_value, shift_value, register_value, load_size}
-use Rattle.rv_machine.specs.Effects.{loaded_value, store_size, address_of}
-use Rattle.rv_machine.specs.Machine.{State}
-use Rattle.rv_machine.specs.Registers.{register, with_register}
-use Rattle.rv_machine.specs.Sizes.{byte_count}
-use Rattle.rv_machine.specs.declared.observation.Event.{Event}
+use Rattle.codegen.specs.Below.{address_of, byte_count, ByteMap, Event, Immediate, immediate_value, Instr, Load}
+use Rattle.codegen.specs.Below.{load_size, loaded_value, Lui, number_at, Observation, Register, register}
+use Rattle.codegen.specs.Below.{register_value, Shift, shift_value, sign_extended, State, Store, store_size, Upper}
+use Rattle.codegen.specs.Below.{with_number, with_register}
 use Rattle.rv_machine.specs.declared.observation.Event.TheVariants as event
-use Rattle.rv_machine.specs.declared.observation.Observation.{Observation}
 
 -- what instructions work on
 pub record Contents : Type 0 where

@@ -1,9 +1,7 @@
 -- Of two pieces of code one, by a test of two registers.
 use Rattle.std.specs.Prelude.{ℕ, ◌+◌, ◌*◌, List, [], ◌∷◌, ◌++◌, length}
 use Rattle.codegen.specs.program_logic.Jumps.{over}
-use Rattle.rv_code.specs.declared.instructions.Instr.{Instr}
-use Rattle.rv_code.specs.declared.instructions.Instr.TheVariants.{Branch}
-use Rattle.rv_code.specs.declared.operations.BranchTest.{BranchTest}
+use Rattle.codegen.specs.Below.{Branch, BranchTest, Instr}
 
 -- over what follows, where there is something
 abbrev pub leave : List Instr → List Instr

@@ -2,9 +2,7 @@
 -- x2, is then.
 use Rattle.std.specs.Prelude.{ℕ, List, [], ◌∷◌, Option}
 use Rattle.std.proofs.Common.{zero, suc}
-use Rattle.rv_machine.specs.Machine.{State, Code, Turn, goes_on}
-use Rattle.rv_machine.specs.declared.observation.Event.{Event}
-use Rattle.rv_machine.specs.declared.observation.Observation.{Observation}
+use Rattle.codegen.specs.Below.{Code, Event, goes_on, Observation, State, Turn}
 
 -- so many turns, none of which stops, lead from one state to another and show this list; each keeps what is to be kept
 pub data LeadsKeeping (code : Code) (Keeps : State → State → Type 0) : ℕ → State → List Observation → State

@@ -6,8 +6,7 @@ ghost use Rattle.codegen.specs.expression_code.Allocation.{register_of, slots_to
 ghost use Rattle.codegen.specs.expression_code.Registers.{first_spare, second_spare, third_spare};
 ghost use Rattle.codegen.specs.expression_code.TermCode.{into_code, expr_code, operand, fetch_code};
 ghost use Rattle.codegen.specs.expression_code.TermCode.{choice_or_zero_code, IsAmong};
-ghost use Rattle.branch_removal.specs.Heights.{height_of};
-ghost use Rattle.inline.specs.Flat.{term_tree};
+ghost use Rattle.codegen.specs.Below.{height_of, term_tree};
 
 use crate::expression_code::layout::Layout;
 use crate::expression_code::locations::{

@@ -1,9 +1,7 @@
 // The law, which holds of the definitions alone.
 
 ghost use Rattle.codegen.specs.expression_code.Computed.{Site, IsSiteOf, IsComputed};
-ghost use Rattle.inline.specs.Flat.{TermTree};
-ghost use Rattle.inline.specs.FlatTyping.{types_of, HasType};
-ghost use Rattle.language.specs.declared.typing.WordType.{WordType};
+ghost use Rattle.codegen.specs.Below.{HasType, TermTree, types_of, WordType};
 
 /// The machine computes a well-typed expression, wherever its code stands, whichever variables have homes and whichever
 /// the place of its value. The value is then in the variable's home or comes into the place, within so many turns. What is

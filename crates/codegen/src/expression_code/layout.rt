@@ -8,8 +8,7 @@ ghost use Rattle.codegen.specs.expression_code.Allocation.{is_unread, slots_to, 
 ghost use Rattle.codegen.specs.expression_code.Registers.{value_register};
 ghost use Rattle.codegen.specs.expression_code.TermCode.{kind_at, near_offset, near_element, is_word, keeps_words};
 ghost use Rattle.codegen.specs.expression_code.TermCode.{home_of_term, is_at_home, operand};
-ghost use Rattle.inline.specs.FlatSize.{words_of, declared_words};
-ghost use Rattle.inline.specs.Flat.{declaration_of, term_tree};
+ghost use Rattle.codegen.specs.Below.{declaration_of, declared_words, term_tree, words_of};
 
 use crate::expression_code::allocation::Allocation;
 use crate::expression_code::emit::NEAR;

@@ -4,7 +4,7 @@ ghost use Rattle.std.specs.Prelude.{◌≡◌};
 ghost use Rattle.codegen.specs.expression_code.NumberRows.{number_of, is_short, held, shifted, above_zero, low_bits};
 ghost use Rattle.codegen.specs.expression_code.NumberRows.{masked, number_row, right_row, left_row};
 ghost use Rattle.codegen.specs.expression_code.NumberRows.{chooses_zero};
-ghost use Rattle.inline.specs.Flat.{term_tree};
+ghost use Rattle.codegen.specs.Below.{term_tree};
 
 use crate::expression_code::emit::NEAR;
 use crate::expression_code::layout::Layout;

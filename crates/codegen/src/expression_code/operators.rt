@@ -7,8 +7,7 @@ ghost use Rattle.codegen.specs.expression_code.TermCode.{is_zero_code, is_not_ze
 ghost use Rattle.codegen.specs.expression_code.TermCode.{finish_code, operator_code, number_step_code, number_code};
 ghost use Rattle.codegen.specs.expression_code.TermCode.{prefix_code, around_code, rotate_code, choice_code};
 ghost use Rattle.codegen.specs.expression_code.TermCode.{choice_or_zero_code};
-ghost use Rattle.language.specs.Operators.{width_of};
-ghost use Rattle.word.specs.Widths.{bits};
+ghost use Rattle.codegen.specs.Below.{bits, width_of};
 
 use crate::expression_code::emit::{MINUS_ONE, append};
 use crate::expression_code::locations::{SECOND_SPARE, move_register};

@@ -4,10 +4,7 @@ ghost use Rattle.std.specs.Prelude.{◌≡◌, ◌+◌, ◌*◌, ℕ, Bool, List
 ghost use Rattle.codegen.specs.program_logic.Placed.{Placed};
 ghost use Rattle.codegen.specs.program_logic.StraightCode.{Contents, AreFit, AreMet, after_all, are_straight, shown_by};
 ghost use Rattle.codegen.specs.program_logic.StraightCode.{state_at};
-ghost use Rattle.rv_code.specs.declared.instructions.Instr.{Instr};
-ghost use Rattle.rv_machine.specs.Leakage.{Leads};
-ghost use Rattle.rv_machine.specs.Machine.{Code};
-ghost use Rattle.rv_machine.specs.declared.observation.Event.{Event};
+ghost use Rattle.codegen.specs.Below.{Code, Event, Instr, Leads};
 
 /// The machine does what straight-line code is run to by symbols: wherever the code stands, and whatever state it begins
 /// in, if each access goes to its address, which is a multiple of its size, and data is there, then as many turns as there

@@ -4,9 +4,7 @@ use Rattle.std.proofs.Common.{[], ◌∷◌, ◌++◌, Some, sym, subst, ◌∙�
 use Rattle.std.proofs.lemmas.List.{map-append}
 use Rattle.std.proofs.Math.Seq.{take-suc}
 use Rattle.std.proofs.lemmas.Option.{none-some, same_Some}
-use Rattle.language.specs.declared.refusal.Refusal.{Refusal}
-use Rattle.syntax.specs.Reading.{Answer, IsRefusedAs, refused}
-use Rattle.word.specs.declared.place.Place.{Place}
+use Rattle.explanations.specs.Below.{Answer, IsRefusedAs, Place, Refusal, refused}
 use Rattle.explanations.specs.expected_tokens.Expected.{MayStand, Expects, none, may, may_not}
 
 -- a refusal at a place is an answer to the text

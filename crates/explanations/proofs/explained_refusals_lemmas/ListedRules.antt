@@ -5,9 +5,7 @@ use Rattle.std.proofs.lemmas.Slice.Eq.{bytes_eq-Decides}
 use Rattle.std.specs.List.{list_any}
 use Rattle.std.specs.Str.{bytes_eq}
 use Rattle.explanations.specs.Listed.{reading, names_and_types, labels, limits, files, runs, listed}
-use Rattle.language.specs.Rules.{code_of}
-use Rattle.language.specs.declared.rule.Rule.{Rule}
-use Rattle.language.specs.declared.rule.Rule.TheVariants.{UnknownCharacter}
+use Rattle.explanations.specs.Below.{code_of, Rule, UnknownCharacter}
 
 is_found : (rule : Rule) → list_any (bytes_eq (code_of rule)) listed ≡ true
 unfolding listed reading names_and_types labels limits files runs

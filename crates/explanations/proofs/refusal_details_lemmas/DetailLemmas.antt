@@ -1,13 +1,9 @@
 -- What an answer of the parser says; and what holds where a call succeeds.
 use Rattle.std.proofs.Common.{◌≡◌, ℕ, List, Option, None, Some, Result, Ok, Err, IfOk, sym, ◌∙◌, inl, inr}
 use Rattle.std.proofs.lemmas.Option.{none-some}
-use Rattle.language.specs.FirstViolation.{IsFirst, IsRefusedFor}
-use Rattle.language.specs.declared.refusal.Refusal.{Refusal}
-use Rattle.language.specs.declared.rule.Rule.{Rule}
-use Rattle.language.specs.declared.typing.Violation.{Violation}
+use Rattle.explanations.specs.Below.{Answer, IsFirst, IsRefusedAs, IsRefusedFor, Place, Reads, Refusal, refused, Rule}
+use Rattle.explanations.specs.Below.{Violation}
 use Rattle.explanations.specs.refusal_details.Details.{IsProgramOf, unread}
-use Rattle.syntax.specs.Reading.{Answer, IsRefusedAs, Reads, refused}
-use Rattle.word.specs.declared.place.Place.{Place}
 
 -- a refusal with a place is an answer to the text
 pub placed : (P : Answer → Type 0) (r : Refusal) (p : Place) → r.place ≡ Some p → IsRefusedAs P r

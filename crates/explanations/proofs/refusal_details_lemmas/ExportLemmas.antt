@@ -2,17 +2,12 @@
 use Rattle.std.proofs.Common.{◌≡◌, ℕ, List, [], Option, None, Some, refl, sym, ap, ◌∙◌}
 use Rattle.std.proofs.lemmas.Option.{none-some, same_Some}
 use Rattle.std.specs.Option.{option_map}
-use Rattle.inline.specs.Flat.{FlatProgram}
-use Rattle.inline.specs.Numbering.{flattened}
-use Rattle.language.specs.Meaning.{exported}
-use Rattle.language.specs.declared.why.Counted.TheVariants.{Work}
-use Rattle.language.specs.Tree.{ProcedureTree, ProgramTree}
+use Rattle.explanations.specs.Below.{excess, exported, FlatProgram, flattened, ProcedureTree, Profile, ProgramTree}
+use Rattle.explanations.specs.Below.{Work}
 use Rattle.explanations.specs.refusal_details.Details.{SaysWork, export_work}
 use Rattle.explanations.specs.refusal_details.Found.{IsExportOf, flat_of, ill_typed, one_body, too_large}
 use Rattle.explanations.specs.refusal_details.SizeLines.{excess_line}
-use Rattle.language.specs.Shares.{excess}
 use Rattle.explanations.specs.statement_work.WorkCosts.{work_cost}
-use Rattle.word.specs.declared.profile.Profile.{Profile}
 
 -- an export, with the procedures before it
 abbrev Export : Type 0

@@ -7,7 +7,7 @@ use Rattle.std.proofs.lemmas.Bool.Decides.{nat_tests}
 use Rattle.std.proofs.lemmas.Str.{IsCharBoundary-after_ascii, IsCharBoundary-before_ascii, IsCharBoundary-start}
 use Rattle.std.specs.List.{prefix_len, take_while}
 use Rattle.std.specs.Str.{IsCharBoundary, IsUtf8}
-use Rattle.syntax.specs.Spelling.{is_word_byte}
+use Rattle.explanations.specs.Below.{is_word_byte}
 
 word_byte_is_ascii : (b : ℕ) → is_word_byte b ≡ true → b < 128
 word_byte_is_ascii b e = grind (arith, nat_tests)

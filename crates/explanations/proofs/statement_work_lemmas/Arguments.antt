@@ -2,9 +2,7 @@
 use Rattle.std.proofs.Common.{◌≡◌, ℕ, false, nat_lt, List, [], ◌∷◌, length, drop, map, refl, ap, ◌∙◌, arith}
 use Rattle.std.proofs.lemmas.Bool.Decides.{nat_tests}
 use Rattle.std.proofs.lemmas.List.{drop_all}
-use Rattle.language.specs.declared.tree.Expr.{Expr}
-use Rattle.language.specs.Meaning.{word_arguments}
-use Rattle.language.specs.Tree.{ParameterTree, expr_tree}
+use Rattle.explanations.specs.Below.{Expr, expr_tree, ParameterTree, word_arguments}
 
 no_word_arguments : (ps : List ParameterTree) → word_arguments ps [] ≡ []
 no_word_arguments [] = refl

@@ -3,20 +3,17 @@ use Rattle.std.proofs.Common.{◌≡◌, ℕ, suc, ◌+◌, Bool, true, false, i
 use Rattle.std.proofs.Common.{inl, inr, Option, None, Some, refl, sym, ap, ◌∙◌, arith}
 use Rattle.std.proofs.lemmas.Bool.{cases_Bool}
 use Rattle.std.specs.Str.{bytes_eq}
-use Rattle.inline.specs.Flat.{FlatBlock, TermTree, chain}
+use Rattle.explanations.specs.Below.{assignment, block, BlockTree, call, call_block, call_names, call_result}
+use Rattle.explanations.specs.Below.{call_start, call_value, call_variables, Callable, callable, Callables, callables}
+use Rattle.explanations.specs.Below.{called, chain, computed, declaration, dropped_block, element_assignment}
+use Rattle.explanations.specs.Below.{element_block, ExprTree, first, first_known, FlatBlock, is_word, known_from}
+use Rattle.explanations.specs.Below.{names_after, nothing, nothing_known, Numbers, numbers_taken, ParameterTree, passed}
+use Rattle.explanations.specs.Below.{Place, ProcedureTree, right_block, RightTree, statement, StatementTree, TermTree}
+use Rattle.explanations.specs.Below.{with_known, word_arguments, WordType}
 use Rattle.inline.specs.Flat as flat
-use Rattle.inline.specs.Numbering.{Callable, Callables, Numbers, block, call_block, call_names, call_result, call_start}
-use Rattle.inline.specs.Numbering.{call_value, call_variables, callable, callables, dropped_block, element_block}
-use Rattle.inline.specs.Numbering.{names_after, numbers_taken, passed, right_block, statement}
-use Rattle.language.specs.declared.typing.WordType.{WordType}
-use Rattle.language.specs.Known.{first_known, known_from, nothing_known, with_known}
-use Rattle.language.specs.Meaning.{is_word, word_arguments}
-use Rattle.language.specs.Tree.{ExprTree, RightTree, called, computed, StatementTree, declaration, assignment}
-use Rattle.language.specs.Tree.{element_assignment, call, BlockTree, nothing, first, ParameterTree, ProcedureTree}
 use Rattle.explanations.specs.statement_work.Lengths.{Inlined, Lengths, block_length, call_length, dropped_length}
 use Rattle.explanations.specs.statement_work.Lengths.{element_length}
 use Rattle.explanations.specs.statement_work.Lengths.{inlined, lengths_of, right_length, statement_length}
-use Rattle.word.specs.declared.place.Place.{Place}
 
 -- how many statements a block has
 abbrev pub count : FlatBlock → ℕ

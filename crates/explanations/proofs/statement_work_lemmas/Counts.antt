@@ -1,9 +1,9 @@
 -- What counts say of the lengths that they are counts of: the same, as far as a number counts.
 use Rattle.std.proofs.Common.{◌≡◌, ℕ, is_some, List, Option, Some, None, refl, ap, ◌∙◌, arith}
 use Rattle.std.specs.Option.{option_map}
-use Rattle.language.specs.Tree.{CallTree, RightTree, called, computed, StatementTree, declaration, array, assignment}
-use Rattle.language.specs.Tree.{element_assignment, call, conditional, loop, BlockTree, nothing, first, ProcedureTree}
-use Rattle.language.specs.Shares.{counted}
+use Rattle.explanations.specs.Below.{array, assignment, BlockTree, call, called, CallTree, computed, conditional}
+use Rattle.explanations.specs.Below.{counted, declaration, element_assignment, first, loop, nothing, ProcedureTree}
+use Rattle.explanations.specs.Below.{RightTree, StatementTree}
 use Rattle.explanations.specs.statement_work.Inlined.{AreCountsOf, counted_inlined}
 use Rattle.explanations.specs.statement_work.Lengths.{Inlined, Lengths, block_length, call_length, dropped_length}
 use Rattle.explanations.specs.statement_work.Lengths.{element_length}

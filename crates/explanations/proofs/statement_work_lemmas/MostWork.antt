@@ -2,14 +2,9 @@
 use Rattle.std.proofs.Common.{◌≡◌, ◌≤◌, ℕ, List, fold, length, map, None, refl, arith}
 use Rattle.std.proofs.lemmas.List.{map-append}
 use Rattle.std.proofs.lemmas.List.Sums.{fold-append}
-use Rattle.inline.specs.declared.flat.FlatStatement.{FlatStatement}
-use Rattle.inline.specs.Flat.{FlatProgram, flat_block}
-use Rattle.inline.specs.Kept.{IsFlat}
-use Rattle.inline.specs.Numbering.{callables, flattened, parameter_names}
-use Rattle.intervals.specs.Ranges.{turns_of}
-use Rattle.language.specs.Tree.{BlockTree, nothing, first, ProcedureTree}
-use Rattle.language.specs.Shares.{counted_share, larger, largest, most_counted}
-use Rattle.language.specs.Size.{return_shares}
+use Rattle.explanations.specs.Below.{BlockTree, callables, counted_share, first, flat_block, FlatProgram, FlatStatement}
+use Rattle.explanations.specs.Below.{flattened, IsFlat, larger, largest, most_counted, nothing, parameter_names}
+use Rattle.explanations.specs.Below.{ProcedureTree, Profile, return_shares, turns_of}
 use Rattle.explanations.proofs.statement_work_lemmas.Callees.{all_alike, count}
 use Rattle.explanations.proofs.statement_work_lemmas.Counts.{statement_same}
 use Rattle.explanations.proofs.statement_work_lemmas.Splits.{fewer_than_nodes, pieces_are_shares}
@@ -17,7 +12,6 @@ use Rattle.explanations.specs.statement_work.Inlined.{AreCountsOf}
 use Rattle.explanations.specs.statement_work.Lengths.{Lengths, lengths_of}
 use Rattle.explanations.specs.statement_work.Pieces.{pieces}
 use Rattle.explanations.specs.statement_work.WorkCosts.{work_shares}
-use Rattle.word.specs.declared.profile.Profile.{Profile}
 
 -- counts of the lengths give the same pieces
 pieces_same : (turns : List ℕ) (counts lengths : Lengths) → AreCountsOf counts lengths

@@ -1,14 +1,10 @@
 -- The statements of the one body that each statement of the source becomes are taken one after the other.
 use Rattle.std.proofs.Common.{◌≡◌, ◌≤◌, ℕ, ◌+◌, List, [], ◌∷◌, take, drop, refl, ap, ap₂, ◌∙◌, arith}
-use Rattle.inline.specs.declared.flat.FlatStatement.{FlatStatement}
-use Rattle.inline.specs.Flat.{FlatBlock, FlatTree, chain, flat_block, flat_tree}
+use Rattle.explanations.specs.Below.{block, BlockTree, body_nodes, body_work, Callables, chain, counted, first}
+use Rattle.explanations.specs.Below.{flat_block, flat_tree, FlatBlock, FlatStatement, FlatTree, most_counted}
+use Rattle.explanations.specs.Below.{names_after, nothing, Numbers, numbers_taken, place_of, Share, statement}
+use Rattle.explanations.specs.Below.{tree_nodes}
 use Rattle.inline.specs.Flat as flat
-use Rattle.inline.specs.FlatSize.{body_nodes, tree_nodes}
-use Rattle.inline.specs.Numbering.{Callables, Numbers, block, names_after, numbers_taken, statement}
-use Rattle.intervals.specs.Work.{body_work}
-use Rattle.language.specs.Tree.{BlockTree, nothing, first, place_of}
-use Rattle.language.specs.Shares.{counted, most_counted}
-use Rattle.language.specs.declared.why.Share.{Share}
 use Rattle.explanations.proofs.statement_work_lemmas.Callees.{AllAlike, count, count_chain, count_statement}
 use Rattle.explanations.specs.statement_work.Lengths.{Lengths, statement_length}
 use Rattle.explanations.specs.statement_work.Pieces.{pieces}

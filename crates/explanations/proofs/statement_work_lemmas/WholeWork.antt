@@ -1,17 +1,11 @@
 -- The parts make the whole.
 use Rattle.std.proofs.Common.{◌≡◌, ℕ, ◌+◌, List, length, refl, arith}
-use Rattle.inline.specs.Flat.{FlatBlock, chain}
+use Rattle.explanations.specs.Below.{block, BlockTree, body_work, Callables, callables, chain, first, FlatBlock}
+use Rattle.explanations.specs.Below.{flattened, names_after, nothing, Numbers, numbers_taken, parameter_names}
+use Rattle.explanations.specs.Below.{ProcedureTree, Profile, return_names, return_shares, sum_of, turns_of, work_of}
 use Rattle.inline.specs.Flat as flat
-use Rattle.inline.specs.Numbering.{Callables, Numbers, block, callables, flattened, names_after, numbers_taken}
-use Rattle.inline.specs.Numbering.{parameter_names, return_names}
-use Rattle.intervals.specs.Ranges.{turns_of}
-use Rattle.intervals.specs.Work.{body_work, work_of}
-use Rattle.language.specs.Tree.{BlockTree, nothing, first, ProcedureTree}
-use Rattle.language.specs.Shares.{sum_of}
-use Rattle.language.specs.Size.{return_shares}
 use Rattle.explanations.proofs.statement_work_lemmas.Below.{return_together, same_result, sum_append}
 use Rattle.explanations.specs.statement_work.WorkCosts.{statement_shares, work_shares}
-use Rattle.word.specs.declared.profile.Profile.{Profile}
 
 work_chain : (turns : List ℕ) (a b : FlatBlock) → body_work turns (chain a b) ≡ body_work turns a + body_work turns b
 work_chain turns flat.nothing b = omega arith

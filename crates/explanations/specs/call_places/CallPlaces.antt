@@ -2,9 +2,9 @@
 use Rattle.std.specs.Prelude.{ℕ, nat_le, List, [], ◌∷◌, ◌++◌, Option, None, Some, if◌then◌else◌}
 use Rattle.std.specs.Option.{option_or}
 use Rattle.std.specs.Str.{bytes_eq}
-use Rattle.language.specs.Tree.{CallTree, RightTree, called, computed, StatementTree, declaration, array, assignment}
-use Rattle.language.specs.Tree.{element_assignment, call, conditional, loop, BlockTree, nothing, first, ProcedureTree}
-use Rattle.word.specs.declared.place.Place.{Place}
+use Rattle.explanations.specs.Below.{array, assignment, BlockTree, call, called, CallTree, computed, conditional}
+use Rattle.explanations.specs.Below.{declaration, element_assignment, first, loop, nothing, Place, ProcedureTree}
+use Rattle.explanations.specs.Below.{RightTree, StatementTree}
 
 -- the last procedure whose name stands behind so many bytes or fewer
 abbrev pub procedure_at : ℕ → List ProcedureTree → Option ProcedureTree

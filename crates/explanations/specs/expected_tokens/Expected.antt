@@ -1,9 +1,7 @@
 -- Which kinds of tokens may stand behind the beginning of a source: those of which one, with nothing behind it,
 -- leaves the beginning of a program.
 use Rattle.std.specs.Prelude.{ℕ, ◌==◌, ◌&&◌, not, Bool, true, false, List, [], ◌∷◌, ◌++◌, length, codes}
-use Rattle.language.specs.declared.rule.Rule.{Rule}
-use Rattle.language.specs.declared.rule.Rule.TheVariants.{UnexpectedToken}
-use Rattle.syntax.specs.Reading.{Answer, accepted, refused, Reads}
+use Rattle.explanations.specs.Below.{accepted, Answer, Reads, refused, Rule, UnexpectedToken}
 
 -- a beginning with a token behind it, on a line of its own: the beginning may end in a comment
 abbrev pub tried : List ℕ → List ℕ → List ℕ

@@ -1,11 +1,9 @@
 -- What is printed below a refusal's line.
 use Rattle.std.specs.Prelude.{◌≡◌, ℕ, List, [], ◌++◌, Option, None, Some}
 use Rattle.explanations.specs.Table.{text_of}
-use Rattle.language.specs.Rules.{code_of}
-use Rattle.language.specs.declared.refusal.Refusal.{Refusal}
+use Rattle.explanations.specs.Below.{code_of, Place, Refusal}
 use Rattle.explanations.specs.refusal_details.Details.{Says}
 use Rattle.explanations.specs.source_excerpts.Excerpt.{excerpt_text}
-use Rattle.word.specs.declared.place.Place.{Place}
 
 -- the line of a source at a place, marked
 abbrev pub place_lines : List ℕ → Option Place → List ℕ

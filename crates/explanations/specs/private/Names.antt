@@ -3,18 +3,14 @@ use Rattle.std.specs.Prelude.{Bool, not, ◌||◌, List, [], ◌∷◌}
 use Rattle.std.specs.List.{list_all}
 use Rattle.std.specs.Str.{bytes_eq}
 use Rattle.explanations.specs.declared.row.Explanation.{Explanation}
-use Rattle.language.specs.Rules.{code_of, name_of}
-use Rattle.language.specs.declared.rule.Rule.{Rule}
-use Rattle.language.specs.declared.rule.Rule.TheVariants.{UnknownCharacter, BadNumber, UnexpectedToken, Nesting}
-use Rattle.language.specs.declared.rule.Rule.TheVariants.{TextTooLong, UndeclaredName, NameDeclaredTwice}
-use Rattle.language.specs.declared.rule.Rule.TheVariants.{ProcedureNotDeclaredEarlier, NotExactlyOneExport}
-use Rattle.language.specs.declared.rule.Rule.TheVariants.{WidthsDiffer, WrongKind, LiteralOutOfRange, ArgumentCount}
-use Rattle.language.specs.declared.rule.Rule.TheVariants.{ArrayShapeOrLabel, NotMutable, ReturnMismatch}
-use Rattle.language.specs.declared.rule.Rule.TheVariants.{ArrayPassedTwice, InitialiserCount, SecretToPublic}
-use Rattle.language.specs.declared.rule.Rule.TheVariants.{PublicAssignedUnderSecretControl, SecretIndex, SecretBound}
-use Rattle.language.specs.declared.rule.Rule.TheVariants.{SecretDivisionOperand, CallAssignsPublicUnderSecretControl}
-use Rattle.language.specs.declared.rule.Rule.TheVariants.{SecretMultiplicationOperand, InlinedSize, DeclaredBytes}
-use Rattle.language.specs.declared.rule.Rule.TheVariants.{IndexOutOfRange, DivisorMayBeZero, TooMuchWork, OutOfMemory}
+use Rattle.explanations.specs.Below.{ArgumentCount, ArrayPassedTwice, ArrayShapeOrLabel, BadNumber}
+use Rattle.explanations.specs.Below.{CallAssignsPublicUnderSecretControl, code_of, DeclaredBytes, DivisorMayBeZero}
+use Rattle.explanations.specs.Below.{IndexOutOfRange, InitialiserCount, InlinedSize, LiteralOutOfRange, name_of}
+use Rattle.explanations.specs.Below.{NameDeclaredTwice, Nesting, NotExactlyOneExport, NotMutable, OutOfMemory}
+use Rattle.explanations.specs.Below.{ProcedureNotDeclaredEarlier, PublicAssignedUnderSecretControl, ReturnMismatch}
+use Rattle.explanations.specs.Below.{Rule, SecretBound, SecretDivisionOperand, SecretIndex, SecretMultiplicationOperand}
+use Rattle.explanations.specs.Below.{SecretToPublic, TextTooLong, TooMuchWork, UndeclaredName, UnexpectedToken}
+use Rattle.explanations.specs.Below.{UnknownCharacter, WidthsDiffer, WrongKind}
 
 -- all rules, in order
 abbrev pub rules : List Rule

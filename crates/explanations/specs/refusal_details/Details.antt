@@ -5,20 +5,12 @@ use Rattle.std.specs.List.{starts_with}
 use Rattle.explanations.specs.refusal_details.ExpectedLines.{SaysExpected}
 use Rattle.explanations.specs.refusal_details.Found.{IsExportOf}
 use Rattle.explanations.specs.refusal_details.SizeLines.{excess_line}
-use Rattle.language.specs.Shares.{excess}
+use Rattle.explanations.specs.Below.{accepted, excess, Place, place_text, ProcedureTree, ProgramTree, Reads, Refusal}
+use Rattle.explanations.specs.Below.{refused, Rule, TooMuchWork, UnexpectedToken, UnknownCharacter, Why, Work}
 use Rattle.explanations.specs.refusal_details.WhyLines.{why_lines}
 use Rattle.explanations.specs.call_places.CallPlaces.{call_places, procedure_at}
-use Rattle.language.specs.declared.refusal.Refusal.{Refusal}
-use Rattle.language.specs.declared.rule.Rule.{Rule}
-use Rattle.language.specs.declared.rule.Rule.TheVariants.{UnknownCharacter, UnexpectedToken, TooMuchWork}
-use Rattle.language.specs.declared.why.Counted.TheVariants.{Work}
-use Rattle.language.specs.declared.why.Why.{Why}
 use Rattle.language.specs.declared.why.Why.TheVariants as why
-use Rattle.language.specs.Tree.{ProcedureTree, ProgramTree}
 use Rattle.explanations.specs.statement_work.WorkCosts.{work_cost}
-use Rattle.syntax.specs.Reading.{Reads, accepted, refused}
-use Rattle.word.specs.declared.place.Place.{Place}
-use Rattle.word.specs.Places.{place_text}
 
 -- X1: a byte order mark is named, as EF BB BF
 abbrev pub begins_with_mark : List ℕ → Bool

@@ -1,14 +1,8 @@
 -- The export of a program as the passes make one body of it.
 use Rattle.std.specs.Prelude.{◌≡◌, List, [], length, Option, None, Some}
-use Rattle.inline.specs.Flat.{FlatProgram}
-use Rattle.inline.specs.Numbering.{flattened}
-use Rattle.language.specs.FirstViolation.{IsFirst}
-use Rattle.language.specs.Meaning.{exported}
-use Rattle.language.specs.Size.{size_violations}
-use Rattle.language.specs.Tree.{ProcedureTree, ProgramTree}
+use Rattle.explanations.specs.Below.{exported, FlatProgram, flattened, IsFirst, P1, ProcedureTree, ProgramTree}
+use Rattle.explanations.specs.Below.{size_violations, Violation}
 use Rattle.language.specs.Typing.{violations}
-use Rattle.language.specs.declared.typing.Violation.{Violation}
-use Rattle.word.specs.declared.profile.Profile.TheVariants.{P1}
 
 -- the export with the procedures that it may call; nothing where a pass before the ranges refuses the program
 pub data IsExportOf (program : ProgramTree) : Option (List ProcedureTree × ProcedureTree) → Type 0 where

@@ -4,12 +4,10 @@ use Rattle.std.specs.Prelude.{ℕ, nat_lt, List, [], ◌++◌, codes, Option, No
 use Rattle.std.specs.Fmt.{decimal}
 use Rattle.intervals.specs.Limits.{most_work}
 use Rattle.language.specs.Limits.{most_bodies, most_declared_bytes, most_nodes}
-use Rattle.language.specs.Shares.{most_counted}
+use Rattle.explanations.specs.Below.{Bodies, most_counted, Nodes, place_text, Share, Work}
 use Rattle.language.specs.declared.why.Counted.{Counted}
-use Rattle.language.specs.declared.why.Counted.TheVariants.{Nodes, Bodies, DeclaredBytes, Work}
+use Rattle.language.specs.declared.why.Counted.TheVariants.{DeclaredBytes}
 use Rattle.language.specs.declared.why.Excess.{Excess}
-use Rattle.language.specs.declared.why.Share.{Share}
-use Rattle.word.specs.Places.{place_text}
 
 -- a count: the greatest number stands for those above it too
 abbrev pub count_text : ℕ → List ℕ

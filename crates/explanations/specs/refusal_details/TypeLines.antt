@@ -2,13 +2,10 @@
 use Rattle.std.specs.Prelude.{ℕ, Bool, List, ◌++◌, drop, codes, if◌then◌else◌}
 use Rattle.std.specs.Fmt.{decimal}
 use Rattle.std.specs.List.{take_while}
-use Rattle.language.specs.declared.signature.Kind.{Kind}
-use Rattle.language.specs.declared.signature.Kind.TheVariants.{Boolean, Uint8, Uint16, Uint32}
+use Rattle.explanations.specs.Below.{Array, Boolean, is_word_byte, Kind, Nothing, Place, Uint16, Uint32, Uint8}
+use Rattle.explanations.specs.Below.{ValueType, Word, WordType}
 use Rattle.language.specs.declared.signature.Label.{Label}
 use Rattle.language.specs.declared.signature.Label.TheVariants.{Public, Secret}
-use Rattle.language.specs.declared.typing.ValueType.{ValueType}
-use Rattle.language.specs.declared.typing.ValueType.TheVariants.{Word, Array, Nothing}
-use Rattle.language.specs.declared.typing.WordType.{WordType}
 use Rattle.language.specs.declared.why.ComparedTypes.{ComparedTypes}
 use Rattle.language.specs.declared.why.ComparedTypes.TheVariants.{One, Two, Choice}
 use Rattle.language.specs.declared.why.Part.{Part}
@@ -16,8 +13,6 @@ use Rattle.language.specs.declared.why.Part.TheVariants.{Operand, LeftOperand, R
 use Rattle.language.specs.declared.why.Part.TheVariants.{SecondBound, Index, Variable, Element, Result, Value, Argument}
 use Rattle.language.specs.declared.why.Part.TheVariants.{Parameter}
 use Rattle.language.specs.declared.why.TypedPart.{TypedPart}
-use Rattle.syntax.specs.Spelling.{is_word_byte}
-use Rattle.word.specs.declared.place.Place.{Place}
 
 -- the name that stands at a place of a source: the letters, digits and `_` from there on
 abbrev pub name_at : List ℕ → Place → List ℕ

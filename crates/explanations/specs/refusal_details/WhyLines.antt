@@ -5,23 +5,17 @@ use Rattle.std.specs.Prelude.{if◌then◌else◌}
 use Rattle.std.specs.Fmt.{decimal}
 use Rattle.language.specs.Types.{bits_of}
 use Rattle.language.specs.declared.interval.Interval.{Interval}
-use Rattle.language.specs.declared.signature.Kind.{Kind}
-use Rattle.language.specs.declared.signature.Kind.TheVariants.{Boolean, Uint8, Uint16, Uint32}
-use Rattle.language.specs.declared.typing.ValueType.{ValueType}
-use Rattle.language.specs.declared.typing.ValueType.TheVariants.{Word}
-use Rattle.language.specs.declared.typing.WordType.{WordType}
+use Rattle.explanations.specs.Below.{Boolean, Kind, Place, place_text, Uint16, Uint32, Uint8, ValueType, Why, Word}
+use Rattle.explanations.specs.Below.{WordType}
 use Rattle.language.specs.declared.why.ArgumentCounts.{ArgumentCounts}
 use Rattle.language.specs.declared.why.IndexRange.{IndexRange}
 use Rattle.language.specs.declared.why.Literal.{Literal}
 use Rattle.language.specs.declared.why.SecretControl.{SecretControl}
 use Rattle.language.specs.declared.why.SharedArray.{SharedArray}
 use Rattle.language.specs.declared.why.ValueCounts.{ValueCounts}
-use Rattle.language.specs.declared.why.Why.{Why}
 use Rattle.language.specs.declared.why.Why.TheVariants as why
 use Rattle.explanations.specs.refusal_details.SizeLines.{excess_line}
 use Rattle.explanations.specs.refusal_details.TypeLines.{kind_text, name_at, two_line, type_lines, type_text}
-use Rattle.word.specs.Places.{place_text}
-use Rattle.word.specs.declared.place.Place.{Place}
 
 -- so many of something
 abbrev pub ending : ℕ → List ℕ

@@ -4,7 +4,7 @@ use Rattle.std.specs.Prelude.{take, drop, reverse, codes}
 use Rattle.std.specs.Fmt.{decimal}
 use Rattle.std.specs.List.{flat_map, position}
 use Rattle.std.specs.Option.{unwrap_or}
-use Rattle.word.specs.declared.place.Place.{Place}
+use Rattle.explanations.specs.Below.{Place}
 
 -- how many bytes of a line are shown on each side of the place
 abbrev pub most_shown : ℕ

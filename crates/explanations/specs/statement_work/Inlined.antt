@@ -1,8 +1,7 @@
 -- The lengths of procedures, as they are counted.
 use Rattle.std.specs.Prelude.{◌≡◌, ℕ, List, map}
 use Rattle.std.specs.Option.{option_map}
-use Rattle.language.specs.Shares.{counted}
-use Rattle.language.specs.Tree.{parameter_tree}
+use Rattle.explanations.specs.Below.{counted, parameter_tree}
 use Rattle.language.specs.names.Scope.{found}
 use Rattle.explanations.specs.statement_work.Lengths.{Inlined, Lengths}
 use Rattle.explanations.specs.declared.statement_work.inlined.Inlined.{Inlined as InlinedFound}

@@ -1,10 +1,8 @@
 -- How many statements of the one body with numbered variables a statement of the source becomes.
 use Rattle.std.specs.Prelude.{ℕ, ◌+◌, Bool, List, length, Option, None, Some, is_some, if◌then◌else◌}
-use Rattle.language.specs.Known.{Known, known_of}
-use Rattle.language.specs.Meaning.{word_arguments}
-use Rattle.language.specs.Tree.{ExprTree, RightTree, called, computed, StatementTree, declaration, array, assignment}
-use Rattle.language.specs.Tree.{element_assignment, call, conditional, loop, BlockTree, nothing, first, ParameterTree}
-use Rattle.language.specs.Tree.{ProcedureTree}
+use Rattle.explanations.specs.Below.{array, assignment, BlockTree, call, called, computed, conditional, declaration}
+use Rattle.explanations.specs.Below.{element_assignment, ExprTree, first, Known, known_of, loop, nothing, ParameterTree}
+use Rattle.explanations.specs.Below.{ProcedureTree, RightTree, StatementTree, word_arguments}
 
 -- a procedure that may be called: how many statements its body becomes, and whether it gives something
 pub record Inlined : Type 0 where

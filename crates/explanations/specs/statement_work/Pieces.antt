@@ -1,12 +1,8 @@
 -- The statements of a body of the source, each with the work of the first statements that are left of the one body,
 -- as many as it becomes.
 use Rattle.std.specs.Prelude.{ℕ, List, [], ◌∷◌, take, drop}
-use Rattle.inline.specs.declared.flat.FlatStatement.{FlatStatement}
-use Rattle.inline.specs.Flat.{flat_block}
-use Rattle.intervals.specs.Work.{body_work}
-use Rattle.language.specs.declared.why.Share.{Share}
-use Rattle.language.specs.Shares.{counted}
-use Rattle.language.specs.Tree.{BlockTree, nothing, first, place_of}
+use Rattle.explanations.specs.Below.{BlockTree, body_work, counted, first, flat_block, FlatStatement, nothing, place_of}
+use Rattle.explanations.specs.Below.{Share}
 use Rattle.explanations.specs.statement_work.Lengths.{Lengths, statement_length}
 
 abbrev pub pieces : List ℕ → Lengths → List FlatStatement → BlockTree → List Share

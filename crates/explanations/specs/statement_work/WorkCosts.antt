@@ -1,15 +1,9 @@
 -- What each part of the export costs of its work, with a called body in each call and the turns of its loops.
 use Rattle.std.specs.Prelude.{ℕ, List, [], ◌∷◌, ◌++◌, ◌+◌, length}
-use Rattle.inline.specs.Numbering.{Callables, Numbers, callables, flattened, names_after, numbers_taken}
-use Rattle.inline.specs.Numbering.{parameter_names, statement}
-use Rattle.intervals.specs.Ranges.{turns_of}
-use Rattle.intervals.specs.Work.{body_work, work_of}
+use Rattle.explanations.specs.Below.{BlockTree, body_work, Callables, callables, cost_of, first, flattened, names_after}
+use Rattle.explanations.specs.Below.{nothing, Numbers, numbers_taken, P1, parameter_names, place_of, ProcedureTree}
+use Rattle.explanations.specs.Below.{return_shares, Share, statement, turns_of, work_of}
 use Rattle.language.specs.declared.cost.Cost.{Cost}
-use Rattle.language.specs.declared.why.Share.{Share}
-use Rattle.language.specs.Shares.{cost_of}
-use Rattle.language.specs.Size.{return_shares}
-use Rattle.language.specs.Tree.{BlockTree, nothing, first, ProcedureTree, place_of}
-use Rattle.word.specs.declared.profile.Profile.TheVariants.{P1}
 
 -- the statements of a body, those inside others aside, each with the work of what it becomes, for these turns of the
 -- loops; in these names, where the next number is the given one

@@ -1,7 +1,7 @@
 // What may stand behind the beginning of a source.
 
 ghost use Rattle.std.specs.Prelude.{◌≡◌, length, map, IfOk, IfErr};
-ghost use Rattle.language.specs.WantOfMemory.{IsWantOfMemory};
+ghost use Rattle.explanations.specs.Below.{IsWantOfMemory};
 ghost use Rattle.explanations.specs.expected_tokens.Candidates.{candidates};
 ghost use Rattle.explanations.specs.expected_tokens.Expected.{MayStand, Expects, lacks_tokens};
 

@@ -3,7 +3,7 @@
 ghost use Rattle.std.specs.Prelude.{◌≡◌, ◌++◌, IfOk, OnOk};
 ghost use Rattle.std.specs.String.{string_bytes};
 ghost use Rattle.explanations.specs.call_places.CallPlaces.{procedure_at};
-ghost use Rattle.language.specs.Tree.{procedure_tree, program_tree};
+ghost use Rattle.explanations.specs.Below.{procedure_tree, program_tree};
 ghost use Rattle.explanations.specs.refusal_details.Details.{called_line, calls_line, most_others, others_text};
 ghost use Rattle.explanations.specs.refusal_details.Details.{places_text, procedure_line};
 

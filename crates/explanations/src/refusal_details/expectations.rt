@@ -2,7 +2,7 @@
 
 ghost use Rattle.std.specs.Prelude.{◌≡◌, ◌++◌, map, IfOk, IfErr, OnOk};
 ghost use Rattle.std.specs.String.{string_bytes};
-ghost use Rattle.language.specs.WantOfMemory.{IsWantOfMemory};
+ghost use Rattle.explanations.specs.Below.{IsWantOfMemory};
 ghost use Rattle.explanations.specs.refusal_details.ExpectedLines.{SaysExpected, expected_line, more_names};
 
 use crate::expected_tokens::expected;

@@ -2,10 +2,8 @@
 
 ghost use Rattle.std.specs.Prelude.{◌≡◌, None, Some, List, Option, IfOk, IfErr};
 ghost use Rattle.std.specs.Option.{option_map};
-ghost use Rattle.language.specs.Tree.{ProcedureTree, program_tree};
-ghost use Rattle.language.specs.WantOfMemory.{IsWantOfMemory};
+ghost use Rattle.explanations.specs.Below.{IsWantOfMemory, Place, ProcedureTree, program_tree};
 ghost use Rattle.explanations.specs.refusal_details.Found.{IsExportOf, flat_of};
-ghost use Rattle.word.specs.declared.place.Place.{Place};
 
 use inline::{Flat, inline};
 use labels::check;

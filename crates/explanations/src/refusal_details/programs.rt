@@ -3,8 +3,7 @@
 ghost use Rattle.std.specs.Prelude.{IfOk, IfErr};
 ghost use Rattle.std.specs.Option.{option_map};
 ghost use Rattle.std.specs.String.{string_bytes};
-ghost use Rattle.language.specs.Tree.{program_tree};
-ghost use Rattle.language.specs.WantOfMemory.{IsWantOfMemory};
+ghost use Rattle.explanations.specs.Below.{IsWantOfMemory, program_tree};
 ghost use Rattle.explanations.specs.refusal_details.Details.{IsProgramOf, SaysOfCalls, SaysOfProgram, SaysWork};
 
 use crate::refusal_details::calls::calls_line;

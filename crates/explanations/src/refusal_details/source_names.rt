@@ -3,7 +3,7 @@
 ghost use Rattle.std.specs.Prelude.{◌≡◌};
 ghost use Rattle.std.specs.List.{prefix_len, take_while};
 ghost use Rattle.explanations.specs.refusal_details.TypeLines.{name_at};
-ghost use Rattle.syntax.specs.Spelling.{is_word_byte};
+ghost use Rattle.explanations.specs.Below.{is_word_byte};
 
 use language::Place;
 

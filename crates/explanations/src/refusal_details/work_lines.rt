@@ -3,14 +3,10 @@
 ghost use Rattle.std.specs.Prelude.{◌≡◌, map, List, Option, IfOk, IfErr};
 ghost use Rattle.std.specs.Option.{option_map};
 ghost use Rattle.std.specs.String.{string_bytes};
-ghost use Rattle.inline.specs.Numbering.{flattened};
-ghost use Rattle.language.specs.Tree.{ProcedureTree, procedure_tree, program_tree};
-ghost use Rattle.language.specs.WantOfMemory.{IsWantOfMemory};
+ghost use Rattle.explanations.specs.Below.{excess, flattened, IsWantOfMemory, procedure_tree, ProcedureTree, program_tree, Work};
 ghost use Rattle.explanations.specs.refusal_details.Details.{SaysWork};
 ghost use Rattle.explanations.specs.refusal_details.Found.{IsExportOf, flat_of};
 ghost use Rattle.explanations.specs.refusal_details.SizeLines.{excess_line};
-ghost use Rattle.language.specs.Shares.{excess};
-ghost use Rattle.language.specs.declared.why.Counted.TheVariants.{Work};
 ghost use Rattle.explanations.specs.statement_work.WorkCosts.{work_cost};
 
 use crate::refusal_details::exports::flat_in;

@@ -1,7 +1,7 @@
 // How long procedures are where they are called.
 
 ghost use Rattle.std.specs.Prelude.{◌≡◌, map, IfOk};
-ghost use Rattle.language.specs.Tree.{procedure_tree};
+ghost use Rattle.explanations.specs.Below.{procedure_tree};
 ghost use Rattle.explanations.specs.statement_work.Lengths.{inlined, lengths_of};
 ghost use Rattle.explanations.specs.statement_work.Inlined.{AreCountsOf, counted_inlined, inlined_of, lengths_in};
 

@@ -1,12 +1,8 @@
 // The law, which holds of the definitions alone.
 
 ghost use Rattle.std.specs.Prelude.{◌≡◌, List};
-ghost use Rattle.inline.specs.Numbering.{flattened};
-ghost use Rattle.intervals.specs.Work.{work_of};
-ghost use Rattle.language.specs.Tree.{ProcedureTree};
-ghost use Rattle.language.specs.Shares.{sum_of};
+ghost use Rattle.explanations.specs.Below.{flattened, ProcedureTree, Profile, sum_of, work_of};
 ghost use Rattle.explanations.specs.statement_work.WorkCosts.{work_shares};
-ghost use Rattle.word.specs.declared.profile.Profile.{Profile};
 
 /// What the parts of an export cost of its work together is its work, on which the limit is.
 pub fn parts_make_the_work()

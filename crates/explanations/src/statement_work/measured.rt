@@ -1,11 +1,7 @@
 // What is counted of the limit on work for an export.
 
 ghost use Rattle.std.specs.Prelude.{◌≡◌, fold, map, IfOk};
-ghost use Rattle.inline.specs.Numbering.{flattened};
-ghost use Rattle.intervals.specs.Ranges.{turns_of};
-ghost use Rattle.language.specs.Tree.{procedure_tree};
-ghost use Rattle.language.specs.Shares.{counted_share, larger};
-ghost use Rattle.language.specs.Size.{return_shares};
+ghost use Rattle.explanations.specs.Below.{counted_share, flattened, larger, procedure_tree, return_shares, turns_of};
 ghost use Rattle.explanations.specs.statement_work.WorkCosts.{work_cost};
 
 use crate::statement_work::inlined::lengths;

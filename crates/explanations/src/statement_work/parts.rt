@@ -1,8 +1,7 @@
 // The statements of the export, each with the statements of the one body that it becomes.
 
 ghost use Rattle.std.specs.Prelude.{◌≡◌, None, drop, fold, map, take};
-ghost use Rattle.language.specs.Tree.{block_tree};
-ghost use Rattle.language.specs.Shares.{counted_share, larger};
+ghost use Rattle.explanations.specs.Below.{block_tree, counted_share, larger};
 ghost use Rattle.explanations.specs.statement_work.Inlined.{lengths_in};
 ghost use Rattle.explanations.specs.statement_work.Pieces.{pieces};
 

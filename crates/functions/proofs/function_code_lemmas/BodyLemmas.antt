@@ -1,6 +1,6 @@
 -- The words of a body.
 use Rattle.std.proofs.Common.{◌≡◌, ℕ, suc, ◌-◌, List, [], ◌∷◌, length, take, refl, ap, ◌∙◌, arith}
-use Rattle.codegen.specs.Anywhere.{body_words}
+use Rattle.functions.specs.Below.{body_words}
 
 -- they are all but one
 pub all_but_one : (words : List ℕ) → take (length words - 1) words ≡ body_words words

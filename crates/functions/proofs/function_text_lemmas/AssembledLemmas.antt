@@ -1,7 +1,6 @@
 -- The parts of a text for an assembler, put behind one another.
 use Rattle.std.proofs.Common.{◌≡◌, ℕ, List, [], ◌++◌, codes}
-use Rattle.codegen.specs.Anywhere.{body_words}
-use Rattle.linked_calls.specs.Sections.{enter_sections, leave_sections}
+use Rattle.functions.specs.Below.{body_words, enter_sections, leave_sections}
 use Rattle.functions.specs.function_text.AssemblerText.{ListsWords, IsAssemblerText, head_lines, tail_lines}
 use Rattle.functions.specs.function_text.AssemblerText.{sections_lines}
 use Rattle.functions.specs.function_text.AssemblerText.{title_line}

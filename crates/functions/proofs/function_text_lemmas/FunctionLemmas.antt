@@ -1,20 +1,14 @@
 -- The export of an accepted text, and the function that is made of it.
 use Rattle.std.proofs.Common.{◌≡◌, ℕ, List, [], map, true, false, Some, sym, ap, subst, inl, ◌∙◌}
 use Rattle.std.proofs.lemmas.Option.{same_Some}
-use Rattle.codegen.specs.image_fields.Fields.{Fields}
+use Rattle.functions.specs.Below.{accepts, exported, Fields, fine, IsCompilation, Judges, Optimisation, Place}
+use Rattle.functions.specs.Below.{ProcedureTree, Profile, ProgramTree, readable, Refusal}
 use Rattle.functions.specs.function_text.Functions.{Parts, IsFunctionOf, HasTakenName, IsFaultOf, IsUnlessMemory}
 use Rattle.functions.specs.function_text.Functions.{written_parameter}
 use Rattle.functions.specs.function_text.Names.{is_taken_name}
 use Rattle.functions.specs.declared.function_text.fault.FunctionFault.{FunctionFault}
 use Rattle.functions.specs.declared.function_text.fault.FunctionFault.TheVariants.{Text, Name}
 use Rattle.functions.specs.function_text.private.OfExport.{IsOfExport, IsTaken}
-use Rattle.hepurita.specs.Built.{IsCompilation, Judges, accepts, fine, readable}
-use Rattle.hepurita.specs.declared.optimised.Optimisation.{Optimisation}
-use Rattle.language.specs.Signature.{exported}
-use Rattle.language.specs.Tree.{ProcedureTree, ProgramTree}
-use Rattle.language.specs.declared.refusal.Refusal.{Refusal}
-use Rattle.word.specs.declared.place.Place.{Place}
-use Rattle.word.specs.declared.profile.Profile.{Profile}
 
 module _ (optimisation : Optimisation) (profile : Profile) (text : List ℕ) (program : ProgramTree)
     (before : List ProcedureTree) (export : ProcedureTree) where

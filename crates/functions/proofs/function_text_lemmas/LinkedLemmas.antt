@@ -4,8 +4,7 @@ use Rattle.std.proofs.Common.{◌++◌, refl, ◌∙◌}
 use Rattle.std.proofs.lemmas.List.{append_assoc}
 use Rattle.functions.specs.function_text.HeaderText.{comment_lines, guard_lines, include_lines, prototype_lines}
 use Rattle.functions.specs.function_text.Linked.{FunctionsAreLinked, HeadersStateStacks}
-use Rattle.linked_calls.specs.Callable.{CallsAreLinked}
-use Rattle.linked_calls.specs.FunctionCode.{room_of}
+use Rattle.functions.specs.Below.{CallsAreLinked, room_of}
 
 pub functions_are_linked : CallsAreLinked → FunctionsAreLinked
 functions_are_linked calls optimisation profile text parts of code site is =

@@ -1,6 +1,7 @@
 -- Of a text there is one function, and of a function one text for an assembler.
 use Rattle.std.proofs.Common.{◌≡◌, ℕ, List, ◌++◌, map, codes, refl, sym, ap, subst, ◌∙◌}
-use Rattle.linked_calls.specs.Sections.{enter_sections, leave_sections}
+use Rattle.functions.specs.Below.{enter_sections, Fields, Instr, IsInstr, IsTextOf, leave_sections, of_instruction}
+use Rattle.functions.specs.Below.{of_no_instruction, Optimisation, ProcedureTree, Profile, text_of, word_of}
 use Rattle.functions.specs.function_text.AssemblerText.{ListsWords, nothing, line, IsAssemblerText, word_line}
 use Rattle.functions.specs.function_text.AssemblerText.{head_lines}
 use Rattle.functions.specs.function_text.AssemblerText.{tail_lines, sections_lines, title_line}
@@ -8,15 +9,7 @@ use Rattle.functions.specs.function_text.Functions.{Named, Parts, IsFunctionOf, 
 use Rattle.functions.specs.function_text.HeaderText.{header_text}
 use Rattle.functions.specs.function_text.Texts.{AreTextsOf}
 use Rattle.functions.proofs.function_text_lemmas.Below.{one_export, one_image}
-use Rattle.hepurita.specs.declared.optimised.Optimisation.{Optimisation}
-use Rattle.codegen.specs.image_fields.Fields.{Fields}
-use Rattle.language.specs.Tree.{ProcedureTree}
-use Rattle.listing.specs.Code.{IsTextOf, of_instruction, of_no_instruction}
-use Rattle.rv_code.specs.Text.{text_of}
-use Rattle.rv_code.specs.Words.{word_of, IsInstr}
-use Rattle.rv_code.specs.declared.instructions.Instr.{Instr}
 use Rattle.syntax.specs.Reading.{OneAnswer}
-use Rattle.word.specs.declared.profile.Profile.{Profile}
 
 same_parts : (name name' : List ℕ) (parameters parameters' : List Named) (image image' : Fields) → name ≡ name'
     → parameters ≡ parameters' → image ≡ image'

@@ -1,7 +1,7 @@
 -- The lines of words, one after another.
 use Rattle.std.proofs.Common.{ℕ, List, [], ◌∷◌, ◌++◌, append_assoc, append-nil}
 use Rattle.functions.specs.function_text.AssemblerText.{ListsWords, nothing, line, word_line}
-use Rattle.listing.specs.Code.{IsTextOf}
+use Rattle.functions.specs.Below.{IsTextOf}
 
 -- a word more
 pub one_word_more : (word : ℕ) (text words lines : List ℕ) → ListsWords words lines → IsTextOf word text

@@ -4,25 +4,15 @@
 use Rattle.std.specs.Prelude.{◌≡◌, ℕ, ◌-◌, ◌^◌, false, List, [], ◌∷◌, ◌++◌, codes, length}
 use Rattle.std.specs.Fmt.{decimal, digits, padded_integral, format_spec}
 use Rattle.std.specs.List.{flat_map}
-use Rattle.codegen.specs.Anywhere.{body_words}
-use Rattle.linked_calls.specs.FunctionCode.{above_frame, room_of, function_words}
-use Rattle.linked_calls.specs.Sections.{enter_sections, leave_sections, section_code}
+use Rattle.functions.specs.Below.{above_frame, body_words, enter_sections, Fields, FixedArray, Form, function_words}
+use Rattle.functions.specs.Below.{Instr, IsTextOf, leave_sections, Load, MutableArray, P1, P2, Profile, room_of}
+use Rattle.functions.specs.Below.{section_code, SingleWord, Store, text_of, word_of}
 use Rattle.linked_calls.specs.declared.section.Section.{Section}
 use Rattle.linked_calls.specs.declared.section.Section.TheVariants.{RoomAboveFrame, SavedRegisters, ArgumentRegisters}
 use Rattle.linked_calls.specs.declared.section.Section.TheVariants.{FrameBase, ClearedFrame, ArgumentIn, ResultOut}
 use Rattle.linked_calls.specs.declared.section.Section.TheVariants.{ArrayOut, FrameTop, RestoredRegisters}
 use Rattle.linked_calls.specs.declared.section.Section.TheVariants.{CallersStack, WipedRoom, ClearedRegisters, Return}
 use Rattle.functions.specs.function_text.Functions.{Parts}
-use Rattle.codegen.specs.image_fields.Fields.{Fields}
-use Rattle.language.specs.declared.signature.Form.{Form}
-use Rattle.language.specs.declared.signature.Form.TheVariants.{SingleWord, FixedArray, MutableArray}
-use Rattle.listing.specs.Code.{IsTextOf}
-use Rattle.rv_code.specs.Text.{text_of}
-use Rattle.rv_code.specs.Words.{word_of}
-use Rattle.rv_code.specs.declared.instructions.Instr.{Instr}
-use Rattle.rv_code.specs.declared.instructions.Instr.TheVariants.{Load, Store}
-use Rattle.word.specs.declared.profile.Profile.{Profile}
-use Rattle.word.specs.declared.profile.Profile.TheVariants.{P1, P2}
 
 -- Lines.
 

@@ -3,7 +3,7 @@ use Rattle.std.specs.Prelude.{ℕ, List, ◌++◌, codes}
 use Rattle.functions.specs.declared.function_text.fault.FunctionFault.{FunctionFault}
 use Rattle.functions.specs.declared.function_text.fault.FunctionFault.TheVariants.{Text, Name}
 use Rattle.language.specs.Rules.{refusal_text}
-use Rattle.language.specs.declared.refusal.Refusal.{Refusal}
+use Rattle.functions.specs.Below.{Refusal}
 use Rattle.word.specs.Places.{place_text}
 
 abbrev pub fault_text : FunctionFault Refusal → List ℕ

@@ -6,17 +6,10 @@ use Rattle.functions.specs.declared.function_text.fault.FunctionFault.{FunctionF
 use Rattle.functions.specs.declared.function_text.fault.FunctionFault.TheVariants.{Text, Name}
 use Rattle.functions.specs.declared.function_text.function.Function.{Function}
 use Rattle.functions.specs.declared.function_text.function.NamedParam.{NamedParam}
-use Rattle.hepurita.specs.Built.{IsCompilation, Judges, accepts}
+use Rattle.functions.specs.Below.{accepts, Fields, IsCompilation, IsWantOfMemory, Judges, Optimisation, param_of}
+use Rattle.functions.specs.Below.{ParameterTree, Place, ProcedureTree, Profile, ProgramTree, Refusal}
 use Rattle.hepurita.specs.Told.{IsRefusalOf}
-use Rattle.hepurita.specs.declared.optimised.Optimisation.{Optimisation}
-use Rattle.codegen.specs.image_fields.Fields.{Fields}
-use Rattle.language.specs.Signature.{param_of}
-use Rattle.language.specs.Tree.{ParameterTree, ProcedureTree, ProgramTree}
-use Rattle.language.specs.WantOfMemory.{IsWantOfMemory}
-use Rattle.language.specs.declared.refusal.Refusal.{Refusal}
 use Rattle.language.specs.declared.signature.Param.{Param}
-use Rattle.word.specs.declared.place.Place.{Place}
-use Rattle.word.specs.declared.profile.Profile.{Profile}
 
 -- a parameter under the name that is written for it
 pub record Named : Type 0 where

@@ -2,19 +2,15 @@
 use Rattle.std.specs.Prelude.{ℕ, List, [], ◌∷◌, ◌++◌, codes, Option, Some, None}
 use Rattle.std.specs.Fmt.{decimal}
 use Rattle.std.specs.List.{flat_map}
-use Rattle.linked_calls.specs.FunctionCode.{room_of}
+use Rattle.functions.specs.Below.{FixedArray, Form, MutableArray, P1, P2, Profile, room_of, SingleWord}
 use Rattle.functions.specs.function_text.AssemblerText.{profile_text}
 use Rattle.functions.specs.function_text.Functions.{Named, Parts}
 use Rattle.functions.specs.function_text.Names.{guard_name, stack_name}
 use Rattle.codegen.specs.declared.image_fields.slot.ResultSlot.{ResultSlot}
-use Rattle.language.specs.declared.signature.Form.{Form}
-use Rattle.language.specs.declared.signature.Form.TheVariants.{SingleWord, FixedArray, MutableArray}
 use Rattle.language.specs.declared.signature.Kind.{Kind}
 use Rattle.language.specs.declared.signature.Kind.TheVariants.{Boolean, Uint8, Uint16, Uint32}
 use Rattle.language.specs.declared.signature.Label.{Label}
 use Rattle.language.specs.declared.signature.Label.TheVariants.{Public, Secret}
-use Rattle.word.specs.declared.profile.Profile.{Profile}
-use Rattle.word.specs.declared.profile.Profile.TheVariants.{P1, P2}
 
 abbrev pub type_text : Kind → List ℕ
 type_text Boolean = codes "bool"

@@ -1,14 +1,11 @@
 -- The function of a text can be called, from wherever its words stand, and its header says how much stack that takes.
 use Rattle.std.specs.Prelude.{◌≡◌, ℕ, ◌-◌, ◌≤◌, List, ◌++◌}
-use Rattle.codegen.specs.image_fields.Fields.{Fields}
+use Rattle.functions.specs.Below.{Fields, IsCallable, Optimisation, Profile}
 use Rattle.functions.specs.function_text.Functions.{Parts, IsFunctionOf}
 use Rattle.functions.specs.function_text.HeaderText.{stack_line}
 use Rattle.functions.specs.function_text.Texts.{AreTextsOf}
-use Rattle.hepurita.specs.declared.optimised.Optimisation.{Optimisation}
-use Rattle.linked_calls.specs.Callable.{IsCallable}
 use Rattle.linked_calls.specs.Calls.{Site, IsSite, room_base}
 use Rattle.rv_machine.specs.Machine.{Code}
-use Rattle.word.specs.declared.profile.Profile.{Profile}
 
 -- and what it does is what the text's program means, for an observer of this profile
 abbrev pub FunctionsAreLinked : Type 0

@@ -3,8 +3,7 @@ use Rattle.std.specs.Prelude.{◌≡◌, ℕ, List}
 use Rattle.functions.specs.function_text.AssemblerText.{IsAssemblerText}
 use Rattle.functions.specs.function_text.Functions.{Parts, IsFunctionOf}
 use Rattle.functions.specs.function_text.HeaderText.{header_text}
-use Rattle.hepurita.specs.declared.optimised.Optimisation.{Optimisation}
-use Rattle.word.specs.declared.profile.Profile.{Profile}
+use Rattle.functions.specs.Below.{Optimisation, Profile}
 
 pub record AreTextsOf (optimisation : Optimisation) (profile : Profile) (text assembler header : List ℕ) :
     Type 0 where

@@ -1,10 +1,7 @@
 // Arrays between the caller's memory and the frame, an element a turn.
 
 ghost use Rattle.std.specs.Prelude.{◌≡◌, ◌≤◌, ◌<◌, ◌++◌, ◌∷◌, [], length, OnOk, IfOk};
-ghost use Rattle.codegen.specs.expression_code.TermCode.{load_by};
-ghost use Rattle.linked_calls.specs.FunctionCode.{store_by, array_bytes, bounds_code, next_code, element_meant_code};
-ghost use Rattle.linked_calls.specs.FunctionCode.{copied_in_code, copied_out_code, copy_in_code, copy_out_code};
-ghost use Rattle.language.specs.declared.signature.Form.TheVariants.{MutableArray};
+ghost use Rattle.functions.specs.Below.{array_bytes, bounds_code, copied_in_code, copied_out_code, copy_in_code, copy_out_code, element_meant_code, load_by, MutableArray, next_code, store_by};
 
 use crate::function_code::pieces::{added, store_by, until_equal};
 use crate::function_code::room::argument_offset;

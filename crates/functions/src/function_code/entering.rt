@@ -1,12 +1,7 @@
 // Instructions of the sections before the body.
 
 ghost use Rattle.std.specs.Prelude.{◌≡◌, ◌-◌, ◌++◌, ◌∷◌, [], OnOk};
-ghost use Rattle.codegen.specs.expression_code.TermCode.{constant_code};
-ghost use Rattle.linked_calls.specs.Convention.{stack_register};
-ghost use Rattle.linked_calls.specs.FunctionCode.{above_frame, until_equal, added, zeros_code, meant_code, word_code};
-ghost use Rattle.linked_calls.specs.FunctionCode.{argument_code};
-ghost use Rattle.rv_code.specs.declared.instructions.Instr.TheVariants.{Register};
-ghost use Rattle.rv_code.specs.declared.operations.RegisterOperation.TheVariants.{Sub};
+ghost use Rattle.functions.specs.Below.{above_frame, added, argument_code, constant_code, meant_code, Register, stack_register, Sub, until_equal, word_code, zeros_code};
 
 use crate::function_code::copying::copy_in;
 use crate::function_code::pieces::{added, until_equal, zeros};

@@ -1,11 +1,7 @@
 // Instructions of the sections behind the body.
 
 ghost use Rattle.std.specs.Prelude.{◌≡◌, ◌++◌, ◌∷◌, [], OnOk};
-ghost use Rattle.codegen.specs.expression_code.TermCode.{constant_code};
-ghost use Rattle.linked_calls.specs.Convention.{link_register, stack_register};
-ghost use Rattle.linked_calls.specs.FunctionCode.{above_frame, added, result_code, copy_out_code, wipe_code};
-ghost use Rattle.rv_code.specs.declared.instructions.Instr.TheVariants.{Register, JumpRegister};
-ghost use Rattle.rv_code.specs.declared.operations.RegisterOperation.TheVariants.{Add};
+ghost use Rattle.functions.specs.Below.{above_frame, Add, added, constant_code, copy_out_code, JumpRegister, link_register, Register, result_code, stack_register, wipe_code};
 
 use crate::function_code::copying::copy_out;
 use crate::function_code::pieces::{added, until_equal, zeros};

@@ -1,8 +1,7 @@
 // Instructions that several sections have: registers to memory and back, loops, and zeros.
 
 ghost use Rattle.std.specs.Prelude.{◌≡◌, ◌≤◌, ◌<◌, ◌+◌, ◌*◌, ◌++◌, length, map, OnOk};
-ghost use Rattle.linked_calls.specs.FunctionCode.{stores_code, loads_code, until_equal, added, zeros_code};
-ghost use Rattle.linked_calls.specs.FunctionCode.{clear_registers_code, store_by};
+ghost use Rattle.functions.specs.Below.{added, clear_registers_code, loads_code, store_by, stores_code, until_equal, zeros_code};
 
 use language::Kind;
 use rv_code::{

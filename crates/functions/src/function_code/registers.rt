@@ -1,8 +1,7 @@
 // The registers of the calling convention, by what becomes of them.
 
 ghost use Rattle.std.specs.Prelude.{◌≡◌};
-ghost use Rattle.linked_calls.specs.Convention.{link_register, saved_registers, argument_registers, result_register};
-ghost use Rattle.linked_calls.specs.Convention.{scratch_registers};
+ghost use Rattle.functions.specs.Below.{argument_registers, link_register, result_register, saved_registers, scratch_registers};
 
 use rv_code::Reg;
 

@@ -1,7 +1,7 @@
 // How much of the stack a call takes, and where its parts lie.
 
 ghost use Rattle.std.specs.Prelude.{◌≡◌, ◌≤◌};
-ghost use Rattle.linked_calls.specs.FunctionCode.{above_frame, frame_room, room_of, argument_offset};
+ghost use Rattle.functions.specs.Below.{above_frame, argument_offset, frame_room, room_of};
 
 use codegen::image_fields::ImageFields;
 

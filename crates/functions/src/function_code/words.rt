@@ -1,10 +1,7 @@
 // The words of a function.
 
 ghost use Rattle.std.specs.Prelude.{◌≡◌, ◌++◌, ◌^◌, ◌<◌, map, All, OnOk, IfOk};
-ghost use Rattle.codegen.specs.Anywhere.{body_words};
-ghost use Rattle.linked_calls.specs.FunctionCode.{function_words};
-ghost use Rattle.linked_calls.specs.Sections.{code_of};
-ghost use Rattle.rv_code.specs.Words.{word_of};
+ghost use Rattle.functions.specs.Below.{body_words, code_of, function_words, word_of};
 
 use crate::function_code::sections::{enter_sections, leave_sections, section_code};
 use codegen::image_fields::ImageFields;

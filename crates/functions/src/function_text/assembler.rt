@@ -3,8 +3,7 @@
 ghost use Rattle.std.specs.Prelude.{◌≡◌, ℕ, ◌++◌, List, codes, OnOk, IfOk};
 ghost use Rattle.std.specs.List.{flat_map};
 ghost use Rattle.std.specs.String.{string_bytes};
-ghost use Rattle.codegen.specs.Anywhere.{body_words};
-ghost use Rattle.linked_calls.specs.Sections.{enter_sections, leave_sections};
+ghost use Rattle.functions.specs.Below.{body_words, enter_sections, leave_sections};
 ghost use Rattle.functions.specs.function_text.AssemblerText.{ListsWords, IsAssemblerText, instruction_lines};
 ghost use Rattle.functions.specs.function_text.AssemblerText.{section_lines, sections_lines, profile_text, sizes_text};
 ghost use Rattle.functions.specs.function_text.AssemblerText.{first_line, place_lines, symbol_lines, head_lines};

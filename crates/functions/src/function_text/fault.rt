@@ -2,7 +2,7 @@
 
 ghost use Rattle.std.specs.Prelude.{◌≡◌};
 ghost use Rattle.functions.specs.declared.function_text.fault.FunctionFault.TheVariants.{Text};
-ghost use Rattle.language.specs.WantOfMemory.{IsWantOfMemory};
+ghost use Rattle.functions.specs.Below.{IsWantOfMemory};
 
 use language::{Place, Refusal};
 use std::alloc::AllocError;

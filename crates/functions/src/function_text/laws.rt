@@ -4,8 +4,7 @@ ghost use Rattle.std.specs.Prelude.{ℕ, ◌≡◌, List};
 ghost use Rattle.functions.specs.function_text.Functions.{Parts, IsFunctionOf};
 ghost use Rattle.functions.specs.function_text.Linked.{FunctionsAreLinked, HeadersStateStacks};
 ghost use Rattle.functions.specs.function_text.Texts.{AreTextsOf};
-ghost use Rattle.hepurita.specs.declared.optimised.Optimisation.{Optimisation};
-ghost use Rattle.word.specs.declared.profile.Profile.{Profile};
+ghost use Rattle.functions.specs.Below.{Optimisation, Profile};
 
 use linked_calls::calls_are_linked;
 use rv_code::laws::words_differ;

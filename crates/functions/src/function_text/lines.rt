@@ -6,8 +6,7 @@ ghost use Rattle.std.specs.String.{string_bytes};
 ghost use Rattle.functions.specs.function_text.AssemblerText.{eight_digits, word_line, title_line, frame_line};
 ghost use Rattle.functions.specs.function_text.AssemblerText.{argument_title, section_title, kept_line, restored_line};
 ghost use Rattle.functions.specs.function_text.AssemblerText.{change_lines, end_line, instruction_lines};
-ghost use Rattle.listing.specs.Code.{IsTextOf};
-ghost use Rattle.rv_code.specs.Text.{text_of};
+ghost use Rattle.functions.specs.Below.{IsTextOf, text_of};
 
 use crate::function_code::{ABOVE_FRAME, room_of};
 use codegen::image_fields::ImageFields;

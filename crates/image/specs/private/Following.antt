@@ -4,7 +4,7 @@ use Rattle.image.specs.Format.{Format, read_by}
 use Rattle.image.specs.declared.fault.ImageFault.{ImageFault}
 use Rattle.image.specs.declared.fault.ImageFault.TheVariants.{Field, Memory}
 use Rattle.image.specs.declared.reading.Reader.{Reader}
-use Rattle.codegen.specs.image_fields.Fields.{Fields}
+use Rattle.image.specs.Below.{Fields}
 
 -- what the bytes that are left spell by a format
 abbrev pub ahead : Format → Reader → Result Fields ImageFault

@@ -6,17 +6,8 @@ use Rattle.image.specs.Limits.{magic_number, format_version}
 use Rattle.image.specs.Reading.{row}
 use Rattle.image.specs.declared.field.Field.{Field}
 use Rattle.image.specs.declared.field.Field.TheVariants as fields
-use Rattle.codegen.specs.image_fields.Fields.{Fields}
-use Rattle.codegen.specs.declared.image_fields.slot.ResultSlot.{ResultSlot}
-use Rattle.codegen.specs.declared.image_fields.slot.Slot.{Slot}
-use Rattle.language.specs.declared.signature.Form.{Form}
-use Rattle.language.specs.declared.signature.Form.TheVariants.{SingleWord, FixedArray, MutableArray}
-use Rattle.language.specs.declared.signature.Kind.{Kind}
-use Rattle.language.specs.declared.signature.Kind.TheVariants.{Boolean, Uint8, Uint16, Uint32}
-use Rattle.language.specs.declared.signature.Label.{Label}
-use Rattle.language.specs.declared.signature.Label.TheVariants.{Public, Secret}
-use Rattle.word.specs.declared.profile.Profile.{Profile}
-use Rattle.word.specs.declared.profile.Profile.TheVariants.{P1, P2}
+use Rattle.image.specs.Below.{Boolean, Fields, FixedArray, Form, Kind, Label, MutableArray, P1, P2, Profile, Public}
+use Rattle.image.specs.Below.{ResultSlot, Secret, SingleWord, Slot, Uint16, Uint32, Uint8}
 
 abbrev pub profile_number : Profile → ℕ
 profile_number P1 = 1

@@ -1,24 +1,12 @@
 -- What is answered to what is given, case by case.
 use Rattle.std.proofs.Common.{◌≡◌, ℕ, List, Option, None, Some, Result, Ok, Err, sym, ap, ◌∙◌, subst}
-use Rattle.language.specs.declared.arguments.fault.ArgumentFault.{ArgumentFault}
-use Rattle.certified_runs.specs.Certified.{RunEnding, CertifiedRun}
-use Rattle.certified_runs.specs.End.{end_of}
-use Rattle.certified_runs.specs.Known.{Known}
-use Rattle.certified_runs.specs.declared.shifts.Shifts.{Shifts}
-use Rattle.codegen.specs.declared.image_fields.slot.Slot.{Slot}
-use Rattle.codegen.specs.Loaded.{params_of, code_at}
-use Rattle.hepurita.specs.Bases.{code_base, frame_base}
-use Rattle.hepurita.specs.declared.fault.RunFault.{RunFault}
-use Rattle.hepurita.specs.declared.fault.RunFault.TheVariants.{Argument, Memory}
-use Rattle.codegen.specs.image_fields.Fields.{Fields}
-use Rattle.language.specs.declared.values.Arg.{Arg}
-use Rattle.rv_machine.specs.Machine.{Code}
-use Rattle.rv_machine.specs.declared.observation.Observation.{Observation}
+use Rattle.image_reports.specs.Below.{Arg, Argument, ArgumentFault, CertifiedEnd, CertifiedRun, Code, code_at}
+use Rattle.image_reports.specs.Below.{code_base, end_of, Fields, frame_base, Known, Memory, Observation, params_of}
+use Rattle.image_reports.specs.Below.{RunEnding, RunFault, Shifts, Slot}
 use Rattle.image_reports.specs.certificates.Certified.{Certified, refused, out_of_memory, certified}
 use Rattle.image_reports.specs.certificates.Given.{fault_of_given}
 use Rattle.image_reports.specs.certificates.KnownImage.{known_at}
 use Rattle.image_reports.proofs.certificates_lemmas.LoadedLemmas.{params_in}
-use Rattle.certified_runs.specs.declared.certifying.CertifiedEnd.{CertifiedEnd}
 
 -- what is first of what is given for an image's slots
 pub first_is : {slots slots' : List Slot} (given : List (Option Arg)) {first answer : Option ArgumentFault}

@@ -5,32 +5,16 @@ use Rattle.std.proofs.Common.{Result, Ok, Err, refl, sym, ap, ap₂, ◌∙◌, 
 use Rattle.std.proofs.Math.Seq.{take-append-add}
 use Rattle.std.proofs.lemmas.Bool.{cases_lt}
 use Rattle.std.proofs.lemmas.Option.{none-some, same_Some}
-use Rattle.language.specs.declared.arguments.fault.ArgumentFault.{ArgumentFault}
-use Rattle.certified_runs.specs.Amounts.{ShiftsBy}
-use Rattle.certified_runs.specs.Certified.{RunEnding, same, may_differ, CertifiedRun}
-use Rattle.certified_runs.specs.End.{end_of}
-use Rattle.certified_runs.specs.Known.{Covers}
-use Rattle.certified_runs.specs.declared.certifying.CertifiedEnd.{CertifiedEnd}
-use Rattle.certified_runs.specs.declared.certifying.CertifiedEnd.TheVariants.{Same, MayDiffer}
-use Rattle.certified_runs.specs.declared.shifts.Shifts.{Shifts}
-use Rattle.certified_runs.specs.declared.shifts.Shifts.TheVariants.{Seen}
+use Rattle.image_reports.specs.Below.{Arg, Argument, ArgumentFault, CertifiedEnd, CertifiedRun, code_at, code_base}
+use Rattle.image_reports.specs.Below.{compared, Compares, Covers, end_of, entries_of, Entry, Fields, frame_base}
+use Rattle.image_reports.specs.Below.{IsFirstDifference, IsImage, IsLeak, loaded_at, may_differ, MayDiffer, Memory}
+use Rattle.image_reports.specs.Below.{Observation, Observed, Paired, Pairing, params_of, program_counter, RunEnding}
+use Rattle.image_reports.specs.Below.{RunFault, Same, same, Seen, Shifts, ShiftsBy, Stop}
 use Rattle.image_reports.proofs.certificates_lemmas.Below.{entries_in_common, one_end, every_run, itself, some_amounts, shifts_agree}
 use Rattle.image_reports.proofs.certificates_lemmas.Below.{differ-apart}
-use Rattle.codegen.specs.Loaded.{params_of, code_at, loaded_at}
-use Rattle.hepurita.specs.Bases.{code_base, frame_base}
-use Rattle.hepurita.specs.Paired.{Observed, Paired, compared}
 use Rattle.hepurita.specs.Paired as pairs
-use Rattle.hepurita.specs.declared.fault.RunFault.{RunFault}
-use Rattle.hepurita.specs.declared.fault.RunFault.TheVariants.{Argument, Memory}
-use Rattle.codegen.specs.image_fields.Fields.{Fields, IsImage}
-use Rattle.language.specs.declared.values.Arg.{Arg}
-use Rattle.listing.specs.Leaked.{IsLeak}
 use Rattle.listing.specs.Listings.{listing}
-use Rattle.rv_machine.specs.Entries.{Entry, program_counter, entries_of, IsFirstDifference, Compares}
-use Rattle.rv_machine.specs.declared.observation.Observation.{Observation}
-use Rattle.rv_machine.specs.declared.pairing.Pairing.{Pairing}
 use Rattle.rv_machine.specs.declared.pairing.Pairing.TheVariants as pairings
-use Rattle.rv_machine.specs.declared.stops.Stop.{Stop}
 use Rattle.image_reports.specs.certificates.Certified.{Certified, refused, out_of_memory, certified}
 use Rattle.image_reports.specs.certificates.Given.{Completes}
 use Rattle.image_reports.specs.certificates.KnownImage.{known_at}

@@ -7,23 +7,13 @@ use Rattle.std.proofs.Common.{◌∷◌, length, map, Option, Some, None, inl, i
 use Rattle.std.proofs.Common.{arith}
 use Rattle.std.proofs.Math.Nat.{mul-suc}
 use Rattle.std.proofs.lemmas.Bool.{cases_eq, cases_lt, le-leb, lt-leb, lt-ltb, le-ltb, false≢true}
-use Rattle.language.specs.arguments.Within.{HasShape, AreWithin}
-use Rattle.certified_runs.specs.Known.{with_bytes_known, Covers}
-use Rattle.certified_runs.specs.declared.shifts.Shifts.{Shifts}
-use Rattle.codegen.specs.Loaded.{params_of, with_numbers, with_argument, with_arguments, loaded_at}
-use Rattle.hepurita.specs.Frames.{HoldsSlot}
+use Rattle.image_reports.specs.Below.{AreWithin, Arg, Array, ByteMap, Covers, element_bytes, Fields, FixedArray, Form}
+use Rattle.image_reports.specs.Below.{HasShape, HoldsSlot, IsImage, Kind, loaded_at, MutableArray, params_of, Shifts}
+use Rattle.image_reports.specs.Below.{SingleWord, Slot, with_argument, with_arguments, with_bytes_known, with_number}
+use Rattle.image_reports.specs.Below.{with_numbers, Word, zeros}
 use Rattle.image_reports.proofs.certificates_lemmas.Below.{HoldsSlot-same, is_some-with_argument, slots_hold, with_number-zero}
 use Rattle.image_reports.proofs.certificates_lemmas.Below.{with_number-suc, with_byte_same, with_byte_other, with_number_below}
 use Rattle.image_reports.proofs.certificates_lemmas.Below.{with_number_above}
-use Rattle.codegen.specs.image_fields.Fields.{Fields, IsImage}
-use Rattle.codegen.specs.declared.image_fields.slot.Slot.{Slot}
-use Rattle.language.specs.Size.{element_bytes}
-use Rattle.language.specs.declared.signature.Form.{Form}
-use Rattle.language.specs.declared.signature.Form.TheVariants.{SingleWord, FixedArray, MutableArray}
-use Rattle.language.specs.declared.signature.Kind.{Kind}
-use Rattle.language.specs.declared.values.Arg.{Arg}
-use Rattle.language.specs.declared.values.Arg.TheVariants.{Word, Array}
-use Rattle.rv_machine.specs.Bytes.{ByteMap, with_number, zeros}
 use Rattle.image_reports.specs.certificates.Given.{Fits, no_more, as_given, any_value, Completes}
 use Rattle.image_reports.specs.certificates.KnownImage.{argument_bytes, known_with_one, with_given, known_with_given, known_at}
 

@@ -9,16 +9,8 @@ use Rattle.std.proofs.lemmas.List.{length-map}
 use Rattle.std.proofs.Math.ListN.{get_or-map}
 use Rattle.image_reports.proofs.certificates_lemmas.Below.{fault_from-left, fault_by-None, IsWithin-from_rule_of}
 use Rattle.image_reports.proofs.certificates_lemmas.Below.{is_some-with_argument, no_slot}
-use Rattle.language.specs.arguments.Faults.{fault_from}
-use Rattle.language.specs.arguments.Within.{HasShape}
-use Rattle.certified_runs.specs.Known.{Known, with_bytes_known}
-use Rattle.certified_runs.specs.Parts.{is_known_mark, known_bytes}
-use Rattle.certified_runs.specs.declared.shifts.Shifts.{Shifts}
-use Rattle.hepurita.specs.Frames.{HoldsSlot}
-use Rattle.codegen.specs.declared.image_fields.slot.Slot.{Slot}
-use Rattle.language.specs.declared.signature.Param.{Param}
-use Rattle.language.specs.declared.values.Arg.{Arg}
-use Rattle.rv_machine.specs.Bytes.{ByteMap, zeros}
+use Rattle.image_reports.specs.Below.{Arg, ByteMap, fault_from, HasShape, HoldsSlot, is_known_mark, Known, known_bytes}
+use Rattle.image_reports.specs.Below.{Param, Shifts, Slot, with_bytes_known, zeros}
 use Rattle.image_reports.specs.certificates.Given.{rule_of_given, fault_of_given}
 use Rattle.image_reports.specs.certificates.KnownImage.{argument_bytes, with_one, known_with_one, with_given, known_with_given}
 

@@ -3,13 +3,8 @@ use Rattle.std.proofs.Common.{◌≡◌, ◌↔◌, ℕ, ◌+◌, ◌<◌, List,
 use Rattle.std.proofs.Common.{Result, Ok, Err, refl, sym, ap, subst, ◌∙◌, length-append, arith}
 use Rattle.std.proofs.lemmas.List.{take_more}
 use Rattle.image_reports.proofs.certificates_lemmas.Below.{fault_at-None, fault_by-None, fault_by-same}
-use Rattle.language.specs.arguments.Faults.{fault_at, fault_from}
-use Rattle.language.specs.declared.arguments.fault.ArgumentFault.{ArgumentFault}
-use Rattle.language.specs.declared.arguments.fault.ArgumentRule.{ArgumentRule}
-use Rattle.hepurita.specs.declared.fault.RunFault.{RunFault}
-use Rattle.hepurita.specs.declared.fault.RunFault.TheVariants.{Argument, Memory}
-use Rattle.language.specs.declared.signature.Param.{Param}
-use Rattle.language.specs.declared.values.Arg.{Arg}
+use Rattle.image_reports.specs.Below.{Arg, Argument, ArgumentFault, ArgumentRule, fault_at, fault_from, Memory, Param}
+use Rattle.image_reports.specs.Below.{RunFault}
 use Rattle.image_reports.specs.certificates.Given.{rule_of_given, fault_of_given}
 
 -- One more without fault.

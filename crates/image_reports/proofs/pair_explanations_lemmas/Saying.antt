@@ -1,20 +1,9 @@
 -- What is said of a run, from what the calls of `run_places` say of it, and what is said of two.
 use Rattle.std.proofs.Common.{◌≡◌, ◌≢◌, ℕ, ◌+◌, ◌-◌, ◌<◌, List, ◌++◌, codes, length, Some, None, Ok, refl, sym, ap}
 use Rattle.std.proofs.Common.{◌∙◌, subst, arith}
-use Rattle.codegen.specs.Loaded.{code_at, loaded_at}
-use Rattle.hepurita.specs.Bases.{code_base, frame_base}
-use Rattle.hepurita.specs.Paired.{Paired, compared}
-use Rattle.codegen.specs.image_fields.Fields.{Fields}
-use Rattle.language.specs.declared.values.Arg.{Arg}
-use Rattle.listing.specs.Code.{IsLineAt}
-use Rattle.rv_machine.specs.declared.observation.Observation.{Observation}
-use Rattle.rv_machine.specs.declared.pairing.Pairing.TheVariants.{Differ}
-use Rattle.rv_machine.specs.Entries.{entries_of}
-use Rattle.rv_machine.specs.Machine.{State, Code, word_at}
-use Rattle.run_reports.specs.run_places.Places.{IsLastBefore, ShowsFewer}
-use Rattle.run_reports.specs.run_places.Reads.{SaysRegisters}
-use Rattle.run_reports.specs.run_places.Shown.{ShowsAt}
-use Rattle.run_reports.specs.declared.run_places.shown.Shown.{Shown}
+use Rattle.image_reports.specs.Below.{Arg, Code, code_at, code_base, compared, Differ, entries_of, Fields, frame_base}
+use Rattle.image_reports.specs.Below.{IsLastBefore, IsLineAt, loaded_at, Observation, Paired, SaysRegisters, Shown}
+use Rattle.image_reports.specs.Below.{ShowsAt, ShowsFewer, State, word_at}
 use Rattle.run_reports.proofs.run_places_lemmas.Openings.{difference_reached, word_before}
 use Rattle.run_reports.proofs.run_places_lemmas.Parting.{one_last_turn}
 use Rattle.run_reports.proofs.run_places_lemmas.Runs.{later_place}

@@ -1,23 +1,10 @@
 -- Of a vector one thing is said, and each vector is counted once.
 use Rattle.std.proofs.Common.{◌≡◌, ◌≢◌, ℕ, ◌+◌, List, [], ◌∷◌, length, map, Option, Some, Result, Ok, Err, refl, sym}
 use Rattle.std.proofs.Common.{ap, subst, ◌∙◌, arith, length-append}
-use Rattle.language.specs.arguments.Text.{fault_text}
-use Rattle.language.specs.arguments.Texts.{fault_of_texts}
-use Rattle.language.specs.arguments.Within.{AreWithin, words_of}
-use Rattle.language.specs.declared.arguments.fault.ArgumentFault.{ArgumentFault}
+use Rattle.image_reports.specs.Below.{AreWithin, Arg, ArgumentFault, CertifiedEnd, fault_of_texts, fault_text, Fields}
+use Rattle.image_reports.specs.Below.{Hidden, Means, Memory, Param, params_of, ProgramTree, Results, RunFault, words_of}
 use Rattle.image_reports.specs.certificates.Certified.{Certified}
-use Rattle.certified_runs.specs.declared.certifying.CertifiedEnd.{CertifiedEnd}
-use Rattle.certified_runs.specs.declared.shifts.Shifts.TheVariants.{Hidden}
-use Rattle.codegen.specs.Loaded.{params_of}
-use Rattle.hepurita.specs.Meant.{Means}
-use Rattle.hepurita.specs.declared.fault.RunFault.{RunFault}
-use Rattle.hepurita.specs.declared.fault.RunFault.TheVariants.{Memory}
-use Rattle.codegen.specs.image_fields.Fields.{Fields}
 use Rattle.language.specs.Meaning.{gives}
-use Rattle.language.specs.Results.{Results}
-use Rattle.language.specs.Tree.{ProgramTree}
-use Rattle.language.specs.declared.signature.Param.{Param}
-use Rattle.language.specs.declared.values.Arg.{Arg}
 use Rattle.image_reports.specs.vectors.Lines.{NamedVector}
 use Rattle.image_reports.specs.vectors.Texts.{plain, difference_text}
 use Rattle.image_reports.specs.vectors.Spelled.{lists_of, publics}

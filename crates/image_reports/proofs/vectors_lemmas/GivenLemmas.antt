@@ -1,20 +1,9 @@
 -- What is given of arguments within the parameter types has no fault.
 use Rattle.std.proofs.Common.{◌≡◌, ◌≢◌, ℕ, suc, ◌+◌, List, [], ◌∷◌, length, Option, None, Err, refl, sym, ap, ◌∙◌}
-use Rattle.language.specs.arguments.Faults.{fault_from}
-use Rattle.language.specs.arguments.Within.{AreWithin, IsWithin}
-use Rattle.language.specs.declared.arguments.fault.ArgumentRule.{ArgumentRule}
+use Rattle.image_reports.specs.Below.{AreWithin, Arg, Argument, ArgumentRule, fault_from, Fields, Hidden, IsWithin}
+use Rattle.image_reports.specs.Below.{Label, Memory, Param, params_of, Public, RunFault, Secret, Stop, Stopped}
 use Rattle.image_reports.specs.certificates.Certified.{Certified, refused, out_of_memory}
-use Rattle.certified_runs.specs.declared.shifts.Shifts.TheVariants.{Hidden}
 use Rattle.image_reports.specs.certificates.Given.{rule_of_given, fault_of_given}
-use Rattle.codegen.specs.Loaded.{params_of}
-use Rattle.hepurita.specs.declared.fault.RunFault.{RunFault}
-use Rattle.hepurita.specs.declared.fault.RunFault.TheVariants.{Argument, Memory, Stopped}
-use Rattle.codegen.specs.image_fields.Fields.{Fields}
-use Rattle.language.specs.declared.signature.Label.{Label}
-use Rattle.language.specs.declared.signature.Label.TheVariants.{Public, Secret}
-use Rattle.language.specs.declared.signature.Param.{Param}
-use Rattle.language.specs.declared.values.Arg.{Arg}
-use Rattle.rv_machine.specs.declared.stops.Stop.{Stop}
 use Rattle.image_reports.specs.vectors.Spelled.{given_by, publics}
 use Rattle.image_reports.proofs.vectors_lemmas.Below.{fault_by-same, rule_of-None}
 use Rattle.image_reports.proofs.vectors_lemmas.SpellLemmas.{neither, none_some}

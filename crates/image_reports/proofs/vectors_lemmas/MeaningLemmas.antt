@@ -6,33 +6,19 @@ use Rattle.std.specs.List.{AllByRecursion}
 use Rattle.std.proofs.lemmas.Bool.{and_parts}
 use Rattle.std.proofs.lemmas.Bool.Decides.{nat_tests}
 use Rattle.std.proofs.lemmas.List.Elements.{All-from_recursion}
-use Rattle.language.specs.arguments.Within.{AreWithin}
-use Rattle.codegen.specs.Loaded.{params_of, array_in, arrays_in, numbers_at, results_in}
+use Rattle.image_reports.specs.Below.{AreSlots, AreWithin, Arg, array_in, arrays_in, ByteMap, element_bytes, Fields}
+use Rattle.image_reports.specs.Below.{FixedArray, Form, frame_base, is_length, IsImage, Memory, MutableArray}
+use Rattle.image_reports.specs.Below.{numbers_at, Observation, Off, params_of, ProcedureTree, Profile, ProgramTree}
+use Rattle.image_reports.specs.Below.{Results, results_in, RunFault, SingleWord, Slot, slot_end, Stop, Stopped}
 use Rattle.hepurita.specs.Answers.{Builds, IsTheOutcome}
-use Rattle.hepurita.specs.Bases.{frame_base}
 use Rattle.hepurita.specs.Executed.{Executed, refused, out_of_memory, ran, answer_at}
-use Rattle.hepurita.specs.declared.fault.RunFault.{RunFault}
-use Rattle.hepurita.specs.declared.fault.RunFault.TheVariants.{Memory, Stopped}
 use Rattle.hepurita.specs.declared.optimised.Optimisation.{Optimisation}
-use Rattle.hepurita.specs.declared.optimised.Optimisation.TheVariants.{Off}
-use Rattle.codegen.specs.image_fields.Fields.{Fields, IsImage, AreSlots, slot_end, is_length}
-use Rattle.codegen.specs.declared.image_fields.slot.Slot.{Slot}
 use Rattle.language.specs.Limits.{most_elements}
-use Rattle.language.specs.Results.{Results}
-use Rattle.language.specs.Size.{element_bytes}
-use Rattle.language.specs.Tree.{ProcedureTree, ProgramTree}
-use Rattle.language.specs.declared.signature.Form.{Form}
-use Rattle.language.specs.declared.signature.Form.TheVariants.{SingleWord, FixedArray, MutableArray}
-use Rattle.language.specs.declared.values.Arg.{Arg}
-use Rattle.rv_machine.specs.Bytes.{ByteMap}
-use Rattle.rv_machine.specs.declared.observation.Observation.{Observation}
-use Rattle.rv_machine.specs.declared.stops.Stop.{Stop}
 use Rattle.rv_machine.specs.declared.stops.Stop.TheVariants.{Ecall, Break, Illegal, AccessFault, Misaligned, Budget}
 use Rattle.rv_machine.specs.declared.stops.Stop.TheVariants.{RecorderRefused}
 use Rattle.image_reports.specs.vectors.Spelled.{lists_of, returned_list}
 use Rattle.image_reports.specs.vectors.Verdicts.{IsImageOf}
 use Rattle.image_reports.proofs.vectors_lemmas.Below.{spelled}
-use Rattle.word.specs.declared.profile.Profile.{Profile}
 
 -- the law of the crate below
 abbrev pub GivesMeaning : Type 0

@@ -2,17 +2,9 @@
 use Rattle.std.proofs.Common.{◌≡◌, ℕ, ◌+◌, ◌<◌, ◌≤◌, List, [], ◌∷◌, length, get_or, drop, map, All, Option, Some}
 use Rattle.std.proofs.Common.{None, refl, sym, ap, ap₂, ◌∙◌}
 use Rattle.std.proofs.lemmas.List.{drop_more, length-map}
-use Rattle.language.specs.arguments.Faults.{fault_at, fault_from, rule_of}
-use Rattle.language.specs.arguments.Texts.{fault_of_texts, numbers_of, rule_of_numbers, rule_of_text}
-use Rattle.language.specs.arguments.Within.{AreWithin, HasShape, IsWithin, words_of}
-use Rattle.language.specs.declared.arguments.fault.ArgumentFault.{ArgumentFault}
-use Rattle.language.specs.declared.arguments.fault.ArgumentRule.{ArgumentRule}
-use Rattle.language.specs.declared.signature.Form.{Form}
-use Rattle.language.specs.declared.signature.Form.TheVariants.{SingleWord, FixedArray, MutableArray}
-use Rattle.language.specs.declared.signature.Kind.TheVariants.{Uint32}
-use Rattle.language.specs.declared.signature.Param.{Param}
-use Rattle.language.specs.declared.values.Arg.{Arg}
-use Rattle.language.specs.declared.values.Arg.TheVariants.{Word, Array}
+use Rattle.image_reports.specs.Below.{AreWithin, Arg, ArgumentFault, ArgumentRule, Array, fault_at, fault_from}
+use Rattle.image_reports.specs.Below.{fault_of_texts, FixedArray, Form, HasShape, IsWithin, MutableArray, numbers_of}
+use Rattle.image_reports.specs.Below.{Param, rule_of, rule_of_numbers, rule_of_text, SingleWord, Uint32, Word, words_of}
 use Rattle.image_reports.specs.vectors.Spelled.{AreSpelled, Spell}
 use Rattle.image_reports.proofs.vectors_lemmas.Below.{fault_by-same, length-AreWithin, rule_of-None}
 

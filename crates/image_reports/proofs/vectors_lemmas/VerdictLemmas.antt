@@ -2,18 +2,9 @@
 use Rattle.std.proofs.Common.{◌≡◌, ℕ, ◌+◌, ◌<◌, List, [], ◌∷◌, ◌++◌, codes, get_or, length, map, take, Option, Some}
 use Rattle.std.proofs.Common.{None, Ok, Err, sym, ap, subst, ◌∙◌}
 use Rattle.std.proofs.lemmas.List.{take_more, map-append}
-use Rattle.language.specs.arguments.Text.{fault_text}
-use Rattle.language.specs.declared.arguments.fault.ArgumentFault.{ArgumentFault}
+use Rattle.image_reports.specs.Below.{Arg, ArgumentFault, CertifiedEnd, fault_text, Fields, Hidden, Means, Param}
+use Rattle.image_reports.specs.Below.{params_of, ProgramTree, Results}
 use Rattle.image_reports.specs.certificates.Certified.{Certified}
-use Rattle.certified_runs.specs.declared.certifying.CertifiedEnd.{CertifiedEnd}
-use Rattle.certified_runs.specs.declared.shifts.Shifts.TheVariants.{Hidden}
-use Rattle.codegen.specs.Loaded.{params_of}
-use Rattle.hepurita.specs.Meant.{Means}
-use Rattle.codegen.specs.image_fields.Fields.{Fields}
-use Rattle.language.specs.Results.{Results}
-use Rattle.language.specs.Tree.{ProgramTree}
-use Rattle.language.specs.declared.signature.Param.{Param}
-use Rattle.language.specs.declared.values.Arg.{Arg}
 use Rattle.image_reports.specs.vectors.Lines.{NamedVector}
 use Rattle.image_reports.specs.vectors.Spelled.{AreSpelled, IsDifference, IsReading, Spell, lists_of, publics}
 use Rattle.image_reports.specs.vectors.Texts.{plain}

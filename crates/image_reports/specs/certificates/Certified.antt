@@ -1,17 +1,8 @@
 -- What is answered where the run of an image is to be certified for all arguments that have the given values.
 use Rattle.std.specs.Prelude.{◌≡◌, List, Option, Some, None, Result, Ok, Err}
-use Rattle.language.specs.declared.arguments.fault.ArgumentFault.{ArgumentFault}
-use Rattle.certified_runs.specs.Certified.{RunEnding, CertifiedRun}
-use Rattle.certified_runs.specs.End.{end_of}
-use Rattle.certified_runs.specs.declared.certifying.CertifiedEnd.{CertifiedEnd}
-use Rattle.certified_runs.specs.declared.shifts.Shifts.{Shifts}
-use Rattle.codegen.specs.Loaded.{params_of, code_at}
-use Rattle.hepurita.specs.Bases.{code_base, frame_base}
-use Rattle.hepurita.specs.declared.fault.RunFault.{RunFault}
-use Rattle.hepurita.specs.declared.fault.RunFault.TheVariants.{Argument, Memory}
-use Rattle.codegen.specs.image_fields.Fields.{Fields}
-use Rattle.language.specs.declared.values.Arg.{Arg}
-use Rattle.rv_machine.specs.declared.observation.Observation.{Observation}
+use Rattle.image_reports.specs.Below.{Arg, Argument, ArgumentFault, CertifiedEnd, CertifiedRun, code_at, code_base}
+use Rattle.image_reports.specs.Below.{end_of, Fields, frame_base, Memory, Observation, params_of, RunEnding, RunFault}
+use Rattle.image_reports.specs.Below.{Shifts}
 use Rattle.image_reports.specs.certificates.Given.{fault_of_given}
 use Rattle.image_reports.specs.certificates.KnownImage.{known_at}
 

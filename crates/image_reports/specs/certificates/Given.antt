@@ -1,15 +1,9 @@
 -- What is given of arguments: each has a value, or stands for every value of its type. Which arguments agree with
 -- that, and what is wrong with it.
 use Rattle.std.specs.Prelude.{List, [], ◌∷◌, Option, Some, None}
-use Rattle.language.specs.arguments.Faults.{rule_of, fault_by}
-use Rattle.language.specs.arguments.Within.{AreWithin}
-use Rattle.language.specs.declared.arguments.fault.ArgumentFault.{ArgumentFault}
-use Rattle.language.specs.declared.arguments.fault.ArgumentRule.{ArgumentRule}
+use Rattle.image_reports.specs.Below.{AreWithin, Arg, ArgumentFault, ArgumentRule, fault_by, Label, Param, Public}
+use Rattle.image_reports.specs.Below.{rule_of, Secret}
 use Rattle.language.specs.declared.arguments.fault.ArgumentRule.TheVariants.{Shape}
-use Rattle.language.specs.declared.signature.Label.{Label}
-use Rattle.language.specs.declared.signature.Label.TheVariants.{Public, Secret}
-use Rattle.language.specs.declared.signature.Param.{Param}
-use Rattle.language.specs.declared.values.Arg.{Arg}
 
 -- arguments, one for each that is given or not, which have the given values
 pub data Fits : List (Option Arg) → List Arg → Type 0 where

@@ -1,18 +1,9 @@
 -- An image loaded with what is given of its arguments, and what is known of that state: all but the bytes of the
 -- arguments that are not given.
 use Rattle.std.specs.Prelude.{ℕ, ◌+◌, ◌*◌, Bool, true, false, List, [], ◌∷◌, Option, Some, None, is_some}
-use Rattle.certified_runs.specs.Known.{Known, with_bytes_known}
-use Rattle.certified_runs.specs.declared.shifts.Shifts.{Shifts}
-use Rattle.codegen.specs.Loaded.{with_argument}
-use Rattle.codegen.specs.image_fields.Fields.{Fields}
-use Rattle.codegen.specs.declared.image_fields.slot.Slot.{Slot}
-use Rattle.language.specs.Size.{element_bytes}
-use Rattle.language.specs.declared.signature.Form.{Form}
-use Rattle.language.specs.declared.signature.Form.TheVariants.{SingleWord, FixedArray, MutableArray}
-use Rattle.language.specs.declared.signature.Kind.{Kind}
-use Rattle.language.specs.declared.values.Arg.{Arg}
-use Rattle.rv_machine.specs.Bytes.{ByteMap, zeros}
-use Rattle.rv_machine.specs.Registers.{initial_registers}
+use Rattle.image_reports.specs.Below.{Arg, ByteMap, element_bytes, Fields, FixedArray, Form, initial_registers, Kind}
+use Rattle.image_reports.specs.Below.{Known, MutableArray, Shifts, SingleWord, Slot, with_argument, with_bytes_known}
+use Rattle.image_reports.specs.Below.{zeros}
 
 -- how many bytes from its slot's offset on an argument takes: a word 4, an array its elements
 abbrev pub argument_bytes : Form → Kind → ℕ → ℕ

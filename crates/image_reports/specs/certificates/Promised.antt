@@ -1,14 +1,8 @@
 -- What a certificate promises of all arguments that have the given values.
 use Rattle.std.specs.Prelude.{◌≡◌, ℕ, List, length, Option, take}
-use Rattle.certified_runs.specs.Amounts.{ShiftsBy}
-use Rattle.codegen.specs.Loaded.{params_of, code_at, loaded_at}
-use Rattle.hepurita.specs.Bases.{code_base, frame_base}
-use Rattle.codegen.specs.image_fields.Fields.{Fields}
-use Rattle.language.specs.declared.values.Arg.{Arg}
+use Rattle.image_reports.specs.Below.{Arg, code_at, code_base, entries_of, Entry, Fields, frame_base, loaded_at}
+use Rattle.image_reports.specs.Below.{Observation, params_of, ShiftsBy, Stop}
 use Rattle.hepurita.specs.Uncut.{ImageEnds}
-use Rattle.rv_machine.specs.Entries.{Entry, entries_of}
-use Rattle.rv_machine.specs.declared.observation.Observation.{Observation}
-use Rattle.rv_machine.specs.declared.stops.Stop.{Stop}
 use Rattle.image_reports.specs.certificates.Given.{Completes}
 
 -- every run of the image on them, cut short by no recorder, shows this list and stops so

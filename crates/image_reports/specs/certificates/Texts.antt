@@ -2,11 +2,7 @@
 use Rattle.std.specs.Prelude.{ℕ, List, codes, Option, Some, None, if◌then◌else◌}
 use Rattle.std.specs.Option.{option_map}
 use Rattle.std.specs.Str.{bytes_eq}
-use Rattle.language.specs.arguments.Faults.{fault_by}
-use Rattle.language.specs.arguments.Texts.{numbers_of, rule_of_text}
-use Rattle.language.specs.declared.arguments.fault.ArgumentFault.{ArgumentFault}
-use Rattle.language.specs.declared.arguments.fault.ArgumentRule.{ArgumentRule}
-use Rattle.language.specs.declared.signature.Param.{Param}
+use Rattle.image_reports.specs.Below.{ArgumentFault, ArgumentRule, fault_by, numbers_of, Param, rule_of_text}
 use Rattle.image_reports.specs.certificates.Given.{rule_of_unknown}
 
 -- the text of an argument that is not given

@@ -1,14 +1,9 @@
 -- Which page is the picture of an image's runs.
 use Rattle.std.specs.Prelude.{◌≡◌, ℕ, ◌/◌, Bool, true, false, List, length, Option}
 use Rattle.image_reports.specs.certificates.KnownImage.{known_at}
-use Rattle.certified_runs.specs.declared.shifts.Shifts.TheVariants.{Hidden}
-use Rattle.codegen.specs.Loaded.{code_at, loaded_at}
-use Rattle.hepurita.specs.Bases.{code_base, frame_base}
-use Rattle.codegen.specs.image_fields.Fields.{Fields}
-use Rattle.language.specs.declared.values.Arg.{Arg}
+use Rattle.image_reports.specs.Below.{Arg, code_at, code_base, Fields, frame_base, Hidden, loaded_at, State}
 use Rattle.run_reports.specs.pictures.Pictured.{IsPicture}
 use Rattle.run_reports.specs.declared.pictures.cells.Area.{Area}
-use Rattle.rv_machine.specs.Machine.{State}
 
 -- the words of an image's code, and those of its frame
 abbrev pub code_area : Fields → Area

@@ -4,7 +4,7 @@ use Rattle.image.specs.Reading.{Spells, reading}
 use Rattle.image.specs.declared.fault.ImageFault.{ImageFault}
 use Rattle.image.specs.declared.fault.ImageFault.TheVariants.{Field, Memory}
 use Rattle.image.specs.declared.fault.ImageRule.{ImageRule}
-use Rattle.codegen.specs.image_fields.Fields.{Fields, IsImage}
+use Rattle.image_reports.specs.Below.{Fields, IsImage}
 use Rattle.image_reports.specs.statistics.FieldsText.{fields_text}
 
 -- bytes that do not begin as an image does: the first fault is in the first field, the magic, which begins at 0

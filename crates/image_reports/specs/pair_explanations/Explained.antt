@@ -1,18 +1,8 @@
 -- How it is explained that what an observer sees of two runs of an image differs first at an entry.
 use Rattle.std.specs.Prelude.{◌≡◌, ℕ, List, ◌++◌, Some, codes}
-use Rattle.codegen.specs.Loaded.{code_at, loaded_at}
-use Rattle.hepurita.specs.Bases.{code_base, frame_base}
-use Rattle.codegen.specs.image_fields.Fields.{Fields}
-use Rattle.language.specs.declared.values.Arg.{Arg}
-use Rattle.listing.specs.Code.{IsLineAt}
+use Rattle.image_reports.specs.Below.{Arg, Code, code_at, code_base, event, Fields, frame_base, IsLastBefore, IsLineAt}
+use Rattle.image_reports.specs.Below.{loaded_at, Observation, program_counter, SaysRegisters, Shown, ShowsAt, State}
 use Rattle.listing.specs.Lines.{entry_line, stop_line}
-use Rattle.rv_machine.specs.declared.observation.Observation.{Observation}
-use Rattle.rv_machine.specs.Entries.{program_counter, event}
-use Rattle.rv_machine.specs.Machine.{State, Code}
-use Rattle.run_reports.specs.run_places.Places.{IsLastBefore}
-use Rattle.run_reports.specs.run_places.Reads.{SaysRegisters}
-use Rattle.run_reports.specs.run_places.Shown.{ShowsAt}
-use Rattle.run_reports.specs.declared.run_places.shown.Shown.{Shown}
 use Rattle.run_reports.specs.declared.run_places.shown.Shown.TheVariants.{ProgramCounter, HasEvent, Stopped}
 
 -- an entry or a stop, as the listing of a run has it

@@ -1,20 +1,12 @@
 -- What a source costs, as lines.
 use Rattle.std.specs.Prelude.{◌≡◌, ℕ, List, [], ◌++◌, codes, Option, None, Some}
 use Rattle.std.specs.Fmt.{decimal}
-use Rattle.hepurita.specs.Built.{Judges, accepts}
-use Rattle.hepurita.specs.Exact.{image_for}
-use Rattle.hepurita.specs.declared.optimised.Optimisation.TheVariants.{Off}
-use Rattle.codegen.specs.image_fields.Fields.{Fields}
-use Rattle.inline.specs.Numbering.{flattened}
-use Rattle.intervals.specs.Ranged.{RangedProgram}
-use Rattle.intervals.specs.Work.{ranged}
+use Rattle.image_reports.specs.Below.{accepts, bodies_cost, bytes_cost, extents_of, Fields, flattened, image_for}
+use Rattle.image_reports.specs.Below.{Judges, nodes_cost, Off, ProcedureTree, Profile, ProgramTree, ranged}
+use Rattle.image_reports.specs.Below.{RangedProgram, work_cost}
 use Rattle.language.specs.declared.cost.Cost.{Cost}
 use Rattle.language.specs.declared.why.Share.{Share}
-use Rattle.language.specs.Size.{bodies_cost, bytes_cost, extents_of, nodes_cost}
-use Rattle.language.specs.Tree.{ProcedureTree, ProgramTree}
-use Rattle.explanations.specs.statement_work.WorkCosts.{work_cost}
 use Rattle.image_reports.specs.statistics.FieldsText.{fields_text}
-use Rattle.word.specs.declared.profile.Profile.{Profile}
 use Rattle.word.specs.Places.{place_text}
 
 -- the nodes of a body, its work, and the fields of an image

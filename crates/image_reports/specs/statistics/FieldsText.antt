@@ -1,11 +1,9 @@
 -- The fields of an image as lines.
 use Rattle.std.specs.Prelude.{ℕ, ◌+◌, List, [], ◌∷◌, ◌++◌, length, codes, Option, None, Some}
 use Rattle.std.specs.Fmt.{decimal}
-use Rattle.codegen.specs.image_fields.Fields.{Fields}
+use Rattle.image_reports.specs.Below.{Fields, Profile, Slot}
 use Rattle.codegen.specs.declared.image_fields.slot.ResultSlot.{ResultSlot}
-use Rattle.codegen.specs.declared.image_fields.slot.Slot.{Slot}
 use Rattle.image_reports.specs.statistics.TypeText.{kind_text, label_text, param_text}
-use Rattle.word.specs.declared.profile.Profile.{Profile}
 use Rattle.word.specs.declared.profile.Profile.TheVariants.{P1, P2}
 
 abbrev pub profile_number : Profile → ℕ

@@ -1,13 +1,8 @@
 -- How a type is written in a source.
 use Rattle.std.specs.Prelude.{ℕ, List, [], ◌++◌, codes}
 use Rattle.std.specs.Fmt.{decimal}
-use Rattle.language.specs.declared.signature.Form.{Form}
-use Rattle.language.specs.declared.signature.Form.TheVariants.{SingleWord, FixedArray, MutableArray}
-use Rattle.language.specs.declared.signature.Kind.{Kind}
-use Rattle.language.specs.declared.signature.Kind.TheVariants.{Boolean, Uint8, Uint16, Uint32}
-use Rattle.language.specs.declared.signature.Label.{Label}
-use Rattle.language.specs.declared.signature.Label.TheVariants.{Public, Secret}
-use Rattle.language.specs.declared.signature.Param.{Param}
+use Rattle.image_reports.specs.Below.{Boolean, FixedArray, Form, Kind, Label, MutableArray, Param, Public, Secret}
+use Rattle.image_reports.specs.Below.{SingleWord, Uint16, Uint32, Uint8}
 
 abbrev pub kind_text : Kind → List ℕ
 kind_text Boolean = codes "bool"

@@ -1,13 +1,7 @@
 -- Arguments and outcomes that texts spell, and what of arguments is public.
 use Rattle.std.specs.Prelude.{◌≡◌, ℕ, List, [], ◌∷◌, ◌++◌, map, Option, Some, None, Result, Ok, Err}
-use Rattle.language.specs.arguments.Texts.{fault_of_texts, numbers_of}
-use Rattle.language.specs.arguments.Within.{AreWithin, words_of}
-use Rattle.language.specs.declared.arguments.fault.ArgumentFault.{ArgumentFault}
-use Rattle.language.specs.Results.{Results}
-use Rattle.language.specs.declared.signature.Label.{Label}
-use Rattle.language.specs.declared.signature.Label.TheVariants.{Public, Secret}
-use Rattle.language.specs.declared.signature.Param.{Param}
-use Rattle.language.specs.declared.values.Arg.{Arg}
+use Rattle.image_reports.specs.Below.{AreWithin, Arg, ArgumentFault, fault_of_texts, Label, numbers_of, Param, Public}
+use Rattle.image_reports.specs.Below.{Results, Secret, words_of}
 use Rattle.image_reports.specs.vectors.Texts.{plain, difference_text}
 
 -- arguments within the parameter types, whose numbers texts spell

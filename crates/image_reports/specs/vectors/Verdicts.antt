@@ -2,25 +2,13 @@
 -- file.
 use Rattle.std.specs.Prelude.{◌≡◌, ℕ, ◌+◌, List, [], ◌∷◌, ◌++◌, map, codes, Option, Some, None, Ok}
 use Rattle.std.specs.Fmt.{decimal}
-use Rattle.language.specs.arguments.Text.{fault_text}
-use Rattle.language.specs.arguments.Texts.{fault_of_texts}
-use Rattle.language.specs.declared.arguments.fault.ArgumentFault.{ArgumentFault}
+use Rattle.image_reports.specs.Below.{Arg, ArgumentFault, CertifiedEnd, fault_of_texts, fault_text, Fields, Hidden}
+use Rattle.image_reports.specs.Below.{IsCompilation, MayDiffer, Means, Off, params_of, ProcedureTree, Profile}
+use Rattle.image_reports.specs.Below.{ProgramTree, Results, Same}
 use Rattle.image_reports.specs.certificates.Certified.{Certified}
-use Rattle.certified_runs.specs.declared.certifying.CertifiedEnd.{CertifiedEnd}
-use Rattle.certified_runs.specs.declared.certifying.CertifiedEnd.TheVariants.{Same, MayDiffer}
-use Rattle.certified_runs.specs.declared.shifts.Shifts.TheVariants.{Hidden}
-use Rattle.codegen.specs.Loaded.{params_of}
-use Rattle.hepurita.specs.Built.{IsCompilation}
-use Rattle.hepurita.specs.Meant.{Means}
-use Rattle.hepurita.specs.declared.optimised.Optimisation.TheVariants.{Off}
-use Rattle.codegen.specs.image_fields.Fields.{Fields}
-use Rattle.language.specs.Results.{Results}
-use Rattle.language.specs.Tree.{ProcedureTree, ProgramTree}
-use Rattle.language.specs.declared.values.Arg.{Arg}
 use Rattle.image_reports.specs.vectors.Lines.{NamedVector}
 use Rattle.image_reports.specs.vectors.Spelled.{AreSpelled, Spell, lists_of, publics}
 use Rattle.image_reports.specs.vectors.Texts.{plain, difference_text}
-use Rattle.word.specs.declared.profile.Profile.{Profile}
 
 -- a source that is accepted for an observer: its program, and its plain image
 pub record IsSource (profile : Profile) (source : List ℕ) (program : ProgramTree) (image : Fields) : Type 0 where

@@ -3,10 +3,7 @@
 ghost use Rattle.std.specs.Prelude.{◌≡◌, IsTrue, OnOk, OnErr};
 ghost use Rattle.image_reports.specs.certificates.Certified.{Certified};
 ghost use Rattle.image_reports.specs.certificates.KnownImage.{known_at};
-ghost use Rattle.codegen.specs.Loaded.{code_at};
-ghost use Rattle.hepurita.specs.Bases.{code_base, frame_base};
-ghost use Rattle.run_reports.specs.progress.Certified.{GoesOnKnown};
-ghost use Rattle.run_reports.specs.progress.GoingOn.{HasLines, IsTold};
+ghost use Rattle.image_reports.specs.Below.{code_at, code_base, frame_base, GoesOnKnown, HasLines, IsTold};
 ghost use Rattle.streams.specs.Puts.{collected};
 
 use crate::certificates::faults::first_fault;

@@ -1,19 +1,8 @@
 // What a certificate promises, and what it says of the answers of `pair` and `leak`.
 
 ghost use Rattle.std.specs.Prelude.{◌≡◌, ◌≢◌, ℕ, ◌+◌, ◌≤◌, List, [], ◌∷◌, ◌++◌, length, Option, Result, Ok, Err};
-ghost use Rattle.certified_runs.specs.Known.{Covers};
-ghost use Rattle.certified_runs.specs.declared.certifying.CertifiedEnd.{CertifiedEnd};
+ghost use Rattle.image_reports.specs.Below.{Arg, CertifiedEnd, Covers, entries_of, Entry, Fields, IsImage, IsLeak, loaded_at, Observation, Paired, Pairing, params_of, program_counter, RunFault, Stop};
 ghost use Rattle.codegen.specs.Bases.{AreBases};
-ghost use Rattle.codegen.specs.Loaded.{params_of, loaded_at};
-ghost use Rattle.hepurita.specs.Paired.{Paired};
-ghost use Rattle.hepurita.specs.declared.fault.RunFault.{RunFault};
-ghost use Rattle.codegen.specs.image_fields.Fields.{Fields, IsImage};
-ghost use Rattle.language.specs.declared.values.Arg.{Arg};
-ghost use Rattle.listing.specs.Leaked.{IsLeak};
-ghost use Rattle.rv_machine.specs.Entries.{Entry, program_counter, entries_of};
-ghost use Rattle.rv_machine.specs.declared.observation.Observation.{Observation};
-ghost use Rattle.rv_machine.specs.declared.pairing.Pairing.{Pairing};
-ghost use Rattle.rv_machine.specs.declared.stops.Stop.{Stop};
 ghost use Rattle.image_reports.specs.certificates.Certified.{Certified};
 ghost use Rattle.image_reports.specs.certificates.Given.{Completes};
 ghost use Rattle.image_reports.specs.certificates.KnownImage.{known_at};

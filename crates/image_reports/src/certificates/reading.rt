@@ -2,10 +2,7 @@
 
 ghost use Rattle.std.specs.Prelude.{◌≡◌, ◌≢◌, ◌↔◌, None, Some, Err, map, IfOk, OnOk};
 ghost use Rattle.std.specs.Option.{option_map};
-ghost use Rattle.language.specs.arguments.Faults.{fault_by};
-ghost use Rattle.language.specs.arguments.Within.{words_of};
-ghost use Rattle.language.specs.declared.arguments.fault.ArgumentFault.{ArgumentFault};
-ghost use Rattle.rv_machine.specs.declared.stops.Stop.{Stop};
+ghost use Rattle.image_reports.specs.Below.{ArgumentFault, fault_by, Stop, words_of};
 ghost use Rattle.image_reports.specs.certificates.Given.{rule_of_given, fault_of_given};
 ghost use Rattle.image_reports.specs.certificates.Texts.{numbers_given, rule_of_given_text, fault_of_given_texts};
 

@@ -1,15 +1,10 @@
 // An image's runs, loaded and drawn.
 
 ghost use Rattle.std.specs.Prelude.{◌≡◌, None, IfOk};
-ghost use Rattle.language.specs.arguments.Within.{AreWithin};
+ghost use Rattle.image_reports.specs.Below.{AreWithin, code_base, frame_base, IsImage, loaded_at, paged_bytes, params_of, state_of};
 ghost use Rattle.image_reports.specs.certificates.Given.{fault_of_given};
 ghost use Rattle.image_reports.specs.certificates.KnownImage.{known_at};
-ghost use Rattle.codegen.specs.Loaded.{params_of, loaded_at};
-ghost use Rattle.hepurita.specs.Bases.{code_base, frame_base};
-ghost use Rattle.codegen.specs.image_fields.Fields.{IsImage};
 ghost use Rattle.image_reports.specs.image_pictures.Drawn.{BeginsAt, DrawsImage, DrawsOne, DrawsTwo};
-ghost use Rattle.rv_machine.specs.Harts.{state_of};
-ghost use Rattle.rv_machine.specs.Paged.{paged_bytes};
 
 use crate::certificates::{Shifts, load_given};
 use hepurita::{CODE_BASE, FRAME_BASE, code, load};

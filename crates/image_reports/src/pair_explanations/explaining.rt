@@ -1,14 +1,7 @@
 // Why what an observer sees of two runs differs.
 
 ghost use Rattle.std.specs.Prelude.{◌≡◌, ◌<◌, List, Ok, IfOk};
-ghost use Rattle.language.specs.arguments.Within.{AreWithin};
-ghost use Rattle.codegen.specs.Loaded.{params_of, code_at, loaded_at};
-ghost use Rattle.hepurita.specs.Bases.{code_base, frame_base};
-ghost use Rattle.hepurita.specs.Paired.{Paired};
-ghost use Rattle.rv_machine.specs.Regions.{code_of};
-ghost use Rattle.rv_machine.specs.declared.observation.Observation.{Observation};
-ghost use Rattle.rv_machine.specs.declared.pairing.Pairing.TheVariants.{Differ};
-ghost use Rattle.run_reports.specs.run_places.Places.{ShowsFewer};
+ghost use Rattle.image_reports.specs.Below.{AreWithin, code_at, code_base, code_of, Differ, frame_base, loaded_at, Observation, Paired, params_of, ShowsFewer};
 ghost use Rattle.image_reports.specs.pair_explanations.Explained.{SaysOf, Explains};
 
 use crate::pair_explanations::lines::{Said, lines, push_shown};

@@ -1,10 +1,7 @@
 // The lines of an explanation.
 
 ghost use Rattle.std.specs.Prelude.{◌≡◌, ◌≢◌, ◌++◌, List, ℕ, codes, None, Some, IfOk, OnOk};
-ghost use Rattle.codegen.specs.Loaded.{code_at};
-ghost use Rattle.hepurita.specs.Bases.{code_base};
-ghost use Rattle.listing.specs.Code.{IsLineAt};
-ghost use Rattle.rv_machine.specs.Machine.{word_at};
+ghost use Rattle.image_reports.specs.Below.{code_at, code_base, IsLineAt, word_at};
 ghost use Rattle.image_reports.specs.pair_explanations.Explained.{shown_line};
 
 use image::Image;

@@ -2,11 +2,8 @@
 
 ghost use Rattle.std.specs.Prelude.{◌≡◌, [], ◌++◌, map, OnOk, IfOk, IfSome};
 ghost use Rattle.std.specs.String.{string_bytes};
-ghost use Rattle.inline.specs.Numbering.{flattened};
-ghost use Rattle.language.specs.Signature.{exported};
-ghost use Rattle.language.specs.Tree.{procedure_tree, program_tree};
+ghost use Rattle.image_reports.specs.Below.{exported, flattened, procedure_tree, program_tree, work_cost};
 ghost use Rattle.image_reports.specs.source_statistics.SourceText.{export_lines, most_line, size_lines, size_text};
-ghost use Rattle.explanations.specs.statement_work.WorkCosts.{work_cost};
 
 use explanations::statement_work::measured_work;
 use inline::{SizeCosts, size_costs};

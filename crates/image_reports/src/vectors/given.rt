@@ -2,7 +2,7 @@
 
 ghost use Rattle.std.specs.Prelude.{◌≡◌, length, map, IfOk, IfErr};
 ghost use Rattle.std.specs.String.{string_bytes};
-ghost use Rattle.language.specs.WantOfMemory.{IsWantOfMemory};
+ghost use Rattle.image_reports.specs.Below.{IsWantOfMemory};
 ghost use Rattle.image_reports.specs.vectors.Spelled.{IsReading, given_by, publics};
 
 use language::arguments::{ArgumentFault, ReadError, read as read_arguments};

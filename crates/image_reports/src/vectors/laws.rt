@@ -1,8 +1,7 @@
 // What is said of a vector is exact.
 
 ghost use Rattle.std.specs.Prelude.{◌≡◌, ℕ, ◌+◌, List, Option, length};
-ghost use Rattle.codegen.specs.image_fields.Fields.{Fields};
-ghost use Rattle.language.specs.Tree.{ProgramTree};
+ghost use Rattle.image_reports.specs.Below.{Fields, ProgramTree};
 ghost use Rattle.image_reports.specs.vectors.Lines.{NamedVector};
 ghost use Rattle.image_reports.specs.vectors.Verdicts.{IsVerdict, Tried};
 

@@ -3,14 +3,8 @@
 ghost use Rattle.std.specs.Prelude.{◌≡◌, ◌<◌, Ok, length, All, IfOk, IfErr};
 ghost use Rattle.std.specs.Option.{option_map};
 ghost use Rattle.std.specs.String.{string_bytes};
-ghost use Rattle.language.specs.arguments.Within.{AreWithin};
+ghost use Rattle.image_reports.specs.Below.{AreWithin, CertifiedEnd, IsWantOfMemory, Means, params_of, ProgramTree, Results};
 ghost use Rattle.image_reports.specs.certificates.Certified.{Certified};
-ghost use Rattle.certified_runs.specs.declared.certifying.CertifiedEnd.{CertifiedEnd};
-ghost use Rattle.codegen.specs.Loaded.{params_of};
-ghost use Rattle.hepurita.specs.Meant.{Means};
-ghost use Rattle.language.specs.Results.{Results};
-ghost use Rattle.language.specs.Tree.{ProgramTree};
-ghost use Rattle.language.specs.WantOfMemory.{IsWantOfMemory};
 ghost use Rattle.image_reports.specs.vectors.Spelled.{lists_of, publics};
 ghost use Rattle.image_reports.specs.vectors.Verdicts.{IsImageOf, wrong_in};
 

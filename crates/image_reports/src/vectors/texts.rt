@@ -4,7 +4,7 @@ ghost use Rattle.std.specs.Prelude.{◌≡◌, ◌++◌, true, map, codes, IfOk,
 ghost use Rattle.hex.specs.Hex.{encode_lower};
 ghost use Rattle.std.specs.List.{flat_map};
 ghost use Rattle.std.specs.String.{string_bytes};
-ghost use Rattle.language.specs.WantOfMemory.{IsWantOfMemory};
+ghost use Rattle.image_reports.specs.Below.{IsWantOfMemory};
 ghost use Rattle.image_reports.specs.vectors.Texts.{numbers_text, are_bytes, plain, shown, all_shown, difference_text};
 
 use hex::FromHexError;

@@ -3,10 +3,7 @@
 ghost use Rattle.std.specs.Prelude.{◌≡◌, ℕ, List, map, IfOk, IfErr};
 ghost use Rattle.std.specs.Option.{option_map};
 ghost use Rattle.std.specs.String.{string_bytes};
-ghost use Rattle.codegen.specs.Loaded.{params_of};
-ghost use Rattle.hepurita.specs.Told.{IsRefusalOf};
-ghost use Rattle.language.specs.Tree.{ProgramTree};
-ghost use Rattle.language.specs.WantOfMemory.{IsWantOfMemory};
+ghost use Rattle.image_reports.specs.Below.{IsRefusalOf, IsWantOfMemory, params_of, ProgramTree};
 ghost use Rattle.image_reports.specs.vectors.Spelled.{AreSpelled};
 ghost use Rattle.image_reports.specs.vectors.Texts.{plain};
 ghost use Rattle.image_reports.specs.vectors.Verdicts.{IsImageOf, IsSource, IsVerdict, IsTally, IsReport};

@@ -3,9 +3,7 @@
 ghost use Rattle.std.specs.Prelude.{◌≡◌, ◌↔◌, ◌<◌, ℕ, List, Some, None, true, length, map, All, IfOk, IfErr};
 ghost use Rattle.std.specs.Option.{option_map};
 ghost use Rattle.std.specs.String.{string_bytes};
-ghost use Rattle.language.specs.arguments.Texts.{numbers_of, rule_of_text};
-ghost use Rattle.language.specs.arguments.Within.{words_of};
-ghost use Rattle.language.specs.WantOfMemory.{IsWantOfMemory};
+ghost use Rattle.image_reports.specs.Below.{IsWantOfMemory, numbers_of, rule_of_text, words_of};
 ghost use Rattle.image_reports.specs.vectors.Spelled.{Spell, IsDifference, lists_of};
 
 use crate::vectors::texts::{all_plain, difference};

@@ -4,8 +4,7 @@ use Rattle.std.proofs.Common.{inl, inr, refl, sym, ap, ap₂, subst, ◌∙◌, 
 use Rattle.std.proofs.lemmas.Bool.{cases_lt}
 use Rattle.std.proofs.lemmas.List.{length-map, nil_from_length}
 use Rattle.std.proofs.lemmas.Option.{none-some, same_Some}
-use Rattle.harts.specs.declared.fault.HartsRule.{HartsRule}
-use Rattle.harts.specs.declared.fault.HartsRule.TheVariants.{HartCount}
+use Rattle.input_files.specs.Below.{HartCount, HartsRule}
 use Rattle.input_files.specs.harts_file.Lines.{PlannedHart, PlannedTurns, Said, lines_of, said_of, said_in}
 use Rattle.input_files.specs.harts_file.Plans.{turns_listed, IsPlan}
 use Rattle.input_files.specs.harts_file.Faults.{Given, given_from, given_by, rule_of, AreFine, IsFault, of_line}

@@ -6,7 +6,7 @@ use Rattle.std.proofs.lemmas.Bool.Decides.{nat_tests}
 use Rattle.std.proofs.lemmas.List.{at_drop_more, at_drop_all}
 use Rattle.std.specs.Char.{digit_value}
 use Rattle.std.specs.Option.{option_map}
-use Rattle.language.specs.arguments.Texts.{number_after, number_in}
+use Rattle.input_files.specs.Below.{number_after, number_in}
 use Rattle.input_files.specs.harts_file.private.Reading.{held_number}
 
 -- a number, or the greatest `u64` in place of one past it

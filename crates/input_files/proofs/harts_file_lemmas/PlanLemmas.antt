@@ -6,9 +6,7 @@ use Rattle.std.proofs.lemmas.Bool.Decides.{nat_tests}
 use Rattle.std.proofs.lemmas.Grind.{flat_map-append}
 use Rattle.std.proofs.lemmas.List.{map-append, nil_from_length}
 use Rattle.std.proofs.lemmas.List.Elements.{All-nil, All-cons, All-append, filter_map-append}
-use Rattle.hepurita.specs.Bases.{most_images}
-use Rattle.harts.specs.Refused.{most_turns}
-use Rattle.harts.specs.declared.fault.HartsRule.TheVariants.{HartCount}
+use Rattle.input_files.specs.Below.{HartCount, most_images, most_turns}
 use Rattle.input_files.specs.harts_file.Lines.{PlannedHart, PlannedTurns, Said, a_hart, some_turns}
 use Rattle.input_files.specs.harts_file.Plans.{turns_listed, is_known, hart_line, turns_line}
 use Rattle.input_files.specs.harts_file.Faults.{Given, given_from, given_by, hart_named, turns_named, harts_of}

@@ -2,7 +2,7 @@
 use Rattle.std.proofs.Common.{◌≡◌, ℕ, ◌+◌, List, [], ◌∷◌, ◌++◌, length, Option, Some, None, Result, Err, sym, ap, ap₂}
 use Rattle.std.proofs.Common.{subst, ◌∙◌, arith}
 use Rattle.std.proofs.lemmas.List.{length-map}
-use Rattle.harts.specs.declared.fault.HartsRule.{HartsRule}
+use Rattle.input_files.specs.Below.{HartsRule}
 use Rattle.input_files.specs.harts_file.Lines.{Said, said_of}
 use Rattle.input_files.specs.harts_file.Faults.{Given, given_by, rule_of, AreFine, IsFault, of_line}
 use Rattle.input_files.specs.harts_file.private.Reading.{given_with}

@@ -2,9 +2,7 @@
 use Rattle.std.proofs.Common.{◌≡◌, ℕ, ◌+◌, ◌*◌, ◌<◌, ◌≤◌, length, Option, Some, None, Result, Ok, Err, IfOk, refl, sym}
 use Rattle.std.proofs.Common.{ap, subst, ◌∙◌, arith}
 use Rattle.std.specs.Option.{option_map}
-use Rattle.harts.specs.Refused.{most_turns}
-use Rattle.harts.specs.declared.fault.HartsRule.{HartsRule}
-use Rattle.harts.specs.declared.fault.HartsRule.TheVariants.{TooManyTurns}
+use Rattle.input_files.specs.Below.{HartsRule, most_turns, TooManyTurns}
 use Rattle.input_files.specs.harts_file.Lines.{PlannedTurns, rounds, Said, some_turns}
 use Rattle.input_files.specs.harts_file.Faults.{Given, rule_of, rule_of_said, rule_of_turns}
 use Rattle.input_files.specs.harts_file.private.Reading.{held, given_also, given_with}

@@ -8,8 +8,7 @@ use Rattle.std.proofs.lemmas.Bool.Decides.{nat_tests}
 use Rattle.std.proofs.lemmas.List.{length-replicate}
 use Rattle.std.proofs.lemmas.List.FromFn.{length-range_with_len}
 use Rattle.std.specs.List.{range_with_len, repeat}
-use Rattle.harts.specs.Refused.{most_turns}
-use Rattle.harts.specs.declared.fault.HartsRule.TheVariants.{LineForm, HartCount, NoSuchHart, TooManyTurns}
+use Rattle.input_files.specs.Below.{HartCount, LineForm, most_turns, NoSuchHart, TooManyTurns}
 use Rattle.input_files.specs.harts_file.Lines.{PlannedTurns, turns_of, rounds}
 use Rattle.input_files.specs.harts_file.Plans.{turns_listed, is_known}
 use Rattle.input_files.specs.harts_file.Faults.{rule_of_turns}

@@ -1,7 +1,7 @@
 -- Bytes that were read up to a limit.
 use Rattle.std.proofs.Common.{◌≡◌, ℕ, ◌<◌, List, length, take, drop, arith, ap, ◌∙◌}
 use Rattle.std.proofs.lemmas.List.{length-take, take_all}
-use Rattle.streams.specs.Streams.{LosesPart}
+use Rattle.input_files.specs.Below.{LosesPart}
 
 -- where fewer came than were asked for, they are all
 pub all-of-fewer : (read all : List ℕ) (asked : ℕ) → read ≡ take asked all → length read < asked → read ≡ all

@@ -4,17 +4,11 @@ use Rattle.std.proofs.Common.{Option, None, Some, IfSome, refl, sym, ap, ◌∙�
 use Rattle.std.specs.List.{AllByRecursion}
 use Rattle.std.proofs.lemmas.Bool.Decides.{nat_tests}
 use Rattle.codegen.proofs.ImageLemmas.{length-slots_from, count_in_words, slots_are, slots_end-slots_from, slots_inside}
-use Rattle.codegen.specs.expression_code.Layout.{slots_from}
-use Rattle.image.specs.Reading.{is_frame_size, is_step_limit, layout_end}
-use Rattle.codegen.specs.image_fields.Fields.{Fields, IsImage, IsResultSlot, result_end, slots_end}
-use Rattle.codegen.specs.declared.image_fields.slot.ResultSlot.{ResultSlot}
+use Rattle.input_files.specs.Below.{declaration_of, declared_words, Fields, HasLength, is_frame_size, is_step_limit}
+use Rattle.input_files.specs.Below.{IsImage, IsResultSlot, layout_end, most_declared_bytes, Param, result_end}
+use Rattle.input_files.specs.Below.{ResultSlot, slots_end, slots_from, WordType}
 use Rattle.codegen.specs.declared.image_fields.slot.Slot.{Slot}
 use Rattle.codegen.specs.image_fields.Limits.{most_frame_bytes, most_steps, most_words}
-use Rattle.inline.specs.Flat.{declaration_of}
-use Rattle.inline.specs.FlatSize.{HasLength, declared_words}
-use Rattle.language.specs.Limits.{most_declared_bytes}
-use Rattle.language.specs.declared.signature.Param.{Param}
-use Rattle.language.specs.declared.typing.WordType.{WordType}
 use Rattle.input_files.specs.wrapping.Wrapped.{AreWordsOf, broken_rule, end_of, is_code_length, result_behind}
 use Rattle.input_files.specs.declared.wrapping.asked.Asked.{Asked}
 use Rattle.input_files.specs.declared.wrapping.fault.CodeRule.{CodeRule}

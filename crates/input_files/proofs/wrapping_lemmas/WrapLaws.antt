@@ -2,17 +2,11 @@
 use Rattle.std.proofs.Common.{◌≡◌, ℕ, List, length, map, Option, None, Some, sym, ap, subst, ◌∙◌}
 use Rattle.std.proofs.lemmas.Option.{same_Some}
 use Rattle.input_files.proofs.wrapping_lemmas.Below.{grammatical_export, one_export}
-use Rattle.hepurita.specs.Built.{Judges, accepts, fine, readable}
+use Rattle.input_files.specs.Below.{accepts, Fields, fine, Judges, Param, param_of, ProcedureTree, Profile, ProgramTree}
+use Rattle.input_files.specs.Below.{readable, Spells, WordType}
 use Rattle.image.proofs.Spellings.{one_by_fields}
-use Rattle.image.specs.Reading.{Spells}
-use Rattle.codegen.specs.image_fields.Fields.{Fields}
 use Rattle.inline.proofs.FlatSizes.{flat_is_sized}
-use Rattle.language.specs.Signature.{param_of}
-use Rattle.language.specs.Tree.{ProcedureTree, ProgramTree}
-use Rattle.language.specs.declared.signature.Param.{Param}
-use Rattle.language.specs.declared.typing.WordType.{WordType}
 use Rattle.syntax.specs.Reading.{OneAnswer}
-use Rattle.word.specs.declared.profile.Profile.{Profile}
 use Rattle.input_files.specs.wrapping.Wrapped.{Breaks, IsAskedFor, IsWrapped, broken_rule, end_of}
 use Rattle.input_files.specs.declared.wrapping.asked.Asked.{Asked}
 use Rattle.input_files.specs.declared.wrapping.fault.CodeRule.{CodeRule}

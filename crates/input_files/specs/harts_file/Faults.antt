@@ -1,10 +1,7 @@
 -- Which line of a text is the first that breaks a rule.
 use Rattle.std.specs.Prelude.{◌≡◌, ℕ, ◌+◌, Bool, nat_lt, nat_le, ◌==◌, if◌then◌else◌, List, [], ◌∷◌, ◌++◌, length}
 use Rattle.std.specs.Prelude.{flat_map, filter_map, Option, Some, None}
-use Rattle.hepurita.specs.Bases.{most_images}
-use Rattle.harts.specs.Refused.{most_turns}
-use Rattle.harts.specs.declared.fault.HartsRule.{HartsRule}
-use Rattle.harts.specs.declared.fault.HartsRule.TheVariants.{LineForm, HartCount, NoSuchHart, TooManyTurns}
+use Rattle.input_files.specs.Below.{HartCount, HartsRule, LineForm, most_images, most_turns, NoSuchHart, TooManyTurns}
 use Rattle.input_files.specs.harts_file.Lines.{PlannedHart, PlannedTurns, Said, a_hart, some_turns, lines_of, said_in}
 use Rattle.input_files.specs.harts_file.Plans.{turns_listed, is_known}
 

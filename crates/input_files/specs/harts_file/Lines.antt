@@ -4,7 +4,7 @@ use Rattle.std.specs.Prelude.{Some, None}
 use Rattle.std.specs.List.{slice_split, list_all, list_any}
 use Rattle.std.specs.Option.{option_map, option_and_then}
 use Rattle.std.specs.Str.{bytes_eq}
-use Rattle.language.specs.arguments.Texts.{number_in}
+use Rattle.input_files.specs.Below.{number_in}
 
 -- a hart: the path of its image, and the texts of its arguments
 pub record PlannedHart : Type 0 where

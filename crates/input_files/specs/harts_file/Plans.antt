@@ -2,8 +2,7 @@
 use Rattle.std.specs.Prelude.{◌≡◌, ℕ, ◌≤◌, Bool, true, nat_lt, List, ◌++◌, length, map, replicate, flat_map, All}
 use Rattle.std.specs.Prelude.{Option, Some}
 use Rattle.std.specs.List.{range_with_len, repeat}
-use Rattle.hepurita.specs.Bases.{most_images}
-use Rattle.harts.specs.Refused.{most_turns}
+use Rattle.input_files.specs.Below.{most_images, most_turns}
 use Rattle.input_files.specs.harts_file.Lines.{PlannedHart, PlannedTurns, turns_of, rounds, Said, a_hart, some_turns, said_in}
 
 -- whose turn it is, one after another, where there are so many harts

@@ -3,14 +3,9 @@
 use Rattle.std.specs.Prelude.{◌≡◌, ◌⊎◌, ℕ, ◌<◌, ◌≤◌, List, length, Some, ⊤}
 use Rattle.std.specs.Str.{IsUtf8}
 use Rattle.std.specs.String.{string_bytes}
-use Rattle.hepurita.specs.Told.{IsRefusalOf}
-use Rattle.language.specs.declared.refusal.Refusal.{Refusal}
-use Rattle.language.specs.declared.rule.Rule.TheVariants.{TextTooLong}
+use Rattle.input_files.specs.Below.{IsRefusalOf, IsWantOfMemory, Profile, Refusal, text_limit, TextTooLong}
 use Rattle.language.specs.declared.why.Why.TheVariants.{Plain}
-use Rattle.language.specs.WantOfMemory.{IsWantOfMemory}
-use Rattle.syntax.specs.Limits.{text_limit}
 use Rattle.word.specs.Places.{origin}
-use Rattle.word.specs.declared.profile.Profile.{Profile}
 use Rattle.input_files.specs.declared.stream_build.fault.BuildFault.{BuildFault}
 use Rattle.input_files.specs.declared.stream_build.fault.BuildFault.TheVariants.{Read, NotUtf8, Refused, Write}
 use Rattle.input_files.specs.declared.stream_build.fault.Unbuilt.{Unbuilt}

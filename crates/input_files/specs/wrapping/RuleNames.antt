@@ -1,7 +1,6 @@
 -- What each rule on code is called where it is printed.
 use Rattle.std.specs.Prelude.{ℕ, List, ◌++◌, codes}
-use Rattle.language.specs.Rules.{refusal_text}
-use Rattle.language.specs.declared.refusal.Refusal.{Refusal}
+use Rattle.input_files.specs.Below.{Refusal, refusal_text}
 use Rattle.input_files.specs.declared.wrapping.fault.CodeRule.{CodeRule}
 use Rattle.input_files.specs.declared.wrapping.fault.CodeRule.TheVariants.{Length, Frame, Steps}
 use Rattle.input_files.specs.declared.wrapping.fault.WrapFault.{WrapFault}

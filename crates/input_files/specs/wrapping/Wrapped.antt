@@ -5,18 +5,9 @@ use Rattle.std.specs.Prelude.{None}
 use Rattle.std.specs.List.{flat_map}
 use Rattle.std.specs.Option.{option_map}
 use Rattle.byteorder.specs.Endian.{little_bytes}
-use Rattle.codegen.specs.expression_code.Layout.{slots_from}
-use Rattle.hepurita.specs.Built.{Judges, accepts}
-use Rattle.hepurita.specs.Told.{IsRefusalOf}
-use Rattle.image.specs.Reading.{AreBytes, Spells, is_frame_size, is_step_limit, is_word_count, layout_end}
-use Rattle.codegen.specs.image_fields.Fields.{Fields, IsImage, slots_end}
-use Rattle.codegen.specs.declared.image_fields.slot.ResultSlot.{ResultSlot}
-use Rattle.language.specs.Signature.{param_of}
-use Rattle.language.specs.Tree.{ProcedureTree, ProgramTree}
-use Rattle.language.specs.WantOfMemory.{IsWantOfMemory}
-use Rattle.language.specs.declared.refusal.Refusal.{Refusal}
-use Rattle.language.specs.declared.signature.Param.{Param}
-use Rattle.language.specs.declared.typing.WordType.{WordType}
+use Rattle.input_files.specs.Below.{accepts, AreBytes, Fields, is_frame_size, is_step_limit, is_word_count, IsImage}
+use Rattle.input_files.specs.Below.{IsRefusalOf, IsWantOfMemory, Judges, layout_end, Param, param_of, ProcedureTree}
+use Rattle.input_files.specs.Below.{ProgramTree, Refusal, ResultSlot, slots_end, slots_from, Spells, WordType}
 use Rattle.input_files.specs.declared.wrapping.asked.Asked.{Asked}
 use Rattle.input_files.specs.declared.wrapping.fault.CodeRule.{CodeRule}
 use Rattle.input_files.specs.declared.wrapping.fault.CodeRule.TheVariants.{Length, Frame, Steps}

@@ -2,7 +2,7 @@
 
 ghost use Rattle.std.specs.Prelude.{◌≡◌};
 ghost use Rattle.std.specs.Option.{option_map};
-ghost use Rattle.language.specs.arguments.Texts.{number_in};
+ghost use Rattle.input_files.specs.Below.{number_in};
 ghost use Rattle.input_files.specs.harts_file.private.Reading.{held_number};
 
 /// The number that decimal digits spell. One past the greatest `u64` is given as that.

@@ -1,8 +1,7 @@
 // Plans: harts, and the order of their turns.
 
 ghost use Rattle.std.specs.Prelude.{◌≡◌, ◌<◌, ◌≤◌, ℕ, All, map, vec_len, IfOk, Err};
-ghost use Rattle.harts.specs.Refused.{most_turns};
-ghost use Rattle.hepurita.specs.Bases.{most_images};
+ghost use Rattle.input_files.specs.Below.{most_images, most_turns};
 ghost use Rattle.input_files.specs.harts_file.Plans.{IsPlan};
 ghost use Rattle.input_files.specs.harts_file.Faults.{IsFault};
 ghost use Rattle.input_files.specs.harts_file.Jobs.{hart_of};

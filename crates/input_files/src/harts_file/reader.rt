@@ -1,8 +1,7 @@
 // What has been read of a plan.
 
 ghost use Rattle.std.specs.Prelude.{◌≤◌, vec_len};
-ghost use Rattle.harts.specs.Refused.{most_turns};
-ghost use Rattle.hepurita.specs.Bases.{most_images};
+ghost use Rattle.input_files.specs.Below.{most_images, most_turns};
 
 use crate::harts_file::jobs::Job;
 

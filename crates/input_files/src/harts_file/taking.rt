@@ -2,7 +2,7 @@
 
 ghost use Rattle.std.specs.Prelude.{◌≡◌, ◌≢◌, ◌+◌, ◌-◌, ◌*◌, ◌≤◌, ◌++◌, true, length, map, vec_len, Some, None, IfOk, [], replicate};
 ghost use Rattle.std.specs.List.{range_with_len, repeat};
-ghost use Rattle.harts.specs.Refused.{most_turns};
+ghost use Rattle.input_files.specs.Below.{most_turns};
 ghost use Rattle.input_files.specs.harts_file.Lines.{turns_of, rounds, a_hart, some_turns, said_of};
 ghost use Rattle.input_files.specs.harts_file.Faults.{given_from, rule_of, rule_of_said};
 ghost use Rattle.input_files.specs.harts_file.Jobs.{hart_of};

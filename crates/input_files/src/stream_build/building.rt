@@ -1,10 +1,7 @@
 // The image of a text that a source hands out, on a sink.
 
 ghost use Rattle.std.specs.Prelude.{◌≡◌, ◌≢◌, ◌+◌, length, IsTrue, IfOk, IfErr, OnOk, IsErrOf};
-ghost use Rattle.streams.specs.Streams.{LosesPart, Writes, WritesPart};
-ghost use Rattle.syntax.specs.Limits.{text_limit};
-ghost use Rattle.word.specs.Counts.{one_more};
-ghost use Rattle.hepurita.specs.Built.{IsBuilt};
+ghost use Rattle.input_files.specs.Below.{IsBuilt, LosesPart, one_more, text_limit, Writes, WritesPart};
 ghost use Rattle.input_files.specs.stream_build.Faults.{IsText, IsFaultOf, IsUnbuilt};
 
 use crate::stream_build::fault::{BuildFault, Unbuilt};

@@ -1,10 +1,8 @@
 // What is written for one text is one list of bytes.
 
 ghost use Rattle.std.specs.Prelude.{◌≡◌, ℕ, List, ◌++◌};
-ghost use Rattle.hepurita.specs.Built.{IsBuilt};
+ghost use Rattle.input_files.specs.Below.{GainsPart, IsBuilt, Profile, Writes, WritesPart};
 ghost use Rattle.hepurita.specs.declared.optimised.Optimisation.{Optimisation};
-ghost use Rattle.streams.specs.Streams.{GainsPart, Writes, WritesPart};
-ghost use Rattle.word.specs.declared.profile.Profile.{Profile};
 
 use hepurita::builds_agree;
 

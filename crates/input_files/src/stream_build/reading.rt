@@ -2,9 +2,7 @@
 
 ghost use Rattle.std.specs.Prelude.{◌≡◌, ◌≢◌, ℕ, ◌+◌, ◌≤◌, Err, List, length, take, IsTrue, IfOk, IfErr, IsErrOf};
 ghost use Rattle.std.specs.String.{string_bytes};
-ghost use Rattle.streams.specs.Streams.{LosesPart};
-ghost use Rattle.syntax.specs.Limits.{text_limit};
-ghost use Rattle.word.specs.Counts.{one_more};
+ghost use Rattle.input_files.specs.Below.{LosesPart, one_more, text_limit};
 ghost use Rattle.input_files.specs.stream_build.Faults.{NoText};
 
 use crate::stream_build::fault::BuildFault;

@@ -1,7 +1,7 @@
 // Which rule code, frame and steps break first.
 
 ghost use Rattle.std.specs.Prelude.{◌≡◌, length};
-ghost use Rattle.image.specs.Reading.{is_frame_size, is_step_limit};
+ghost use Rattle.input_files.specs.Below.{is_frame_size, is_step_limit};
 ghost use Rattle.input_files.specs.wrapping.Wrapped.{is_code_length, broken_rule};
 
 use crate::wrapping::asked::Asked;

@@ -1,8 +1,7 @@
 // Where an export's parameters and its result lie in the frame.
 
 ghost use Rattle.std.specs.Prelude.{◌≡◌, ◌+◌, ◌<◌, ◌^◌};
-ghost use Rattle.image.specs.Reading.{layout_end};
-ghost use Rattle.codegen.specs.image_fields.Fields.{slots_end};
+ghost use Rattle.input_files.specs.Below.{layout_end, slots_end};
 ghost use Rattle.input_files.specs.wrapping.Wrapped.{result_behind};
 
 use codegen::image_fields::{ResultSlot, Slot};

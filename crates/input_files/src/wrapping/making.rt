@@ -2,10 +2,7 @@
 
 ghost use Rattle.std.specs.Prelude.{◌≡◌, ◌≤◌, ◌*◌, map, length, Some, IfOk, IfErr};
 ghost use Rattle.std.specs.List.{AllByRecursion};
-ghost use Rattle.inline.specs.Flat.{declaration_of};
-ghost use Rattle.inline.specs.FlatSize.{HasLength, declared_words};
-ghost use Rattle.language.specs.Limits.{most_declared_bytes};
-ghost use Rattle.language.specs.declared.signature.Param.{Param};
+ghost use Rattle.input_files.specs.Below.{declaration_of, declared_words, HasLength, most_declared_bytes, Param};
 ghost use Rattle.input_files.specs.wrapping.Wrapped.{IsAskedFor, IsWrapped, IsFaultOf, IsUnlessMemory, broken_rule, end_of};
 
 use crate::wrapping::asked::Asked;

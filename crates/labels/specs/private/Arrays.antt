@@ -1,7 +1,7 @@
 -- What is kept of the arrays that the arguments of a call are, each with the place of the first parameter for which it is
 -- given.
 use Rattle.std.specs.Prelude.{ℕ, Bool, List, Option, Some, None, if◌then◌else◌}
-use Rattle.word.specs.declared.place.Place.{Place}
+use Rattle.labels.specs.Below.{Place}
 use Rattle.language.specs.names.Scope.{declared, found}
 
 -- arrays with one more argument's, where it is one

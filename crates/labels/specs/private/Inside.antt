@@ -1,10 +1,7 @@
 -- What a procedure violates after its name.
 use Rattle.std.specs.Prelude.{List, ◌++◌, None}
-use Rattle.language.specs.declared.typing.Violation.{Violation}
-use Rattle.language.specs.Tree.{ProcedureTree}
-use Rattle.language.specs.Types.{Scope}
-use Rattle.language.specs.Typing.{block_violations, parameter_violations, return_violations, scope_after_all}
-use Rattle.language.specs.Typing.{with_parameters}
+use Rattle.labels.specs.Below.{block_violations, parameter_violations, ProcedureTree, return_violations, Scope}
+use Rattle.labels.specs.Below.{scope_after_all, Violation, with_parameters}
 
 -- at its parameters, in its body and at its `return`, in the scope that has its name
 abbrev pub inside_violations : List ProcedureTree → Scope → ProcedureTree → List Violation

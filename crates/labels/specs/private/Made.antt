@@ -1,9 +1,7 @@
 -- What is made of operands that are well typed.
 use Rattle.std.specs.Prelude.{None, Option}
 use Rattle.std.specs.Option.{option_map, option_or}
-use Rattle.language.specs.declared.typing.ValueType.{ValueType}
-use Rattle.language.specs.declared.why.Typed.{Typed}
-use Rattle.language.specs.Types.{typed_as}
+use Rattle.labels.specs.Below.{Typed, typed_as, ValueType}
 
 -- a value of a type that is made of theirs: the first secret name in it is the first in them, and it is no number
 abbrev pub of_operand : (ValueType → Option ValueType) → Typed → Option Typed

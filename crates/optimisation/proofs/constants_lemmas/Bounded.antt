@@ -4,22 +4,9 @@
 use Rattle.std.proofs.Common.{◌≡◌, ℕ, ◌<◌, ◌^◌, true, sym, subst, arith}
 use Rattle.std.proofs.lemmas.Bool.{false≢true}
 use Rattle.inline.proofs.Fitting.{fits_number}
-use Rattle.inline.specs.Fitting.{IsWithinKind}
-use Rattle.inline.specs.Flat.{TermTree, prefix, binary}
-use Rattle.inline.specs.FlatMeaning.{Values, value_in}
-use Rattle.language.specs.declared.operators.BinaryOperator.{BinaryOperator}
-use Rattle.language.specs.declared.operators.BinaryOperator.TheVariants.{ShiftRight, Divide, Remainder}
-use Rattle.language.specs.declared.operators.PrefixOperator.{PrefixOperator}
-use Rattle.language.specs.declared.operators.PrefixOperator.TheVariants.{Not}
-use Rattle.language.specs.declared.signature.Kind.{Kind}
-use Rattle.language.specs.declared.signature.Kind.TheVariants.{Boolean}
-use Rattle.language.specs.declared.typing.WordType.{WordType}
-use Rattle.language.specs.Operators.{divides, operation_of, width_of}
-use Rattle.language.specs.WellTyped.{Makes, Takes, division}
-use Rattle.word.specs.Widths.{IsWord}
-use Rattle.word.specs.declared.profile.Profile.{Profile}
-use Rattle.word.specs.declared.width.Width.{Width}
-use Rattle.word.specs.declared.width.Width.TheVariants.{W32}
+use Rattle.optimisation.specs.Below.{binary, BinaryOperator, Boolean, Divide, divides, division, IsWithinKind, IsWord}
+use Rattle.optimisation.specs.Below.{Kind, Makes, Not, operation_of, prefix, PrefixOperator, Profile, Remainder}
+use Rattle.optimisation.specs.Below.{ShiftRight, Takes, TermTree, value_in, Values, W32, Width, width_of, WordType}
 
 abbrev pub IsNegated : PrefixOperator → ℕ → Type 0
 IsNegated Not v = v < 2

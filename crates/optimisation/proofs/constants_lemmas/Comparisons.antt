@@ -3,14 +3,8 @@ use Rattle.std.proofs.Common.{◌≡◌, ℕ, ◌==◌, ◌<◌, Bool, true, fal
 use Rattle.std.proofs.Common.{arith}
 use Rattle.std.proofs.lemmas.Bool.Decides.{nat_tests}
 use Rattle.std.specs.Option.{option_and}
-use Rattle.inline.specs.FlatMeaning.{marks_of}
-use Rattle.language.specs.declared.operators.BinaryOperator.{BinaryOperator}
-use Rattle.language.specs.declared.operators.BinaryOperator.TheVariants.{Equal, Unequal, Less, LessOrEqual, Greater}
-use Rattle.language.specs.declared.operators.BinaryOperator.TheVariants.{GreaterOrEqual}
-use Rattle.language.specs.Operators.{operated, opposite_of, truth_of, turned_of}
-use Rattle.word.specs.declared.place.Place.{Place}
-use Rattle.word.specs.declared.width.Width.{Width}
-use Rattle.word.specs.Operators.{word_of}
+use Rattle.optimisation.specs.Below.{BinaryOperator, Equal, Greater, GreaterOrEqual, Less, LessOrEqual, marks_of}
+use Rattle.optimisation.specs.Below.{operated, opposite_of, Place, truth_of, turned_of, Unequal, Width, word_of}
 use Rattle.optimisation.proofs.constants_lemmas.Bounded.{IsMoved}
 use Rattle.optimisation.proofs.constants_lemmas.Identities.{truth_again}
 

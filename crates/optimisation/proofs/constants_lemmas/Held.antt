@@ -4,22 +4,14 @@ use Rattle.std.proofs.Common.{◌∷◌, map, replicate, All, slice_get, slice_s
 use Rattle.std.proofs.lemmas.Bool.{cond_both}
 use Rattle.std.proofs.lemmas.List.{length-set, length-replicate, length-map}
 use Rattle.std.proofs.lemmas.List.Elements.{All-nil, All-cons, All-set, All-replicate}
-use Rattle.inline.specs.declared.flat.FlatVariable.{FlatVariable}
-use Rattle.inline.specs.Fitting.{IsWithinKind, Fits}
-use Rattle.inline.specs.Flat.{TermTree, counter_type, word_as, array_as}
-use Rattle.inline.specs.FlatMeaning.{Values, value_in}
-use Rattle.inline.specs.FlatTyping.{Types, types_of, AllSuit}
+use Rattle.optimisation.specs.Below.{after, after_all, AllSuit, AreTyped, array, array_as, bits_of, branch, counted}
+use Rattle.optimisation.specs.Below.{counter_type, first, Fits, FlatVariable, holds, IsTyped, IsWithinKind, nothing}
+use Rattle.optimisation.specs.Below.{Profile, put, repeats, set, StraightBlock, StraightState, StraightTree, take}
+use Rattle.optimisation.specs.Below.{TermTree, Types, types_but, types_of, value_at, value_in, Values, with_element}
+use Rattle.optimisation.specs.Below.{with_variable, word_as, WordType}
 use Rattle.inline.proofs.Face.{turns_keep}
 use Rattle.inline.proofs.Fitting.{value_fits, suited_fits, some_bit}
 use Rattle.inline.proofs.FittingBodies.{fits_assigned, one_held}
-use Rattle.branch_removal.specs.Straight.{StraightTree, set, array, put, take, branch, repeats}
-use Rattle.branch_removal.specs.Straight.{StraightBlock, nothing, first}
-use Rattle.branch_removal.specs.StraightMeaning.{StraightState, holds, value_at, with_variable, with_element}
-use Rattle.branch_removal.specs.StraightMeaning.{counted, after, after_all}
-use Rattle.branch_removal.specs.StraightTyping.{types_but, IsTyped, AreTyped}
-use Rattle.language.specs.declared.typing.WordType.{WordType}
-use Rattle.language.specs.Types.{bits_of}
-use Rattle.word.specs.declared.profile.Profile.{Profile}
 use Rattle.optimisation.proofs.over_lemmas.Variables.{but_within}
 
 -- first values of an array

@@ -6,18 +6,10 @@ use Rattle.std.proofs.lemmas.Bool.{eqb-true, eqb-false, false≢true}
 use Rattle.std.proofs.lemmas.Nat.{and_comm, and_mask}
 use Rattle.std.specs.Int.Bits.{or_zero_l, or_zero_r, xor_zero_l, xor_zero_r}
 use Rattle.inline.proofs.Fitting.{fits_number}
-use Rattle.inline.specs.Fitting.{IsWithinKind}
-use Rattle.language.specs.declared.operators.BinaryOperator.{BinaryOperator}
-use Rattle.language.specs.declared.operators.BinaryOperator.TheVariants.{Either, Both, BitOr, BitXor, BitAnd, ShiftLeft}
-use Rattle.language.specs.declared.operators.BinaryOperator.TheVariants.{ShiftRight, Add, Subtract, Multiply, Divide}
-use Rattle.language.specs.declared.typing.WordType.{WordType}
-use Rattle.language.specs.Operators.{operation_of, operated, truth_of, width_of}
-use Rattle.language.specs.WellTyped.{Makes, arithmetic, multiplication, shift, logic}
-use Rattle.word.specs.declared.profile.Profile.{Profile}
-use Rattle.word.specs.declared.width.Width.{Width}
-use Rattle.word.specs.declared.width.Width.TheVariants.{W8, W16, W32}
-use Rattle.word.specs.Operators.{complemented, difference, word_of}
-use Rattle.word.specs.Widths.{IsWord, bits}
+use Rattle.optimisation.specs.Below.{Add, arithmetic, BinaryOperator, BitAnd, BitOr, bits, BitXor, Both, complemented}
+use Rattle.optimisation.specs.Below.{difference, Divide, Either, IsWithinKind, IsWord, logic, Makes, multiplication}
+use Rattle.optimisation.specs.Below.{Multiply, operated, operation_of, Profile, shift, ShiftLeft, ShiftRight, Subtract}
+use Rattle.optimisation.specs.Below.{truth_of, W16, W32, W8, Width, width_of, word_of, WordType}
 use Rattle.optimisation.specs.constants.private.Folding.{is_left_identity, is_right_identity}
 
 -- Words.

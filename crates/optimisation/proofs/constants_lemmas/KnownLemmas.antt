@@ -8,9 +8,7 @@ use Rattle.std.proofs.lemmas.Bool.{cond_both, eqb-true, eqb-false, not-true, or_
 use Rattle.std.proofs.lemmas.List.Elements.{All-contains, All-contains_itself, All-filter, Contains-push_cases}
 use Rattle.std.proofs.lemmas.List.Elements.{filter_passes}
 use Rattle.std.proofs.lemmas.Option.{cond_some, none-some}
-use Rattle.inline.specs.Fitting.{Fits}
-use Rattle.inline.specs.FlatMeaning.{Values}
-use Rattle.inline.specs.FlatTyping.{Types}
+use Rattle.optimisation.specs.Below.{Fits, Types, Values}
 use Rattle.optimisation.specs.declared.constants.known.Constant.{Constant}
 use Rattle.optimisation.specs.declared.constants.known.WordCopy.{WordCopy}
 use Rattle.optimisation.specs.constants.private.Known.{Words, known, word_at, source_in, is_apart, with_word, without}

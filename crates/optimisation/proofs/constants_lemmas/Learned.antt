@@ -2,16 +2,10 @@
 use Rattle.std.proofs.Common.{◌≡◌, ℕ, ◌<◌, ◌==◌, Bool, not, List, [], ◌∷◌, Option, None, Some, slice_index, sym, ap}
 use Rattle.std.proofs.Common.{◌∙◌}
 use Rattle.std.proofs.lemmas.Option.{same_Some}
-use Rattle.word.specs.declared.profile.Profile.{Profile}
-use Rattle.language.specs.declared.typing.WordType.{WordType}
+use Rattle.optimisation.specs.Below.{after, after_all, AreTyped, counted, counter_type, FlatVariable, HasType, Profile}
+use Rattle.optimisation.specs.Below.{StraightBlock, StraightState, StraightTree, TermTree, Types, types_of, value_at}
+use Rattle.optimisation.specs.Below.{value_in, Values, with_value, WordType}
 use Rattle.inline.proofs.Face.{with_value-other, with_value-same}
-use Rattle.inline.specs.declared.flat.FlatVariable.{FlatVariable}
-use Rattle.inline.specs.Flat.{TermTree, counter_type}
-use Rattle.inline.specs.FlatMeaning.{Values, with_value, value_in}
-use Rattle.inline.specs.FlatTyping.{Types, types_of, HasType}
-use Rattle.branch_removal.specs.Straight.{StraightTree, StraightBlock}
-use Rattle.branch_removal.specs.StraightMeaning.{StraightState, value_at, counted, after, after_all}
-use Rattle.branch_removal.specs.StraightTyping.{AreTyped}
 use Rattle.optimisation.specs.declared.constants.known.Constant.{Constant}
 use Rattle.optimisation.specs.constants.private.Folding.{simple, constant, constant_of, decision}
 use Rattle.optimisation.specs.constants.private.Known.{Words, behind, in_loop, with_word}

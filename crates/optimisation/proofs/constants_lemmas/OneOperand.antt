@@ -4,12 +4,8 @@ use Rattle.std.proofs.Math.Dec.{leb-zero}
 use Rattle.std.proofs.lemmas.Bool.{and_right, eqb-true, le-ltb, or_right}
 use Rattle.std.proofs.lemmas.Option.{none-some, same_Some}
 use Rattle.std.specs.Bool.{then_some}
-use Rattle.language.specs.declared.operators.BinaryOperator.{BinaryOperator}
-use Rattle.language.specs.declared.operators.BinaryOperator.TheVariants.{Either, Both, Less, LessOrEqual, Greater}
-use Rattle.language.specs.declared.operators.BinaryOperator.TheVariants.{GreaterOrEqual}
-use Rattle.language.specs.Operators.{operated, truth_of}
-use Rattle.word.specs.declared.width.Width.{Width}
-use Rattle.word.specs.Operators.{word_of}
+use Rattle.optimisation.specs.Below.{BinaryOperator, Both, Either, Greater, GreaterOrEqual, Less, LessOrEqual, operated}
+use Rattle.optimisation.specs.Below.{truth_of, Width, word_of}
 use Rattle.optimisation.specs.constants.private.Folding.{decided_by_left, decided_by_right}
 
 -- a bool under a test

@@ -3,8 +3,7 @@ use Rattle.std.proofs.Common.{◌≡◌, ℕ, ◌/◌, ◌^◌, ◌==◌, ◌<�
 use Rattle.std.proofs.Math.Nat.{div-le_self}
 use Rattle.std.proofs.lemmas.Bool.{and_parts, cond_both, eqb-true, ltb-true}
 use Rattle.std.specs.Int.Count.{count_trailing_zeros}
-use Rattle.word.specs.declared.width.Width.{Width}
-use Rattle.word.specs.Widths.{IsWord, bits}
+use Rattle.optimisation.specs.Below.{bits, IsWord, Width}
 use Rattle.optimisation.specs.constants.private.Powers.{exponent_of}
 
 pub record IsPower (n k : ℕ) : Type 0 where

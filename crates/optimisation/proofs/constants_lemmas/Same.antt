@@ -2,18 +2,12 @@
 -- is.
 use Rattle.std.proofs.Common.{◌≡◌, ℕ, zero, suc, ◌+◌, ◌-◌, ◌<◌, ◌≤◌, ◌==◌, Bool, true, false, if◌then◌else◌, List, ◌∷◌}
 use Rattle.std.proofs.Common.{◌++◌, Option, None, Some, refl, sym, ap, ap₂, ◌∙◌, subst, arith}
-use Rattle.word.specs.declared.profile.Profile.{Profile}
+use Rattle.optimisation.specs.Below.{after, after_all, AreTyped, array, bounded, branch, chain, counted, counter_type}
+use Rattle.optimisation.specs.Below.{decided as decided_mark, first, FlatVariable, holds as holds_under, IsFilled}
+use Rattle.optimisation.specs.Below.{IsSet, IsTyped, nothing, number, Path, path_along, path_at, path_in, path_of_turns}
+use Rattle.optimisation.specs.Below.{Profile, put, repeats, set, StraightBlock, StraightState, StraightTree, take}
+use Rattle.optimisation.specs.Below.{TermTree, turns, Types, types_but, types_of, value_at, with_element, with_variable}
 use Rattle.inline.proofs.Fitting.{value_fits}
-use Rattle.inline.specs.declared.flat.FlatVariable.{FlatVariable}
-use Rattle.inline.specs.Flat.{TermTree, number, counter_type}
-use Rattle.inline.specs.FlatMeaning.{path_in, turns, path_of_turns}
-use Rattle.inline.specs.FlatTyping.{Types, types_of}
-use Rattle.inline.specs.Path.{Path, decided as decided_mark, bounded}
-use Rattle.branch_removal.specs.Straight.{StraightTree, set, array, put, take, branch, repeats, StraightBlock, nothing}
-use Rattle.branch_removal.specs.Straight.{first, chain}
-use Rattle.branch_removal.specs.StraightMeaning.{StraightState, holds as holds_under, with_variable, with_element}
-use Rattle.branch_removal.specs.StraightMeaning.{value_at, counted, after, after_all, path_at, path_along}
-use Rattle.branch_removal.specs.StraightTyping.{types_but, IsFilled, IsSet, IsTyped, AreTyped}
 use Rattle.branch_removal.proofs.Sequences.{after-chain, path-chain, fine_back}
 use Rattle.optimisation.specs.constants.private.Folding.{simple}
 use Rattle.optimisation.specs.constants.private.Known.{Words, behind, in_loop, without}

@@ -2,9 +2,7 @@
 -- they may become holds of what they become.
 use Rattle.std.proofs.Common.{◌≡◌, ℕ, ◌-◌, Bool, true, false, List, Option, None, Some, slice_index, nat_le, refl}
 use Rattle.std.proofs.lemmas.Bool.{cond_both}
-use Rattle.inline.specs.declared.flat.FlatVariable.{FlatVariable}
-use Rattle.inline.specs.Flat.{TermTree}
-use Rattle.branch_removal.specs.Straight.{branch, repeats, StraightBlock}
+use Rattle.optimisation.specs.Below.{branch, FlatVariable, repeats, StraightBlock, TermTree}
 use Rattle.optimisation.specs.declared.constants.known.Constant.{Constant}
 use Rattle.optimisation.specs.declared.constants.terms.Numbers.{Numbers}
 use Rattle.optimisation.specs.constants.private.Folding.{simple, constant_of, decision, numbers_of}

@@ -2,12 +2,9 @@
 use Rattle.std.proofs.Common.{◌≡◌, ℕ, List, [], ◌∷◌, map, slice_index, Option, None, Some, option_map, refl, sym, ap}
 use Rattle.std.proofs.Common.{◌∙◌, subst}
 use Rattle.inline.proofs.Fitting.{value_fits}
-use Rattle.inline.specs.Fitting.{IsWithinKind}
-use Rattle.inline.specs.Flat.{TermTree, variable}
-use Rattle.inline.specs.FlatMeaning.{Values, value_in}
-use Rattle.inline.specs.FlatTyping.{Types, HasType, of_number, of_truth, of_variable, of_prefix, of_binary, of_rotation}
-use Rattle.inline.specs.FlatTyping.{of_conversion, of_selection, of_element, Suits, AllSuit, IsResult}
-use Rattle.language.specs.declared.typing.WordType.{WordType}
+use Rattle.optimisation.specs.Below.{AllSuit, HasType, IsResult, IsWithinKind, of_binary, of_conversion, of_element}
+use Rattle.optimisation.specs.Below.{of_number, of_prefix, of_rotation, of_selection, of_truth, of_variable, Suits}
+use Rattle.optimisation.specs.Below.{TermTree, Types, value_in, Values, variable, WordType}
 use Rattle.optimisation.specs.declared.constants.known.Constant.{Constant}
 use Rattle.optimisation.specs.constants.private.Folding.{known_or, simple}
 use Rattle.optimisation.specs.constants.private.Known.{Words, known, source_in}

@@ -9,25 +9,13 @@ use Rattle.std.proofs.lemmas.Nat.{and_mask}
 use Rattle.std.proofs.lemmas.Option.{none-some, option_and_then_some, same_Some}
 use Rattle.std.specs.Option.{option_and, option_and_then, option_or}
 use Rattle.inline.proofs.Fitting.{wrapped_fits}
-use Rattle.inline.specs.Flat.{TermTree, number, truth, prefix, binary, rotate, convert, select}
-use Rattle.inline.specs.FlatMeaning.{Values, value_in, path_in, marks_of}
-use Rattle.inline.specs.Path.{Path, multiplied}
+use Rattle.optimisation.specs.Below.{binary, BinaryOperator, BitAnd, bits, convert, converted, Divide, divides, IsWord}
+use Rattle.optimisation.specs.Below.{Kind, marks_of, multiplied, Multiply, Not, number, operated, operation_kind}
+use Rattle.optimisation.specs.Below.{operation_of, opposite_of, Path, path_in, Place, prefix, prefix_value}
+use Rattle.optimisation.specs.Below.{PrefixOperator, Remainder, rotate, rotated_left, select, ShiftLeft, ShiftRight}
+use Rattle.optimisation.specs.Below.{TermTree, truth, truth_of, turned_of, Uint32, value_in, Values, W32, Width}
+use Rattle.optimisation.specs.Below.{width_of, word_of}
 use Rattle.branch_removal.proofs.Sequences.{fine_both, fine_front, fine_back}
-use Rattle.language.specs.declared.operators.BinaryOperator.{BinaryOperator}
-use Rattle.language.specs.declared.operators.BinaryOperator.TheVariants.{BitAnd, ShiftLeft, ShiftRight, Multiply}
-use Rattle.language.specs.declared.operators.BinaryOperator.TheVariants.{Divide, Remainder}
-use Rattle.language.specs.declared.operators.PrefixOperator.{PrefixOperator}
-use Rattle.language.specs.declared.operators.PrefixOperator.TheVariants.{Not}
-use Rattle.language.specs.declared.signature.Kind.{Kind}
-use Rattle.language.specs.declared.signature.Kind.TheVariants.{Uint32}
-use Rattle.language.specs.ExprTyping.{operation_kind}
-use Rattle.language.specs.Operators.{divides, operated, operation_of, opposite_of, prefix_value, truth_of, turned_of}
-use Rattle.language.specs.Operators.{width_of}
-use Rattle.word.specs.Operators.{rotated_left, converted, word_of}
-use Rattle.word.specs.Widths.{IsWord, bits}
-use Rattle.word.specs.declared.place.Place.{Place}
-use Rattle.word.specs.declared.width.Width.{Width}
-use Rattle.word.specs.declared.width.Width.TheVariants.{W32}
 use Rattle.optimisation.specs.declared.constants.fields.Field.{Field}
 use Rattle.optimisation.specs.declared.constants.known.Constant.{Constant}
 use Rattle.optimisation.specs.constants.private.Fields.{amount_of, cleared_by, field_of, field_within, mask_of}

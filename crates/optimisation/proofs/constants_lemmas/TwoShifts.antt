@@ -5,13 +5,8 @@ use Rattle.std.proofs.Math.Nat.{div-le_self, mod-eq_of_lt, mod-le, mul-div-mul_r
 use Rattle.std.proofs.lemmas.Bool.{and_parts, cond_both, eqb-true, ltb-true, or_cases}
 use Rattle.std.proofs.lemmas.Nat.{and_mask, div-mul-add, mod-pow-add, mod_below, pow-add, pow_pos}
 use Rattle.std.specs.Int.Count.{count_leading_zeros}
-use Rattle.inline.specs.Flat.{TermTree, number, binary}
-use Rattle.inline.specs.FlatMeaning.{Values, value_in}
-use Rattle.language.specs.declared.operators.BinaryOperator.TheVariants.{ShiftLeft}
-use Rattle.word.specs.declared.place.Place.{Place}
-use Rattle.word.specs.declared.width.Width.{Width}
-use Rattle.word.specs.declared.width.Width.TheVariants.{W32}
-use Rattle.word.specs.Operators.{shifted_left, shifted_right}
+use Rattle.optimisation.specs.Below.{binary, number, Place, shifted_left, shifted_right, ShiftLeft, TermTree, value_in}
+use Rattle.optimisation.specs.Below.{Values, W32, Width}
 use Rattle.optimisation.specs.declared.constants.known.Constant.{Constant}
 use Rattle.optimisation.specs.declared.constants.fields.Field.{Field}
 use Rattle.optimisation.specs.constants.private.Fields.{cleared_by, field_within, lifted, moved}

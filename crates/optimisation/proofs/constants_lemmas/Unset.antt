@@ -2,14 +2,10 @@
 use Rattle.std.proofs.Common.{◌≡◌, ℕ, zero, suc, ◌+◌, ◌-◌, ◌==◌, Bool, true, false, if◌then◌else◌, List, [], ◌∷◌}
 use Rattle.std.proofs.Common.{inl, Option, None, Some, refl, ◌∙◌}
 use Rattle.std.proofs.lemmas.Bool.{cond_both}
-use Rattle.inline.specs.declared.flat.FlatVariable.{FlatVariable}
-use Rattle.inline.specs.Flat.{TermTree}
-use Rattle.inline.specs.FlatMeaning.{turns}
+use Rattle.optimisation.specs.Below.{after, after_all, array, branch, counted, first, FlatVariable, holds, nothing, put}
+use Rattle.optimisation.specs.Below.{repeats, set, StraightBlock, StraightState, StraightTree, take, TermTree, turns}
+use Rattle.optimisation.specs.Below.{value_at, with_variable}
 use Rattle.inline.proofs.Face.{turns_keep, with_value-other}
-use Rattle.branch_removal.specs.Straight.{StraightTree, set, array, put, take, branch, repeats}
-use Rattle.branch_removal.specs.Straight.{StraightBlock, nothing, first}
-use Rattle.branch_removal.specs.StraightMeaning.{StraightState, holds, with_variable, value_at, counted}
-use Rattle.branch_removal.specs.StraightMeaning.{after, after_all}
 use Rattle.optimisation.specs.constants.private.Folding.{simple}
 use Rattle.optimisation.specs.constants.private.Known.{Words, without, all_short, behind, forgotten, forgotten_all}
 use Rattle.optimisation.specs.constants.private.Known.{in_loop}

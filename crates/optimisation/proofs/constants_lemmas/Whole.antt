@@ -1,16 +1,9 @@
 -- The simpler program may stand in the place of the program.
 use Rattle.std.proofs.Common.{◌≡◌, ℕ, List, length, Option, sym, ap, ◌∙◌, subst}
-use Rattle.inline.specs.FlatMeaning.{Values, results_of, path_of_result}
-use Rattle.inline.specs.FlatTyping.{Types, types_of}
+use Rattle.optimisation.specs.Below.{after_all, AreWithin, Arg, end_of, IsReplaced, IsStraight, IsTypedStraight}
+use Rattle.optimisation.specs.Below.{outcome_of, path_along, path_of, path_of_result, results_of, start}
+use Rattle.optimisation.specs.Below.{StraightProgram, StraightState, Types, types_of, Values}
 use Rattle.inline.proofs.FittingBodies.{given_fits}
-use Rattle.language.specs.arguments.Within.{AreWithin}
-use Rattle.language.specs.declared.values.Arg.{Arg}
-use Rattle.branch_removal.specs.Kept.{IsStraight}
-use Rattle.branch_removal.specs.Replaced.{IsReplaced}
-use Rattle.branch_removal.specs.StraightTyping.{IsTypedStraight}
-use Rattle.branch_removal.specs.Straight.{StraightProgram}
-use Rattle.branch_removal.specs.StraightMeaning.{StraightState, after_all, start, end_of, outcome_of, path_of}
-use Rattle.branch_removal.specs.StraightMeaning.{path_along}
 use Rattle.optimisation.specs.constants.private.Known.{Words}
 use Rattle.optimisation.specs.constants.private.Simplification.{knowing_all, simplified_all, nothing_known}
 use Rattle.optimisation.specs.constants.private.Simplification.{simplified_program}

@@ -2,15 +2,10 @@
 use Rattle.std.proofs.Common.{◌≡◌, ℕ, zero, suc, ◌+◌, ◌<◌, ◌≤◌, List, [], ◌∷◌, map, drop, length, Some}
 use Rattle.std.proofs.Common.{slice_get, slice_index, refl, sym, ap, ◌∙◌, arith}
 use Rattle.std.proofs.lemmas.List.{length-map, length-replicate}
-use Rattle.inline.specs.declared.flat.FlatVariable.{FlatVariable}
-use Rattle.inline.specs.Flat.{TermTree}
-use Rattle.inline.specs.FlatMeaning.{Values, with_value, value_in, elements, path_in_all}
-use Rattle.inline.specs.FlatTyping.{HasCount}
+use Rattle.optimisation.specs.Below.{after_all, elements, FlatVariable, HasCount, Kind, path_along, path_in_all}
+use Rattle.optimisation.specs.Below.{Profile, StraightBlock, StraightState, TermTree, value_at, value_in, Values}
+use Rattle.optimisation.specs.Below.{with_value, with_variable}
 use Rattle.inline.proofs.Face.{with_value-other, with_value-same}
-use Rattle.branch_removal.specs.Straight.{StraightBlock}
-use Rattle.branch_removal.specs.StraightMeaning.{StraightState, with_variable, value_at, after_all, path_along}
-use Rattle.language.specs.declared.signature.Kind.{Kind}
-use Rattle.word.specs.declared.profile.Profile.{Profile}
 use Rattle.optimisation.specs.declared.element_words.parts.Part.{Part}
 use Rattle.optimisation.specs.element_words.private.Parts.{Parts, part_of}
 use Rattle.optimisation.specs.element_words.private.Splitting.{split, first_value, given_words}

@@ -5,8 +5,7 @@ use Rattle.std.proofs.Common.{arith}
 use Rattle.std.proofs.lemmas.Bool.{cases_eq}
 use Rattle.std.proofs.lemmas.List.{get_or-set_other, get_or-set_same, length-set}
 use Rattle.std.proofs.lemmas.Option.{none-some, same_Some, slice_get_within}
-use Rattle.inline.specs.declared.flat.FlatVariable.{FlatVariable}
-use Rattle.inline.specs.FlatMeaning.{Values, with_value}
+use Rattle.optimisation.specs.Below.{FlatVariable, Values, with_value}
 use Rattle.inline.proofs.Face.{with_value-other, with_value-same}
 use Rattle.optimisation.specs.declared.element_words.parts.Part.{Part}
 use Rattle.optimisation.specs.element_words.private.Parts.{Parts, part_of}

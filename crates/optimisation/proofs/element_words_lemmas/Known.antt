@@ -4,10 +4,8 @@ use Rattle.std.proofs.Common.{sym, ap, ◌∙◌}
 use Rattle.std.specs.Prelude.{nat_lt}
 use Rattle.std.proofs.lemmas.Bool.{ltb-true}
 use Rattle.std.proofs.lemmas.Option.{cond_some, none-some}
-use Rattle.inline.specs.Flat.{TermTree, number, prefix, binary, rotate, convert, select, element}
-use Rattle.branch_removal.specs.Straight.{StraightTree, set, array, put, take, branch, repeats, StraightBlock, nothing}
-use Rattle.branch_removal.specs.Straight.{first}
-use Rattle.language.specs.declared.signature.Kind.{Kind}
+use Rattle.optimisation.specs.Below.{array, binary, branch, convert, element, first, Kind, nothing, number, prefix, put}
+use Rattle.optimisation.specs.Below.{repeats, rotate, select, set, StraightBlock, StraightTree, take, TermTree}
 use Rattle.optimisation.specs.declared.element_words.parts.Part.{Part}
 use Rattle.optimisation.specs.element_words.private.Parts.{Parts, part_of, whole, known_index, word_in, word_of}
 use Rattle.optimisation.specs.element_words.private.Narrowing.{unless_word, narrowed_at, narrowed, all_narrowed}

@@ -6,9 +6,7 @@ use Rattle.std.specs.Prelude.{nat_le}
 use Rattle.std.proofs.lemmas.Bool.{cases_lt, cond_both, leb-true}
 use Rattle.std.proofs.lemmas.List.{length-replicate, length-append}
 use Rattle.std.proofs.lemmas.Option.{cond_some, none-some, same_Some}
-use Rattle.inline.specs.declared.flat.FlatVariable.{FlatVariable}
-use Rattle.inline.specs.Flat.{word_as}
-use Rattle.language.specs.declared.typing.WordType.{WordType}
+use Rattle.optimisation.specs.Below.{FlatVariable, word_as, WordType}
 use Rattle.optimisation.specs.declared.element_words.parts.Part.{Part}
 use Rattle.optimisation.specs.element_words.Limits.{most_elements_split}
 use Rattle.optimisation.specs.element_words.private.Parts.{Parts, part_of, whole, part_at, sized, candidate, candidates}

@@ -2,15 +2,10 @@
 -- elements. Its path is fine where that of the code is.
 use Rattle.std.proofs.Common.{◌≡◌, ℕ, ◌+◌, List, [], ◌∷◌, map, Option, None, Some, slice_get, slice_set, refl, sym, ap}
 use Rattle.std.proofs.Common.{false, ◌∙◌, arith}
-use Rattle.inline.specs.declared.flat.FlatVariable.{FlatVariable}
-use Rattle.inline.specs.Flat.{TermTree, counter_type, word_as, array_as}
-use Rattle.inline.specs.FlatMeaning.{Values, elements}
-use Rattle.branch_removal.specs.Straight.{StraightTree, set, array, put, take, branch, repeats, StraightBlock, nothing}
-use Rattle.branch_removal.specs.Straight.{first}
-use Rattle.branch_removal.specs.StraightMeaning.{StraightState, with_variable, value_at, after_all}
-use Rattle.branch_removal.specs.StraightTyping.{IsFilled, IsPut, IsTyped, AreTyped}
-use Rattle.word.specs.declared.place.Place.{Place}
-use Rattle.word.specs.declared.profile.Profile.{Profile}
+use Rattle.optimisation.specs.Below.{after_all, AreTyped, array, array_as, branch, counter_type, elements, first}
+use Rattle.optimisation.specs.Below.{FlatVariable, IsFilled, IsPut, IsTyped, nothing, Place, Profile, put, repeats, set}
+use Rattle.optimisation.specs.Below.{StraightBlock, StraightState, StraightTree, take, TermTree, value_at, Values}
+use Rattle.optimisation.specs.Below.{with_variable, word_as}
 use Rattle.optimisation.specs.declared.element_words.parts.Part.{Part}
 use Rattle.optimisation.specs.element_words.private.Narrowing.{narrowed_at, narrowed, narrowed_by, narrowed_by_all}
 use Rattle.optimisation.specs.element_words.private.Parts.{Parts, part_of, word_in}

@@ -3,14 +3,9 @@
 use Rattle.std.proofs.Common.{◌≡◌, ℕ, ◌+◌, ◌<◌, Bool, List, [], ◌∷◌, map, length, Option, None, Some, option_map}
 use Rattle.std.proofs.Common.{slice_get, slice_index, refl, sym, ap, ◌∙◌}
 use Rattle.std.proofs.lemmas.Option.{none-some, same_Some}
-use Rattle.inline.specs.declared.flat.FlatVariable.{FlatVariable}
-use Rattle.inline.specs.Flat.{TermTree, element, word_as, array_as}
-use Rattle.inline.specs.FlatMeaning.{Values}
-use Rattle.inline.specs.FlatTyping.{Types, HasType, of_number, of_truth, of_variable, of_prefix, of_binary}
-use Rattle.inline.specs.FlatTyping.{of_rotation, of_conversion, of_selection, of_element, AllSuit, IsResult}
-use Rattle.language.specs.declared.typing.WordType.{WordType}
-use Rattle.word.specs.declared.place.Place.{Place}
-use Rattle.word.specs.declared.profile.Profile.{Profile}
+use Rattle.optimisation.specs.Below.{AllSuit, array_as, element, FlatVariable, HasType, IsResult, of_binary}
+use Rattle.optimisation.specs.Below.{of_conversion, of_element, of_number, of_prefix, of_rotation, of_selection}
+use Rattle.optimisation.specs.Below.{of_truth, of_variable, Place, Profile, TermTree, Types, Values, word_as, WordType}
 use Rattle.optimisation.specs.declared.element_words.parts.Part.{Part}
 use Rattle.optimisation.specs.element_words.private.Narrowing.{narrowed_at, narrowed, all_narrowed, narrowed_result}
 use Rattle.optimisation.specs.element_words.private.Parts.{Parts, part_of, word_in}

@@ -7,16 +7,9 @@ use Rattle.std.proofs.lemmas.Bool.{cond_both}
 use Rattle.std.proofs.lemmas.List.{length-map, length-replicate, length-take}
 use Rattle.std.proofs.lemmas.Option.{none-some, same_Some, slice_get-get_or, slice_get_within}
 use Rattle.language.proofs.arguments_lemmas.FaultLemmas.{length-AreWithin}
-use Rattle.language.specs.arguments.Within.{AreWithin}
-use Rattle.inline.specs.declared.flat.FlatVariable.{FlatVariable}
-use Rattle.inline.specs.Flat.{counter_type, TermTree, word_as, declaration_of, numbers_in}
-use Rattle.inline.specs.FlatMeaning.{Values, given, array_of, arrays_from}
-use Rattle.language.specs.declared.signature.Param.{Param}
-use Rattle.language.specs.declared.values.Arg.{Arg}
-use Rattle.branch_removal.specs.Kept.{IsStraight}
-use Rattle.branch_removal.specs.Replaced.{IsReplaced}
-use Rattle.branch_removal.specs.Straight.{StraightBlock, StraightProgram, with_variables}
-use Rattle.branch_removal.specs.StraightMeaning.{start, end_of, outcome_of}
+use Rattle.optimisation.specs.Below.{AreWithin, Arg, array_of, arrays_from, counter_type, declaration_of, end_of}
+use Rattle.optimisation.specs.Below.{FlatVariable, given, IsReplaced, IsStraight, numbers_in, outcome_of, Param, start}
+use Rattle.optimisation.specs.Below.{StraightBlock, StraightProgram, TermTree, Values, with_variables, word_as}
 use Rattle.optimisation.specs.declared.element_words.parts.Part.{Part}
 use Rattle.optimisation.specs.element_words.Limits.{most_variable_words}
 use Rattle.optimisation.specs.element_words.private.Narrowing.{narrowed_by_all}

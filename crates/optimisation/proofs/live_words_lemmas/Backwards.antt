@@ -1,7 +1,7 @@
 -- Statements from the last one to the first, as the code goes over them.
 use Rattle.std.proofs.Common.{◌≡◌, ◌++◌, List, [], ◌∷◌, refl}
 use Rattle.branch_removal.specs.declared.straight.StraightStatement.{StraightStatement}
-use Rattle.branch_removal.specs.Straight.{StraightBlock, first, straight_tree, straight_block}
+use Rattle.optimisation.specs.Below.{first, straight_block, straight_tree, StraightBlock}
 use Rattle.optimisation.specs.live_words.private.Sharing.{onto}
 
 pub onto-push : (xs : List StraightStatement) (x : StraightStatement) (rest : StraightBlock)

@@ -1,7 +1,7 @@
 -- What a loop's body reads is live beside what was.
 use Rattle.std.proofs.Common.{ℕ, length, None, Some}
-use Rattle.branch_removal.specs.Straight.{StraightTree, set, array, put, take, branch, repeats, StraightBlock, nothing}
-use Rattle.branch_removal.specs.Straight.{first}
+use Rattle.optimisation.specs.Below.{array, branch, first, nothing, put, repeats, set, StraightBlock, StraightTree}
+use Rattle.optimisation.specs.Below.{take}
 use Rattle.optimisation.specs.live_words.private.Held.{Table, Done, Held}
 use Rattle.optimisation.specs.live_words.private.Gathering.{gathered, gathered_all, done_after, with_done, none_done}
 use Rattle.optimisation.specs.live_words.private.Gathering.{at_head}

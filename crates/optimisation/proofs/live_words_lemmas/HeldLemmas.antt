@@ -4,7 +4,7 @@ use Rattle.std.proofs.Common.{◌∷◌, Option, None, Some, slice_set, inl, inr
 use Rattle.std.proofs.lemmas.Bool.{and_parts, cases_eq, eq-eqb, eqb-true}
 use Rattle.std.proofs.lemmas.List.{get_or-set_other}
 use Rattle.std.proofs.lemmas.Option.{none-some, same_Some, unwrap_or-slice_get}
-use Rattle.inline.specs.FlatMeaning.{Values, with_value}
+use Rattle.optimisation.specs.Below.{Values, with_value}
 use Rattle.inline.proofs.Face.{with_value-other, with_value-same}
 use Rattle.optimisation.specs.live_words.private.Held.{Table, Holders, Done, Held, share, holder, is_by, is_live}
 use Rattle.optimisation.specs.live_words.private.Held.{is_free, holding, living, living_where, is_done, setting}

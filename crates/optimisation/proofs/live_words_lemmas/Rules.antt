@@ -2,10 +2,7 @@
 use Rattle.std.proofs.Common.{◌≡◌, ℕ, ◌==◌, ◌&&◌, not, true, false, Option}
 use Rattle.std.proofs.Common.{None, Some, refl}
 use Rattle.std.proofs.lemmas.Bool.{and_parts, eqb-true, not-true}
-use Rattle.inline.specs.Flat.{TermTree}
-use Rattle.branch_removal.specs.Straight.{StraightTree, StraightBlock, nothing}
-use Rattle.branch_removal.specs.Straight.{chain}
-use Rattle.branch_removal.specs.Quiet.{is_quiet}
+use Rattle.optimisation.specs.Below.{chain, is_quiet, nothing, StraightBlock, StraightTree, TermTree}
 use Rattle.optimisation.specs.live_words.private.Held.{Table, Held, share, is_live, is_free, setting}
 use Rattle.optimisation.specs.live_words.private.Held.{counting, covers}
 use Rattle.optimisation.specs.live_words.private.Terms.{is_dead}

@@ -2,12 +2,9 @@
 -- that of the code is.
 use Rattle.std.proofs.Common.{◌≡◌, ℕ, ◌==◌, Bool, true, false, if◌then◌else◌, List, [], ◌∷◌, map, Option, None}
 use Rattle.std.proofs.Common.{Some, slice_set, slice_index, refl, sym, ap, subst, arith}
-use Rattle.inline.specs.Flat.{TermTree, variable, prefix, binary, rotate, convert, select, element}
-use Rattle.inline.specs.FlatMeaning.{Values}
-use Rattle.branch_removal.specs.Straight.{StraightTree, set, array, put, take, branch, repeats, StraightBlock, nothing}
-use Rattle.branch_removal.specs.Straight.{first}
-use Rattle.branch_removal.specs.StraightMeaning.{StraightState, holds, with_variable, value_at, counted, after}
-use Rattle.branch_removal.specs.StraightMeaning.{after_all}
+use Rattle.optimisation.specs.Below.{after, after_all, array, binary, branch, convert, counted, element, first, holds}
+use Rattle.optimisation.specs.Below.{nothing, prefix, put, repeats, rotate, select, set, StraightBlock, StraightState}
+use Rattle.optimisation.specs.Below.{StraightTree, take, TermTree, value_at, Values, variable, with_variable}
 use Rattle.optimisation.specs.live_words.private.Held.{Table, Holders, Held, share, is_live, anew, fitting}
 use Rattle.optimisation.specs.live_words.private.Held.{living, setting, counting, joined}
 use Rattle.optimisation.specs.live_words.private.Terms.{reading, reading_all, renamed, is_dead}

@@ -1,6 +1,6 @@
 -- What was live stays live before an expression is computed.
 use Rattle.std.proofs.Common.{List, [], ◌∷◌}
-use Rattle.inline.specs.Flat.{TermTree, variable, prefix, binary, rotate, convert, select, element}
+use Rattle.optimisation.specs.Below.{binary, convert, element, prefix, rotate, select, TermTree, variable}
 use Rattle.optimisation.specs.live_words.private.Held.{Table, Done, Held, living_where}
 use Rattle.optimisation.specs.live_words.private.Terms.{reading, reading_all}
 use Rattle.optimisation.proofs.live_words_lemmas.HeldLemmas.{Grows, grows_same, grows_on, grows_where}

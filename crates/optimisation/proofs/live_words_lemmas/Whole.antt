@@ -2,23 +2,14 @@
 use Rattle.std.proofs.Common.{◌≡◌, ℕ, ◌+◌, ◌<◌, ◌≤◌, ◌^◌, ◌==◌, ◌++◌, Bool, true, false, if◌then◌else◌, List, []}
 use Rattle.std.proofs.Common.{◌∷◌, length, map, Option, None, Some, option_map, refl, sym, ap, ap₂, ◌∙◌, arith}
 use Rattle.std.proofs.lemmas.Bool.{and_parts, eqb-true}
-use Rattle.inline.specs.Flat.{TermTree, declaration_of, elements_by}
-use Rattle.inline.specs.FlatMeaning.{array_of, arrays_from}
+use Rattle.optimisation.specs.Below.{after_all, Arg, array_of, arrays_from, Boolean, declaration_of, declared_words}
+use Rattle.optimisation.specs.Below.{elements_by, end_of, HasLength, is_mutable, IsReplaced, IsStraight, Kind}
+use Rattle.optimisation.specs.Below.{outcome_of, Param, start, StraightBlock, StraightProgram, StraightState, TermTree}
+use Rattle.optimisation.specs.Below.{words_by, WordType}
 use Rattle.language.specs.declared.signature.Form.{Form}
 use Rattle.language.specs.declared.signature.Form.TheVariants.{SingleWord, FixedArray, MutableArray}
-use Rattle.language.specs.declared.signature.Param.{Param}
-use Rattle.language.specs.declared.values.Arg.{Arg}
-use Rattle.language.specs.Typing.{is_mutable}
 use Rattle.language.specs.Size.{array_words}
-use Rattle.language.specs.declared.signature.Kind.{Kind}
-use Rattle.language.specs.declared.signature.Kind.TheVariants.{Boolean}
-use Rattle.language.specs.declared.typing.WordType.{WordType}
 use Rattle.std.specs.List.{AllByRecursion}
-use Rattle.inline.specs.FlatSize.{HasLength, words_by, declared_words}
-use Rattle.branch_removal.specs.Kept.{IsStraight}
-use Rattle.branch_removal.specs.Replaced.{IsReplaced}
-use Rattle.branch_removal.specs.Straight.{StraightBlock, StraightProgram}
-use Rattle.branch_removal.specs.StraightMeaning.{StraightState, start, end_of, outcome_of, after_all}
 use Rattle.optimisation.specs.live_words.private.Held.{Table, Held, share, fitting, living, hold_own}
 use Rattle.optimisation.specs.live_words.private.Terms.{renamed}
 use Rattle.optimisation.specs.live_words.private.Sharing.{shared_all}

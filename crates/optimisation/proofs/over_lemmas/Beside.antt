@@ -2,12 +2,9 @@
 -- first is.
 use Rattle.std.proofs.Common.{◌≡◌, ℕ, zero, suc, ◌+◌, ◌-◌, ◌==◌, ◌&&◌, not, Bool, true, false, if◌then◌else◌, List}
 use Rattle.std.proofs.Common.{◌∷◌, Option, None, Some, refl, ap}
-use Rattle.inline.specs.Flat.{TermTree}
-use Rattle.inline.specs.FlatMeaning.{Values, turns, path_of_turns}
-use Rattle.inline.specs.Path.{Path, decided, bounded}
-use Rattle.branch_removal.specs.Straight.{StraightTree, branch, repeats, StraightBlock, first, chain}
-use Rattle.branch_removal.specs.StraightMeaning.{StraightState, holds, with_controls, value_at, counted, after}
-use Rattle.branch_removal.specs.StraightMeaning.{after_all, path_at, path_along}
+use Rattle.optimisation.specs.Below.{after, after_all, bounded, branch, chain, counted, decided, first, holds, Path}
+use Rattle.optimisation.specs.Below.{path_along, path_at, path_of_turns, repeats, StraightBlock, StraightState}
+use Rattle.optimisation.specs.Below.{StraightTree, TermTree, turns, value_at, Values, with_controls}
 use Rattle.branch_removal.proofs.Sequences.{after-chain, path-chain}
 use Rattle.optimisation.specs.element_words.private.Splitting.{single}
 use Rattle.optimisation.proofs.over_lemmas.Values.{IsNoWorse, same_path, both, alone, IsAlike}

@@ -1,14 +1,9 @@
 -- Expressions that are alike: one has the other's value, and its path is fine where the other's is.
 use Rattle.std.proofs.Common.{◌≡◌, ℕ, List, [], ◌∷◌, ◌++◌, map, Option}
 use Rattle.std.proofs.Common.{option_map, sym, ap₂, subst}
-use Rattle.inline.specs.Flat.{TermTree, prefix, binary, rotate, convert, select, element}
-use Rattle.inline.specs.FlatMeaning.{Values, value_in, elements, path_in, path_in_all, marks_of, path_of_result}
-use Rattle.inline.specs.Path.{Path, AreFine, indexed}
-use Rattle.language.specs.declared.operators.BinaryOperator.{BinaryOperator}
-use Rattle.language.specs.declared.operators.PrefixOperator.{PrefixOperator}
-use Rattle.language.specs.declared.signature.Kind.{Kind}
-use Rattle.word.specs.declared.place.Place.{Place}
-use Rattle.word.specs.declared.width.Width.{Width}
+use Rattle.optimisation.specs.Below.{AreFine, binary, BinaryOperator, convert, element, elements, indexed, Kind}
+use Rattle.optimisation.specs.Below.{marks_of, Path, path_in, path_in_all, path_of_result, Place, prefix}
+use Rattle.optimisation.specs.Below.{PrefixOperator, rotate, select, TermTree, value_in, Values, Width}
 use Rattle.branch_removal.proofs.Sequences.{fine_both, fine_front, fine_back, fine_alone}
 
 module _ (most : List ℕ) where

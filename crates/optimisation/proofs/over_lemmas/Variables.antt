@@ -3,7 +3,7 @@ use Rattle.std.proofs.Common.{◌≡◌, ℕ, ◌==◌, Bool, true, false, if◌
 use Rattle.std.proofs.Common.{◌∙◌}
 use Rattle.std.proofs.lemmas.Bool.{cond-true, eq-eqb}
 use Rattle.std.proofs.lemmas.Option.{none-some}
-use Rattle.inline.specs.declared.flat.FlatVariable.{FlatVariable}
+use Rattle.optimisation.specs.Below.{FlatVariable}
 
 -- the variables of a list but for one
 abbrev pub but : List FlatVariable → ℕ → ℕ → Option FlatVariable

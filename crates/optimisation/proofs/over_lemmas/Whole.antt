@@ -1,14 +1,8 @@
 -- A program that passes the test, and of which the variables, the body and the result are other ones, may stand in the
 -- place of another where it keeps what each pass has to keep.
 use Rattle.std.proofs.Common.{◌≡◌, List, Option, refl}
-use Rattle.inline.specs.declared.flat.FlatVariable.{FlatVariable}
-use Rattle.inline.specs.Flat.{TermTree}
-use Rattle.branch_removal.specs.Kept.{IsStraight}
-use Rattle.branch_removal.specs.Replaced.{IsReplaced}
-use Rattle.branch_removal.specs.Straight.{StraightBlock, StraightProgram, with_variables}
-use Rattle.branch_removal.specs.StraightMeaning.{outcome_of, path_of}
-use Rattle.language.specs.arguments.Within.{AreWithin}
-use Rattle.language.specs.declared.values.Arg.{Arg}
+use Rattle.optimisation.specs.Below.{AreWithin, Arg, FlatVariable, IsReplaced, IsStraight, outcome_of, path_of}
+use Rattle.optimisation.specs.Below.{StraightBlock, StraightProgram, TermTree, with_variables}
 use Rattle.optimisation.proofs.over_lemmas.Values.{IsNoWorse}
 
 module _ (p : StraightProgram) (declared : List FlatVariable) (body : StraightBlock) (value : Option TermTree) where

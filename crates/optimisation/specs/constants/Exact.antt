@@ -1,8 +1,7 @@
 -- The one simpler program that straight code is made into by `simplify`, and the one by `unroll`, where it passes the
 -- test for straight code. How they are made is private.
 use Rattle.std.specs.Prelude.{[], Option}
-use Rattle.branch_removal.specs.Checked.{checked}
-use Rattle.branch_removal.specs.Straight.{StraightProgram}
+use Rattle.optimisation.specs.Below.{checked, StraightProgram}
 use Rattle.optimisation.specs.constants.private.Choice.{copies_of}
 use Rattle.optimisation.specs.constants.private.Simplification.{simplified_program}
 

@@ -1,8 +1,7 @@
 -- The words that a program's arrays become, and the program in which they are, where it passes the test for straight
 -- code: two answers of `Words::of` are one, and so are two of `apply`. How they are made is private.
 use Rattle.std.specs.Prelude.{Option}
-use Rattle.branch_removal.specs.Checked.{checked}
-use Rattle.branch_removal.specs.Straight.{StraightProgram}
+use Rattle.optimisation.specs.Below.{checked, StraightProgram}
 use Rattle.optimisation.specs.element_words.private.Plan.{WordPlan, plan_of, split_program}
 
 unfoldable pub words_of : StraightProgram → WordPlan

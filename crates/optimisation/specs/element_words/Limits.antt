@@ -1,6 +1,6 @@
 -- The greatest counts of what becomes words.
 use Rattle.std.specs.Prelude.{ℕ, ◌/◌}
-use Rattle.inline.specs.Limits.{most_variable_bytes}
+use Rattle.optimisation.specs.Below.{most_variable_bytes}
 
 -- elements of an array that becomes words
 abbrev pub most_elements_split : ℕ

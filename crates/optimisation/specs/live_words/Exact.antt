@@ -1,7 +1,7 @@
 -- The one program with shared variables that straight code is made into, where sharing fits and it passes the test for
 -- straight code: two answers of `share_words` are one. How it is made is private.
 use Rattle.std.specs.Prelude.{Option}
-use Rattle.branch_removal.specs.Straight.{StraightProgram}
+use Rattle.optimisation.specs.Below.{StraightProgram}
 use Rattle.optimisation.specs.live_words.private.Whole.{shared_program}
 
 unfoldable pub shared_of : StraightProgram → Option StraightProgram

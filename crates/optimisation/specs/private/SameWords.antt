@@ -1,7 +1,6 @@
 -- Which variables are words of one type.
 use Rattle.std.specs.Prelude.{ℕ, ◌&&◌, Bool, true, false, Option, None, Some}
-use Rattle.inline.specs.declared.flat.FlatVariable.{FlatVariable}
-use Rattle.language.specs.Types.{same_kind, same_label}
+use Rattle.optimisation.specs.Below.{FlatVariable, same_kind, same_label}
 
 abbrev pub is_word : Option ℕ → Bool
 is_word None = true

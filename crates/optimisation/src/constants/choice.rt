@@ -1,8 +1,7 @@
 // Which loops become their turns.
 
 ghost use Rattle.std.specs.Prelude.{◌≡◌, map, slice_index, slice_set, IfOk};
-ghost use Rattle.branch_removal.specs.Straight.{straight_block, straight_tree};
-ghost use Rattle.inline.specs.Flat.{term_tree};
+ghost use Rattle.optimisation.specs.Below.{straight_block, straight_tree, term_tree};
 ghost use Rattle.optimisation.specs.constants.private.Choice.{begun, choice_of, chosen, chosen_all, counted, grown};
 ghost use Rattle.optimisation.specs.constants.private.Choice.{most_nodes_of, settled, term_size, terms_size};
 

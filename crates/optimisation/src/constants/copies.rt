@@ -1,7 +1,7 @@
 // Which variables may be read as others.
 
 ghost use Rattle.std.specs.Prelude.{◌≡◌, OnOk};
-ghost use Rattle.inline.specs.Flat.{term_tree};
+ghost use Rattle.optimisation.specs.Below.{term_tree};
 ghost use Rattle.optimisation.specs.constants.private.Known.{words_of};
 ghost use Rattle.optimisation.specs.constants.private.Simplification.{may_be_read_as, set_to, variable_of};
 

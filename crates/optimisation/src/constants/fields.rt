@@ -1,7 +1,7 @@
 // Bits of a word, which a shift down and a mask leave, and two shifts too.
 
 ghost use Rattle.std.specs.Prelude.{◌≡◌, IfOk};
-ghost use Rattle.inline.specs.Flat.{binary, term_tree};
+ghost use Rattle.optimisation.specs.Below.{binary, term_tree};
 ghost use Rattle.optimisation.specs.constants.private.Fields as fields;
 ghost use Rattle.optimisation.specs.constants.private.Folding.{constant_of};
 ghost use Rattle.optimisation.specs.constants.private.Folding as folding;

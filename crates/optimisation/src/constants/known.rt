@@ -1,7 +1,7 @@
 // What is known of the variables.
 
 ghost use Rattle.std.specs.Prelude.{◌≡◌, [], None, filter, replicate, slice_set, IfOk, OnOk};
-ghost use Rattle.branch_removal.specs.Straight.{straight_block, straight_tree};
+ghost use Rattle.optimisation.specs.Below.{straight_block, straight_tree};
 ghost use Rattle.optimisation.specs.constants.private.Known.{all_short, forgotten, forgotten_all, in_loop, is_apart};
 ghost use Rattle.optimisation.specs.constants.private.Known.{known, latest, short, source_in, with_copy, with_word};
 ghost use Rattle.optimisation.specs.constants.private.Known.{word_at, words_of};

@@ -1,9 +1,7 @@
 ghost use Rattle.std.specs.Prelude.{◌≡◌, [], IfErr, IfOk, IfSome};
-ghost use Rattle.branch_removal.specs.Checked.{checked};
-ghost use Rattle.branch_removal.specs.Replaced.{IsReplaced};
+ghost use Rattle.optimisation.specs.Below.{checked, IsReplaced, IsWantOfMemory};
 ghost use Rattle.optimisation.specs.constants.Exact.{simplified_of, unrolled_of};
 ghost use Rattle.optimisation.specs.constants.private.Simplification.{simplified_program};
-ghost use Rattle.language.specs.WantOfMemory.{IsWantOfMemory};
 
 use crate::constants::choice::Choice;
 use crate::constants::known::Known;

@@ -2,8 +2,7 @@
 
 ghost use Rattle.std.specs.Prelude.{◌≡◌, IfOk, OnOk};
 ghost use Rattle.branch_removal.specs.Straight as straight;
-ghost use Rattle.branch_removal.specs.Straight.{chain, set, straight_block, straight_tree};
-ghost use Rattle.inline.specs.Flat.{term_tree};
+ghost use Rattle.optimisation.specs.Below.{chain, set, straight_block, straight_tree, term_tree};
 ghost use Rattle.optimisation.specs.constants.private.Folding.{simple};
 ghost use Rattle.optimisation.specs.constants.private.Known.{forgotten_all, words_of};
 ghost use Rattle.optimisation.specs.constants.private.Simplification.{knowing, knowing_all, set_to, simplified};

@@ -2,8 +2,7 @@
 
 ghost use Rattle.std.specs.Prelude.{◌≡◌, map, IfOk};
 ghost use Rattle.std.specs.Option.{option_and_then, option_map};
-ghost use Rattle.inline.specs.Flat.{prefix, term_tree};
-ghost use Rattle.language.specs.declared.operators.PrefixOperator.TheVariants.{Not};
+ghost use Rattle.optimisation.specs.Below.{Not, prefix, term_tree};
 ghost use Rattle.optimisation.specs.constants.private.Folding as folding;
 ghost use Rattle.optimisation.specs.constants.private.Known.{words_of};
 ghost use Rattle.optimisation.specs.constants.private.Folding.{chosen, constant_of, decision, number_of, numbers_of};

@@ -2,8 +2,7 @@
 
 ghost use Rattle.std.specs.Prelude.{◌≡◌, map};
 ghost use Rattle.std.specs.Option.{option_map};
-ghost use Rattle.branch_removal.specs.Straight.{straight_block, straight_tree};
-ghost use Rattle.inline.specs.Flat.{term_tree};
+ghost use Rattle.optimisation.specs.Below.{straight_block, straight_tree, term_tree};
 ghost use Rattle.optimisation.specs.element_words.private.Narrowing.{all_narrowed, narrowed, narrowed_at, narrowed_by};
 ghost use Rattle.optimisation.specs.element_words.private.Narrowing.{narrowed_by_all, narrowed_put, narrowed_result};
 

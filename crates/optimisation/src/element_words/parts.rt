@@ -1,7 +1,7 @@
 // Arrays that become words.
 
 ghost use Rattle.std.specs.Prelude.{◌≡◌, ◌≤◌, [], length, IfOk};
-ghost use Rattle.inline.specs.Flat.{term_tree};
+ghost use Rattle.optimisation.specs.Below.{term_tree};
 ghost use Rattle.optimisation.specs.element_words.private.Parts.{candidate, candidates, known_index, part_of, whole};
 ghost use Rattle.optimisation.specs.element_words.private.Parts.{word_of};
 

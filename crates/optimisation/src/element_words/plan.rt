@@ -1,11 +1,7 @@
 // The words that a program's arrays become, and the program in which they are.
 
 ghost use Rattle.std.specs.Prelude.{◌≡◌, ◌+◌, ◌-◌, ◌*◌, ◌<◌, ◌≤◌, ◌∷◌, ◌++◌, Some, IfErr, IfOk, IfSome, OnOk};
-ghost use Rattle.branch_removal.specs.Kept.{IsStraight};
-ghost use Rattle.branch_removal.specs.Replaced.{IsReplaced};
-ghost use Rattle.inline.specs.FlatSize.{declared_words};
-ghost use Rattle.inline.specs.Limits.{most_variable_bytes};
-ghost use Rattle.language.specs.WantOfMemory.{IsWantOfMemory};
+ghost use Rattle.optimisation.specs.Below.{declared_words, IsReplaced, IsStraight, IsWantOfMemory, most_variable_bytes};
 ghost use Rattle.optimisation.specs.element_words.Exact.{split_of, words_of};
 ghost use Rattle.optimisation.specs.element_words.private.Parts.{Parts as Table, all_words, numbered, words_for};
 ghost use Rattle.optimisation.specs.element_words.private.Plan.{parts_of, room_beside, used_parts};

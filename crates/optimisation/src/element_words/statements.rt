@@ -1,8 +1,7 @@
 // Statements in which an array that is split is so many words, each put behind what there is.
 
 ghost use Rattle.std.specs.Prelude.{◌≡◌, drop, map, IfOk, OnOk};
-ghost use Rattle.branch_removal.specs.Straight.{chain, straight_block, straight_tree};
-ghost use Rattle.inline.specs.Flat.{term_tree};
+ghost use Rattle.optimisation.specs.Below.{chain, straight_block, straight_tree, term_tree};
 ghost use Rattle.optimisation.specs.element_words.private.Parts.{part_of};
 ghost use Rattle.optimisation.specs.element_words.private.Splitting.{first_value, given_words, new_array, single};
 ghost use Rattle.optimisation.specs.element_words.private.Splitting.{split, split_all, split_in};

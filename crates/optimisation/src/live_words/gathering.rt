@@ -1,8 +1,7 @@
 // What a loop's body may read of what it did not set.
 
 ghost use Rattle.std.specs.Prelude.{◌≡◌, OnOk};
-ghost use Rattle.branch_removal.specs.Straight.{set, straight_block, straight_tree};
-ghost use Rattle.inline.specs.Flat.{term_tree};
+ghost use Rattle.optimisation.specs.Below.{set, straight_block, straight_tree, term_tree};
 ghost use Rattle.optimisation.specs.live_words.private.Gathering.{at_head, done_after, gathered, gathered_all};
 ghost use Rattle.optimisation.specs.live_words.private.Gathering.{with_done, with_done_within};
 ghost use Rattle.optimisation.specs.live_words.private.Held.{held_by};

@@ -1,10 +1,6 @@
 ghost use Rattle.std.specs.Prelude.{◌≡◌, ◌<◌, ◌^◌, length, IfErr, IfOk, IfSome, OnOk};
 ghost use Rattle.std.specs.Option.{option_map};
-ghost use Rattle.inline.specs.Flat.{term_tree};
-ghost use Rattle.branch_removal.specs.Kept.{IsStraight};
-ghost use Rattle.branch_removal.specs.Replaced.{IsReplaced};
-ghost use Rattle.branch_removal.specs.Straight.{straight_block, with_body};
-ghost use Rattle.language.specs.WantOfMemory.{IsWantOfMemory};
+ghost use Rattle.optimisation.specs.Below.{IsReplaced, IsStraight, IsWantOfMemory, straight_block, term_tree, with_body};
 ghost use Rattle.optimisation.specs.live_words.Exact.{shared_of};
 ghost use Rattle.optimisation.specs.live_words.private.Held.{held_by};
 ghost use Rattle.optimisation.specs.live_words.private.Whole.{all_fits, at_end, at_start, kept, nothing_live, over};

@@ -3,8 +3,7 @@
 ghost use Rattle.std.specs.Prelude.{◌≡◌, IfOk, OnOk};
 ghost use Rattle.std.specs.Option.{option_map};
 ghost use Rattle.branch_removal.specs.Straight as straight;
-ghost use Rattle.branch_removal.specs.Straight.{nothing, straight_block, straight_tree};
-ghost use Rattle.inline.specs.Flat.{term_tree};
+ghost use Rattle.optimisation.specs.Below.{nothing, straight_block, straight_tree, term_tree};
 ghost use Rattle.optimisation.specs.live_words.private.Held.{held_by};
 ghost use Rattle.optimisation.specs.live_words.private.Sharing.{before, before_all, before_put, in_front, onto};
 ghost use Rattle.optimisation.specs.live_words.private.Sharing.{setting_within, shared, shared_all};

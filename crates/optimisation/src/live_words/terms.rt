@@ -2,7 +2,7 @@
 
 ghost use Rattle.std.specs.Prelude.{◌≡◌, map, IfOk};
 ghost use Rattle.std.specs.Option.{option_map};
-ghost use Rattle.inline.specs.Flat.{term_tree};
+ghost use Rattle.optimisation.specs.Below.{term_tree};
 ghost use Rattle.optimisation.specs.live_words.private.Held.{held_by};
 ghost use Rattle.optimisation.specs.live_words.private.Terms.{is_dead, reading, reading_all, renamed};
 ghost use Rattle.optimisation.specs.live_words.private.Whole.{reading_any};

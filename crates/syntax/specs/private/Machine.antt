@@ -14,19 +14,18 @@ use Rattle.syntax.specs.declared.parser.operator.Link.TheVariants.{Operator as b
 use Rattle.syntax.specs.declared.parser.statement.Start.{Start}
 use Rattle.syntax.specs.declared.parser.statement.Start.TheVariants.{Declaration as by_label, Target as by_target}
 use Rattle.syntax.specs.declared.parser.statement.Start.TheVariants.{Conditional as by_if, Loop as by_for}
-use Rattle.word.specs.declared.place.Place.{Place}
+use Rattle.syntax.specs.Below.{array, assignment, binary, BlockTree, call, called, CallTree, computed, conditional}
+use Rattle.syntax.specs.Below.{convert, declaration, element, element_assignment, ExprTree, first, FixedArray, Kind}
+use Rattle.syntax.specs.Below.{Label, loop, MutableArray, name, Nesting, nothing, number, ParameterTree, Place, prefix}
+use Rattle.syntax.specs.Below.{ProcedureTree, ProgramTree, ReturnTree, RightTree, rotate, select, SingleWord}
+use Rattle.syntax.specs.Below.{StatementTree, truth, UnexpectedToken, WordType}
 use Rattle.language.specs.declared.signature.Form.{Form}
-use Rattle.language.specs.declared.signature.Form.TheVariants.{SingleWord, FixedArray, MutableArray}
-use Rattle.language.specs.declared.signature.Kind.{Kind}
-use Rattle.language.specs.declared.signature.Label.{Label}
-use Rattle.language.specs.declared.rule.Rule.TheVariants.{UnexpectedToken, Nesting}
 use Rattle.syntax.specs.declared.token.TokenKind.{TokenKind}
 use Rattle.syntax.specs.declared.token.TokenKind.TheVariants as token
 use Rattle.syntax.specs.declared.token.Keyword.TheVariants.{Export, Void, Mut, Uint32, If, Else, For, From, To}
 use Rattle.syntax.specs.declared.token.Keyword.TheVariants.{Return, Select, True, False}
 use Rattle.syntax.specs.declared.token.Sign.TheVariants.{RotateLeft, OpenRound, CloseRound, OpenCurly, CloseCurly}
 use Rattle.syntax.specs.declared.token.Sign.TheVariants.{OpenSquare, CloseSquare, Comma, Semicolon, Assign}
-use Rattle.language.specs.declared.typing.WordType.{WordType}
 use Rattle.syntax.specs.Grammar.{prefix_of, operator_of, level_of, left_level_of, rotation_level, prefix_level}
 use Rattle.syntax.specs.Grammar.{label_of, word_of, conversion_of, suffix_kind, amount_of, length_of}
 use Rattle.syntax.specs.Lexeme.{Lexeme}
@@ -35,10 +34,6 @@ use Rattle.syntax.specs.Limits.{nesting_limit}
 use Rattle.syntax.specs.Reading.{Answer, accepted, refused}
 use Rattle.syntax.specs.Spelling.{keyword_text, sign_text, suffix_text}
 use Rattle.syntax.specs.Tokens.{Ending, ends_at, stops}
-use Rattle.language.specs.Tree.{ExprTree, number, truth, name, prefix, binary, rotate, convert, select, element}
-use Rattle.language.specs.Tree.{CallTree, RightTree, called, computed, StatementTree, declaration, array, assignment}
-use Rattle.language.specs.Tree.{element_assignment, call, conditional, loop, BlockTree, nothing, first, ParameterTree}
-use Rattle.language.specs.Tree.{ReturnTree, ProcedureTree, ProgramTree}
 use Rattle.syntax.specs.declared.token.Keyword.TheVariants as keyword
 use Rattle.syntax.specs.declared.token.Sign.TheVariants as sign
 

@@ -12,7 +12,7 @@ use Rattle.syntax.specs.private.Machine.{State, linked, statements, statement, v
 use Rattle.syntax.specs.Nesting.{Nest}
 use Rattle.syntax.specs.Reading.{Answer, refused}
 use Rattle.syntax.specs.Tokens.{ending}
-use Rattle.language.specs.Tree.{ExprTree, BlockTree, nothing, first}
+use Rattle.syntax.specs.Below.{BlockTree, ExprTree, first, nothing}
 
 -- how deeply the tokens so far are nested
 abbrev pub nest : Nesting → Nest

@@ -3,7 +3,7 @@ ghost use Rattle.std.specs.Option.{option_map};
 ghost use Rattle.syntax.specs.Lexeme.{lexeme};
 ghost use Rattle.syntax.specs.private.Machine.{State, first_values, declared_array, declared_word, declared_as, declared as declared_state, assigned, element_assigned, called_alone, targeted as targeted_state};
 ghost use Rattle.syntax.specs.private.ParserViews.{Leads};
-ghost use Rattle.language.specs.Tree.{ExprTree, StatementTree, expr_tree, statement_tree};
+ghost use Rattle.syntax.specs.Below.{expr_tree, ExprTree, statement_tree, StatementTree};
 
 use super::{Fault, Parser};
 use crate::{

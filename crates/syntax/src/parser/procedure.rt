@@ -2,9 +2,7 @@ ghost use Rattle.std.specs.Prelude.{◌≡◌, ◌≤◌, ◌<◌, List, Option,
 ghost use Rattle.std.specs.Option.{option_map};
 ghost use Rattle.syntax.specs.private.Machine.{State, exported, result_type as result_type_state, parameter_name, parameter as parameter_state, labelled, parameters as parameters_state, returned as returned_state, procedure as procedure_state};
 ghost use Rattle.syntax.specs.private.ParserViews.{Leads};
-ghost use Rattle.language.specs.Tree.{ParameterTree, ReturnTree, ProcedureTree, parameter_tree, return_tree, procedure_tree};
-ghost use Rattle.word.specs.declared.place.Place.{Place as PlaceOf};
-ghost use Rattle.language.specs.declared.typing.WordType.{WordType as WordTypeOf};
+ghost use Rattle.syntax.specs.Below.{parameter_tree, ParameterTree, Place as PlaceOf, procedure_tree, ProcedureTree, return_tree, ReturnTree, WordType as WordTypeOf};
 
 use super::{Fault, Parser};
 use crate::{

@@ -2,7 +2,7 @@ ghost use Rattle.std.specs.Prelude.{◌≡◌, ◌≤◌, ◌<◌, List, OnOk, l
 ghost use Rattle.syntax.specs.Lexeme.{lexeme};
 ghost use Rattle.syntax.specs.private.Machine.{State, some_exprs, arguments as arguments_state, call_of, right_from, right as right_state, right_end as right_end_state};
 ghost use Rattle.syntax.specs.private.ParserViews.{Leads};
-ghost use Rattle.language.specs.Tree.{ExprTree, CallTree, RightTree, expr_tree, call_tree, right_tree};
+ghost use Rattle.syntax.specs.Below.{call_tree, CallTree, expr_tree, ExprTree, right_tree, RightTree};
 
 use super::{Fault, Parser};
 use crate::{Call, Expr, RightSide, Sign, Token, TokenKind};

@@ -2,7 +2,7 @@ ghost use Rattle.std.specs.Prelude.{◌≡◌, ◌≤◌, ◌<◌, IfOk, IfErr, 
 ghost use Rattle.syntax.specs.Lexeme.{Lexeme, lexeme};
 ghost use Rattle.syntax.specs.private.Machine.{State, starts_with, statements as statements_state, statement as statement_state, conditioned, counter as counter_state, looped, block as block_state, otherwise as otherwise_state, after_else};
 ghost use Rattle.syntax.specs.private.ParserViews.{Leads, after_start};
-ghost use Rattle.language.specs.Tree.{StatementTree, BlockTree, statement_tree, block_tree};
+ghost use Rattle.syntax.specs.Below.{block_tree, BlockTree, statement_tree, StatementTree};
 
 use super::step::label_of;
 use super::{Fault, Parser};

@@ -4,8 +4,7 @@ ghost use Rattle.syntax.specs.Lexeme.{Lexeme, lexeme};
 ghost use Rattle.syntax.specs.private.Machine.{State, one, either, a_label, a_kind, a_length, an_amount, fits as fits_that, sized, step, ending_answer};
 ghost use Rattle.syntax.specs.private.ParserViews.{Leads, FaultIs, taken};
 ghost use Rattle.syntax.specs.Tokens.{ending};
-ghost use Rattle.language.specs.declared.signature.Label.{Label as LabelOf};
-ghost use Rattle.language.specs.declared.signature.Kind.{Kind as KindOf};
+ghost use Rattle.syntax.specs.Below.{Kind as KindOf, Label as LabelOf};
 
 use super::{Fault, Parser};
 use crate::nesting::NESTING_LIMIT;

@@ -1,5 +1,5 @@
 use Rattle.std.proofs.Common.{◌≡◌, drop, max}
-use Rattle.inline.specs.Flat.{flat_block}
+use Rattle.branch_removal.specs.Below.{flat_block}
 use Rattle.branch_removal.specs.private.Removal.{controls_in_all}
 use Rattle.branch_removal.proofs.controls.+controls.Given as goal
 

@@ -1,6 +1,6 @@
 use Rattle.std.proofs.Common.{◌≡◌, map, take}
 use Rattle.branch_removal.proofs.copies.all_copied.Given as goal
-use Rattle.inline.specs.Flat.{term_tree}
+use Rattle.branch_removal.specs.Below.{term_tree}
 
 -- the expressions before this one are done
 abbrev pub invariant-loop-term : goal.invariant-loop-term

@@ -1,8 +1,6 @@
 use Rattle.std.proofs.Common.{◌≡◌, ◌+◌, ◌*◌, ◌∷◌, ◌<◌, drop, rules, arith, refl, sym, ap, ◌∙◌}
 use Rattle.std.proofs.lemmas.List.{at_drop_all, drop_more}
-use Rattle.inline.specs.Flat.{flat_block, flat_tree, term_tree}
-use Rattle.inline.specs.FlatSize.{body_nodes, tree_nodes}
-use Rattle.language.specs.declared.signature.Label.TheVariants.{Public, Secret}
+use Rattle.branch_removal.specs.Below.{body_nodes, flat_block, flat_tree, Public, Secret, term_tree, tree_nodes}
 use Rattle.branch_removal.specs.private.Removal.{own_controls, removed, removed_all}
 use Rattle.branch_removal.specs.Straight.{chain, straight_block}
 use Rattle.branch_removal.proofs.Statements.{accepted_fewer, otherwise_fewer, arms_smaller, controls_of_loop}

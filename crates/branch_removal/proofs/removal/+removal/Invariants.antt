@@ -1,6 +1,5 @@
 use Rattle.std.proofs.Common.{◌≡◌, ◌+◌, ◌*◌, ◌^◌, ◌<◌, drop}
-use Rattle.inline.specs.Flat.{flat_block, flat_tree}
-use Rattle.inline.specs.FlatSize.{body_nodes, tree_nodes}
+use Rattle.branch_removal.specs.Below.{body_nodes, flat_block, flat_tree, tree_nodes}
 use Rattle.branch_removal.specs.private.Removal.{removed_all, controls_in_all}
 use Rattle.branch_removal.specs.Straight.{straight_block, chain}
 use Rattle.branch_removal.proofs.removal.+removal.Given as goal

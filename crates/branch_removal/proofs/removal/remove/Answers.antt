@@ -1,5 +1,5 @@
 use Rattle.std.proofs.Common.{◌≡◌, ap, sym, subst, ◌∙◌, arith}
-use Rattle.inline.specs.Kept.{IsFlat}
+use Rattle.branch_removal.specs.Below.{IsFlat}
 use Rattle.branch_removal.specs.private.Removal.{controls_in_all, straightened}
 use Rattle.branch_removal.specs.Bounds.{IsCounted}
 use Rattle.branch_removal.specs.Exact.{straight_of}

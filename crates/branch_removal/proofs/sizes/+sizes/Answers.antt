@@ -5,8 +5,7 @@ use Rattle.branch_removal.specs.Straight.{straight_block}
 use Rattle.branch_removal.proofs.StatementTrees.{tree_of_branch, tree_of_loop, accepted_smaller, otherwise_smaller}
 use Rattle.branch_removal.proofs.StatementTrees.{body_smaller, item_here, smaller_here}
 use Rattle.branch_removal.proofs.CheckedSizes.{turns_counted}
-use Rattle.inline.specs.Flat.{term_tree}
-use Rattle.inline.specs.FlatSize.{term_nodes}
+use Rattle.branch_removal.specs.Below.{term_nodes, term_tree}
 use Rattle.branch_removal.proofs.sizes.+sizes.Goals as goal
 
 pub statement_size-block_size-one-requires : goal.statement_size-block_size-one-requires

@@ -1,5 +1,5 @@
 use Rattle.std.proofs.Common.{◌≡◌, ◌≤◌, ◌+◌, ◌-◌, ◌^◌, drop}
-use Rattle.inline.specs.FlatSize.{declared_words}
+use Rattle.branch_removal.specs.Below.{declared_words}
 use Rattle.branch_removal.specs.private.Counts.{counted}
 use Rattle.branch_removal.proofs.sizes.all_words_taken.Given as goal
 

@@ -1,6 +1,5 @@
 use Rattle.std.proofs.Common.{◌≡◌, ◌≤◌, ◌+◌, ◌-◌, ◌^◌, drop, map, max}
-use Rattle.inline.specs.Flat.{term_tree}
-use Rattle.inline.specs.FlatSize.{terms_nodes}
+use Rattle.branch_removal.specs.Below.{term_tree, terms_nodes}
 use Rattle.branch_removal.specs.Heights.{height_of_all}
 use Rattle.branch_removal.specs.private.Counts.{counted}
 use Rattle.branch_removal.proofs.sizes.size_of_all.Given as goal

@@ -1,5 +1,5 @@
 use Rattle.std.proofs.Common.{◌≡◌, drop, map}
-use Rattle.inline.specs.Flat.{term_tree}
+use Rattle.branch_removal.specs.Below.{term_tree}
 use Rattle.branch_removal.specs.private.Checks.{all_suit, types_beside}
 use Rattle.branch_removal.proofs.type_checks.all_suit.Given as goal
 

@@ -1,7 +1,7 @@
 use Rattle.std.proofs.Common.{rules, ℕ, List, refl, sym, ap, ◌∙◌}
 use Rattle.branch_removal.specs.Uses.{used, used_in, used_by, used_by_all}
 use Rattle.branch_removal.specs.Straight.{StraightTree, straight_block}
-use Rattle.inline.specs.Flat.{term_tree}
+use Rattle.branch_removal.specs.Below.{term_tree}
 use Rattle.branch_removal.proofs.StatementTrees.{tree_of_branch, tree_of_loop, accepted_smaller, otherwise_smaller}
 use Rattle.branch_removal.proofs.StatementTrees.{body_smaller, item_here, smaller_here}
 use Rattle.branch_removal.proofs.uses.+counts.Goals as goal

@@ -1,6 +1,6 @@
 use Rattle.std.proofs.Common.{◌≡◌, drop, map}
 use Rattle.branch_removal.specs.Uses.{used_in_terms}
-use Rattle.inline.specs.Flat.{term_tree}
+use Rattle.branch_removal.specs.Below.{term_tree}
 use Rattle.branch_removal.proofs.uses.count_in_terms.Given as goal
 
 -- with those in the expressions that are left, the weights are those of all

@@ -1,6 +1,6 @@
 use Rattle.std.proofs.Common.{◌≡◌, ◌++◌, ◌+◌, ◌*◌, ◌≤◌, drop, map, length}
 use Rattle.codegen.proofs.Machine.{fill_code, ArePlacedTerms, temporaries_offset}
-use Rattle.inline.specs.Flat.{term_tree}
+use Rattle.codegen.specs.Below.{term_tree}
 use Rattle.codegen.proofs.arrays.fill.Given as goal
 
 -- the code so far and that of what is left are the code of all values

@@ -1,6 +1,6 @@
 use Rattle.std.proofs.Common.{◌≡◌, drop, map}
 use Rattle.codegen.specs.private.Fresh.{names_in_any}
-use Rattle.inline.specs.Flat.{term_tree}
+use Rattle.codegen.specs.Below.{term_tree}
 use Rattle.codegen.proofs.fresh.names_in_any.Given as goal
 
 -- one of the expressions that are left names the variable where one of all does

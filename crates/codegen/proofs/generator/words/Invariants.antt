@@ -1,5 +1,5 @@
 use Rattle.std.proofs.Common.{◌≡◌, ◌<◌, ◌^◌, ◌++◌, All, map, drop}
-use Rattle.rv_code.specs.Words.{word_of}
+use Rattle.codegen.specs.Below.{word_of}
 use Rattle.codegen.proofs.generator.words.Given as goal
 
 abbrev pub invariant-loop-instruction : goal.invariant-loop-instruction

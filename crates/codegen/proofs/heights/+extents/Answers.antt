@@ -1,6 +1,5 @@
 use Rattle.std.proofs.Common.{rules, refl, ap, arith}
-use Rattle.branch_removal.specs.Heights.{depth_in, depth_in_all, height_in, height_in_all}
-use Rattle.branch_removal.specs.Straight.{straight_block}
+use Rattle.codegen.specs.Below.{depth_in, depth_in_all, height_in, height_in_all, straight_block}
 use Rattle.branch_removal.proofs.StatementTrees.{tree_of_branch, tree_of_loop, accepted_smaller, otherwise_smaller}
 use Rattle.branch_removal.proofs.StatementTrees.{body_smaller, item_here, smaller_here}
 use Rattle.codegen.proofs.heights.+extents.Goals as goal

@@ -1,6 +1,5 @@
 use Rattle.std.proofs.Common.{◌≡◌, drop, map, max}
-use Rattle.branch_removal.specs.Heights.{height_of_all}
-use Rattle.inline.specs.Flat.{term_tree}
+use Rattle.codegen.specs.Below.{height_of_all, term_tree}
 use Rattle.codegen.proofs.heights.height_of_all.Given as goal
 
 abbrev pub invariant-loop-value : goal.invariant-loop-value

@@ -1,5 +1,5 @@
 use Rattle.std.proofs.Common.{rules, ◌≡◌, ◌++◌, length, List, refl, sym, ap, ◌∙◌, subst, arith, IfErr, OnOk}
-use Rattle.branch_removal.specs.Straight.{straight_block}
+use Rattle.codegen.specs.Below.{straight_block}
 use Rattle.branch_removal.proofs.StatementTrees.{tree_of_branch, tree_of_loop, accepted_smaller, otherwise_smaller}
 use Rattle.branch_removal.proofs.StatementTrees.{body_smaller, item_here, smaller_here}
 use Rattle.codegen.proofs.Machine.{Instr, HavePlaces, IsFar}

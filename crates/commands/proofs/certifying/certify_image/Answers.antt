@@ -1,17 +1,10 @@
 use Rattle.std.proofs.Common.{◌≡◌, ℕ, Bool, List, Option, Ok, Err, map, inr, refl, ◌∙◌, subst}
-use Rattle.image_reports.specs.certificates.Certified.{Certified}
-use Rattle.certified_runs.specs.declared.shifts.Shifts.{Shifts}
-use Rattle.image_reports.specs.certificates.Texts.{fault_of_given_texts}
-use Rattle.language.specs.declared.signature.Param.{Param}
-use Rattle.language.specs.declared.values.Arg.{Arg}
+use Rattle.commands.specs.Below.{Arg, Certified, Collected, Counting, fault_of_given_texts, Fields, HasLines, Param}
+use Rattle.commands.specs.Below.{params_of, Shifts}
 use Rattle.commands.specs.Certificates.{shifts_seen}
-use Rattle.codegen.specs.Loaded.{params_of}
 use Rattle.commands.specs.Contents.{Contents}
 use Rattle.commands.specs.Images.{HoldsImage}
 use Rattle.commands.specs.Progress.{CertificateGoesOn, Tells, FileCertificateTells}
-use Rattle.codegen.specs.image_fields.Fields.{Fields}
-use Rattle.run_reports.specs.progress.GoingOn.{Counting, HasLines}
-use Rattle.streams.specs.Streams.{Collected}
 use Rattle.commands.specs.ImageRefusals.{no_image, no_arguments, no_answer, out_of_memory}
 use Rattle.commands.specs.Words.{IsFaultOfWords, AreGiven}
 use Rattle.commands.proofs.Counting.{memory_calm}

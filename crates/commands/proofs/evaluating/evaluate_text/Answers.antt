@@ -1,12 +1,6 @@
 use Rattle.std.proofs.Common.{List, map, Err, refl, ap, ◌∙◌, subst, arith}
 use Rattle.std.specs.String.{string_bytes}
-use Rattle.language.specs.arguments.Texts.{fault_of_texts}
-use Rattle.hepurita.specs.Compiled.{Means}
-use Rattle.language.specs.Results.{Results}
-use Rattle.language.specs.Tree.{program_tree}
-use Rattle.language.specs.declared.signature.Param.{Param}
-use Rattle.source_eval.specs.Answer.{answer}
-use Rattle.word.specs.declared.profile.Profile.TheVariants.{P1}
+use Rattle.commands.specs.Below.{answer, fault_of_texts, Means, P1, Param, program_tree, Results}
 use Rattle.commands.specs.Meanings.{evaluation_budget, no_text, not_accepted, no_arguments, out_of_memory}
 use Rattle.commands.specs.OutcomeText.{outcome_text}
 use Rattle.commands.specs.Words.{IsFaultOfWords}

@@ -1,15 +1,14 @@
 use Rattle.std.proofs.Common.{◌≡◌, ℕ, List, take, refl, ap, ◌∙◌, subst, OnOk, OnErr}
 use Rattle.std.proofs.lemmas.Result.{on_ok_weaker}
 use Rattle.std.specs.String.{string_bytes}
-use Rattle.hepurita.specs.Told.{IsRefusalOf}
-use Rattle.input_files.specs.wrapping.Wrapped.{IsWrapped, Breaks, IsFaultOf}
+use Rattle.commands.specs.Below.{Asked, Breaks, IsRefusalOf, IsWrapped}
+use Rattle.input_files.specs.wrapping.Wrapped.{IsFaultOf}
 use Rattle.commands.specs.Contents.{Contents, Store, Begins, IsWritten, IsCutOff}
 use Rattle.commands.specs.FileTexts.{HoldsText}
 use Rattle.commands.specs.Judged.{no_text}
 use Rattle.commands.specs.Judged as judged
 use Rattle.commands.specs.WrappedCode.{IsImageOfCode, not_accepted, not_read, broken}
 use Rattle.commands.specs.Written.{refused, cut_off}
-use Rattle.input_files.specs.declared.wrapping.asked.Asked.{Asked}
 use Rattle.commands.proofs.CodeLemmas.{wrapped_whole, breaks_whole}
 use Rattle.language.proofs.Handed.{handed_on}
 use Rattle.commands.proofs.Counting.{counted_by, kept_by, write_failed, if_write_counts}

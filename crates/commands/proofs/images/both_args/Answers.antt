@@ -1,8 +1,7 @@
 -- The first list's words, and then the second's.
 use Rattle.std.proofs.Common.{◌≡◌, List, ℕ, None, Err, map, length, refl, subst}
 use Rattle.std.specs.Option.{option_map}
-use Rattle.language.specs.arguments.Texts.{fault_of_texts}
-use Rattle.language.specs.arguments.Faults.{shifted}
+use Rattle.commands.specs.Below.{fault_of_texts, shifted}
 use Rattle.commands.specs.Words.{AreSpelled, IsFaultOfWords}
 use Rattle.language.proofs.Handed.{handed_on}
 use Rattle.commands.proofs.WordLemmas.{fault_of_words, fault_of_first, fault_of_second, first_words}

@@ -1,6 +1,5 @@
 use Rattle.std.proofs.Common.{List, ℕ, Err, sym, ap, ◌∙◌, subst}
-use Rattle.image.specs.Reading.{reading, IsUnlessMemory}
-use Rattle.codegen.specs.image_fields.Fields.{Fields}
+use Rattle.commands.specs.Below.{Fields, IsUnlessMemory, reading}
 use Rattle.commands.specs.Images.{not_read}
 use Rattle.commands.proofs.ImageLemmas.{image_held, image_refused}
 use Rattle.language.proofs.Handed.{handed_on}

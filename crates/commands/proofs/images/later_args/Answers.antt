@@ -2,12 +2,8 @@
 use Rattle.std.proofs.Common.{◌≡◌, length, map, Err, refl, sym, ap, ◌∙◌, subst, arith}
 use Rattle.std.specs.Option.{option_map}
 use Rattle.language.proofs.arguments_lemmas.FaultLemmas.{behind_fits}
-use Rattle.language.specs.arguments.Faults.{shifted}
-use Rattle.language.specs.arguments.Texts.{fault_of_texts, rule_of_text}
-use Rattle.language.specs.declared.arguments.fault.ArgumentFault.{ArgumentFault}
+use Rattle.commands.specs.Below.{Argument, ArgumentFault, fault_of_texts, rule_of_text, RunFault, shifted}
 use Rattle.commands.specs.Words.{IsFaultOfWords}
-use Rattle.hepurita.specs.declared.fault.RunFault.{RunFault}
-use Rattle.hepurita.specs.declared.fault.RunFault.TheVariants.{Argument}
 use Rattle.commands.proofs.WordLemmas.{spelled_from}
 use Rattle.commands.proofs.images.later_args.Goals as goal
 

@@ -1,14 +1,11 @@
 use Rattle.std.proofs.Common.{List, Result, Err, map, inl, refl, ap, ◌∙◌, subst}
-use Rattle.language.specs.arguments.Texts.{fault_of_texts}
-use Rattle.language.specs.declared.signature.Param.{Param}
+use Rattle.commands.specs.Below.{fault_of_texts, LeakFault, Param, Stop}
 use Rattle.commands.specs.ImageRefusals.{no_image, no_arguments, no_answer, out_of_memory}
 use Rattle.commands.specs.Words.{IsFaultOfWords}
 use Rattle.language.proofs.Handed.{handed_on, turned_on}
 use Rattle.commands.proofs.Counting.{memory_calm, err_inj}
 use Rattle.commands.proofs.LeakFaults.{not_imageless, said_leak, wrote_leak, cut_at_output, leak_counts}
 use Rattle.commands.proofs.WordLemmas.{fault_of_words, spelled_from}
-use Rattle.listing.specs.declared.fault.LeakFault.{LeakFault}
-use Rattle.rv_machine.specs.declared.stops.Stop.{Stop}
 use Rattle.commands.proofs.images.leak_image.Goals as goal
 
 pub returns-in_err-image-clause-refused : goal.returns-in_err-image-clause-refused

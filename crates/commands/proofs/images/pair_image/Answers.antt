@@ -1,13 +1,11 @@
 -- Why the two runs are not compared, step by step.
 use Rattle.std.proofs.Common.{List, map, inr, ◌∙◌, subst}
-use Rattle.language.specs.arguments.Within.{AreWithin}
-use Rattle.language.specs.declared.signature.Param.{Param}
+use Rattle.commands.specs.Below.{AreWithin, HasLines, Param}
 use Rattle.commands.specs.ImageRefusals.{no_image, no_arguments, no_answer, out_of_memory}
 use Rattle.commands.specs.Words.{AreBothSpelled, IsFaultOfWords, fault_of_both}
 use Rattle.language.proofs.Handed.{handed_on, turned_on}
 use Rattle.commands.proofs.Counting.{memory_calm}
 use Rattle.commands.proofs.ProgressLemmas.{on_err, file_pair_tells, pair_reaches}
-use Rattle.run_reports.specs.progress.GoingOn.{HasLines}
 use Rattle.commands.proofs.images.pair_image.Goals as goal
 
 pub returns-in_err-image-clause-refused : goal.returns-in_err-image-clause-refused

@@ -1,13 +1,11 @@
 use Rattle.std.proofs.Common.{List, Err, map, inr, refl, ap, ◌∙◌, subst}
-use Rattle.language.specs.arguments.Texts.{fault_of_texts}
-use Rattle.language.specs.declared.signature.Param.{Param}
+use Rattle.commands.specs.Below.{fault_of_texts, HasLines, Param, Reaches}
 use Rattle.commands.specs.ImageRefusals.{no_image, no_arguments, no_answer, out_of_memory}
 use Rattle.commands.specs.OutcomeText.{outcome_text}
 use Rattle.commands.specs.Words.{IsFaultOfWords}
 use Rattle.language.proofs.Handed.{handed_on, turned_on}
 use Rattle.commands.proofs.Counting.{memory_calm}
 use Rattle.commands.proofs.ProgressLemmas.{on_err, file_run_tells, run_reaches}
-use Rattle.run_reports.specs.progress.GoingOn.{Reaches, HasLines}
 use Rattle.commands.proofs.WordLemmas.{fault_of_words, spelled_from}
 use Rattle.commands.proofs.images.run_image.Goals as goal
 

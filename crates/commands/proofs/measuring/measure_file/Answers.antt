@@ -1,7 +1,7 @@
 use Rattle.std.proofs.Common.{List, ℕ, Ok, ap, subst}
 use Rattle.std.specs.Option.{IfSome}
 use Rattle.std.specs.String.{string_bytes}
-use Rattle.image_reports.specs.image_statistics.ImageText.{BeginsOtherwise, SaysFields, IsFaultOf}
+use Rattle.commands.specs.Below.{BeginsOtherwise, IsFaultOf, SaysFields}
 use Rattle.commands.specs.Costs.{of_source, not_read, no_source}
 use Rattle.language.proofs.Handed.{handed_on}
 use Rattle.commands.proofs.MeasuringLemmas.{image_costs, other_held, image_faulty, if_ok_so, if_err_so}

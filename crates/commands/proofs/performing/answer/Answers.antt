@@ -1,10 +1,9 @@
 use Rattle.std.proofs.Common.{inr, refl}
 use Rattle.commands.specs.Failures.{of_files}
-use Rattle.streams.specs.Puts.{collected}
+use Rattle.commands.specs.Below.{collected, HasLines, Reaches}
 use Rattle.commands.proofs.Counting.{counted_by, memory_calm}
 use Rattle.commands.proofs.ProgressLemmas.{on_ok, on_err, run_reaches, pair_reaches, certificate_reaches, tells_known}
 use Rattle.commands.proofs.ProgressLemmas.{part_known}
-use Rattle.run_reports.specs.progress.GoingOn.{Reaches, HasLines}
 use Rattle.commands.proofs.RequestLemmas.{refuses, refuses_read, refuses_memory, prints, fails_to_print, fails_to_list}
 use Rattle.commands.proofs.RequestLemmas.{output_counts, if_either_counts, lists}
 use Rattle.language.proofs.Handed.{handed_on, turned_on}

@@ -2,7 +2,7 @@ use Rattle.std.proofs.Common.{refl, sym, subst, ℕ}
 use Rattle.commands.specs.Commanded.{Says, helped, unprinted, wrong, unsaid}
 use Rattle.commands.specs.Failures.{of_output}
 use Rattle.commands.specs.Requests.{calm}
-use Rattle.streams.specs.Puts.{collected}
+use Rattle.commands.specs.Below.{collected}
 use Rattle.commands.proofs.Counting.{ends}
 use Rattle.commands.proofs.RequestLemmas.{is_put}
 use Rattle.commands.proofs.performing.explain.Goals as goal

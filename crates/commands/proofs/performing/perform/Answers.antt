@@ -2,7 +2,7 @@ use Rattle.std.proofs.Common.{◌≡◌, ◌⊎◌, inl, inr, ap}
 use Rattle.commands.specs.Requests.{done, failed, calm}
 use Rattle.commands.proofs.Counting.{ends}
 use Rattle.commands.proofs.performing.perform.Goals as goal
-use Rattle.streams.specs.Puts.{collected}
+use Rattle.commands.specs.Below.{collected}
 
 pub returns-in-Ok-clause-performed : goal.returns-in-Ok-clause-performed
 returns-in-Ok-clause-performed g c = λ files out err.

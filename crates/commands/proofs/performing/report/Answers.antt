@@ -1,7 +1,7 @@
 use Rattle.std.proofs.Common.{◌≡◌, ℕ, List, ◌++◌, codes, sym, ◌∙◌, subst}
 use Rattle.commands.specs.FaultText.{fault_line}
 use Rattle.commands.specs.Requests.{Reports, by_line, no_memory}
-use Rattle.streams.specs.Puts.{collected, IsPut}
+use Rattle.commands.specs.Below.{collected, IsPut}
 use Rattle.commands.proofs.RequestLemmas.{is_put, counted_put}
 use Rattle.commands.proofs.performing.report.Goals as goal
 

@@ -1,10 +1,5 @@
 use Rattle.std.proofs.Common.{◌≡◌, ◌++◌, List, ℕ, Option, Ok, Err, map, refl, ap₂, ◌∙◌, subst, inl}
-use Rattle.image_reports.specs.certificates.Certified.{Certified}
-use Rattle.image_reports.specs.certificates.Texts.{fault_of_given_texts}
-use Rattle.certified_runs.specs.declared.shifts.Shifts.TheVariants.{Hidden}
-use Rattle.image_reports.specs.image_pictures.Drawn.{DrawsOne}
-use Rattle.language.specs.declared.signature.Param.{Param}
-use Rattle.language.specs.declared.values.Arg.{Arg}
+use Rattle.commands.specs.Below.{Arg, Certified, DrawsOne, fault_of_given_texts, Hidden, Param}
 use Rattle.commands.specs.Pictures.{before_certificate}
 use Rattle.commands.specs.Words.{IsFaultOfWords}
 use Rattle.commands.proofs.CertificateLemmas.{stands_in_code}

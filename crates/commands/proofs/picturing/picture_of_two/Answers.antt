@@ -1,6 +1,5 @@
 use Rattle.std.proofs.Common.{◌≡◌, ◌++◌, List, ℕ, map, ap₂, ◌∙◌, subst}
-use Rattle.image_reports.specs.image_pictures.Drawn.{DrawsTwo}
-use Rattle.language.specs.declared.signature.Param.{Param}
+use Rattle.commands.specs.Below.{DrawsTwo, Param}
 use Rattle.commands.specs.Pairs.{pairing_text}
 use Rattle.commands.specs.Pictures.{before_pairing}
 use Rattle.commands.specs.Words.{AreBothSpelled}

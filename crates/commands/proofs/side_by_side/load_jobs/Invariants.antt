@@ -2,8 +2,7 @@
 use Rattle.std.specs.Prelude.{◌≡◌, map, take, vec_len, IsTrue}
 use Rattle.std.specs.List.{AllZip}
 use Rattle.commands.specs.Harts.{IsJobOf}
-use Rattle.harts.specs.Frames.{job_of}
-use Rattle.input_files.specs.harts_file.Jobs.{hart_of}
+use Rattle.commands.specs.Below.{hart_of, job_of}
 use Rattle.commands.proofs.side_by_side.load_jobs.Given as goal
 
 abbrev pub invariant-loop-job : goal.invariant-loop-job

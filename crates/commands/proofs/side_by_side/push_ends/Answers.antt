@@ -3,10 +3,7 @@ use Rattle.std.proofs.Common.{◌≡◌, ◌≤◌, ◌++◌, ◌∷◌, [], ℕ
 use Rattle.std.proofs.Common.{◌∙◌, Vec, Global, append_assoc, arith}
 use Rattle.std.proofs.lemmas.List.{drop_more, drop_all}
 use Rattle.commands.specs.HartsText.{behind, ended_line, ended_text, ends_text}
-use Rattle.harts.specs.Frames.{job_of}
-use Rattle.harts.specs.declared.ends.HartEnd.{HartEnd}
-use Rattle.codegen.specs.image_fields.Fields.{Fields}
-use Rattle.language.specs.declared.values.Arg.{Arg}
+use Rattle.commands.specs.Below.{Arg, Fields, HartEnd, job_of}
 use Rattle.commands.proofs.side_by_side.push_ends.Goals as goal
 use Rattle.commands.proofs.side_by_side.push_ends.Goals.{in-Some+in_ok-push_end, in_default}
 

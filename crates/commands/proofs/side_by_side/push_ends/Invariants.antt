@@ -1,6 +1,6 @@
 -- The lines so far, and those of the harts that are left, are all.
 use Rattle.std.proofs.Common.{◌≡◌, ◌++◌, drop, map}
-use Rattle.harts.specs.Frames.{job_of}
+use Rattle.commands.specs.Below.{job_of}
 use Rattle.commands.specs.HartsText.{ends_text}
 use Rattle.commands.proofs.side_by_side.push_ends.Given as goal
 

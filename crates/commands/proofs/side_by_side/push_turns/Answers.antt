@@ -2,8 +2,7 @@
 use Rattle.std.proofs.Common.{◌≡◌, ◌++◌, ◌∷◌, [], ℕ, ◌+◌, List, get_or, drop, None, sym, ap, ◌∙◌, append_assoc}
 use Rattle.std.proofs.lemmas.List.{drop_more}
 use Rattle.commands.specs.HartsText.{behind, turns_text}
-use Rattle.listing.specs.Lines.{lines_of}
-use Rattle.rv_machine.specs.declared.hart_recording.HartObservation.{HartObservation}
+use Rattle.commands.specs.Below.{HartObservation, lines_of}
 use Rattle.commands.proofs.side_by_side.push_turns.Goals as goal
 
 one_more : (text text' before shown rest all : List ℕ) → text' ≡ text ++ shown → all ≡ shown ++ rest

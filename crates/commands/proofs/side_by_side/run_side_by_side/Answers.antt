@@ -2,8 +2,7 @@
 use Rattle.std.proofs.Common.{List, map, Err, refl, ap, subst}
 use Rattle.std.specs.List.{AllZip}
 use Rattle.commands.specs.Harts.{IsJobOf, RefusesJobs, by_jobs, plan_wants_memory}
-use Rattle.harts.specs.Frames.{job_of}
-use Rattle.input_files.specs.harts_file.Jobs.{hart_of}
+use Rattle.commands.specs.Below.{hart_of, job_of}
 use Rattle.input_files.specs.declared.harts_file.jobs.Job.{Job}
 use Rattle.language.proofs.Handed.{handed_on, turned_on}
 use Rattle.commands.proofs.Counting.{memory_calm}

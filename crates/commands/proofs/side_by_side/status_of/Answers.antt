@@ -3,7 +3,7 @@ use Rattle.std.proofs.Common.{◌≡◌, if◌then◌else◌, sym, ap, ◌∙◌
 use Rattle.std.specs.List.{list_all}
 use Rattle.std.proofs.lemmas.Iterator.{YieldsList-from_slice}
 use Rattle.std.proofs.lemmas.Iterator.Search.{all_from_yields_List}
-use Rattle.harts.specs.declared.ends.HartEnd.{HartEnd}
+use Rattle.commands.specs.Below.{HartEnd}
 use Rattle.commands.specs.HartsText.{is_well}
 use Rattle.commands.proofs.side_by_side.status_of.Goals as goal
 

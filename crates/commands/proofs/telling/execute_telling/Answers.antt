@@ -5,11 +5,7 @@ use Rattle.commands.proofs.ProgressLemmas.{on_ok, on_err, told_of_image}
 use Rattle.commands.specs.Progress.{RunGoesOn}
 use Rattle.hepurita.proofs.ExecutedLemmas.{memory_executed, refused_executed, ran_executed}
 use Rattle.run_reports.proofs.progress_lemmas.Told.{none_told, reaches}
-use Rattle.run_reports.specs.progress.GoingOn.{HasLines}
-use Rattle.streams.specs.Puts.{collected}
-use Rattle.rv_machine.specs.Harts.{state_of}
-use Rattle.rv_machine.specs.Paged.{paged_bytes}
-use Rattle.rv_machine.specs.Regions.{code_of}
+use Rattle.commands.specs.Below.{code_of, collected, HasLines, paged_bytes, state_of}
 use Rattle.commands.proofs.telling.execute_telling.Goals as goal
 
 pub returns-in-Some-clause-executed : goal.returns-in-Some-clause-executed

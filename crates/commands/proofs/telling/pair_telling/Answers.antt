@@ -3,11 +3,7 @@ use Rattle.std.proofs.Common.{refl, sym, ◌∙◌, arith}
 use Rattle.language.proofs.Handed.{err_is}
 use Rattle.commands.proofs.ProgressLemmas.{on_err, told_of_pair}
 use Rattle.hepurita.proofs.PairedLemmas.{memory_paired, refused_paired, observed_from}
-use Rattle.hepurita.specs.Paired.{compared}
-use Rattle.run_reports.specs.progress.GoingOn.{HasLines}
-use Rattle.rv_machine.specs.Harts.{state_of}
-use Rattle.rv_machine.specs.Paged.{paged_bytes}
-use Rattle.rv_machine.specs.Regions.{code_of}
+use Rattle.commands.specs.Below.{code_of, compared, HasLines, paged_bytes, state_of}
 use Rattle.commands.proofs.telling.pair_telling.Goals as goal
 
 pub returns-in-Some-clause-paired : goal.returns-in-Some-clause-paired

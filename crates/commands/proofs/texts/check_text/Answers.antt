@@ -1,5 +1,5 @@
 use Rattle.std.specs.String.{string_bytes}
-use Rattle.language.specs.Tree.{program_tree}
+use Rattle.commands.specs.Below.{program_tree}
 use Rattle.commands.specs.Judged.{no_text, not_accepted}
 use Rattle.language.proofs.Handed.{handed_on}
 use Rattle.commands.proofs.Counting.{told_calm}

@@ -3,11 +3,8 @@ use Rattle.commands.specs.Contents.{Contents}
 use Rattle.commands.specs.FileTexts.{NoText, not_read, too_long, not_utf8}
 use Rattle.commands.specs.Unread.{unread, out_of_memory}
 use Rattle.commands.specs.declared.fault.Fault.TheVariants.{Text}
-use Rattle.language.specs.WantOfMemory.{IsWantOfMemory}
-use Rattle.language.specs.declared.refusal.Refusal.{Refusal}
+use Rattle.commands.specs.Below.{IsTooLong, IsWantOfMemory, NotUtf8, Refusal}
 use Rattle.input_files.specs.stream_build.Faults as texts
-use Rattle.input_files.specs.stream_build.Faults.{IsTooLong}
-use Rattle.input_files.specs.declared.stream_build.fault.BuildFault.TheVariants.{NotUtf8}
 use Rattle.commands.proofs.texts.text_fault.Goals as goal
 
 by_refusal : (files : Contents) (path bytes : List ℕ) (refusal : Refusal) → files path ≡ Some bytes

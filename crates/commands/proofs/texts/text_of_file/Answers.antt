@@ -2,9 +2,7 @@ use Rattle.std.proofs.Common.{Some, Result, Err, String, Global, refl, sym, ap, 
 use Rattle.std.proofs.lemmas.Str.{IsUtf8-string_bytes}
 use Rattle.commands.specs.FileTexts.{not_read}
 use Rattle.commands.specs.Unread.{unread}
-use Rattle.input_files.specs.declared.stream_build.fault.BuildFault.{BuildFault}
-use Rattle.language.specs.declared.refusal.Refusal.{Refusal}
-use Rattle.word.specs.Counts.{one_more}
+use Rattle.commands.specs.Below.{BuildFault, one_more, Refusal}
 use Rattle.commands.proofs.Counting.{text_counts, err_inj}
 use Rattle.commands.proofs.texts.text_of_file.Goals as goal
 

@@ -1,9 +1,7 @@
 use Rattle.std.proofs.Common.{ℕ, List, Err, map, sym, ap, ◌∙◌, subst}
 use Rattle.std.proofs.lemmas.Str.{IsUtf8-string_bytes}
 use Rattle.std.specs.String.{string_bytes}
-use Rattle.hepurita.specs.Told.{IsRefusalOf}
-use Rattle.image_reports.specs.vectors.Lines.{NamedVector}
-use Rattle.image_reports.specs.vectors.Verdicts.{IsReport}
+use Rattle.commands.specs.Below.{IsRefusalOf, IsReport, NamedVector}
 use Rattle.image_reports.specs.vectors.Views.{named}
 use Rattle.commands.specs.Vectors.{no_source, no_lines, not_accepted}
 use Rattle.language.proofs.Handed.{handed_on}

@@ -1,6 +1,6 @@
 use Rattle.std.proofs.Common.{◌≡◌, ◌++◌, drop}
 use Rattle.explanations.specs.call_places.CallPlaces.{calls_in_all}
-use Rattle.language.specs.Tree.{block_tree}
+use Rattle.explanations.specs.Below.{block_tree}
 use Rattle.explanations.proofs.call_places.+calls.Given as goal
 
 -- what is there so far, and the calls in the statements that are left, are all

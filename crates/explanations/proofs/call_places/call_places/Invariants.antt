@@ -1,6 +1,6 @@
 use Rattle.std.proofs.Common.{◌≡◌, ◌++◌, drop, map}
 use Rattle.explanations.specs.call_places.CallPlaces.{call_places}
-use Rattle.language.specs.Tree.{procedure_tree}
+use Rattle.explanations.specs.Below.{procedure_tree}
 use Rattle.explanations.proofs.call_places.call_places.Given as goal
 
 -- what is there so far, and the calls in the procedures that are left, are all

@@ -1,7 +1,7 @@
 use Rattle.std.proofs.Common.{◌≡◌, drop, map}
 use Rattle.std.specs.Option.{option_map, option_or}
 use Rattle.explanations.specs.call_places.CallPlaces.{procedure_at}
-use Rattle.language.specs.Tree.{procedure_tree}
+use Rattle.explanations.specs.Below.{procedure_tree}
 use Rattle.explanations.proofs.call_places.procedure_at.Given as goal
 
 -- the last one among those that are left, or else the last so far, is the last of all

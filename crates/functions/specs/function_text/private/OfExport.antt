@@ -2,9 +2,7 @@
 use Rattle.std.specs.Prelude.{◌≡◌, true, false, map}
 use Rattle.functions.specs.function_text.Functions.{Parts, written_parameter}
 use Rattle.functions.specs.function_text.Names.{is_taken_name}
-use Rattle.codegen.specs.image_fields.Fields.{Fields}
-use Rattle.language.specs.Tree.{ProcedureTree}
-use Rattle.word.specs.declared.place.Place.{Place}
+use Rattle.functions.specs.Below.{Fields, Place, ProcedureTree}
 
 pub record IsOfExport (export : ProcedureTree) (code : Fields) (parts : Parts) : Type 0 where
   pub image : parts.image ≡ code

@@ -5,8 +5,7 @@ use Rattle.std.specs.Option.{option_map}
 use Rattle.std.specs.Vec.Iter.{into_iter_items}
 use Rattle.std.proofs.lemmas.List.{length-map, nil_from_length, take_all}
 use Rattle.std.proofs.lemmas.Option.{slice_get-map, slice_get_read}
-use Rattle.rv_machine.specs.Paged.{paged_bytes}
-use Rattle.rv_machine.specs.RunningHarts.{member_now}
+use Rattle.harts.specs.Below.{member_now, paged_bytes}
 use Rattle.harts.specs.Frames.{job_of, HasImage}
 use Rattle.harts.proofs.EndSpaceLemmas.{number_within, space_for, spaces_left, no_space, one_end_more}
 use Rattle.harts.proofs.Numbering.{at_job, job_got}

@@ -2,8 +2,7 @@
 use Rattle.std.proofs.Common.{◌≡◌, ◌+◌, ◌≤◌, length, take, drop, map, vec_len, vec_capacity}
 use Rattle.std.specs.List.{AllZip}
 use Rattle.std.specs.Vec.Iter.{into_iter_items, into_iter_len}
-use Rattle.rv_machine.specs.Paged.{paged_bytes}
-use Rattle.rv_machine.specs.RunningHarts.{member_now}
+use Rattle.harts.specs.Below.{member_now, paged_bytes}
 use Rattle.harts.specs.EndSpace.{HasSpace}
 use Rattle.harts.specs.Ends.{ends_from}
 use Rattle.harts.specs.Frames.{job_of}

@@ -1,7 +1,7 @@
 -- The frames of all of them in one memory.
 use Rattle.std.proofs.Common.{◌≡◌, ◌≤◌, length, map, ap, ◌∙◌, arith}
 use Rattle.std.proofs.lemmas.List.{length-map}
-use Rattle.rv_machine.specs.Paged.{paged_bytes, zeros_in}
+use Rattle.harts.specs.Below.{paged_bytes, zeros_in}
 use Rattle.harts.specs.Frames.{job_of, each_from, frame_of}
 use Rattle.harts.proofs.SharedFrames.{frames_below, frames_held, frames_loaded}
 use Rattle.harts.proofs.loading.frames.Goals as goal

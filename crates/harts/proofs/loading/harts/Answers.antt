@@ -1,8 +1,7 @@
 -- One hart more.
 use Rattle.std.proofs.Common.{List, ◌∷◌, [], ◌++◌, map, take, sym, ap, ◌∙◌}
 use Rattle.std.proofs.lemmas.List.{map_push}
-use Rattle.rv_machine.specs.RunningHarts.{member_now}
-use Rattle.rv_machine.specs.System.{Member}
+use Rattle.harts.specs.Below.{Member, member_now}
 use Rattle.harts.specs.Frames.{job_of, each_from}
 use Rattle.harts.specs.SideBySide.{member_of}
 use Rattle.harts.proofs.Numbering.{each_more, all_taken, members_from-each}

@@ -1,6 +1,6 @@
 -- The harts so far.
 use Rattle.std.proofs.Common.{◌≡◌, take, map}
-use Rattle.rv_machine.specs.RunningHarts.{member_now}
+use Rattle.harts.specs.Below.{member_now}
 use Rattle.harts.specs.Frames.{job_of, each_from}
 use Rattle.harts.specs.SideBySide.{member_of}
 use Rattle.harts.proofs.loading.harts.Given as goal

@@ -1,10 +1,8 @@
 -- The arguments of one more are put.
 use Rattle.std.proofs.Common.{◌≡◌, ◌+◌, length, map, drop, is_some, sym, ap, ◌∙◌}
 use Rattle.std.proofs.lemmas.List.{length-map}
-use Rattle.codegen.specs.Loaded.{params_of, with_arguments}
+use Rattle.harts.specs.Below.{ByteMap, params_of, Slot, with_arguments}
 use Rattle.harts.proofs.Below.{length-within}
-use Rattle.codegen.specs.declared.image_fields.slot.Slot.{Slot}
-use Rattle.rv_machine.specs.Bytes.{ByteMap}
 use Rattle.harts.specs.Frames.{job_of, IsRunnable, with_all_arguments}
 use Rattle.harts.specs.SideBySide.{frame_base_of}
 use Rattle.harts.proofs.Numbering.{many, job_there, job_got, at_job}

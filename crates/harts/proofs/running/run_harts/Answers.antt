@@ -2,9 +2,7 @@
 use Rattle.std.proofs.Common.{◌≡◌, Ok, length, map, inr, sym, ap, subst, ◌∙◌}
 use Rattle.std.proofs.lemmas.List.{length-map}
 use Rattle.std.proofs.lemmas.Result.{err_from_is_err_and}
-use Rattle.rv_machine.specs.Paged.{paged_bytes}
-use Rattle.rv_machine.specs.RunningHarts.{member_now, system_now, Followed, CutShort}
-use Rattle.rv_machine.specs.System.{System}
+use Rattle.harts.specs.Below.{CutShort, Followed, member_now, paged_bytes, System, system_now}
 use Rattle.harts.specs.Frames.{job_of}
 use Rattle.harts.specs.RunHarts.{refused, out_of_memory, cut_short, ran}
 use Rattle.harts.proofs.Numbering.{members_from-count}

@@ -1,6 +1,6 @@
 use Rattle.std.proofs.lemmas.Result.{IfOk-weaker}
 use Rattle.hepurita.proofs.OneImage.{ok_both}
-use Rattle.language.specs.Tree.{program_tree}
+use Rattle.hepurita.specs.Below.{program_tree}
 use Rattle.hepurita.proofs.building.build_with.Goals as goal
 
 pub returns-clause-accepted : goal.returns-clause-accepted

@@ -1,9 +1,6 @@
 use Rattle.std.proofs.Common.{List, map, rules, ap₂, ◌∙◌}
 use Rattle.language.proofs.arguments_lemmas.FaultLemmas.{None-from_fault_of, fault_by-shown}
-use Rattle.language.specs.arguments.Faults.{rule_of, fault_of}
-use Rattle.codegen.specs.Loaded.{params_of}
-use Rattle.codegen.specs.declared.image_fields.slot.Slot.{Slot}
-use Rattle.language.specs.declared.values.Arg.{Arg}
+use Rattle.hepurita.specs.Below.{Arg, fault_of, params_of, rule_of, Slot}
 use Rattle.hepurita.proofs.checking.first_fault.Goals as goal
 
 pub returns-clause-first : goal.returns-clause-first

@@ -1,9 +1,7 @@
 use Rattle.std.proofs.Common.{sym, arith}
 use Rattle.std.proofs.lemmas.List.{length-map}
-use Rattle.codegen.specs.Loaded.{params_of}
-use Rattle.codegen.specs.declared.image_fields.slot.Slot.{Slot}
+use Rattle.hepurita.specs.Below.{params_of, rule_of, Slot}
 use Rattle.language.proofs.arguments_lemmas.FaultLemmas.{behind_fits}
-use Rattle.language.specs.arguments.Faults.{rule_of}
 use Rattle.hepurita.proofs.comparing.fault_of_both.Goals as goal
 
 pub behind-requires : goal.behind-requires

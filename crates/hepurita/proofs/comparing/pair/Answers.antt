@@ -1,8 +1,6 @@
 use Rattle.std.proofs.Common.{sym, ◌∙◌, arith}
 use Rattle.std.proofs.lemmas.Result.{err_from_is_err_and}
-use Rattle.rv_machine.specs.Harts.{state_of}
-use Rattle.rv_machine.specs.Paged.{paged_bytes}
-use Rattle.rv_machine.specs.Regions.{code_of}
+use Rattle.hepurita.specs.Below.{code_of, paged_bytes, state_of}
 use Rattle.hepurita.specs.Paired.{compared, out_of_memory, refused}
 use Rattle.hepurita.proofs.PairedLemmas.{observed_from}
 use Rattle.hepurita.proofs.comparing.pair.Goals as goal

@@ -1,8 +1,6 @@
 use Rattle.std.proofs.Common.{ap, ◌∙◌}
 use Rattle.std.proofs.lemmas.Result.{IfOk-weaker}
-use Rattle.branch_removal.specs.Exact.{straight_of}
-use Rattle.intervals.specs.Ranged.{RangedProgram}
-use Rattle.language.specs.Tree.{program_tree}
+use Rattle.hepurita.specs.Below.{program_tree, RangedProgram, straight_of}
 use Rattle.hepurita.specs.Exact.{code_for, image_for}
 use Rattle.hepurita.proofs.Compilations.{compilation}
 use Rattle.hepurita.proofs.OneImage.{ok_both}

@@ -1,5 +1,5 @@
 use Rattle.std.proofs.Common.{◌+◌, ap, ◌∙◌, arith}
-use Rattle.rv_machine.specs.Sizes.{byte_count}
+use Rattle.hepurita.specs.Below.{byte_count}
 use Rattle.hepurita.proofs.ElementLemmas.{numbers_at-more}
 use Rattle.hepurita.proofs.elements.numbers.Goals as goal
 

@@ -1,6 +1,5 @@
 use Rattle.std.proofs.Common.{◌≡◌, ◌≤◌, vec_len, vec_capacity}
-use Rattle.codegen.specs.Loaded.{numbers_at}
-use Rattle.rv_machine.specs.Sizes.{byte_count}
+use Rattle.hepurita.specs.Below.{byte_count, numbers_at}
 use Rattle.hepurita.proofs.elements.numbers.Given as goal
 
 abbrev pub invariant-loop-index : goal.invariant-loop-index

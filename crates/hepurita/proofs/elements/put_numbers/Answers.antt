@@ -1,6 +1,5 @@
 use Rattle.std.proofs.Common.{◌≡◌, ◌+◌, ◌*◌, is_some, sym, ap, ◌∙◌, arith, slice_index_or, length}
-use Rattle.rv_machine.specs.Bytes.{number_at, with_number}
-use Rattle.rv_machine.specs.Sizes.{byte_count}
+use Rattle.hepurita.specs.Below.{byte_count, number_at, with_number}
 use Rattle.hepurita.proofs.Below.{is_some-with_number}
 use Rattle.hepurita.proofs.ElementLemmas.{ends_within, next_place, number_there, with_numbers-next}
 use Rattle.hepurita.proofs.elements.put_numbers.Goals as goal

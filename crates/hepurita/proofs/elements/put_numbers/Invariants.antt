@@ -1,6 +1,5 @@
 use Rattle.std.proofs.Common.{◌≡◌, ℕ, ◌+◌, ◌*◌, drop, is_some}
-use Rattle.codegen.specs.Loaded.{with_numbers}
-use Rattle.rv_machine.specs.Sizes.{byte_count}
+use Rattle.hepurita.specs.Below.{byte_count, with_numbers}
 use Rattle.hepurita.proofs.elements.put_numbers.Given as goal
 
 -- what is left of the numbers leads to the same bytes as all of them, and the data is where it was

@@ -1,5 +1,5 @@
 use Rattle.std.proofs.lemmas.Result.{err_from_is_err_and}
-use Rattle.language.specs.Tree.{program_tree}
+use Rattle.hepurita.specs.Below.{program_tree}
 use Rattle.hepurita.proofs.BuiltLemmas.{refusal_of_text, refusal_of_program}
 use Rattle.hepurita.proofs.flattening.flatten.Goals as goal
 

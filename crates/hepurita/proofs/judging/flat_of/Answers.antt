@@ -1,7 +1,6 @@
 use Rattle.std.proofs.Common.{ap, subst}
 use Rattle.std.proofs.lemmas.Result.{err_from_is_err_and, IfOk-weaker, IfErr-weaker}
-use Rattle.language.specs.Tree.{ProgramTree, program_tree}
-use Rattle.word.specs.declared.profile.Profile.{Profile}
+use Rattle.hepurita.specs.Below.{Profile, program_tree, ProgramTree}
 use Rattle.hepurita.proofs.BuiltLemmas.{IsAllowedFlat, IsLargeFor, refusal_of_types, refusal_of_export, small_flat}
 use Rattle.hepurita.proofs.TellingLemmas.{IsToldOfSize, told_of_size}
 use Rattle.hepurita.specs.Told.{of_types}

@@ -1,5 +1,5 @@
 use Rattle.std.proofs.Common.{ap, ◌∙◌}
-use Rattle.inline.specs.Flat.{FlatProgram}
+use Rattle.hepurita.specs.Below.{FlatProgram}
 use Rattle.hepurita.proofs.judging.judge_as.Goals as goal
 
 pub returns-clause-accepted : goal.returns-clause-accepted

@@ -1,9 +1,7 @@
 use Rattle.std.proofs.Common.{length, ap, sym, ◌∙◌, arith}
 use Rattle.std.proofs.lemmas.List.{length-map}
 use Rattle.std.proofs.lemmas.List.Elements.{All-from_recursion}
-use Rattle.codegen.specs.declared.image_fields.slot.Slot.{Slot}
-use Rattle.rv_machine.specs.Bytes.{zeros}
-use Rattle.codegen.specs.Loaded.{params_of}
+use Rattle.hepurita.specs.Below.{params_of, Slot, zeros}
 use Rattle.hepurita.specs.Bases.{frame_base}
 use Rattle.hepurita.specs.Frames.{HoldsSlot}
 use Rattle.hepurita.proofs.LoadLemmas.{slots_hold, length-within}

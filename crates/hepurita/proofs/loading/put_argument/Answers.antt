@@ -1,8 +1,5 @@
 use Rattle.std.proofs.Common.{sym, ap, subst, ◌∙◌, arith}
-use Rattle.language.specs.arguments.Within.{HasShape}
-use Rattle.language.specs.declared.values.Arg.{Arg}
-use Rattle.language.specs.declared.values.Arg.TheVariants.{Word}
-use Rattle.codegen.specs.Loaded.{with_argument}
+use Rattle.hepurita.specs.Below.{Arg, HasShape, with_argument, Word}
 use Rattle.hepurita.proofs.DataLemmas.{word_there}
 use Rattle.hepurita.proofs.loading.put_argument.Goals as goal
 

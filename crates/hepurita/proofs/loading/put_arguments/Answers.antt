@@ -1,5 +1,5 @@
 use Rattle.std.proofs.Common.{◌<◌, length, slice_index_or, sym, ◌∙◌, arith}
-use Rattle.language.specs.arguments.Within.{HasShape}
+use Rattle.hepurita.specs.Below.{HasShape}
 use Rattle.hepurita.proofs.DataLemmas.{HoldsSlot-same, is_some-with_argument}
 use Rattle.hepurita.proofs.LoadLemmas.{no_slot, shape_at, with_arguments-next}
 use Rattle.hepurita.proofs.loading.put_arguments.Goals as goal

@@ -1,5 +1,5 @@
 use Rattle.std.proofs.Common.{◌≡◌, ℕ, drop, is_some}
-use Rattle.codegen.specs.Loaded.{with_arguments}
+use Rattle.hepurita.specs.Below.{with_arguments}
 use Rattle.hepurita.proofs.loading.put_arguments.Given as goal
 
 -- what is left of the arguments leads to the same bytes as all of them, and the data is where it was

@@ -1,6 +1,6 @@
 use Rattle.std.proofs.Common.{◌≡◌, ◌∷◌, suc, ◌+◌, length, ap, ◌∙◌, append_assoc, arith}
 use Rattle.std.specs.Vec.Iter.{into_iter_items}
-use Rattle.codegen.specs.Loaded.{numbers_at}
+use Rattle.hepurita.specs.Below.{numbers_at}
 use Rattle.hepurita.specs.Frames.{elements_in}
 use Rattle.hepurita.proofs.results.arrays.Goals as goal
 

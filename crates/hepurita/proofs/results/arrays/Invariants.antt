@@ -1,6 +1,6 @@
 use Rattle.std.proofs.Common.{◌≡◌, ◌+◌, ◌≤◌, ◌++◌, All, length, map, vec_len, vec_capacity}
 use Rattle.std.specs.Vec.Iter.{into_iter_items, into_iter_len}
-use Rattle.codegen.specs.Loaded.{arrays_in}
+use Rattle.hepurita.specs.Below.{arrays_in}
 use Rattle.hepurita.specs.Frames.{HasSpace, elements_in}
 use Rattle.hepurita.proofs.results.arrays.Given as goal
 

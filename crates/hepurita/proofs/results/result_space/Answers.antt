@@ -1,10 +1,7 @@
 use Rattle.std.proofs.Common.{rules, ◌≡◌, ◌≢◌, [], ◌∷◌, ◌+◌, ◌≤◌, ◌++◌, drop, slice_index_or, is_ok, sym, ap, ◌∙◌}
 use Rattle.std.proofs.ResultArms.{chosen}
 use Rattle.std.proofs.lemmas.List.Elements.{All-from_recursion, All-push}
-use Rattle.codegen.specs.image_fields.Fields.{slot_end}
-use Rattle.codegen.specs.declared.image_fields.slot.Slot.{Slot}
-use Rattle.language.specs.declared.signature.Form.TheVariants.{MutableArray}
-use Rattle.codegen.specs.Loaded.{arrays_in}
+use Rattle.hepurita.specs.Below.{arrays_in, MutableArray, Slot, slot_end}
 use Rattle.hepurita.specs.declared.results.ArraySpace.{ArraySpace}
 use Rattle.hepurita.specs.Frames.{HasSpace}
 use Rattle.hepurita.proofs.LoadLemmas.{no_slot}

@@ -1,6 +1,5 @@
 use Rattle.std.proofs.Common.{◌≡◌, ℕ, ◌++◌, All, drop, map}
-use Rattle.rv_machine.specs.Bytes.{ByteMap}
-use Rattle.codegen.specs.Loaded.{arrays_in}
+use Rattle.hepurita.specs.Below.{arrays_in, ByteMap}
 use Rattle.hepurita.specs.Frames.{HasSpace, elements_in}
 use Rattle.hepurita.proofs.results.result_space.Given as goal
 

@@ -1,17 +1,9 @@
 use Rattle.std.proofs.Common.{ap, subst, ◌∙◌, ◌≡◌, List, [], ◌++◌, inl, IfOk, IfSome, Option, sym}
 use Rattle.std.proofs.lemmas.Result.{IfOk-weaker, IfErr-weaker}
 use Rattle.std.specs.String.{string_bytes}
-use Rattle.branch_removal.specs.Exact.{straight_of}
-use Rattle.codegen.specs.Exact.{fields_of}
-use Rattle.inline.specs.Flat.{FlatProgram}
-use Rattle.inline.specs.Numbering.{flattened}
-use Rattle.intervals.specs.Ranged.{RangedProgram}
-use Rattle.intervals.specs.Work.{ranged}
+use Rattle.image_reports.specs.Below.{exported, fields_of, FlatProgram, flattened, image_for, ProcedureTree, Profile}
+use Rattle.image_reports.specs.Below.{program_tree, ranged, RangedProgram, straight_of}
 use Rattle.language.proofs.Handed.{handed_on}
-use Rattle.language.specs.Signature.{exported}
-use Rattle.language.specs.Tree.{ProcedureTree, program_tree}
-use Rattle.hepurita.specs.Exact.{image_for}
-use Rattle.word.specs.declared.profile.Profile.{Profile}
 use Rattle.image_reports.specs.source_statistics.SourceText.{costs_text, export_lines}
 use Rattle.image_reports.proofs.source_statistics.source_statistics.Goals as goal
 

@@ -1,7 +1,5 @@
 use Rattle.std.proofs.Common.{◌≡◌, drop, fold, map}
-use Rattle.language.specs.Shares.{counted_share, larger, largest}
-use Rattle.language.specs.Size.{parameter_share}
-use Rattle.language.specs.Tree.{parameter_tree}
+use Rattle.inline.specs.Below.{counted_share, larger, largest, parameter_share, parameter_tree}
 use Rattle.inline.proofs.costs.largest_parameter.Given as goal
 
 -- what is kept so far and the parameters left give what all give

@@ -1,10 +1,7 @@
 use Rattle.std.proofs.Common.{◌≡◌, ℕ, drop, fold, map, List, Option}
 use Rattle.inline.specs.Measured.{extents_in}
-use Rattle.language.specs.declared.tree.Statement.{Statement}
-use Rattle.language.specs.declared.why.Share.{Share}
-use Rattle.language.specs.Shares.{counted_share, larger, statement_shares}
-use Rattle.language.specs.Size.{statement_bodies, statement_bytes, statement_nodes}
-use Rattle.language.specs.Tree.{StatementTree, block_tree}
+use Rattle.inline.specs.Below.{block_tree, counted_share, larger, Share, Statement, statement_bodies, statement_bytes}
+use Rattle.inline.specs.Below.{statement_nodes, statement_shares, StatementTree}
 use Rattle.inline.proofs.costs.largest_statements.Given as goal
 
 -- the largest of some statements and of the parts before them

@@ -1,8 +1,7 @@
 use Rattle.std.proofs.Common.{◌∙◌, map}
 use Rattle.inline.proofs.CostLemmas.{bodies_alike, bytes_alike, nodes_alike}
 use Rattle.inline.specs.Measured.{extents_in}
-use Rattle.language.specs.Size.{extents_of}
-use Rattle.language.specs.Tree.{procedure_tree}
+use Rattle.inline.specs.Below.{extents_of, procedure_tree}
 use Rattle.inline.proofs.costs.size_costs.Goals as goal
 
 pub returns-clause-nodes : goal.returns-clause-nodes

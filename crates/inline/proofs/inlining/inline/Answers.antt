@@ -2,8 +2,7 @@ use Rattle.std.proofs.Common.{map, length, ◌≡◌, subst, sym}
 use Rattle.inline.proofs.FlatPrograms.{flat_is_typed}
 use Rattle.inline.proofs.FlatSizes.{flat_is_sized}
 use Rattle.inline.proofs.inlining.inline.Goals as goal
-use Rattle.language.specs.Tree.{procedure_tree, program_tree}
-use Rattle.language.specs.Typing.{violations}
+use Rattle.inline.specs.Below.{procedure_tree, program_tree, violations}
 
 pub flat_of-requires : goal.flat_of-requires
 flat_of-requires c =

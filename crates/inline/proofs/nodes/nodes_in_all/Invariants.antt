@@ -1,7 +1,5 @@
 use Rattle.std.proofs.Common.{◌≡◌, ◌≤◌, ◌+◌, drop, map}
-use Rattle.language.specs.Shares.{counted, most_counted}
-use Rattle.language.specs.Size.{nodes_in_all}
-use Rattle.language.specs.Tree.{expr_tree}
+use Rattle.inline.specs.Below.{counted, expr_tree, most_counted, nodes_in_all}
 use Rattle.inline.proofs.nodes.nodes_in_all.Given as goal
 
 -- the sum is a count, and with what the values left have it is the count of all

@@ -1,6 +1,6 @@
 use Rattle.std.proofs.Common.{drop, map, arith}
 use Rattle.inline.proofs.SizeLemmas.{no_arguments}
-use Rattle.language.specs.Tree.{parameter_tree}
+use Rattle.inline.specs.Below.{parameter_tree}
 use Rattle.inline.proofs.nodes.nodes_passed.Goals as goal
 
 pub returns-in_default : goal.returns-in_default

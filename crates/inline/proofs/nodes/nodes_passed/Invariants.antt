@@ -1,8 +1,5 @@
 use Rattle.std.proofs.Common.{◌≡◌, ◌≤◌, ◌+◌, drop, map}
-use Rattle.language.specs.Meaning.{word_arguments}
-use Rattle.language.specs.Shares.{counted, most_counted}
-use Rattle.language.specs.Size.{nodes_passed}
-use Rattle.language.specs.Tree.{expr_tree, parameter_tree}
+use Rattle.inline.specs.Below.{counted, expr_tree, most_counted, nodes_passed, parameter_tree, word_arguments}
 use Rattle.inline.proofs.nodes.nodes_passed.Given as goal
 
 -- the sum is a count, and with what the arguments left cost it is the count of all

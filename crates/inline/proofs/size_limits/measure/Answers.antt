@@ -2,9 +2,7 @@ use Rattle.std.proofs.Common.{◌∙◌, ap, inr, length, map, subst, sym}
 use Rattle.inline.proofs.Below.{found_first}
 use Rattle.inline.proofs.CostLemmas.{limits_alike, nodes_told}
 use Rattle.inline.specs.Measured.{extents_in}
-use Rattle.language.specs.FirstViolation.{IsNamed}
-use Rattle.language.specs.Size.{extents_of, size_violations}
-use Rattle.language.specs.Tree.{procedure_tree}
+use Rattle.inline.specs.Below.{extents_of, IsNamed, procedure_tree, size_violations}
 use Rattle.inline.proofs.size_limits.measure.Goals as goal
 
 pub returns-in-Ok-clause-nodes : goal.returns-in-Ok-clause-nodes

@@ -1,8 +1,7 @@
 use Rattle.std.proofs.Common.{◌≡◌, ◌+◌, drop, max}
 use Rattle.inline.specs.Measured.{counted_size}
 use Rattle.inline.specs.Measured.{block_size, extents_in}
-use Rattle.language.specs.Size.{block_bodies, block_nodes, block_words}
-use Rattle.language.specs.Tree.{block_tree}
+use Rattle.inline.specs.Below.{block_bodies, block_nodes, block_tree, block_words}
 use Rattle.inline.proofs.sizes.+sizes.Given as goal
 
 -- the size so far is counted, and with that of the statements left it is the size of all

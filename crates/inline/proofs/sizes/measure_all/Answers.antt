@@ -4,10 +4,8 @@ use Rattle.inline.proofs.TableLemmas.{one_told}
 use Rattle.inline.specs.declared.measured.Measured.{Measured}
 use Rattle.inline.specs.Counts.{counted_extent}
 use Rattle.inline.specs.Measured.{extent_of_measured, extents_in}
-use Rattle.language.specs.Known.{nothing_known}
-use Rattle.language.specs.Shares.{counted}
-use Rattle.language.specs.Size.{extent_of, extents_of, passed_words}
-use Rattle.language.specs.Tree.{parameter_tree, procedure_tree}
+use Rattle.inline.specs.Below.{counted, extent_of, extents_of, nothing_known, parameter_tree, passed_words}
+use Rattle.inline.specs.Below.{procedure_tree}
 use Rattle.inline.proofs.sizes.measure_all.Goals as goal
 
 pub loop-procedure-init : goal.loop-procedure-init

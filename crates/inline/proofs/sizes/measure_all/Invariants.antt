@@ -2,8 +2,7 @@ use Rattle.std.proofs.Common.{drop, map}
 use Rattle.inline.proofs.TableLemmas.{Knows}
 use Rattle.inline.specs.Counts.{counted_extent}
 use Rattle.inline.specs.Measured.{extent_of_measured}
-use Rattle.language.specs.Size.{extent_of, extents_of}
-use Rattle.language.specs.Tree.{procedure_tree}
+use Rattle.inline.specs.Below.{extent_of, extents_of, procedure_tree}
 use Rattle.inline.proofs.sizes.measure_all.Given as goal
 
 -- the table counts what is known so far

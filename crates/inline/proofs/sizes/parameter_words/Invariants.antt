@@ -1,7 +1,5 @@
 use Rattle.std.proofs.Common.{◌≡◌, ◌≤◌, ◌+◌, drop, map}
-use Rattle.language.specs.Shares.{counted, most_counted}
-use Rattle.language.specs.Size.{parameter_words}
-use Rattle.language.specs.Tree.{parameter_tree}
+use Rattle.inline.specs.Below.{counted, most_counted, parameter_tree, parameter_words}
 use Rattle.inline.proofs.sizes.parameter_words.Given as goal
 
 -- the sum is a count, and with what the parameters left take it is the count of all

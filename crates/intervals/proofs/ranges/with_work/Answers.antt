@@ -1,5 +1,5 @@
 use Rattle.std.proofs.Common.{◌≡◌, ℕ, ◌+◌, ◌≤◌, List, Some, ap, ap₂, ◌∙◌, arith}
-use Rattle.inline.specs.FlatSize.{value_nodes}
+use Rattle.intervals.specs.Below.{value_nodes}
 use Rattle.intervals.specs.Ranged.{RangedProgram}
 use Rattle.intervals.specs.Work.{body_work, work_of}
 use Rattle.intervals.specs.Limits.{most_work}

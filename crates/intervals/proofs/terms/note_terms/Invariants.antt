@@ -1,7 +1,6 @@
 use Rattle.std.proofs.Common.{◌≡◌, drop, fold, map}
-use Rattle.inline.specs.Flat.{term_tree}
+use Rattle.intervals.specs.Below.{sooner, term_tree}
 use Rattle.intervals.specs.Ranges.{terms_violations}
-use Rattle.language.specs.Sooner.{sooner}
 use Rattle.intervals.proofs.terms.note_terms.Given as goal
 
 -- what is left of the expressions leads to the same first violation as all of them

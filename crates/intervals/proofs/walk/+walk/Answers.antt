@@ -1,10 +1,9 @@
 use Rattle.std.proofs.lemmas.List.Sums.{fold-append}
 use Rattle.std.proofs.Common.{◌+◌, rules, drop, fold, ap₂, refl, ◌∙◌, ap, sym}
-use Rattle.inline.specs.Flat.{first, flat_block, flat_tree, term_tree}
+use Rattle.intervals.specs.Below.{first, flat_block, flat_tree, sooner, term_tree}
 use Rattle.intervals.specs.Intervals.{interval}
 use Rattle.intervals.specs.Ranges.{bounds_after, bounds_after_all, counted_all}
 use Rattle.intervals.specs.Ranges.{violations, violations_all, term_violations}
-use Rattle.language.specs.Sooner.{sooner}
 use Rattle.intervals.proofs.UndoingLemmas.{bounds_back, from_before}
 use Rattle.intervals.proofs.WalkLemmas.{on_ok, branch_turns, branch_seen, loop_turns, loop_seen, next_statement}
 use Rattle.intervals.proofs.walk.+walk.Goals as goal

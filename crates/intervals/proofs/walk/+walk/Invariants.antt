@@ -1,9 +1,8 @@
 use Rattle.std.proofs.Common.{◌≡◌, drop, fold}
-use Rattle.inline.specs.Flat.{flat_block}
+use Rattle.intervals.specs.Below.{flat_block, sooner}
 use Rattle.intervals.specs.Ranges.{bounds_after_all, counted_all}
 use Rattle.intervals.specs.Undoing.{CameFrom}
 use Rattle.intervals.specs.Ranges.{violations_all}
-use Rattle.language.specs.Sooner.{sooner}
 use Rattle.intervals.proofs.walk.+walk.Given as goal
 
 -- what is left of the statements leads to the same as all of them

@@ -1,7 +1,6 @@
 use Rattle.std.proofs.Common.{◌≡◌, ◌+◌, ◌*◌, slice_index, ap, ap₂, ◌∙◌, arith}
-use Rattle.inline.specs.Flat.{flat_block}
+use Rattle.intervals.specs.Below.{counted, flat_block}
 use Rattle.intervals.specs.Work.{body_work}
-use Rattle.language.specs.Shares.{counted}
 use Rattle.intervals.proofs.WorkLemmas.{branch_work, loop_work, times_counted}
 use Rattle.intervals.proofs.work.+work.Goals as goal
 

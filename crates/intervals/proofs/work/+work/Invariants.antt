@@ -1,7 +1,6 @@
 use Rattle.std.proofs.Common.{◌≡◌, ◌≤◌, ◌+◌, drop}
-use Rattle.inline.specs.Flat.{flat_block}
+use Rattle.intervals.specs.Below.{counted, flat_block, most_counted}
 use Rattle.intervals.specs.Work.{body_work}
-use Rattle.language.specs.Shares.{counted, most_counted}
 use Rattle.intervals.proofs.work.+work.Given as goal
 
 -- the sum is a count, and with the work of the statements left it is the count of all

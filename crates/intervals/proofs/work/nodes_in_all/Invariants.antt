@@ -1,7 +1,5 @@
 use Rattle.std.proofs.Common.{◌≡◌, ◌≤◌, ◌+◌, drop, map}
-use Rattle.inline.specs.Flat.{term_tree}
-use Rattle.inline.specs.FlatSize.{terms_nodes}
-use Rattle.language.specs.Shares.{counted, most_counted}
+use Rattle.intervals.specs.Below.{counted, most_counted, term_tree, terms_nodes}
 use Rattle.intervals.proofs.work.nodes_in_all.Given as goal
 
 -- the sum is a count, and with what the expressions left have it is the count of all

@@ -1,8 +1,5 @@
 use Rattle.std.proofs.Common.{◌≡◌, ◌&&◌, map, fold}
-use Rattle.language.specs.Tree.{expr_tree, parameter_tree}
-use Rattle.language.specs.Types.{are_met}
-use Rattle.language.specs.Typing.{passed, passed_violations}
-use Rattle.language.specs.Sooner.{sooner}
+use Rattle.labels.specs.Below.{are_met, expr_tree, parameter_tree, passed, passed_violations, sooner}
 use Rattle.labels.proofs.RuleLemmas.{violated_from}
 use Rattle.labels.proofs.arguments.note_all_passed.Given as goal
 

@@ -1,10 +1,7 @@
 use Rattle.std.proofs.Common.{◌∙◌, None, ap, ap₂, map}
 use Rattle.std.specs.Option.{option_map}
-use Rattle.language.specs.declared.why.Typed.{Typed}
-use Rattle.language.specs.ExprTyping.{element_type, name_type, type_of}
-use Rattle.language.specs.Reasons.{literal_in, secret_in, secret_name}
-use Rattle.language.specs.Tree.{expr_tree, procedure_tree, right_tree}
-use Rattle.language.specs.Types.{of_two}
+use Rattle.labels.specs.Below.{element_type, expr_tree, literal_in, name_type, of_two, procedure_tree, right_tree}
+use Rattle.labels.specs.Below.{secret_in, secret_name, type_of, Typed}
 use Rattle.labels.specs.private.Made.{of_operands}
 use Rattle.labels.proofs.TypedLemmas.{element_assignment_seen, value_of-element}
 use Rattle.labels.proofs.assignments.element_assignment.Goals as goal

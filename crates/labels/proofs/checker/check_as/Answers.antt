@@ -1,6 +1,5 @@
 use Rattle.std.proofs.Common.{inr, sym, ◌∙◌}
-use Rattle.language.specs.Tree.{program_tree}
-use Rattle.language.specs.Typing.{violations}
+use Rattle.labels.specs.Below.{program_tree, violations}
 use Rattle.labels.proofs.ExportLemmas.{index_of, one_exported, seen_same}
 use Rattle.language.proofs.SoonerLemmas.{found_first, found_none}
 use Rattle.labels.proofs.checker.check_as.Goals as goal

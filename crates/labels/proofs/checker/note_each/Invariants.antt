@@ -1,7 +1,5 @@
 use Rattle.std.proofs.Common.{◌≡◌, [], map, take, drop, fold}
-use Rattle.language.specs.Tree.{procedure_tree}
-use Rattle.language.specs.Typing.{procedures_violations}
-use Rattle.language.specs.Sooner.{sooner}
+use Rattle.labels.specs.Below.{procedure_tree, procedures_violations, sooner}
 use Rattle.labels.proofs.checker.note_each.Given as goal
 
 -- what is left of the procedures leads to the same first violation as all of them

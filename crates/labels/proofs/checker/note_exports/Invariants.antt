@@ -1,10 +1,7 @@
 use Rattle.std.proofs.Common.{◌≡◌, [], is_some, cond, map, take, drop, fold}
 use Rattle.std.specs.Option.{option_or}
-use Rattle.language.specs.Signature.{exported}
-use Rattle.language.specs.Tree.{procedure_tree}
-use Rattle.language.specs.Typing.{export_violations, exports, too_many}
+use Rattle.labels.specs.Below.{export_violations, exported, exports, procedure_tree, sooner, too_many}
 use Rattle.labels.specs.Exports.{export_index}
-use Rattle.language.specs.Sooner.{sooner}
 use Rattle.labels.proofs.checker.note_exports.Given as goal
 
 -- what is left of the procedures leads to the same first violation as all of them, and to the same export

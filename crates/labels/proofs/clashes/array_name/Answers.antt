@@ -1,6 +1,5 @@
 use Rattle.std.proofs.Common.{ap, sym, ◌∙◌}
-use Rattle.language.specs.Tree.{expr_tree}
-use Rattle.language.specs.Typing.{array_name}
+use Rattle.labels.specs.Below.{array_name, expr_tree}
 use Rattle.labels.proofs.clashes.array_name.Goals as goal
 
 pub returns-in-Array : goal.returns-in-Array

@@ -1,5 +1,5 @@
 use Rattle.std.proofs.Common.{[]}
-use Rattle.language.specs.Typing.{first_clash}
+use Rattle.labels.specs.Below.{first_clash}
 use Rattle.labels.proofs.ClashLemmas.{SoFar, all_passed}
 use Rattle.labels.proofs.clashes.first_clash.Given as goal
 

@@ -1,6 +1,5 @@
 use Rattle.std.proofs.Common.{◌≡◌, drop, fold}
-use Rattle.language.specs.Typing.{values_violations}
-use Rattle.language.specs.Sooner.{sooner}
+use Rattle.labels.specs.Below.{sooner, values_violations}
 use Rattle.labels.proofs.declarations.note_values.Given as goal
 
 -- what is left of the values leads to the same first violation as all of them

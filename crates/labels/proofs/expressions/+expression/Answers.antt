@@ -1,10 +1,7 @@
 use Rattle.std.proofs.Common.{◌∙◌, None, ap, ap₂, fold, sym}
-use Rattle.language.specs.ExprTyping.{binary_type, convert_type, element_type, name_type, prefix_type, rotate_type}
-use Rattle.language.specs.ExprTyping.{expr_violations, select_type, type_of, typed_of}
-use Rattle.language.specs.Sooner.{sooner}
-use Rattle.language.specs.Reasons.{literal_in, secret_in, secret_name}
-use Rattle.language.specs.Tree.{expr_tree}
-use Rattle.language.specs.Types.{of_one, of_two, of_three}
+use Rattle.labels.specs.Below.{binary_type, convert_type, element_type, expr_tree, expr_violations, literal_in}
+use Rattle.labels.specs.Below.{name_type, of_one, of_three, of_two, prefix_type, rotate_type, secret_in, secret_name}
+use Rattle.labels.specs.Below.{select_type, sooner, type_of, typed_of}
 use Rattle.labels.specs.private.Made.{of_operand, of_operands, of_choice}
 use Rattle.labels.proofs.TypedLemmas.{element_seen, of_one-typed, of_two-typed, of_three-typed}
 use Rattle.labels.proofs.expressions.+expression.Goals as goal

@@ -1,7 +1,5 @@
 use Rattle.std.proofs.Common.{◌≡◌, true, length, map, drop, fold}
-use Rattle.language.specs.ExprTyping.{exprs_violations, typed_of_all}
-use Rattle.language.specs.Tree.{expr_tree}
-use Rattle.language.specs.Sooner.{sooner}
+use Rattle.labels.specs.Below.{expr_tree, exprs_violations, sooner, typed_of_all}
 use Rattle.labels.proofs.TypeLemmas.{found_before}
 use Rattle.labels.proofs.expressions.expressions.Given as goal
 

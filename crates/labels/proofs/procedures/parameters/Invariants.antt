@@ -1,7 +1,5 @@
 use Rattle.std.proofs.Common.{◌≡◌, map, drop, fold}
-use Rattle.language.specs.Tree.{parameter_tree}
-use Rattle.language.specs.Typing.{with_parameters, parameter_violations}
-use Rattle.language.specs.Sooner.{sooner}
+use Rattle.labels.specs.Below.{parameter_tree, parameter_violations, sooner, with_parameters}
 use Rattle.labels.proofs.procedures.parameters.Given as goal
 
 -- what is left of the parameters leads to the same scope and the same first violation as all of them

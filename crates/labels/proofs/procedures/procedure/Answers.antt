@@ -1,8 +1,5 @@
 use Rattle.std.proofs.Common.{length, ap, ◌∙◌}
-use Rattle.language.specs.declared.typing.Declared.TheVariants.{Procedure}
-use Rattle.language.specs.Tree.{procedure_tree}
-use Rattle.language.specs.Types.{declared}
-use Rattle.language.specs.scopes.Shortened.{shortened}
+use Rattle.labels.specs.Below.{declared, Procedure, procedure_tree, shortened}
 use Rattle.labels.proofs.TreeLemmas.{scope_before_body}
 use Rattle.labels.proofs.procedures.procedure.Goals as goal
 

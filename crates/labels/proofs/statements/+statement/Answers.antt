@@ -1,11 +1,7 @@
 use Rattle.std.proofs.Common.{map, false, ◌∙◌, ap}
-use Rattle.language.specs.scopes.Shortened.{shortened}
+use Rattle.labels.specs.Below.{block_tree, counter_as, declared, procedure_tree, scope_after_all, shortened, Variable}
 use Rattle.std.proofs.lemmas.Result.{on_ok_weaker}
 use Rattle.labels.proofs.TreeLemmas.{conditional_seen, loop_seen, scope_before, scope_before_turns}
-use Rattle.language.specs.Tree.{block_tree, procedure_tree}
-use Rattle.language.specs.Types.{declared}
-use Rattle.language.specs.Typing.{counter_as, scope_after_all}
-use Rattle.language.specs.declared.typing.Declared.TheVariants.{Variable}
 use Rattle.labels.proofs.statements.+statement.Goals as goal
 
 pub arm-returns-clause-names : goal.arm-returns-clause-names

@@ -1,7 +1,5 @@
 use Rattle.std.proofs.Common.{◌≡◌, map, drop, fold}
-use Rattle.language.specs.Tree.{block_tree, procedure_tree}
-use Rattle.language.specs.Typing.{block_violations, scope_after_all}
-use Rattle.language.specs.Sooner.{sooner}
+use Rattle.labels.specs.Below.{block_tree, block_violations, procedure_tree, scope_after_all, sooner}
 use Rattle.labels.proofs.statements.+statement.Given as goal
 
 -- what is left of the statements leads to the same scope and the same first violation as all of them

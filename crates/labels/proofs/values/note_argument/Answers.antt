@@ -1,7 +1,5 @@
 use Rattle.std.proofs.Common.{◌∙◌, ap, fold}
-use Rattle.language.specs.Reasons.{typed_part}
-use Rattle.language.specs.Sooner.{sooner}
-use Rattle.language.specs.declared.typing.ValueType.TheVariants.{Word}
+use Rattle.labels.specs.Below.{sooner, typed_part, Word}
 use Rattle.labels.proofs.RuleLemmas.{put_as_argument}
 use Rattle.labels.proofs.values.note_argument.Goals as goal
 

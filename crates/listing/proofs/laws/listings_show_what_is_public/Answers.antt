@@ -1,4 +1,4 @@
-use Rattle.hepurita.specs.Uncut.{RunsFor}
+use Rattle.listing.specs.Below.{RunsFor}
 use Rattle.listing.proofs.PublicListings.{same_bytes}
 use Rattle.listing.proofs.laws.listings_show_what_is_public.Goals as goal
 

@@ -1,9 +1,7 @@
 use Rattle.std.proofs.Common.{List, true, ap, ◌∙◌}
 use Rattle.std.specs.Prelude.{slice_get}
-use Rattle.rv_machine.specs.declared.observation.Observation.{Observation}
-use Rattle.rv_machine.specs.Harts.{state_of}
+use Rattle.listing.specs.Below.{code_of, Observation, state_of}
 use Rattle.rv_machine.specs.Recording.{kept}
-use Rattle.rv_machine.specs.Regions.{code_of}
 use Rattle.listing.proofs.Below.{turn_made}
 use Rattle.listing.proofs.turns.turn.Goals as goal
 

@@ -1,15 +1,9 @@
 -- Each turn's lines, and the line of the stop.
 use Rattle.std.proofs.Common.{◌≡◌, ◌++◌, ◌∷◌, [], List, IsTrue, append-nil, refl, sym, ap, ◌∙◌, subst, arith}
 use Rattle.std.proofs.lemmas.Result.{on_err_weaker}
-use Rattle.streams.specs.Streams.{Writes}
-use Rattle.rv_machine.specs.declared.observation.Observation.{Observation}
-use Rattle.rv_machine.specs.declared.stops.Stop.TheVariants.{Budget}
-use Rattle.rv_machine.specs.Harts.{state_of}
-use Rattle.rv_machine.specs.Leakage.{stays}
-use Rattle.rv_machine.specs.Regions.{code_of}
+use Rattle.listing.specs.Below.{Budget, code_of, listed, Observation, state_of, stays, Writes}
 use Rattle.listing.specs.Lines.{lines_of}
 use Rattle.listing.specs.Listings.{Ends, IsListing}
-use Rattle.rv_machine.specs.Turned.{listed}
 use Rattle.listing.proofs.Below.{stopped_at, went_to}
 use Rattle.listing.proofs.Written.{leads_on, ends_here, ends_spent, ends_after, wrote_more}
 use Rattle.listing.proofs.Written.{wrote_all, cut_at_stop, cut_at_lines, on_err, if_named}

@@ -1,9 +1,6 @@
 -- So many turns were made, none of which stopped, and their lines were written.
 use Rattle.std.proofs.Common.{◌≡◌, ◌++◌, List, IsTrue}
-use Rattle.rv_machine.specs.declared.observation.Observation.{Observation}
-use Rattle.rv_machine.specs.Harts.{state_of}
-use Rattle.rv_machine.specs.Leakage.{Leads}
-use Rattle.rv_machine.specs.Regions.{code_of}
+use Rattle.listing.specs.Below.{code_of, Leads, Observation, state_of}
 use Rattle.listing.specs.Lines.{lines_of}
 use Rattle.listing.proofs.turns.write_run.Given as goal
 

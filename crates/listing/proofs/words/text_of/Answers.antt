@@ -2,7 +2,7 @@ use Rattle.std.proofs.Common.{◌≡◌, codes}
 use Rattle.std.specs.String.{string_bytes}
 use Rattle.std.proofs.lemmas.Option.{none-some}
 use Rattle.std.proofs.lemmas.Result.{IfOk-weaker}
-use Rattle.rv_code.specs.Text.{text_of}
+use Rattle.listing.specs.Below.{text_of}
 use Rattle.listing.specs.Code.{IsTextOf, of_instruction, of_no_instruction}
 use Rattle.listing.proofs.words.text_of.Goals as goal
 

@@ -5,10 +5,10 @@
 -- longer: they take little more room than the loop did, and what hangs on the counter is known in each of them.
 use Rattle.std.specs.Prelude.{ℕ, ◌+◌, ◌-◌, ◌*◌, ◌/◌, ◌^◌, ◌&&◌, List, [], ◌∷◌, min, nat_le, slice_index, slice_set}
 use Rattle.std.specs.Prelude.{if◌then◌else◌}
-use Rattle.branch_removal.specs.Straight.{StraightTree, set, array, put, take, branch, repeats}
-use Rattle.branch_removal.specs.Straight.{StraightBlock, nothing, first, StraightProgram}
+use Rattle.optimisation.specs.Below.{array, binary, branch, convert, element, first, nothing, number, prefix, put}
+use Rattle.optimisation.specs.Below.{repeats, rotate, select, set, StraightBlock, StraightProgram, StraightTree, take}
+use Rattle.optimisation.specs.Below.{TermTree, truth, variable}
 use Rattle.optimisation.specs.declared.constants.choice.Choice.{Choice}
-use Rattle.inline.specs.Flat.{TermTree, number, truth, variable, prefix, binary, rotate, convert, select, element}
 
 -- a count stops at the greatest number of 64 bits
 abbrev pub counted : ℕ → ℕ

@@ -4,12 +4,8 @@
 use Rattle.std.specs.Prelude.{ℕ, ◌+◌, ◌-◌, ◌^◌, ◌==◌, ◌&&◌, ◌||◌, Bool, true, false, nat_le, nat_lt}
 use Rattle.std.specs.Prelude.{Option, None, Some, if◌then◌else◌}
 use Rattle.std.specs.Int.Count.{count_leading_zeros}
-use Rattle.inline.specs.Flat.{TermTree, number, binary}
-use Rattle.language.specs.declared.operators.BinaryOperator.{BinaryOperator}
-use Rattle.language.specs.declared.operators.BinaryOperator.TheVariants.{BitAnd, ShiftLeft, ShiftRight}
-use Rattle.word.specs.declared.place.Place.{Place}
-use Rattle.word.specs.declared.width.Width.{Width}
-use Rattle.word.specs.Widths.{bits}
+use Rattle.optimisation.specs.Below.{binary, BinaryOperator, BitAnd, bits, number, Place, ShiftLeft, ShiftRight}
+use Rattle.optimisation.specs.Below.{TermTree, Width}
 use Rattle.optimisation.specs.declared.constants.known.Constant.{Constant}
 use Rattle.optimisation.specs.declared.constants.fields.Field.{Field}
 

@@ -6,22 +6,12 @@
 use Rattle.std.specs.Prelude.{ℕ, ◌-◌, ◌==◌, ◌&&◌, Bool, true, false, nat_le, Option, None, Some, if◌then◌else◌}
 use Rattle.std.specs.Bool.{then_some}
 use Rattle.std.specs.Option.{option_and, option_and_then, option_map, option_or}
-use Rattle.inline.specs.Flat.{TermTree, number, truth, variable, prefix, binary, rotate, convert, select, element}
-use Rattle.language.specs.declared.signature.Kind.{Kind}
-use Rattle.language.specs.declared.signature.Kind.TheVariants.{Boolean}
-use Rattle.language.specs.declared.operators.BinaryOperator.{BinaryOperator}
-use Rattle.language.specs.declared.operators.BinaryOperator.TheVariants.{Either, Both, Less, LessOrEqual}
-use Rattle.language.specs.declared.operators.BinaryOperator.TheVariants.{Greater, GreaterOrEqual, BitOr, BitXor, BitAnd}
-use Rattle.language.specs.declared.operators.BinaryOperator.TheVariants.{ShiftLeft, ShiftRight, Add, Subtract, Multiply}
-use Rattle.language.specs.declared.operators.BinaryOperator.TheVariants.{Divide}
-use Rattle.language.specs.declared.operators.PrefixOperator.{PrefixOperator}
-use Rattle.language.specs.declared.operators.PrefixOperator.TheVariants.{Not, Complement, Negate}
-use Rattle.language.specs.ExprTyping.{operation_kind}
-use Rattle.language.specs.Operators.{operation_of}
-use Rattle.language.specs.Operators.{divides, operated, opposite_of, prefix_value, truth_of, turned_of, width_of}
-use Rattle.word.specs.Operators.{complemented, rotated_left, converted, word_of}
-use Rattle.word.specs.declared.place.Place.{Place}
-use Rattle.word.specs.declared.width.Width.{Width}
+use Rattle.optimisation.specs.Below.{Add, binary, BinaryOperator, BitAnd, BitOr, BitXor, Boolean, Both, Complement}
+use Rattle.optimisation.specs.Below.{complemented, convert, converted, Divide, divides, Either, element, Greater}
+use Rattle.optimisation.specs.Below.{GreaterOrEqual, Kind, Less, LessOrEqual, Multiply, Negate, Not, number, operated}
+use Rattle.optimisation.specs.Below.{operation_kind, operation_of, opposite_of, Place, prefix, prefix_value}
+use Rattle.optimisation.specs.Below.{PrefixOperator, rotate, rotated_left, select, ShiftLeft, ShiftRight, Subtract}
+use Rattle.optimisation.specs.Below.{TermTree, truth, truth_of, turned_of, variable, Width, width_of, word_of}
 use Rattle.optimisation.specs.declared.constants.known.Constant.{Constant}
 use Rattle.optimisation.specs.declared.constants.terms.Numbers.{Numbers}
 use Rattle.optimisation.specs.constants.private.Fields.{amount_of, field_of, mask_of, moved_or}

@@ -2,8 +2,8 @@
 use Rattle.std.specs.Prelude.{ℕ, ◌==◌, ◌||◌, Bool, not, List, [], ◌∷◌, ◌++◌, filter, length, map, Option, None}
 use Rattle.std.specs.Prelude.{Some, if◌then◌else◌, nat_lt, slice_get, slice_set, unwrap_or}
 use Rattle.std.specs.List.{remove}
-use Rattle.branch_removal.specs.Straight.{StraightTree, set, array, put, take, branch, repeats}
-use Rattle.branch_removal.specs.Straight.{StraightBlock, nothing, first}
+use Rattle.optimisation.specs.Below.{array, branch, first, nothing, put, repeats, set, StraightBlock, StraightTree}
+use Rattle.optimisation.specs.Below.{take}
 use Rattle.optimisation.specs.declared.constants.known.Constant.{Constant}
 use Rattle.optimisation.specs.declared.constants.known.Known.{Known}
 use Rattle.optimisation.specs.declared.constants.known.WordCopy.{WordCopy}

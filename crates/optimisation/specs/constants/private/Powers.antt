@@ -3,11 +3,8 @@
 use Rattle.std.specs.Prelude.{ℕ, ◌-◌, ◌^◌, ◌==◌, ◌&&◌, nat_lt, Option, None, Some, if◌then◌else◌}
 use Rattle.std.specs.Int.Count.{count_trailing_zeros}
 use Rattle.std.specs.Option.{option_and_then}
-use Rattle.language.specs.declared.signature.Kind.TheVariants.{Uint32}
-use Rattle.language.specs.declared.operators.BinaryOperator.{BinaryOperator}
-use Rattle.language.specs.declared.operators.BinaryOperator.TheVariants.{BitAnd, ShiftLeft, ShiftRight}
-use Rattle.language.specs.declared.operators.BinaryOperator.TheVariants.{Multiply, Divide, Remainder}
-use Rattle.language.specs.Operators.{multiplies}
+use Rattle.optimisation.specs.Below.{BinaryOperator, BitAnd, Divide, multiplies, Multiply, Remainder, ShiftLeft}
+use Rattle.optimisation.specs.Below.{ShiftRight, Uint32}
 use Rattle.optimisation.specs.declared.constants.known.Constant.{Constant}
 use Rattle.optimisation.specs.declared.constants.powers.Step.{Step}
 

@@ -4,11 +4,9 @@
 use Rattle.std.specs.Prelude.{ℕ, zero, suc, ◌+◌, ◌-◌, ◌==◌, ◌&&◌, Bool, true, false, not, List, [], map, length}
 use Rattle.std.specs.Prelude.{replicate, slice_get, slice_index, Option, None, Some}
 use Rattle.std.specs.Option.{option_map}
-use Rattle.branch_removal.specs.Straight.{StraightTree, set, array, put, take, branch, repeats}
-use Rattle.branch_removal.specs.Straight.{StraightBlock, nothing, first, chain, StraightProgram, with_body}
-use Rattle.inline.specs.declared.flat.FlatVariable.{FlatVariable}
-use Rattle.inline.specs.Flat.{TermTree, number, variable, counter_type}
-use Rattle.inline.specs.FlatMeaning.{turns}
+use Rattle.optimisation.specs.Below.{array, branch, chain, counter_type, first, FlatVariable, nothing, number, put}
+use Rattle.optimisation.specs.Below.{repeats, set, StraightBlock, StraightProgram, StraightTree, take, TermTree, turns}
+use Rattle.optimisation.specs.Below.{variable, with_body}
 use Rattle.optimisation.specs.private.SameWords.{are_alike}
 use Rattle.optimisation.specs.declared.constants.terms.Numbers.{Numbers}
 use Rattle.optimisation.specs.constants.private.Folding.{simple, constant, constant_of, decision, numbers_of}

@@ -1,8 +1,8 @@
 -- Which arrays still become words once it is seen how each is used: by known indices alone.
 use Rattle.std.specs.Prelude.{ℕ, List, [], ◌∷◌, Option, None, Some}
-use Rattle.inline.specs.Flat.{TermTree, number, truth, variable, prefix, binary, rotate, convert, select, element}
-use Rattle.branch_removal.specs.Straight.{StraightTree, set, array, put, take, branch, repeats, StraightBlock, nothing}
-use Rattle.branch_removal.specs.Straight.{first}
+use Rattle.optimisation.specs.Below.{array, binary, branch, convert, element, first, nothing, number, prefix, put}
+use Rattle.optimisation.specs.Below.{repeats, rotate, select, set, StraightBlock, StraightTree, take, TermTree, truth}
+use Rattle.optimisation.specs.Below.{variable}
 use Rattle.optimisation.specs.element_words.private.Parts.{Parts, whole, word_of}
 
 -- an array stays whole unless this use of it is a word

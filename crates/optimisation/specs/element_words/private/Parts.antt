@@ -2,9 +2,7 @@
 use Rattle.std.specs.Prelude.{ℕ, ◌+◌, ◌-◌, nat_le, nat_lt, List, [], ◌∷◌, ◌++◌, map, drop, replicate, Option, None}
 use Rattle.std.specs.Prelude.{Some, if◌then◌else◌, slice_get, slice_set, true, unwrap_or}
 use Rattle.std.specs.Option.{option_map}
-use Rattle.inline.specs.declared.flat.FlatVariable.{FlatVariable}
-use Rattle.inline.specs.Flat.{TermTree, number, word_as}
-use Rattle.language.specs.declared.typing.WordType.{WordType}
+use Rattle.optimisation.specs.Below.{FlatVariable, number, TermTree, word_as, WordType}
 use Rattle.optimisation.specs.declared.element_words.parts.Part.{Part}
 use Rattle.optimisation.specs.element_words.Limits.{most_elements_split}
 

@@ -1,9 +1,7 @@
 -- The words that a program's arrays become, and the program in which they are.
 use Rattle.std.specs.Prelude.{ℕ, ◌-◌, List, [], ◌++◌, length, min, nat_lt, if◌then◌else◌}
 use Rattle.std.specs.Option.{option_map}
-use Rattle.inline.specs.declared.flat.FlatVariable.{FlatVariable}
-use Rattle.inline.specs.FlatSize.{declared_words}
-use Rattle.branch_removal.specs.Straight.{StraightProgram, with_variables}
+use Rattle.optimisation.specs.Below.{declared_words, FlatVariable, StraightProgram, with_variables}
 use Rattle.optimisation.specs.element_words.Limits.{most_new_words, most_variable_words}
 use Rattle.optimisation.specs.element_words.private.Narrowing.{narrowed_by_all, narrowed_result}
 use Rattle.optimisation.specs.element_words.private.Parts.{Parts, candidates, numbered, all_words}

@@ -1,10 +1,8 @@
 -- Code in which arrays are so many words.
 use Rattle.std.specs.Prelude.{ℕ, zero, suc, ◌+◌, List, [], ◌∷◌, drop, map, Option, None, Some}
-use Rattle.inline.specs.Flat.{TermTree, number, truth, variable, prefix, binary, rotate, convert, select, element}
-use Rattle.branch_removal.specs.Straight.{StraightTree, set, array, put, take, branch, repeats, StraightBlock, nothing}
-use Rattle.branch_removal.specs.Straight.{first, chain}
-use Rattle.language.specs.declared.signature.Kind.{Kind}
-use Rattle.word.specs.declared.place.Place.{Place}
+use Rattle.optimisation.specs.Below.{array, binary, branch, chain, convert, element, first, Kind, nothing, number}
+use Rattle.optimisation.specs.Below.{Place, prefix, put, repeats, rotate, select, set, StraightBlock, StraightTree}
+use Rattle.optimisation.specs.Below.{take, TermTree, truth, variable}
 use Rattle.optimisation.specs.declared.element_words.parts.Part.{Part}
 use Rattle.optimisation.specs.element_words.private.Parts.{Parts, part_of, word_of}
 

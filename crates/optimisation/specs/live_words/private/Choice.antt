@@ -4,8 +4,7 @@
 -- registers. A word that nobody uses keeps its own.
 use Rattle.std.specs.Prelude.{ℕ, zero, suc, ◌+◌, ◌*◌, ◌==◌, ◌&&◌, ◌||◌, Bool, true, false, not, List, [], ◌∷◌, ◌++◌}
 use Rattle.std.specs.Prelude.{Option, None, Some, if◌then◌else◌, slice_get, slice_set, take, unwrap_or}
-use Rattle.branch_removal.specs.Greatest.{greatest_of, heaviest, without_greatest}
-use Rattle.inline.specs.declared.flat.FlatVariable.{FlatVariable}
+use Rattle.optimisation.specs.Below.{FlatVariable, greatest_of, heaviest, without_greatest}
 use Rattle.optimisation.specs.declared.live_words.choice.Placed.{Placed}
 use Rattle.optimisation.specs.private.SameWords.{are_alike}
 use Rattle.optimisation.specs.live_words.private.Held.{Table, Holders, holder}

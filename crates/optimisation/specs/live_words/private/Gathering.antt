@@ -1,8 +1,8 @@
 -- What a loop's body may read of what it did not set. Of what is set in a part that may run or not nothing is known
 -- behind that part. Where too little is found, sharing does not fit.
 use Rattle.std.specs.Prelude.{ℕ, true, false, length, replicate, Option, None, Some, slice_set}
-use Rattle.branch_removal.specs.Straight.{StraightTree, set, array, put, take, branch, repeats, StraightBlock, nothing}
-use Rattle.branch_removal.specs.Straight.{first}
+use Rattle.optimisation.specs.Below.{array, branch, first, nothing, put, repeats, set, StraightBlock, StraightTree}
+use Rattle.optimisation.specs.Below.{take}
 use Rattle.optimisation.specs.live_words.private.Held.{Table, Done, Held, living_where}
 use Rattle.optimisation.specs.live_words.private.Terms.{reading, reading_all}
 

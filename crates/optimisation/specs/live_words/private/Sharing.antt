@@ -1,8 +1,7 @@
 -- How words share variables: from the last statement back to the first, what is live is carried along.
 use Rattle.std.specs.Prelude.{ℕ, [], map, Option, None, Some, if◌then◌else◌}
-use Rattle.branch_removal.specs.Straight.{StraightTree, set, array, put, take, branch, repeats, StraightBlock, nothing}
-use Rattle.branch_removal.specs.Straight.{first}
-use Rattle.inline.specs.Flat.{TermTree}
+use Rattle.optimisation.specs.Below.{array, branch, first, nothing, put, repeats, set, StraightBlock, StraightTree}
+use Rattle.optimisation.specs.Below.{take, TermTree}
 use Rattle.optimisation.specs.live_words.private.Held.{Table, Held, share, anew, fitting, living, setting, counting}
 use Rattle.optimisation.specs.live_words.private.Held.{joined, covers}
 use Rattle.optimisation.specs.live_words.private.Terms.{reading, reading_all, renamed, is_dead}

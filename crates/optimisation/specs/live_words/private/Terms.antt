@@ -1,7 +1,7 @@
 -- Expressions: which words they read, and how they read where words share variables.
 use Rattle.std.specs.Prelude.{ℕ, ◌&&◌, Bool, not, List, [], ◌∷◌}
-use Rattle.inline.specs.Flat.{TermTree, number, truth, variable, prefix, binary, rotate, convert, select, element}
-use Rattle.branch_removal.specs.Quiet.{is_quiet}
+use Rattle.optimisation.specs.Below.{binary, convert, element, is_quiet, number, prefix, rotate, select, TermTree}
+use Rattle.optimisation.specs.Below.{truth, variable}
 use Rattle.optimisation.specs.live_words.private.Held.{Table, Done, Held, share, is_live, living_where}
 
 -- what is live before an expression is computed: what it reads and was not set already

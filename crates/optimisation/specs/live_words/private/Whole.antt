@@ -3,12 +3,8 @@ use Rattle.std.specs.Prelude.{ℕ, ◌+◌, ◌*◌, ◌==◌, ◌&&◌, Bool, t
 use Rattle.std.specs.Prelude.{replicate, Option}
 use Rattle.std.specs.Prelude.{None, Some, if◌then◌else◌}
 use Rattle.std.specs.Option.{option_map}
-use Rattle.branch_removal.specs.Checked.{checked}
-use Rattle.branch_removal.specs.Straight.{StraightProgram, with_body}
+use Rattle.optimisation.specs.Below.{checked, is_mutable, Param, StraightProgram, TermTree, with_body}
 use Rattle.branch_removal.specs.Uses.{weights_of}
-use Rattle.inline.specs.Flat.{TermTree}
-use Rattle.language.specs.Typing.{is_mutable}
-use Rattle.language.specs.declared.signature.Param.{Param}
 use Rattle.optimisation.specs.live_words.private.Held.{Table, Held, share, fitting, living, hold_own}
 use Rattle.optimisation.specs.live_words.private.Terms.{reading, renamed}
 use Rattle.optimisation.specs.live_words.private.Choice.{chosen}

@@ -1,6 +1,5 @@
 use Rattle.std.proofs.Common.{◌≡◌, drop, map}
-use Rattle.language.specs.Meaning.{begun}
-use Rattle.language.specs.Tree.{expr_tree, parameter_tree}
+use Rattle.source_eval.specs.Below.{begun, expr_tree, parameter_tree}
 use Rattle.source_eval.specs.Views.{held, word_of}
 use Rattle.source_eval.proofs.BeginningLemmas.{over}
 use Rattle.source_eval.proofs.calls.begin.Given as goal

@@ -1,6 +1,5 @@
 use Rattle.std.proofs.Common.{◌≡◌, drop, map}
-use Rattle.language.specs.Meaning.{copied_out}
-use Rattle.language.specs.Tree.{expr_tree, parameter_tree}
+use Rattle.source_eval.specs.Below.{copied_out, expr_tree, parameter_tree}
 use Rattle.source_eval.specs.Views.{held}
 use Rattle.source_eval.proofs.calls.copy_out.Given as goal
 

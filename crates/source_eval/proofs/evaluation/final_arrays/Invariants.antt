@@ -1,6 +1,5 @@
 use Rattle.std.proofs.Common.{◌≡◌, ◌++◌, map, drop}
-use Rattle.language.specs.Meaning.{final_arrays}
-use Rattle.language.specs.Tree.{parameter_tree}
+use Rattle.source_eval.specs.Below.{final_arrays, parameter_tree}
 use Rattle.source_eval.specs.Views.{held}
 use Rattle.source_eval.proofs.evaluation.final_arrays.Given as goal
 

@@ -1,6 +1,5 @@
 use Rattle.std.proofs.Common.{◌≡◌, drop, map}
-use Rattle.language.specs.Meaning.{holding}
-use Rattle.language.specs.Tree.{parameter_tree}
+use Rattle.source_eval.specs.Below.{holding, parameter_tree}
 use Rattle.source_eval.specs.Views.{held}
 use Rattle.source_eval.proofs.BeginningLemmas.{over}
 use Rattle.source_eval.proofs.evaluation.hold.Given as goal

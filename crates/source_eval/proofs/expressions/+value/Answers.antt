@@ -1,6 +1,6 @@
 use Rattle.std.proofs.Common.{arith}
 use Rattle.std.proofs.lemmas.Grind.{common_steps}
-use Rattle.language.specs.Tree.{expr_tree}
+use Rattle.source_eval.specs.Below.{expr_tree}
 use Rattle.source_eval.specs.Views.{held}
 use Rattle.source_eval.proofs.RunLemmas.{value_counts}
 use Rattle.source_eval.proofs.expressions.+value.Goals as goal

@@ -1,7 +1,5 @@
 use Rattle.std.proofs.Common.{◌++◌, drop, map}
-use Rattle.language.specs.Evaluation.{passed}
-use Rattle.language.specs.Meaning.{word_arguments}
-use Rattle.language.specs.Tree.{expr_tree, parameter_tree}
+use Rattle.source_eval.specs.Below.{expr_tree, parameter_tree, passed, word_arguments}
 use Rattle.source_eval.specs.Views.{held, word_of}
 use Rattle.source_eval.proofs.RunLemmas.{Leads}
 use Rattle.source_eval.proofs.expressions.passed.Given as goal

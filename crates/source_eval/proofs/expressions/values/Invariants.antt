@@ -1,6 +1,5 @@
 use Rattle.std.proofs.Common.{◌++◌, drop, map}
-use Rattle.language.specs.Evaluation.{values}
-use Rattle.language.specs.Tree.{expr_tree}
+use Rattle.source_eval.specs.Below.{expr_tree, values}
 use Rattle.source_eval.specs.Views.{held, word_of}
 use Rattle.source_eval.proofs.RunLemmas.{Leads}
 use Rattle.source_eval.proofs.expressions.values.Given as goal

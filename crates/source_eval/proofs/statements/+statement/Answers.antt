@@ -1,9 +1,7 @@
 use Rattle.std.proofs.Common.{ℕ, map, arith, sym, ap, ◌∙◌}
 use Rattle.std.proofs.lemmas.Result.{IfErr-weaker}
-use Rattle.language.specs.Evaluation.{run_all, runnable}
-use Rattle.language.specs.State.{State}
-use Rattle.language.specs.Meaning.{begun, counting}
-use Rattle.language.specs.Tree.{block_tree, call_tree, expr_tree, parameter_tree, procedure_tree}
+use Rattle.source_eval.specs.Below.{begun, block_tree, call_tree, counting, expr_tree, parameter_tree, procedure_tree}
+use Rattle.source_eval.specs.Below.{run_all, runnable, State}
 use Rattle.source_eval.proofs.Below.{known-none}
 use Rattle.source_eval.specs.Metering.{known_of}
 use Rattle.source_eval.specs.Views.{held, word_of}

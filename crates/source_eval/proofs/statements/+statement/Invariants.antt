@@ -1,8 +1,5 @@
 use Rattle.std.proofs.Common.{◌+◌, ◌-◌, ◌*◌, ◌≤◌, ℕ, drop}
-use Rattle.language.specs.Evaluation.{Run, loop_run, run_all, turns}
-use Rattle.language.specs.Meaning.{counting}
-use Rattle.language.specs.State.{State}
-use Rattle.language.specs.Tree.{block_tree, expr_tree}
+use Rattle.source_eval.specs.Below.{block_tree, counting, expr_tree, loop_run, Run, run_all, State, turns}
 use Rattle.source_eval.specs.Metering.{known_of}
 use Rattle.source_eval.specs.Views.{held}
 use Rattle.source_eval.proofs.RunLemmas.{Leads}

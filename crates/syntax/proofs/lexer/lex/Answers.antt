@@ -1,7 +1,7 @@
 use Rattle.std.proofs.Common.{List, ℕ, Result, Ok, Err, IfOk}
 use Rattle.std.specs.List.{All}
 use Rattle.syntax.specs.declared.lexer.Lexed.{Lexed}
-use Rattle.language.specs.declared.refusal.Refusal.{Refusal}
+use Rattle.syntax.specs.Below.{Refusal}
 use Rattle.syntax.specs.Lexeme.{lexemes}
 use Rattle.syntax.specs.Tokens.{Lexes, IsSliceOf, ending}
 use Rattle.syntax.proofs.TokenSteps.{slices}

@@ -1,7 +1,7 @@
 use Rattle.std.proofs.Common.{List, sym, subst}
 use Rattle.std.proofs.lemmas.Result.{err_from_is_err_and}
 use Rattle.language.specs.declared.tree.Procedure.{Procedure}
-use Rattle.language.specs.Tree.{program_tree}
+use Rattle.syntax.specs.Below.{program_tree}
 use Rattle.syntax.specs.Lexeme.{lexemes}
 use Rattle.syntax.specs.Reading.{Reads, by_tokens, accepted}
 use Rattle.syntax.specs.Tokens.{Lexes, ending}

@@ -1,5 +1,5 @@
 use Rattle.std.proofs.Common.{Some, option_map, ap, subst, sym, ◌∙◌}
-use Rattle.inline.specs.Flat.{term_tree}
+use Rattle.branch_removal.specs.Below.{term_tree}
 use Rattle.branch_removal.specs.Kept.{IsStraight}
 use Rattle.branch_removal.specs.Straight.{StraightProgram, straight_block, with_variables}
 use Rattle.branch_removal.proofs.Checked.{is_made, made_straight, none_made, same_test}

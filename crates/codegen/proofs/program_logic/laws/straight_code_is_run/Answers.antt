@@ -1,7 +1,7 @@
 use Rattle.std.proofs.Common.{Option}
 use Rattle.codegen.proofs.program_logic_lemmas.StraightRuns.{straight_code_leads}
 use Rattle.codegen.proofs.program_logic.laws.straight_code_is_run.Goals as goal
-use Rattle.rv_machine.specs.declared.observation.Event.{Event}
+use Rattle.codegen.specs.Below.{Event}
 
 pub returns : goal.returns
 returns c = λ works code p is places contents plain placed fit met.

@@ -1,5 +1,4 @@
-use Rattle.language.specs.Tree.{program_tree}
-use Rattle.syntax.specs.Reading.{accepted, refused, Reads}
+use Rattle.explanations.specs.Below.{accepted, program_tree, Reads, refused}
 use Rattle.explanations.specs.expected_tokens.Expected.{by_answer}
 use Rattle.explanations.proofs.expected_tokens_lemmas.ExpectedLemmas.{placed_at}
 use Rattle.explanations.proofs.expected_tokens.expecting.may_stand.Goals as goal

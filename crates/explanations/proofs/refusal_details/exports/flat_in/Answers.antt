@@ -1,13 +1,10 @@
 -- The export is that of the program; a pass before that refuses the program has found a violation.
 use Rattle.std.specs.Prelude.{None, Some}
 use Rattle.std.proofs.Common.{[], sym, ap, ◌∙◌}
-use Rattle.inline.specs.Numbering.{flattened}
-use Rattle.language.specs.Meaning.{exported}
-use Rattle.language.specs.Tree.{program_tree}
+use Rattle.explanations.specs.Below.{exported, flattened, Profile, program_tree}
 use Rattle.explanations.proofs.refusal_details_lemmas.DetailLemmas.{first_at, where_ok}
 use Rattle.explanations.proofs.refusal_details.exports.flat_in.Goals as goal
 use Rattle.explanations.specs.refusal_details.Found.{ill_typed, one_body, too_large}
-use Rattle.word.specs.declared.profile.Profile.{Profile}
 
 pub returns-in-Err-clause-found : goal.returns-in-Err-clause-found
 returns-in-Err-clause-found c =

@@ -1,7 +1,7 @@
 use Rattle.std.proofs.Common.{sym, ap, subst, ◌∙◌}
 use Rattle.std.specs.List.{prefix_len}
 use Rattle.std.specs.Str.{IsCharBoundary}
-use Rattle.syntax.specs.Spelling.{is_word_byte}
+use Rattle.explanations.specs.Below.{is_word_byte}
 use Rattle.explanations.proofs.refusal_details_lemmas.SourceNames.{ends_at_boundary}
 use Rattle.explanations.proofs.refusal_details.source_names.first_word.Goals as goal
 

@@ -2,7 +2,7 @@
 use Rattle.std.proofs.Common.{List, map, sym, ap, ◌∙◌}
 use Rattle.std.proofs.lemmas.Option.{none-some}
 use Rattle.std.specs.Option.{option_map}
-use Rattle.language.specs.Tree.{ProcedureTree, procedure_tree, program_tree}
+use Rattle.explanations.specs.Below.{procedure_tree, ProcedureTree, program_tree}
 use Rattle.explanations.proofs.refusal_details_lemmas.DetailLemmas.{where_ok}
 use Rattle.explanations.proofs.refusal_details_lemmas.ExportLemmas.{export_there, flat_of_export, no_work, same_export}
 use Rattle.explanations.proofs.refusal_details_lemmas.ExportLemmas.{some_work}

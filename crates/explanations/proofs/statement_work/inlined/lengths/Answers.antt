@@ -1,6 +1,5 @@
 use Rattle.std.proofs.Common.{map, refl, ap, ◌∙◌}
-use Rattle.language.specs.Known.{nothing_known}
-use Rattle.language.specs.Tree.{procedure_tree}
+use Rattle.explanations.specs.Below.{nothing_known, procedure_tree}
 use Rattle.explanations.specs.statement_work.Inlined.{counted_inlined, inlined_of, lengths_in}
 use Rattle.explanations.specs.statement_work.Lengths.{inlined, lengths_of}
 use Rattle.explanations.proofs.statement_work_lemmas.Below.{one_told}

@@ -1,5 +1,5 @@
 use Rattle.std.proofs.Common.{drop, map}
-use Rattle.language.specs.Tree.{procedure_tree}
+use Rattle.explanations.specs.Below.{procedure_tree}
 use Rattle.explanations.specs.statement_work.Inlined.{counted_inlined, inlined_of}
 use Rattle.explanations.specs.statement_work.Lengths.{inlined, lengths_of}
 use Rattle.explanations.proofs.statement_work_lemmas.Below.{Knows}

@@ -1,6 +1,5 @@
 use Rattle.std.proofs.Common.{◌≡◌, ◌≤◌, ◌+◌, drop}
-use Rattle.language.specs.Tree.{block_tree}
-use Rattle.language.specs.Shares.{counted, most_counted}
+use Rattle.explanations.specs.Below.{block_tree, counted, most_counted}
 use Rattle.explanations.specs.statement_work.Inlined.{lengths_in}
 use Rattle.explanations.specs.statement_work.Lengths.{block_length}
 use Rattle.explanations.proofs.statement_work.lengths.block_length.Given as goal

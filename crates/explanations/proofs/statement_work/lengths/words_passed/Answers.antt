@@ -1,5 +1,5 @@
 use Rattle.std.proofs.Common.{ap, drop, length, map, arith}
-use Rattle.language.specs.Tree.{parameter_tree}
+use Rattle.explanations.specs.Below.{parameter_tree}
 use Rattle.explanations.proofs.statement_work_lemmas.Arguments.{no_arguments}
 use Rattle.explanations.proofs.statement_work.lengths.words_passed.Goals as goal
 

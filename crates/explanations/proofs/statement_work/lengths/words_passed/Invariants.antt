@@ -1,7 +1,5 @@
 use Rattle.std.proofs.Common.{◌≡◌, ◌≤◌, ◌+◌, drop, length, map}
-use Rattle.language.specs.Meaning.{word_arguments}
-use Rattle.language.specs.Tree.{expr_tree, parameter_tree}
-use Rattle.language.specs.Shares.{counted, most_counted}
+use Rattle.explanations.specs.Below.{counted, expr_tree, most_counted, parameter_tree, word_arguments}
 use Rattle.explanations.proofs.statement_work.lengths.words_passed.Given as goal
 
 -- the sum is a count, and with what is left to pass it is the count of all

@@ -1,12 +1,6 @@
 use Rattle.std.proofs.Common.{None, ◌+◌, fold, map, ap, ap₂, subst, ◌∙◌}
-use Rattle.inline.specs.Flat.{FlatProgram}
-use Rattle.inline.specs.FlatSize.{value_nodes}
-use Rattle.inline.specs.Kept.{IsFlat}
-use Rattle.intervals.specs.Ranges.{turns_of}
-use Rattle.intervals.specs.Work.{body_work}
-use Rattle.language.specs.Tree.{block_tree, procedure_tree}
-use Rattle.language.specs.Shares.{counted, counted_share, larger}
-use Rattle.language.specs.Size.{return_shares}
+use Rattle.explanations.specs.Below.{block_tree, body_work, counted, counted_share, FlatProgram, IsFlat, larger}
+use Rattle.explanations.specs.Below.{procedure_tree, return_shares, turns_of, value_nodes}
 use Rattle.explanations.proofs.statement_work_lemmas.MostWork.{most_of_parts}
 use Rattle.explanations.specs.statement_work.Inlined.{lengths_in}
 use Rattle.explanations.specs.statement_work.Pieces.{pieces}

@@ -1,6 +1,5 @@
 use Rattle.std.proofs.Common.{◌≡◌, None, drop, fold, map}
-use Rattle.language.specs.Tree.{block_tree}
-use Rattle.language.specs.Shares.{counted_share, larger}
+use Rattle.explanations.specs.Below.{block_tree, counted_share, larger}
 use Rattle.explanations.specs.statement_work.Inlined.{lengths_in}
 use Rattle.explanations.specs.statement_work.Pieces.{pieces}
 use Rattle.explanations.proofs.statement_work.parts.largest_statement.Given as goal

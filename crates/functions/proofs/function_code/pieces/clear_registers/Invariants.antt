@@ -1,5 +1,5 @@
 use Rattle.std.proofs.Common.{◌≡◌, ◌++◌, drop}
-use Rattle.linked_calls.specs.FunctionCode.{clear_registers_code}
+use Rattle.functions.specs.Below.{clear_registers_code}
 use Rattle.functions.proofs.function_code.pieces.clear_registers.Given as goal
 
 abbrev pub invariant-loop-register : goal.invariant-loop-register

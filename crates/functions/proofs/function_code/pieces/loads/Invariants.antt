@@ -1,5 +1,5 @@
 use Rattle.std.proofs.Common.{◌≡◌, ◌≤◌, ◌+◌, ◌*◌, ◌++◌, drop, length}
-use Rattle.linked_calls.specs.FunctionCode.{loads_code}
+use Rattle.functions.specs.Below.{loads_code}
 use Rattle.functions.proofs.function_code.pieces.loads.Given as goal
 
 -- the code so far and that of the registers that are left are all of it

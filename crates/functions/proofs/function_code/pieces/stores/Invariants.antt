@@ -1,5 +1,5 @@
 use Rattle.std.proofs.Common.{◌≡◌, ◌≤◌, ◌+◌, ◌*◌, ◌++◌, drop, length}
-use Rattle.linked_calls.specs.FunctionCode.{stores_code}
+use Rattle.functions.specs.Below.{stores_code}
 use Rattle.functions.proofs.function_code.pieces.stores.Given as goal
 
 -- the code so far and that of the registers that are left are all of it

@@ -1,5 +1,5 @@
 use Rattle.std.proofs.Common.{◌≡◌, ◌≤◌, ◌+◌, ◌++◌, drop, length}
-use Rattle.linked_calls.specs.Sections.{argument_sections}
+use Rattle.functions.specs.Below.{argument_sections}
 use Rattle.functions.proofs.function_code.sections.push_arguments.Given as goal
 
 abbrev pub invariant-loop-slot : goal.invariant-loop-slot

@@ -1,5 +1,5 @@
 use Rattle.std.proofs.Common.{◌≡◌, ◌≤◌, ◌+◌, ◌++◌, drop, length}
-use Rattle.linked_calls.specs.Sections.{array_sections}
+use Rattle.functions.specs.Below.{array_sections}
 use Rattle.functions.proofs.function_code.sections.push_arrays.Given as goal
 
 abbrev pub invariant-loop-slot : goal.invariant-loop-slot

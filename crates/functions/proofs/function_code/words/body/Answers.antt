@@ -1,5 +1,5 @@
 use Rattle.std.proofs.Common.{ap, ◌∙◌}
-use Rattle.codegen.specs.Anywhere.{body_words}
+use Rattle.functions.specs.Below.{body_words}
 use Rattle.functions.proofs.function_code_lemmas.BodyLemmas.{all_but_one}
 use Rattle.functions.proofs.function_code.words.body.Goals as goal
 

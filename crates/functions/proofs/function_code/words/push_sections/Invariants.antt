@@ -1,6 +1,5 @@
 use Rattle.std.proofs.Common.{◌≡◌, ◌++◌, map, drop}
-use Rattle.linked_calls.specs.Sections.{code_of}
-use Rattle.rv_code.specs.Words.{word_of}
+use Rattle.functions.specs.Below.{code_of, word_of}
 use Rattle.functions.proofs.function_code.words.push_sections.Given as goal
 
 abbrev pub invariant-loop-section : goal.invariant-loop-section

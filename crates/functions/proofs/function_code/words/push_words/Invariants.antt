@@ -1,5 +1,5 @@
 use Rattle.std.proofs.Common.{◌≡◌, ◌++◌, map, drop}
-use Rattle.rv_code.specs.Words.{word_of}
+use Rattle.functions.specs.Below.{word_of}
 use Rattle.functions.proofs.function_code.words.push_words.Given as goal
 
 abbrev pub invariant-loop-instruction : goal.invariant-loop-instruction

@@ -1,6 +1,6 @@
 use Rattle.std.proofs.Common.{ℕ, List, map, refl, ap, ◌∙◌}
 use Rattle.functions.specs.function_text.Functions.{written_parameter}
-use Rattle.language.specs.Tree.{parameter_tree}
+use Rattle.functions.specs.Below.{parameter_tree}
 use Rattle.language.specs.declared.tree.Parameter.{Parameter}
 use Rattle.functions.proofs.function_text.function.named_function.Goals as goal
 

@@ -1,6 +1,6 @@
 use Rattle.std.proofs.Common.{◌≡◌, ◌++◌, drop, map}
 use Rattle.functions.specs.function_text.Functions.{named, written_parameter}
-use Rattle.language.specs.Tree.{parameter_tree}
+use Rattle.functions.specs.Below.{parameter_tree}
 use Rattle.functions.proofs.function_text.function.named_params.Given as goal
 
 abbrev pub invariant-loop-parameter : goal.invariant-loop-parameter

@@ -1,8 +1,7 @@
 use Rattle.std.proofs.Common.{codes}
 use Rattle.std.proofs.lemmas.Option.{none-some}
 use Rattle.std.proofs.lemmas.Result.{on_ok_weaker}
-use Rattle.listing.specs.Code.{of_instruction, of_no_instruction}
-use Rattle.rv_code.specs.Text.{text_of}
+use Rattle.functions.specs.Below.{of_instruction, of_no_instruction, text_of}
 use Rattle.functions.proofs.function_text.lines.push_word.Goals as goal
 
 pub returns-in-Some : goal.returns-in-Some

@@ -1,5 +1,5 @@
 use Rattle.std.proofs.Common.{ap, ◌∙◌}
-use Rattle.intervals.specs.Work.{ranged}
+use Rattle.hepurita.specs.Below.{ranged}
 use Rattle.hepurita.proofs.FlattenedLemmas.{err_both, judged_fine, ok_beside, refused_by_ranges}
 use Rattle.hepurita.proofs.flattening.Flattened.ranged.Goals as goal
 

@@ -4,7 +4,7 @@ use Rattle.image.specs.private.Following.{ahead}
 use Rattle.image.proofs.Images.{image_read}
 use Rattle.image.proofs.Texts.{read_text}
 use Rattle.image.proofs.reading.Reader.fields.Goals as goal
-use Rattle.codegen.specs.image_fields.Fields.{Fields, slots_end}
+use Rattle.image.specs.Below.{Fields, slots_end}
 
 pub new-requires : goal.new-requires
 unfolding image_format

@@ -3,7 +3,7 @@ use Rattle.image.specs.Format.{Format}
 use Rattle.image.specs.Reading.{slots_format}
 use Rattle.image.specs.private.Following.{ahead}
 use Rattle.image.proofs.reading.Reader.slots.Given as goal
-use Rattle.codegen.specs.declared.image_fields.slot.Slot.{Slot}
+use Rattle.image.specs.Below.{Slot}
 
 abbrev pub invariant-slots : goal.invariant-slots
 invariant-slots l =

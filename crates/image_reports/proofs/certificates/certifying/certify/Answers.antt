@@ -1,8 +1,5 @@
 use Rattle.std.proofs.Common.{arith}
-use Rattle.certified_runs.specs.Parts.{known_of}
-use Rattle.rv_machine.specs.Harts.{state_of}
-use Rattle.rv_machine.specs.Paged.{paged_bytes}
-use Rattle.rv_machine.specs.Regions.{code_of}
+use Rattle.image_reports.specs.Below.{code_of, known_of, paged_bytes, state_of}
 use Rattle.language.proofs.Handed.{err_is}
 use Rattle.image_reports.proofs.certificates_lemmas.AnswerLemmas.{first_is, refused_certified, memory_certified, run_certified}
 use Rattle.image_reports.proofs.certificates.certifying.certify.Goals as goal

@@ -1,18 +1,7 @@
 use Rattle.std.proofs.Common.{◌≡◌, ℕ, List, Option, subst, arith}
-use Rattle.certified_runs.specs.Known.{Known}
-use Rattle.certified_runs.specs.Parts.{known_of}
-use Rattle.certified_runs.specs.declared.shifts.Shifts.{Shifts}
-use Rattle.codegen.specs.Loaded.{code_at}
-use Rattle.hepurita.specs.Bases.{code_base, frame_base}
-use Rattle.codegen.specs.image_fields.Fields.{Fields}
-use Rattle.language.specs.declared.values.Arg.{Arg}
-use Rattle.run_reports.specs.progress.Certified.{GoesOnKnown}
-use Rattle.run_reports.specs.progress.GoingOn.{Counting, HasLines, IsTold}
-use Rattle.rv_machine.specs.Machine.{Code}
+use Rattle.image_reports.specs.Below.{Arg, Code, code_at, code_base, code_of, Counting, Fields, frame_base, GoesOnKnown}
+use Rattle.image_reports.specs.Below.{HasLines, IsTold, Known, known_of, paged_bytes, Shifts, state_of}
 use Rattle.image_reports.specs.certificates.KnownImage.{known_at}
-use Rattle.rv_machine.specs.Harts.{state_of}
-use Rattle.rv_machine.specs.Paged.{paged_bytes}
-use Rattle.rv_machine.specs.Regions.{code_of}
 use Rattle.streams.specs.Streams.{Collected}
 use Rattle.language.proofs.Handed.{err_is}
 use Rattle.image_reports.proofs.certificates_lemmas.AnswerLemmas.{first_is, refused_certified, memory_certified, run_certified}

@@ -1,7 +1,7 @@
 use Rattle.std.proofs.Common.{◌∙◌}
 use Rattle.image_reports.proofs.certificates_lemmas.Below.{fault_by-shown}
 use Rattle.image_reports.specs.certificates.Given.{rule_of_given}
-use Rattle.codegen.specs.declared.image_fields.slot.Slot.{Slot}
+use Rattle.image_reports.specs.Below.{Slot}
 use Rattle.image_reports.proofs.certificates.faults.first_fault.Goals as goal
 
 pub returns : goal.returns

@@ -1,6 +1,5 @@
 use Rattle.std.proofs.Common.{ℕ, ◌+◌, Bool, false, sym, ap, ◌∙◌, refl, arith}
-use Rattle.certified_runs.specs.Known.{with_bytes_known}
-use Rattle.certified_runs.specs.Parts.{known_bytes}
+use Rattle.image_reports.specs.Below.{known_bytes, with_bytes_known}
 use Rattle.image_reports.proofs.certificates_lemmas.Below.{number_there}
 use Rattle.image_reports.proofs.certificates_lemmas.LoadedLemmas.{none_unknown, one_more_unknown}
 use Rattle.image_reports.proofs.certificates.loading.forget_bytes.Goals as goal

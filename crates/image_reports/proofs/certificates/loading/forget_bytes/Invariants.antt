@@ -1,6 +1,5 @@
 use Rattle.std.proofs.Common.{◌≡◌, ℕ, false, is_some}
-use Rattle.certified_runs.specs.Known.{with_bytes_known}
-use Rattle.certified_runs.specs.Parts.{known_bytes}
+use Rattle.image_reports.specs.Below.{known_bytes, with_bytes_known}
 use Rattle.image_reports.proofs.certificates.loading.forget_bytes.Given as goal
 
 -- the bytes so far are unknown, and nothing else has changed

@@ -1,9 +1,7 @@
 use Rattle.std.proofs.Common.{◌≡◌, ℕ, ◌+◌, ◌<◌, Bool, false, length, drop, slice_index_or, Option, is_some, ap, sym}
 use Rattle.std.proofs.Common.{◌∙◌, arith}
-use Rattle.certified_runs.specs.Known.{with_bytes_known}
-use Rattle.certified_runs.specs.Parts.{known_bytes}
+use Rattle.image_reports.specs.Below.{Arg, known_bytes, with_bytes_known}
 use Rattle.image_reports.proofs.certificates_lemmas.Below.{no_slot}
-use Rattle.language.specs.declared.values.Arg.{Arg}
 use Rattle.image_reports.specs.certificates.KnownImage.{known_with_one, known_with_given}
 use Rattle.image_reports.proofs.certificates_lemmas.LoadedLemmas.{known_with_given-next, forgotten, left_known}
 use Rattle.image_reports.proofs.certificates.loading.forget_unknown.Goals as goal

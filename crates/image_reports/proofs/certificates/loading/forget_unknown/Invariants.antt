@@ -1,5 +1,5 @@
 use Rattle.std.proofs.Common.{◌≡◌, ℕ, drop, is_some}
-use Rattle.certified_runs.specs.Parts.{known_bytes}
+use Rattle.image_reports.specs.Below.{known_bytes}
 use Rattle.image_reports.specs.certificates.KnownImage.{known_with_given}
 use Rattle.image_reports.proofs.certificates.loading.forget_unknown.Given as goal
 

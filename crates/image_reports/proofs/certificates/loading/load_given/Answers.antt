@@ -1,15 +1,8 @@
 use Rattle.std.proofs.Common.{◌≡◌, ℕ, Bool, List, All, is_some, ap, sym, subst, ◌∙◌, arith}
 use Rattle.std.proofs.lemmas.List.Elements.{All-from_recursion}
-use Rattle.certified_runs.specs.Parts.{known_registers, known_bytes}
-use Rattle.hepurita.specs.Bases.{code_base, frame_base}
-use Rattle.hepurita.specs.Frames.{HoldsSlot}
+use Rattle.image_reports.specs.Below.{ByteMap, code_base, Fields, frame_base, HoldsSlot, initial_registers, IsImage}
+use Rattle.image_reports.specs.Below.{known_bytes, known_registers, paged_bytes, pc_of, regs_of, Slot, zeros}
 use Rattle.image_reports.proofs.certificates_lemmas.Below.{slots_hold}
-use Rattle.codegen.specs.image_fields.Fields.{Fields, IsImage}
-use Rattle.codegen.specs.declared.image_fields.slot.Slot.{Slot}
-use Rattle.rv_machine.specs.Bytes.{ByteMap, zeros}
-use Rattle.rv_machine.specs.Harts.{pc_of, regs_of}
-use Rattle.rv_machine.specs.Paged.{paged_bytes}
-use Rattle.rv_machine.specs.Registers.{initial_registers}
 use Rattle.image_reports.specs.certificates.KnownImage.{with_given, known_with_given}
 use Rattle.image_reports.proofs.certificates_lemmas.LoadedLemmas.{fresh_known, same_known}
 use Rattle.image_reports.proofs.certificates.loading.load_given.Goals as goal

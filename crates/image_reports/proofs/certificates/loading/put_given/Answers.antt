@@ -1,10 +1,7 @@
 use Rattle.std.proofs.Common.{◌≡◌, ◌+◌, ◌<◌, length, drop, slice_index_or, Option, Some, is_some, ap, sym, ◌∙◌, arith}
 use Rattle.image_reports.proofs.certificates_lemmas.Below.{fault_from-next, HoldsSlot-same, no_slot}
-use Rattle.language.specs.arguments.Within.{HasShape}
-use Rattle.language.specs.declared.values.Arg.{Arg}
+use Rattle.image_reports.specs.Below.{Arg, ByteMap, HasShape, Slot}
 use Rattle.std.proofs.lemmas.List.{length-map}
-use Rattle.codegen.specs.declared.image_fields.slot.Slot.{Slot}
-use Rattle.rv_machine.specs.Bytes.{ByteMap}
 use Rattle.image_reports.specs.certificates.Given.{rule_of_given}
 use Rattle.image_reports.specs.certificates.KnownImage.{with_one, with_given}
 use Rattle.image_reports.proofs.certificates_lemmas.LoadedLemmas.{with_given-next, is_some-with_one, params_in, shape_given, as_many}

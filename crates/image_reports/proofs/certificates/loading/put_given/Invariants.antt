@@ -1,5 +1,5 @@
 use Rattle.std.proofs.Common.{◌≡◌, ℕ, drop, map, is_some, None}
-use Rattle.language.specs.arguments.Faults.{fault_from}
+use Rattle.image_reports.specs.Below.{fault_from}
 use Rattle.image_reports.specs.certificates.Given.{rule_of_given}
 use Rattle.image_reports.specs.certificates.KnownImage.{with_given}
 use Rattle.image_reports.proofs.certificates.loading.put_given.Given as goal

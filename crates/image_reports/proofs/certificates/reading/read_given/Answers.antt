@@ -2,8 +2,7 @@ use Rattle.std.proofs.Common.{◌≡◌, ◌<◌, length, map, take, Some, None,
 use Rattle.std.proofs.Math.Seq.{take-length}
 use Rattle.std.specs.Option.{option_map}
 use Rattle.image_reports.proofs.certificates_lemmas.Below.{fault_from-left, fault_from-next, fault_by-None, map-more, fault_by-map}
-use Rattle.language.specs.arguments.Within.{words_of}
-use Rattle.hepurita.specs.declared.fault.RunFault.TheVariants.{Memory}
+use Rattle.image_reports.specs.Below.{Memory, words_of}
 use Rattle.image_reports.specs.certificates.Texts.{numbers_given, rule_of_given_text, fault_of_given_texts}
 use Rattle.image_reports.proofs.certificates_lemmas.ReadLemmas.{faultless-more, fault_iff-ok, fault_iff-memory, fault_iff-fault}
 use Rattle.image_reports.proofs.certificates.reading.read_given.Goals as goal

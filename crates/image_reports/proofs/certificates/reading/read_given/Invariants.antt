@@ -1,7 +1,6 @@
 use Rattle.std.proofs.Common.{◌≡◌, map, take, drop, Some, None}
 use Rattle.std.specs.Option.{option_map}
-use Rattle.language.specs.arguments.Faults.{fault_from}
-use Rattle.language.specs.arguments.Within.{words_of}
+use Rattle.image_reports.specs.Below.{fault_from, words_of}
 use Rattle.image_reports.specs.certificates.Given.{fault_of_given}
 use Rattle.image_reports.specs.certificates.Texts.{numbers_given, rule_of_given_text}
 use Rattle.image_reports.proofs.certificates.reading.read_given.Given as goal

@@ -1,12 +1,7 @@
 -- The run is made again up to its last turn before the place, and then on to the place.
 use Rattle.std.proofs.Common.{◌≡◌, ℕ, ◌-◌, ◌++◌, codes, List, sym, ap, ◌∙◌, subst, arith}
-use Rattle.codegen.specs.Loaded.{code_at, loaded_at}
-use Rattle.hepurita.specs.Bases.{code_base, frame_base}
-use Rattle.rv_machine.specs.Harts.{state_of}
+use Rattle.image_reports.specs.Below.{code_at, code_base, code_of, frame_base, loaded_at, paged_bytes, State, state_of}
 use Rattle.rv_machine.specs.Leakage.{Leads}
-use Rattle.rv_machine.specs.Machine.{State}
-use Rattle.rv_machine.specs.Paged.{paged_bytes}
-use Rattle.rv_machine.specs.Regions.{code_of}
 use Rattle.image_reports.specs.pair_explanations.Explained.{shown_line, SaysOf}
 use Rattle.image_reports.proofs.pair_explanations_lemmas.Saying.{said}
 use Rattle.image_reports.proofs.pair_explanations.explaining.said_of_run.Goals as goal

@@ -1,7 +1,6 @@
 use Rattle.std.proofs.Common.{map, IfSome, Option, List, sym, ap, subst, ◌≡◌, ◌∙◌}
 use Rattle.std.specs.Option.{option_map}
-use Rattle.inline.specs.Numbering.{flattened}
-use Rattle.language.specs.Tree.{ProcedureTree, procedure_tree}
+use Rattle.image_reports.specs.Below.{flattened, procedure_tree, ProcedureTree}
 use Rattle.image_reports.proofs.source_statistics.sizes.push_sizes.Goals as goal
 
 pub push_export-requires : goal.push_export-requires

@@ -1,9 +1,6 @@
 use Rattle.std.proofs.Common.{map, sym, ap, subst, ◌≡◌, ◌∙◌}
-use Rattle.inline.specs.Flat.{FlatProgram}
-use Rattle.inline.specs.Numbering.{flattened}
-use Rattle.intervals.specs.Ranged.{RangedProgram}
+use Rattle.image_reports.specs.Below.{FlatProgram, flattened, procedure_tree, RangedProgram}
 use Rattle.intervals.specs.Ranges.{turns_of}
-use Rattle.language.specs.Tree.{procedure_tree}
 use Rattle.image_reports.proofs.source_statistics.sizes.work_of.Goals as goal
 
 pub measured_work-requires : goal.measured_work-requires

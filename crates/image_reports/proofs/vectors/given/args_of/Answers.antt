@@ -3,7 +3,7 @@ use Rattle.std.specs.String.{string_bytes}
 use Rattle.std.proofs.lemmas.Iterator.{YieldsList-from_slice, YieldsList-from_map_by}
 use Rattle.std.proofs.lemmas.Iterator.Consumers.{YieldsList-at, map_from_collect}
 use Rattle.std.proofs.lemmas.Simd.{map-map}
-use Rattle.language.specs.arguments.Texts.{fault_of_texts, numbers_of}
+use Rattle.image_reports.specs.Below.{fault_of_texts, numbers_of}
 use Rattle.image_reports.proofs.vectors.given.args_of.Goals as goal
 
 pub returns-in-Ok-clause-read : goal.returns-in-Ok-clause-read

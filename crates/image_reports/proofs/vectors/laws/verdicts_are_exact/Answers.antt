@@ -1,4 +1,4 @@
-use Rattle.certified_runs.specs.declared.shifts.Shifts.TheVariants.{Hidden}
+use Rattle.image_reports.specs.Below.{Hidden}
 use Rattle.image_reports.proofs.vectors_lemmas.ExactLemmas.{one_verdict, all_counted}
 use Rattle.image_reports.proofs.vectors.laws.verdicts_are_exact.Goals as goal
 

@@ -1,5 +1,5 @@
 use Rattle.std.proofs.Common.{◌≡◌, refl, sym, ◌∙◌}
-use Rattle.codegen.specs.Loaded.{params_of}
+use Rattle.image_reports.specs.Below.{params_of}
 use Rattle.image_reports.specs.vectors.Spelled.{publics}
 use Rattle.image_reports.proofs.vectors_lemmas.Below.{length-AreWithin}
 use Rattle.image_reports.proofs.vectors_lemmas.GivenLemmas.{only_memory, not_argument, not_stopped}

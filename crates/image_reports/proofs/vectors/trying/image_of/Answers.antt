@@ -1,4 +1,4 @@
-use Rattle.language.specs.Tree.{program_tree}
+use Rattle.image_reports.specs.Below.{program_tree}
 use Rattle.image_reports.proofs.vectors.trying.image_of.Goals as goal
 
 pub returns-clause-image : goal.returns-clause-image

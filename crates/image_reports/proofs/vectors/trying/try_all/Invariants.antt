@@ -1,6 +1,6 @@
 use Rattle.std.proofs.Common.{◌≡◌, ◌+◌, map, take}
 use Rattle.std.specs.String.{string_bytes}
-use Rattle.language.specs.Tree.{ProgramTree}
+use Rattle.image_reports.specs.Below.{ProgramTree}
 use Rattle.image_reports.specs.vectors.Verdicts.{IsImageOf, Tried}
 use Rattle.image_reports.specs.vectors.Views.{named}
 use Rattle.image_reports.proofs.vectors.trying.try_all.Given as goal

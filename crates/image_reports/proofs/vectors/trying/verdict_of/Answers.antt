@@ -1,8 +1,6 @@
 use Rattle.std.proofs.Common.{◌≡◌, List, ℕ, Result, Err, map, Bor, ap, subst, ◌∙◌}
 use Rattle.std.specs.String.{string_bytes}
-use Rattle.language.specs.declared.arguments.fault.ArgumentFault.{ArgumentFault}
-use Rattle.codegen.specs.Loaded.{params_of}
-use Rattle.language.specs.declared.values.Arg.{Arg}
+use Rattle.image_reports.specs.Below.{Arg, ArgumentFault, params_of}
 use Rattle.image_reports.specs.vectors.Spelled.{IsReading}
 use Rattle.image_reports.specs.vectors.Texts.{plain}
 use Rattle.image_reports.specs.vectors.Views.{named}

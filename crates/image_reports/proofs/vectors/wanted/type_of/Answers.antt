@@ -1,9 +1,6 @@
 use Rattle.std.proofs.Common.{◌≤◌, length, refl, arith}
 use Rattle.std.proofs.lemmas.List.Elements.{All-from_get_or}
-use Rattle.language.specs.declared.signature.Form.TheVariants.{FixedArray}
-use Rattle.language.specs.declared.signature.Kind.TheVariants.{Uint32}
-use Rattle.language.specs.declared.signature.Label.TheVariants.{Public}
-use Rattle.language.specs.declared.signature.Param.{Param}
+use Rattle.image_reports.specs.Below.{FixedArray, Param, Public, Uint32}
 use Rattle.image_reports.proofs.vectors_lemmas.SpellLemmas.{words_unbroken}
 use Rattle.image_reports.proofs.vectors.wanted.type_of.Goals as goal
 

@@ -4,7 +4,7 @@ use Rattle.std.proofs.lemmas.List.{append-nil, append_assoc, drop_all, drop_more
 use Rattle.inline.specs.Callees.{called_by}
 use Rattle.inline.specs.Flat.{flat_block, term_tree}
 use Rattle.inline.specs.Numbering.{call_result, call_value, value_given}
-use Rattle.language.specs.Tree.{block_tree, call_tree, expr_tree}
+use Rattle.inline.specs.Below.{block_tree, call_tree, expr_tree}
 use Rattle.inline.proofs.BlockLemmas.{chain_chain, chain_nothing, ok_any}
 use Rattle.inline.proofs.Measures.{body_smaller, conditional_smaller, loop_smaller, nodes_of_block, rest_smaller}
 use Rattle.inline.proofs.NumberingLemmas.{conditional_whole, loop_whole, names_before, names_before_one, called}

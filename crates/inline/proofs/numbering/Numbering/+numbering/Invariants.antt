@@ -4,8 +4,7 @@ use Rattle.inline.specs.Callees.{called_by}
 use Rattle.inline.specs.Flat.{chain, flat_block}
 use Rattle.inline.specs.Numbering.{block, names_after_all, declared_in_all}
 use Rattle.inline.proofs.Measures.{nodes_of_block, nodes_of_statement, nodes_of_call, nodes_of_right}
-use Rattle.language.specs.Size.{nodes_in}
-use Rattle.language.specs.Tree.{block_tree, call_tree, expr_tree, right_tree, statement_tree}
+use Rattle.inline.specs.Below.{block_tree, call_tree, expr_tree, nodes_in, right_tree, statement_tree}
 
 -- what is done and what is left make the whole block, with the same names and variables after it
 abbrev pub invariant-block-loop-statement : goal.invariant-block-loop-statement

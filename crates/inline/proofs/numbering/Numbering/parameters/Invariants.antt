@@ -2,7 +2,7 @@ use Rattle.std.proofs.Common.{◌≡◌, ◌++◌, drop, length, map, take}
 use Rattle.inline.proofs.numbering.Numbering.parameters.Given as goal
 use Rattle.inline.specs.Flat.{declaration_of}
 use Rattle.inline.specs.Numbering.{param_of, with_parameters}
-use Rattle.language.specs.Tree.{parameter_tree}
+use Rattle.inline.specs.Below.{parameter_tree}
 
 -- those before this one are done, and what is left leads to the same names and variables as all of them
 abbrev pub invariant-loop-parameter : goal.invariant-loop-parameter

@@ -3,7 +3,7 @@ use Rattle.inline.proofs.PassLemmas.{Passes}
 use Rattle.inline.proofs.numbering.Numbering.pass.Given as goal
 use Rattle.inline.specs.Flat.{chain, flat_block}
 use Rattle.inline.specs.Numbering.{begun, passed, passed_variables}
-use Rattle.language.specs.Tree.{expr_tree, parameter_tree}
+use Rattle.inline.specs.Below.{expr_tree, parameter_tree}
 
 -- those before this one are passed, and with those left all are
 abbrev pub invariant-loop-index : goal.invariant-loop-index

@@ -1,7 +1,7 @@
 use Rattle.std.proofs.Common.{◌≡◌, ◌<◌, ◌≤◌, ◌+◌, ◌*◌, ◌-◌, ◌^◌, min, length, get_or, drop, sym, ap, ◌∙◌, arith}
 use Rattle.std.proofs.lemmas.Bool.Decides.{nat_tests}
 use Rattle.std.specs.Char.{digit_value}
-use Rattle.language.specs.arguments.Texts.{number_after}
+use Rattle.input_files.specs.Below.{number_after}
 use Rattle.input_files.proofs.harts_file_lemmas.NumberLemmas.{capped, number_after-turn, number_after-stops}
 use Rattle.input_files.proofs.harts_file_lemmas.NumberLemmas.{number_after-ends}
 use Rattle.input_files.proofs.harts_file_lemmas.NumberLemmas.{number_in-after}

@@ -1,6 +1,6 @@
 use Rattle.std.proofs.Common.{◌≡◌, ◌^◌, ◌<◌, drop}
 use Rattle.std.specs.Option.{option_map}
-use Rattle.language.specs.arguments.Texts.{number_after}
+use Rattle.input_files.specs.Below.{number_after}
 use Rattle.input_files.specs.harts_file.private.Reading.{held_number}
 use Rattle.input_files.proofs.harts_file.numerals.decimal.Given as goal
 

@@ -1,5 +1,5 @@
 use Rattle.std.proofs.Common.{◌++◌, List, ap, sym, subst, ◌∙◌, ℕ}
-use Rattle.streams.specs.Streams.{GainsPart}
+use Rattle.input_files.specs.Below.{GainsPart}
 use Rattle.input_files.proofs.stream_build.laws.streams_agree.Goals as goal
 
 pub returns-clause-written : goal.returns-clause-written

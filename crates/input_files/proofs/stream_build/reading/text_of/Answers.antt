@@ -1,7 +1,7 @@
 use Rattle.std.proofs.Common.{◌≡◌, ◌≤◌, ℕ, List, length, inr, arith, ap, sym, subst, ◌∙◌}
 use Rattle.std.proofs.lemmas.Bool.{false≢true}
 use Rattle.std.specs.Str.{IsUtf8}
-use Rattle.syntax.specs.Limits.{text_limit}
+use Rattle.input_files.specs.Below.{text_limit}
 use Rattle.input_files.proofs.stream_build_lemmas.Readings.{all-of-fewer, no-fewer}
 use Rattle.input_files.proofs.stream_build.reading.text_of.Goals as goal
 

@@ -1,8 +1,6 @@
 use Rattle.std.proofs.Common.{◌≡◌, ◌<◌, ◌^◌, None, length, refl, sym, ap, ap₂, ◌∙◌, arith}
 use Rattle.std.proofs.lemmas.List.Elements.{recursion_from_All}
-use Rattle.codegen.specs.expression_code.Layout.{slots_from}
-use Rattle.image.specs.Reading.{layout_end}
-use Rattle.codegen.specs.image_fields.Fields.{slots_end}
+use Rattle.input_files.specs.Below.{layout_end, slots_end, slots_from}
 use Rattle.input_files.specs.wrapping.Wrapped.{broken_rule, end_of, result_behind}
 use Rattle.input_files.proofs.wrapping_lemmas.FieldLemmas.{fields_allowed, low_of}
 use Rattle.input_files.proofs.wrapping.making.fields_for.Goals as goal

@@ -1,4 +1,4 @@
-use Rattle.language.specs.Tree.{program_tree}
+use Rattle.input_files.specs.Below.{program_tree}
 use Rattle.input_files.proofs.wrapping_lemmas.WrapLaws.{limits_of}
 use Rattle.input_files.proofs.wrapping.making.wrap.Goals as goal
 

@@ -1,6 +1,6 @@
 use Rattle.std.proofs.Common.{◌≡◌, get_or, sym}
 use Rattle.labels.proofs.ExportLemmas.{export_read, parts_of}
-use Rattle.language.specs.Grammatical.{IsGrammatical}
+use Rattle.labels.specs.Below.{IsGrammatical}
 use Rattle.labels.proofs.checker.Checked.export.Goals as goal
 
 pub returns : goal.returns

@@ -1,5 +1,5 @@
 use Rattle.std.proofs.Common.{◌≡◌, ◌≤◌, ◌+◌, ◌-◌, ◌^◌, drop, map}
-use Rattle.inline.specs.Flat.{term_tree}
+use Rattle.optimisation.specs.Below.{term_tree}
 use Rattle.optimisation.specs.constants.private.Choice.{terms_size, counted}
 use Rattle.optimisation.proofs.constants.choice.nodes_in_all.Given as goal
 

@@ -1,6 +1,6 @@
 use Rattle.std.proofs.Common.{refl}
 use Rattle.branch_removal.proofs.Checked.{where_checked}
-use Rattle.branch_removal.specs.Replaced.{IsReplaced}
+use Rattle.optimisation.specs.Below.{IsReplaced}
 use Rattle.optimisation.proofs.constants_lemmas.Whole.{replaced}
 use Rattle.optimisation.proofs.constants.simplification.simpler.Goals as goal
 

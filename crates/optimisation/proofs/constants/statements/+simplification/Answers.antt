@@ -1,6 +1,6 @@
 use Rattle.std.proofs.Common.{◌≡◌, ◌+◌, ◌-◌, suc, rules, refl, arith}
 use Rattle.std.proofs.lemmas.List.{at_drop_all}
-use Rattle.branch_removal.specs.Straight.{straight_block}
+use Rattle.optimisation.specs.Below.{straight_block}
 use Rattle.branch_removal.proofs.StatementTrees.{arms_smaller, body_smaller, chain-assoc, chain-nothing, item_here}
 use Rattle.branch_removal.proofs.StatementTrees.{smaller_here, tree_of_branch, tree_of_loop}
 use Rattle.optimisation.proofs.constants.statements.+simplification.Goals as goal

@@ -1,6 +1,5 @@
 use Rattle.std.proofs.Common.{◌≡◌, ◌+◌, ◌*◌, drop}
-use Rattle.branch_removal.specs.Bounds.{block_nodes, statement_nodes}
-use Rattle.branch_removal.specs.Straight.{chain, straight_block, straight_tree}
+use Rattle.optimisation.specs.Below.{block_nodes, chain, statement_nodes, straight_block, straight_tree}
 use Rattle.optimisation.specs.constants.private.Known.{words_of}
 use Rattle.optimisation.specs.constants.private.Simplification.{knowing_all, simplified_all, turns_code, turns_known}
 use Rattle.optimisation.specs.declared.constants.terms.Numbers.{Numbers}

@@ -1,5 +1,5 @@
 use Rattle.std.proofs.Common.{◌≡◌, map, take}
-use Rattle.inline.specs.Flat.{term_tree}
+use Rattle.optimisation.specs.Below.{term_tree}
 use Rattle.optimisation.specs.constants.private.Known.{words_of}
 use Rattle.optimisation.specs.constants.private.Folding.{simple}
 use Rattle.optimisation.proofs.constants.terms.all_simple.Given as goal

@@ -1,6 +1,5 @@
 use Rattle.std.proofs.Common.{◌≡◌, ◌+◌, ◌*◌, drop}
-use Rattle.branch_removal.specs.Bounds.{block_nodes, statement_nodes}
-use Rattle.branch_removal.specs.Straight.{straight_block, straight_tree}
+use Rattle.optimisation.specs.Below.{block_nodes, statement_nodes, straight_block, straight_tree}
 use Rattle.optimisation.specs.element_words.private.Narrowing.{narrowed_by_all}
 use Rattle.optimisation.proofs.element_words.narrowing.+narrowing.Given as goal
 

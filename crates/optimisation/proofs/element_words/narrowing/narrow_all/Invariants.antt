@@ -1,5 +1,5 @@
 use Rattle.std.proofs.Common.{◌≡◌, map, drop}
-use Rattle.inline.specs.Flat.{term_tree}
+use Rattle.optimisation.specs.Below.{term_tree}
 use Rattle.optimisation.specs.element_words.private.Narrowing.{all_narrowed}
 use Rattle.optimisation.proofs.element_words.narrowing.narrow_all.Given as goal
 

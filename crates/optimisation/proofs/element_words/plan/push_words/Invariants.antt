@@ -1,5 +1,5 @@
 use Rattle.std.proofs.Common.{◌≡◌, ◌++◌, true, replicate}
-use Rattle.inline.specs.Flat.{word_as}
+use Rattle.optimisation.specs.Below.{word_as}
 use Rattle.optimisation.proofs.element_words.plan.push_words.Given as goal
 
 -- so many words are there

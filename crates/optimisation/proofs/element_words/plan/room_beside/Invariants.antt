@@ -1,5 +1,5 @@
 use Rattle.std.proofs.Common.{◌≡◌, ◌+◌, drop}
-use Rattle.inline.specs.FlatSize.{declared_words}
+use Rattle.optimisation.specs.Below.{declared_words}
 use Rattle.optimisation.proofs.element_words.plan.room_beside.Given as goal
 
 -- the variables from this one on are left

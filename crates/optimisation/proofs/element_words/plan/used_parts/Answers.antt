@@ -1,6 +1,6 @@
 use Rattle.std.proofs.Common.{length, ap, arith}
 use Rattle.std.proofs.lemmas.List.{length-map, length-take}
-use Rattle.inline.specs.Flat.{declaration_of}
+use Rattle.optimisation.specs.Below.{declaration_of}
 use Rattle.optimisation.proofs.element_words.plan.used_parts.Goals as goal
 
 pub candidates-requires : goal.candidates-requires

@@ -1,6 +1,6 @@
 use Rattle.std.proofs.Common.{rules, refl}
 use Rattle.std.proofs.lemmas.List.{at_drop_all}
-use Rattle.branch_removal.specs.Straight.{straight_block}
+use Rattle.optimisation.specs.Below.{straight_block}
 use Rattle.branch_removal.proofs.StatementTrees.{tree_of_branch, tree_of_loop, accepted_smaller, otherwise_smaller}
 use Rattle.branch_removal.proofs.StatementTrees.{body_smaller, item_here, smaller_here, chain-assoc, chain-nothing}
 use Rattle.optimisation.proofs.element_words.statements.+splitting.Goals as goal

@@ -1,7 +1,7 @@
 use Rattle.std.proofs.Common.{◌≡◌, ℕ, suc, ◌+◌, ◌-◌, List, map, drop, refl, ap, ◌∙◌, arith}
 use Rattle.std.proofs.lemmas.List.{drop-map, drop-drop}
 use Rattle.inline.specs.declared.flat.Term.{Term}
-use Rattle.inline.specs.Flat.{term_tree}
+use Rattle.optimisation.specs.Below.{term_tree}
 use Rattle.branch_removal.proofs.StatementTrees.{chain-assoc, chain-nothing}
 use Rattle.optimisation.specs.element_words.private.Parts.{Parts}
 use Rattle.optimisation.specs.element_words.private.Splitting.{split}

@@ -1,6 +1,5 @@
 use Rattle.std.proofs.Common.{◌≡◌, ◌+◌, ◌-◌, map, drop}
-use Rattle.branch_removal.specs.Straight.{chain, straight_block}
-use Rattle.inline.specs.Flat.{term_tree}
+use Rattle.optimisation.specs.Below.{chain, straight_block, term_tree}
 use Rattle.optimisation.specs.element_words.private.Splitting.{given_words, split}
 use Rattle.optimisation.proofs.element_words.statements.push_words.Given as goal
 

@@ -1,5 +1,5 @@
 use Rattle.std.proofs.Common.{◌≡◌, map, take}
-use Rattle.inline.specs.Flat.{term_tree}
+use Rattle.optimisation.specs.Below.{term_tree}
 use Rattle.optimisation.specs.element_words.private.Splitting.{split}
 use Rattle.optimisation.proofs.element_words.terms.all_split.Given as goal
 

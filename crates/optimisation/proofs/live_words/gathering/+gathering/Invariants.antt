@@ -1,6 +1,5 @@
 use Rattle.std.proofs.Common.{◌≡◌, ◌+◌, ◌*◌, drop}
-use Rattle.branch_removal.specs.Bounds.{block_nodes, statement_nodes}
-use Rattle.branch_removal.specs.Straight.{straight_block, straight_tree}
+use Rattle.optimisation.specs.Below.{block_nodes, statement_nodes, straight_block, straight_tree}
 use Rattle.optimisation.specs.live_words.private.Gathering.{gathered_all}
 use Rattle.optimisation.specs.live_words.private.Held.{held_by}
 use Rattle.optimisation.proofs.live_words.gathering.+gathering.Given as goal

@@ -1,5 +1,5 @@
 use Rattle.std.proofs.Common.{◌<◌, ◌^◌, length, List, subst, sym}
-use Rattle.language.specs.declared.signature.Param.{Param}
+use Rattle.optimisation.specs.Below.{Param}
 use Rattle.optimisation.proofs.live_words_lemmas.Whole.{few_parameters}
 use Rattle.optimisation.proofs.live_words.sharing.over.Goals as goal
 

@@ -1,10 +1,6 @@
 use Rattle.std.proofs.Common.{◌≡◌, true, List, option_map, refl, sym, ap, ap₂, ◌∙◌}
-use Rattle.inline.specs.declared.flat.FlatVariable.{FlatVariable}
-use Rattle.inline.specs.Flat.{term_tree}
+use Rattle.optimisation.specs.Below.{checked, FlatVariable, IsReplaced, straight_block, term_tree, with_variables}
 use Rattle.branch_removal.proofs.Checked.{where_checked}
-use Rattle.branch_removal.specs.Checked.{checked}
-use Rattle.branch_removal.specs.Replaced.{IsReplaced}
-use Rattle.branch_removal.specs.Straight.{straight_block, with_variables}
 use Rattle.optimisation.specs.live_words.Exact.{shared_of}
 use Rattle.optimisation.specs.live_words.private.Held.{Table, Held}
 use Rattle.optimisation.specs.live_words.private.Whole.{all_fits, at_start, nothing_live, over, table_for}

@@ -1,6 +1,5 @@
 use Rattle.std.proofs.Common.{◌≡◌, ◌+◌, ◌-◌, ◌*◌, drop, length}
-use Rattle.branch_removal.specs.Bounds.{block_nodes, statement_nodes}
-use Rattle.branch_removal.specs.Straight.{nothing, straight_block, straight_tree}
+use Rattle.optimisation.specs.Below.{block_nodes, nothing, statement_nodes, straight_block, straight_tree}
 use Rattle.optimisation.specs.live_words.private.Held.{held_by}
 use Rattle.optimisation.specs.live_words.private.Sharing.{before_all, onto, shared_all}
 use Rattle.optimisation.proofs.live_words.statements.+sharing.Given as goal

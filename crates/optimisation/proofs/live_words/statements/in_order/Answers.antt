@@ -1,5 +1,5 @@
 use Rattle.std.proofs.Common.{◌≡◌, [], ◌++◌, option_to_list, rules, refl, ap, ◌∙◌}
-use Rattle.branch_removal.specs.Straight.{nothing}
+use Rattle.optimisation.specs.Below.{nothing}
 use Rattle.branch_removal.proofs.StatementTrees.{chain-nothing, chain-push}
 use Rattle.optimisation.proofs.live_words_lemmas.Backwards.{onto-push}
 use Rattle.optimisation.proofs.live_words.statements.in_order.Goals as goal

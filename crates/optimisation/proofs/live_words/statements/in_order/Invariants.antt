@@ -1,5 +1,5 @@
 use Rattle.std.proofs.Common.{◌≡◌, length}
-use Rattle.branch_removal.specs.Straight.{chain, nothing, straight_block}
+use Rattle.optimisation.specs.Below.{chain, nothing, straight_block}
 use Rattle.optimisation.specs.live_words.private.Sharing.{onto}
 use Rattle.optimisation.proofs.live_words.statements.in_order.Given as goal
 

@@ -1,5 +1,5 @@
 use Rattle.std.proofs.Common.{◌≡◌, map, take}
-use Rattle.inline.specs.Flat.{term_tree}
+use Rattle.optimisation.specs.Below.{term_tree}
 use Rattle.optimisation.specs.live_words.private.Terms.{renamed}
 use Rattle.optimisation.proofs.live_words.terms.all_renamed.Given as goal
 

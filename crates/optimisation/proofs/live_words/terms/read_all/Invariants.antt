@@ -1,5 +1,5 @@
 use Rattle.std.proofs.Common.{◌≡◌, drop, map}
-use Rattle.inline.specs.Flat.{term_tree}
+use Rattle.optimisation.specs.Below.{term_tree}
 use Rattle.optimisation.specs.live_words.private.Held.{held_by}
 use Rattle.optimisation.specs.live_words.private.Terms.{reading_all}
 use Rattle.optimisation.proofs.live_words.terms.read_all.Given as goal

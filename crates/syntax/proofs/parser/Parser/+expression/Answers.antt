@@ -2,7 +2,7 @@ use Rattle.std.proofs.Common.{sym}
 use Rattle.std.proofs.lemmas.Result.{err_from_is_err_and}
 use Rattle.syntax.specs.Lexeme.{lexeme}
 use Rattle.syntax.specs.private.Machine.{expr, more, operand}
-use Rattle.language.specs.Tree.{ExprTree}
+use Rattle.syntax.specs.Below.{ExprTree}
 use Rattle.syntax.proofs.MachineSteps.{operand-step}
 use Rattle.syntax.proofs.parser.Parser.+expression.Goals as goal
 

@@ -1,7 +1,7 @@
 use Rattle.std.proofs.Common.{◌≡◌, ◌≤◌, length, ◌+◌, ◌*◌}
 use Rattle.syntax.specs.private.Machine.{State, more}
 use Rattle.syntax.specs.private.ParserViews.{ahead}
-use Rattle.language.specs.Tree.{ExprTree, expr_tree}
+use Rattle.syntax.specs.Below.{expr_tree, ExprTree}
 use Rattle.syntax.proofs.parser.Parser.+expression.Given as goal
 
 abbrev pub decreases-expression : goal.decreases-expression

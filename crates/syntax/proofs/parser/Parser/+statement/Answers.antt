@@ -2,7 +2,7 @@ use Rattle.std.proofs.Common.{◌≡◌, ◌∙◌, None, arith, rules, ap, sym,
 use Rattle.std.proofs.lemmas.Result.{err_from_is_err_and}
 use Rattle.syntax.specs.private.Machine.{statements, after_else}
 use Rattle.syntax.specs.private.ParserViews.{ahead, after_start}
-use Rattle.language.specs.Tree.{BlockTree, nothing}
+use Rattle.syntax.specs.Below.{BlockTree, nothing}
 use Rattle.syntax.proofs.MachineSteps.{more_statements}
 use Rattle.syntax.proofs.ParserSteps.{ahead-otherwise}
 use Rattle.syntax.proofs.StatementSteps.{followed_by, followed-nothing, ahead-push}

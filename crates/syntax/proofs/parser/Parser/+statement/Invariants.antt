@@ -1,7 +1,7 @@
 use Rattle.std.proofs.Common.{◌≡◌, ◌≤◌, length, ◌+◌, ◌*◌}
 use Rattle.syntax.specs.private.Machine.{State, statements}
 use Rattle.syntax.specs.private.ParserViews.{ahead}
-use Rattle.language.specs.Tree.{BlockTree}
+use Rattle.syntax.specs.Below.{BlockTree}
 use Rattle.syntax.proofs.StatementSteps.{followed_by}
 use Rattle.syntax.proofs.parser.Parser.+statement.Given as goal
 

@@ -1,7 +1,7 @@
 use Rattle.std.proofs.Common.{◌≡◌, ◌≤◌, map, List, length}
 use Rattle.syntax.specs.private.Machine.{State, some_exprs}
 use Rattle.syntax.specs.private.ParserViews.{ahead}
-use Rattle.language.specs.Tree.{ExprTree, expr_tree}
+use Rattle.syntax.specs.Below.{expr_tree, ExprTree}
 use Rattle.syntax.proofs.MachineSteps.{further}
 use Rattle.syntax.proofs.parser.Parser.expressions.Given as goal
 

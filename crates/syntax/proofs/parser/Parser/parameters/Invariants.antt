@@ -1,7 +1,7 @@
 use Rattle.std.proofs.Common.{◌≡◌, ◌≤◌, map, List, length}
 use Rattle.syntax.specs.private.Machine.{State, parameters}
 use Rattle.syntax.specs.private.ParserViews.{ahead}
-use Rattle.language.specs.Tree.{ParameterTree, parameter_tree}
+use Rattle.syntax.specs.Below.{parameter_tree, ParameterTree}
 use Rattle.syntax.proofs.MachineSteps.{further_parameter}
 use Rattle.syntax.proofs.parser.Parser.parameters.Given as goal
 

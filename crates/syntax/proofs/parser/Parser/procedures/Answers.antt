@@ -3,7 +3,7 @@ use Rattle.std.proofs.lemmas.Result.{err_from_is_err_and}
 use Rattle.std.proofs.lemmas.List.{map_push}
 use Rattle.syntax.specs.private.Machine.{procedures}
 use Rattle.syntax.specs.private.ParserViews.{ahead}
-use Rattle.language.specs.Tree.{procedure_tree}
+use Rattle.syntax.specs.Below.{procedure_tree}
 use Rattle.syntax.proofs.ParserSteps.{ahead-procedure}
 use Rattle.syntax.proofs.parser.Parser.procedures.Goals as goal
 

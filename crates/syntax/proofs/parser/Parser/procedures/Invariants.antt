@@ -1,7 +1,7 @@
 use Rattle.std.proofs.Common.{◌≡◌, map, length}
 use Rattle.syntax.specs.private.Machine.{program, procedures}
 use Rattle.syntax.specs.private.ParserViews.{ahead}
-use Rattle.language.specs.Tree.{procedure_tree}
+use Rattle.syntax.specs.Below.{procedure_tree}
 use Rattle.syntax.proofs.parser.Parser.procedures.Given as goal
 
 abbrev pub invariant-loop-self : goal.invariant-loop-self

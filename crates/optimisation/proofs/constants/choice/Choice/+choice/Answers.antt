@@ -1,5 +1,5 @@
 use Rattle.std.proofs.Common.{◌+◌, rules, refl, arith}
-use Rattle.inline.specs.Flat.{term_tree}
+use Rattle.optimisation.specs.Below.{term_tree}
 use Rattle.optimisation.specs.constants.private.Choice.{term_size, choice_of}
 use Rattle.optimisation.proofs.constants_lemmas.ChoiceLemmas.{grown_by, settled_by}
 use Rattle.branch_removal.proofs.StatementTrees.{tree_of_branch, tree_of_loop, accepted_smaller, otherwise_smaller}

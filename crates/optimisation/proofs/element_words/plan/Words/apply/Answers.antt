@@ -1,7 +1,6 @@
 use Rattle.std.proofs.Common.{ap, ◌∙◌}
 use Rattle.branch_removal.proofs.Checked.{where_checked}
-use Rattle.branch_removal.specs.Checked.{checked}
-use Rattle.branch_removal.specs.Replaced.{IsReplaced}
+use Rattle.optimisation.specs.Below.{checked, IsReplaced}
 use Rattle.optimisation.specs.element_words.Exact.{words_of, split_of}
 use Rattle.optimisation.specs.element_words.private.Plan.{WordPlan}
 use Rattle.optimisation.proofs.element_words_lemmas.Whole.{as_split, replaced}

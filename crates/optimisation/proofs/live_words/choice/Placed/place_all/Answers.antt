@@ -1,7 +1,7 @@
 use Rattle.std.proofs.Common.{◌≡◌, suc, ◌+◌, ◌-◌, ◌==◌, true, false, length, refl, sym, ap, ◌∙◌, arith}
 use Rattle.std.proofs.lemmas.Bool.{eq-eqb, ne_eqb}
 use Rattle.std.proofs.lemmas.List.{length-set}
-use Rattle.branch_removal.specs.Greatest.{greatest_of, heaviest}
+use Rattle.optimisation.specs.Below.{greatest_of, heaviest}
 use Rattle.optimisation.proofs.live_words.choice.Placed.place_all.Goals as goal
 
 pub returns-then-greatest_of-eq0 : goal.returns-then-greatest_of-eq0

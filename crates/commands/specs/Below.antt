@@ -1,0 +1,84 @@
+-- What this crate takes from the specs of the crates below, in one place.
+pub use Rattle.word.specs.Counts.{one_more}
+pub use Rattle.word.specs.declared.profile.Profile.{Profile}
+pub use Rattle.word.specs.declared.profile.Profile.TheVariants.{P1, P2}
+pub use Rattle.rv_machine.specs.Harts.{state_of}
+pub use Rattle.rv_machine.specs.Machine.{Code, State, word_at}
+pub use Rattle.rv_machine.specs.Paged.{paged_bytes}
+pub use Rattle.rv_machine.specs.Regions.{code_of}
+pub use Rattle.rv_machine.specs.declared.hart_recording.HartObservation.{HartObservation}
+pub use Rattle.rv_machine.specs.declared.pairing.Pairing.{Pairing}
+pub use Rattle.rv_machine.specs.declared.stops.Stop.{Stop}
+pub use Rattle.rv_machine.specs.declared.stops.Stop.TheVariants.{AccessFault, Break, Budget, Ecall, Illegal, Misaligned}
+pub use Rattle.rv_machine.specs.declared.stops.Stop.TheVariants.{RecorderRefused}
+pub use Rattle.certified_runs.specs.declared.certifying.CertifiedEnd.{CertifiedEnd}
+pub use Rattle.certified_runs.specs.declared.certifying.CertifiedEnd.TheVariants.{MayDiffer, Same}
+pub use Rattle.certified_runs.specs.declared.shifts.Shifts.{Shifts}
+pub use Rattle.certified_runs.specs.declared.shifts.Shifts.TheVariants.{Hidden, Seen}
+pub use Rattle.streams.specs.Puts.{collected, IsPut, IsPutInPart, IsPutWhole}
+pub use Rattle.streams.specs.Streams.{Collected, GainsPart, Writes, WritesPart}
+pub use Rattle.run_reports.specs.progress.GoingOn.{BothGoOn, Counting, GoesOn, HasLines, IsTold, Reaches}
+pub use Rattle.language.specs.Results.{Results}
+pub use Rattle.language.specs.Tree.{ProcedureTree, program_tree, ProgramTree}
+pub use Rattle.language.specs.WantOfMemory.{IsWantOfMemory}
+pub use Rattle.language.specs.arguments.Faults.{count_fault, shifted}
+pub use Rattle.language.specs.arguments.Texts.{fault_of_texts, numbers_of, rule_of_text}
+pub use Rattle.language.specs.arguments.Within.{AreWithin, words_of}
+pub use Rattle.language.specs.declared.arguments.fault.ArgumentFault.{ArgumentFault}
+pub use Rattle.language.specs.declared.refusal.Refusal.{Refusal}
+pub use Rattle.language.specs.declared.signature.Param.{Param}
+pub use Rattle.language.specs.declared.values.Arg.{Arg}
+pub use Rattle.codegen.specs.Loaded.{code_at, loaded_at, params_of}
+pub use Rattle.codegen.specs.image_fields.Fields.{Fields, IsImage, slot_end, slots_end}
+pub use Rattle.codegen.specs.image_fields.Limits.{most_parameters, most_words}
+pub use Rattle.syntax.specs.Limits.{text_limit}
+pub use Rattle.source_eval.specs.Answer.{answer}
+pub use Rattle.source_eval.specs.declared.fault.EvalFault.{EvalFault}
+pub use Rattle.image.specs.Limits.{longest_image}
+pub use Rattle.image.specs.Reading.{flagged_format, is_frame_size, is_step_limit, is_word_count, IsUnlessMemory}
+pub use Rattle.image.specs.Reading.{reading, Spells}
+unfoldable pub use Rattle.image.specs.Reading.{image_format, result_format, slot_format, slots_format, words_format}
+pub use Rattle.image.specs.declared.fault.ImageFault.{ImageFault}
+pub use Rattle.image.specs.declared.fault.ImageFault.TheVariants.{Field}
+pub use Rattle.image.specs.declared.fault.ImageRule.{ImageRule}
+pub use Rattle.hepurita.specs.Bases.{code_base, frame_base, most_images}
+pub use Rattle.hepurita.specs.Built.{accepts, IsBuilt, Judges}
+pub use Rattle.hepurita.specs.Compiled.{Means}
+pub use Rattle.hepurita.specs.Executed.{Executed}
+pub use Rattle.hepurita.specs.Paired.{compared, first_of, Paired}
+pub use Rattle.hepurita.specs.Told.{IsRefusalOf}
+pub use Rattle.hepurita.specs.declared.fault.RunFault.{RunFault}
+pub use Rattle.hepurita.specs.declared.fault.RunFault.TheVariants.{Argument, Memory, Stopped}
+pub use Rattle.hepurita.specs.declared.optimised.Optimisation.{Optimisation}
+pub use Rattle.listing.specs.Code.{IsLineAt, ListsCode}
+pub use Rattle.listing.specs.Leaked.{IsLeak, Leaks}
+pub use Rattle.listing.specs.Lines.{lines_of, stop_line}
+pub use Rattle.listing.specs.declared.fault.LeakFault.{LeakFault}
+pub use Rattle.listing.specs.declared.fault.LeakFault.TheVariants.{Write}
+pub use Rattle.harts.specs.Frames.{job_of}
+pub use Rattle.harts.specs.Refused.{Refuses}
+pub use Rattle.harts.specs.RunHarts.{cut_short, out_of_memory, ran, refused, RunsHarts}
+pub use Rattle.harts.specs.SideBySide.{Job}
+pub use Rattle.harts.specs.declared.ends.HartEnd.{HartEnd}
+pub use Rattle.harts.specs.declared.fault.HartsFault.{HartsFault}
+pub use Rattle.harts.specs.declared.fault.HartsRule.{HartsRule}
+pub use Rattle.input_files.specs.harts_file.Faults.{IsFault}
+pub use Rattle.input_files.specs.harts_file.Jobs.{hart_of}
+pub use Rattle.input_files.specs.harts_file.Lines.{PlannedHart}
+pub use Rattle.input_files.specs.harts_file.Plans.{IsPlan}
+pub use Rattle.input_files.specs.stream_build.Faults.{IsText, IsTooLong}
+pub use Rattle.input_files.specs.wrapping.Wrapped.{Breaks, broken_rule, is_code_length, IsWrapped}
+pub use Rattle.input_files.specs.declared.harts_file.fault.PlanFault.{PlanFault}
+pub use Rattle.input_files.specs.declared.stream_build.fault.BuildFault.{BuildFault}
+pub use Rattle.input_files.specs.declared.stream_build.fault.BuildFault.TheVariants.{NotUtf8, Read, Refused}
+pub use Rattle.input_files.specs.declared.wrapping.asked.Asked.{Asked}
+pub use Rattle.input_files.specs.declared.wrapping.fault.CodeRule.{CodeRule}
+pub use Rattle.image_reports.specs.certificates.Certified.{Certified, certified}
+pub use Rattle.image_reports.specs.certificates.Given.{fault_of_given}
+pub use Rattle.image_reports.specs.certificates.Texts.{fault_of_given_texts, numbers_given}
+pub use Rattle.image_reports.specs.image_pictures.Drawn.{DrawsOne, DrawsTwo}
+pub use Rattle.image_reports.specs.image_statistics.ImageText.{BeginsOtherwise, IsFaultOf, SaysFields}
+pub use Rattle.image_reports.specs.vectors.Lines.{NamedVector, vectors_in}
+pub use Rattle.image_reports.specs.vectors.Verdicts.{IsReport}
+pub use Rattle.image_reports.specs.declared.vectors.fault.VectorsFault.{VectorsFault}
+pub use Rattle.image_reports.specs.declared.vectors.fault.VectorsFault.TheVariants.{Line}

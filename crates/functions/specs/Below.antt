@@ -1,0 +1,34 @@
+-- What this crate takes from the specs of the crates below, in one place.
+pub use Rattle.word.specs.declared.place.Place.{Place}
+pub use Rattle.word.specs.declared.profile.Profile.{Profile}
+pub use Rattle.word.specs.declared.profile.Profile.TheVariants.{P1, P2}
+pub use Rattle.rv_code.specs.Text.{text_of}
+pub use Rattle.rv_code.specs.Words.{IsInstr}
+unfoldable pub use Rattle.rv_code.specs.Words.{word_of}
+pub use Rattle.rv_code.specs.declared.instructions.Instr.{Instr}
+pub use Rattle.rv_code.specs.declared.instructions.Instr.TheVariants.{JumpRegister, Load, Register, Store}
+pub use Rattle.rv_code.specs.declared.operations.RegisterOperation.TheVariants.{Add, Sub}
+pub use Rattle.language.specs.Signature.{exported, param_of}
+pub use Rattle.language.specs.Tree.{parameter_tree, ParameterTree, procedure_tree, ProcedureTree, program_tree}
+pub use Rattle.language.specs.Tree.{ProgramTree}
+pub use Rattle.language.specs.WantOfMemory.{IsWantOfMemory}
+pub use Rattle.language.specs.declared.refusal.Refusal.{Refusal}
+pub use Rattle.language.specs.declared.signature.Form.{Form}
+pub use Rattle.language.specs.declared.signature.Form.TheVariants.{FixedArray, MutableArray, SingleWord}
+pub use Rattle.codegen.specs.Anywhere.{body_words}
+pub use Rattle.codegen.specs.expression_code.TermCode.{constant_code, load_by}
+pub use Rattle.codegen.specs.image_fields.Fields.{Fields}
+pub use Rattle.hepurita.specs.Built.{accepts, fine, IsCompilation, Judges, readable}
+pub use Rattle.hepurita.specs.declared.optimised.Optimisation.{Optimisation}
+pub use Rattle.linked_calls.specs.Callable.{CallsAreLinked, IsCallable}
+pub use Rattle.linked_calls.specs.Convention.{argument_registers, link_register, result_register, saved_registers}
+pub use Rattle.linked_calls.specs.Convention.{scratch_registers, stack_register}
+pub use Rattle.linked_calls.specs.FunctionCode.{above_frame, added, argument_code, argument_offset, array_bytes}
+pub use Rattle.linked_calls.specs.FunctionCode.{bounds_code, clear_registers_code, copied_in_code, copied_out_code}
+pub use Rattle.linked_calls.specs.FunctionCode.{copy_in_code, copy_out_code, element_meant_code, frame_room, loads_code}
+pub use Rattle.linked_calls.specs.FunctionCode.{meant_code, next_code, result_code, room_of, store_by, stores_code}
+pub use Rattle.linked_calls.specs.FunctionCode.{until_equal, wipe_code, word_code, zeros_code}
+unfoldable pub use Rattle.linked_calls.specs.FunctionCode.{function_words}
+pub use Rattle.linked_calls.specs.Sections.{argument_sections, array_section, array_sections, code_of, enter_sections}
+pub use Rattle.linked_calls.specs.Sections.{frame_sections, leave_sections, section_code}
+pub use Rattle.listing.specs.Code.{IsTextOf, of_instruction, of_no_instruction}
