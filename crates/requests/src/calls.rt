@@ -1,5 +1,6 @@
 ghost use Rattle.std.specs.Prelude.{◌≡◌, ◌<◌, ℕ, List, [], ◌∷◌, true, length, Ok, Err, IfOk, IfErr, IfSome};
-ghost use Rattle.hepurita.specs.Built.{IsBuilt, IsRefusal, Judges};
+ghost use Rattle.hepurita.specs.Built.{IsBuilt};
+ghost use Rattle.hepurita.specs.Told.{IsRefusalOf};
 ghost use Rattle.hepurita.specs.Executed.{Executed};
 ghost use Rattle.hepurita.specs.Paired.{Paired};
 ghost use Rattle.image.specs.Reading.{IsUnlessMemory, Spells, reading};
@@ -20,7 +21,7 @@ use streams::{ByteSink, put_all};
 pub fn bytes_of(alloc: Global, text: &str) -> Result<Vec<u8>, Fault>
     ensures accepted { IfOk result (λ bytes. IsBuilt Optimisation.Off Profile.P1 text.now bytes.items) }
     ensures refused { IfErr result (λ given. (refusal : Refusal)
-        × (given ≡ Fault.Build refusal.rule refusal.name) × IsRefusal (Judges Profile.P1 text.now) refusal) }
+        × (given ≡ Fault.Build refusal.rule refusal.name) × IsRefusalOf Profile.P1 text.now refusal) }
 {
     match build(alloc, text) {
         Ok(bytes) => Ok(bytes),
