@@ -5,7 +5,8 @@ ghost use Rattle.std.specs.Option.{option_map};
 ghost use Rattle.branch_removal.specs.Below.{of_one, term_tree};
 ghost use Rattle.branch_removal.specs.Straight.{straight_tree, straight_block};
 ghost use Rattle.branch_removal.specs.private.Checks.{all_suit, are_typed, come_first, decides, element_in, is_among};
-ghost use Rattle.branch_removal.specs.private.Checks.{is_counter, is_loop_counter, is_result, is_typed, may_fill, may_keep};
+ghost use Rattle.branch_removal.specs.private.Checks.{is_counter, is_loop_counter, is_result, is_typed, may_fill};
+ghost use Rattle.branch_removal.specs.private.Checks.{may_keep};
 ghost use Rattle.branch_removal.specs.private.Checks.{may_set, suits, types_beside, variable_at};
 
 use crate::StraightStatement;

@@ -1,7 +1,8 @@
 // The laws of what is known, which hold of the definitions alone.
 
 ghost use Rattle.std.specs.Prelude.{◌≡◌, ◌≢◌, ℕ, ◌<◌, ◌∷◌, ◌++◌, List};
-ghost use Rattle.certified_runs.specs.Below.{Code, Ending, entries_of, Entry, Leads, Observation, Runs, State, Stop, Turn};
+ghost use Rattle.certified_runs.specs.Below.{Code, Ending, entries_of, Entry, Leads, Observation, Runs, State, Stop};
+ghost use Rattle.certified_runs.specs.Below.{Turn};
 ghost use Rattle.certified_runs.specs.Amounts.{ShiftsBy};
 ghost use Rattle.certified_runs.specs.Certified.{KnownEnding, KnownTurn, RunEnding, CertifiedRun};
 ghost use Rattle.certified_runs.specs.Known.{Known, Covers};

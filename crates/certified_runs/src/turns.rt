@@ -1,7 +1,8 @@
 // One turn of what is known: it is asked what decides it, and then made by the machine.
 
 ghost use Rattle.std.specs.Prelude.{◌≡◌, [], List, length};
-ghost use Rattle.certified_runs.specs.Below.{code_of, Ending, entries_of, followed_by, Instr, IsAt, Observation, pc_of, state_of, Turn};
+ghost use Rattle.certified_runs.specs.Below.{code_of, Ending, entries_of, followed_by, Instr, IsAt, Observation};
+ghost use Rattle.certified_runs.specs.Below.{pc_of, state_of, Turn};
 ghost use Rattle.certified_runs.specs.Parts.{known_of};
 ghost use Rattle.certified_runs.specs.private.Turned.{HaveOneExtent, HasTurned};
 

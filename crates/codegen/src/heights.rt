@@ -1,7 +1,8 @@
 // How many temporaries, and how many loops in one another, statements have at once.
 
 ghost use Rattle.std.specs.Prelude.{◌≡◌, ◌≤◌, map};
-ghost use Rattle.codegen.specs.Below.{depth_in, depth_in_all, height_in, height_in_all, height_of_all, IsStraight, program_height, straight_block, straight_tree, term_tree};
+ghost use Rattle.codegen.specs.Below.{depth_in, depth_in_all, height_in, height_in_all, height_of_all, IsStraight};
+ghost use Rattle.codegen.specs.Below.{program_height, straight_block, straight_tree, term_tree};
 ghost use Rattle.codegen.specs.private.Homes.{temporary_registers};
 
 use crate::expression_code::height;

@@ -1,7 +1,8 @@
 // A statement's code, and how many slots and how many loops in one another statements take.
 
 ghost use Rattle.std.specs.Prelude.{◌≡◌, ◌++◌, ◌+◌, ◌*◌, ◌<◌, ◌≤◌, map, length, IfErr, OnOk};
-ghost use Rattle.codegen.specs.Below.{array_words, depth_in, depth_in_all, height_in, height_in_all, height_of, height_of_all, straight_block, straight_tree, term_tree};
+ghost use Rattle.codegen.specs.Below.{array_words, depth_in, depth_in_all, height_in, height_in_all, height_of};
+ghost use Rattle.codegen.specs.Below.{height_of_all, straight_block, straight_tree, term_tree};
 ghost use Rattle.branch_removal.specs.Straight as straight;
 ghost use Rattle.codegen.specs.private.Emitted.{branching_code, statement_code, block_code};
 ghost use Rattle.codegen.specs.expression_code.Layout.{temporaries_offset};

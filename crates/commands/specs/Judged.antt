@@ -34,9 +34,11 @@ Tells true source refusal fault = IsOutOfMemory fault ⊎ IsExplained source ref
 -- why it is not accepted: there is no text, or its first refusal, explained or not
 pub data IsRefusedSo (explain : Bool) (profile : Profile) (files : Contents) (path : List ℕ) : Fault → Type 0 where
   no_text : {fault : Fault} → NoText files path fault → IsRefusedSo explain profile files path fault
-  not_accepted : {text : List ℕ} (refusal : Refusal) {fault : Fault} → HoldsText files path text
+  not_accepted : {text : List ℕ} (refusal : Refusal) {fault : Fault}
+      → HoldsText files path text
       → IsRefusalOf profile text refusal
-      → Tells explain text refusal fault → IsRefusedSo explain profile files path fault
+      → Tells explain text refusal fault
+      → IsRefusedSo explain profile files path fault
 
 -- the same, not explained
 abbrev pub IsRefused : Profile → Contents → List ℕ → Fault → Type 0

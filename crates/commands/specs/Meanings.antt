@@ -42,9 +42,12 @@ pub record SaysMeaning (files : Contents) (path : List ℕ) (words : List (List 
 pub data RefusesMeaning (explain : Bool) (files : Contents) (path : List ℕ) (words : List (List ℕ)) : Fault
     → Type 0 where
   no_text : {fault : Fault} → NoText files path fault → RefusesMeaning explain files path words fault
-  not_accepted : {bytes : List ℕ} (refusal : Refusal) {fault : Fault} → files path ≡ Some bytes → IsText bytes
+  not_accepted : {bytes : List ℕ} (refusal : Refusal) {fault : Fault}
+      → files path ≡ Some bytes
+      → IsText bytes
       → IsRefusalOf P1 bytes refusal
-      → Tells explain bytes refusal fault → RefusesMeaning explain files path words fault
+      → Tells explain bytes refusal fault
+      → RefusesMeaning explain files path words fault
   no_arguments : {program : ProgramTree} {export : ProcedureTree} {fault : RunFault}
       → HoldsProgram files path program export
       → IsFaultOfWords (fault_of_texts (map param_of export.parameters) words) fault

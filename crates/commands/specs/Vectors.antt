@@ -39,5 +39,6 @@ pub data RefusesVectors (profile : Profile) (files : Contents) (path list : List
       → RefusesVectors profile files path list (Vectors (Line line))
   not_accepted : {source : List ℕ} {vectors : List NamedVector} {refusal : Refusal}
       → HoldVectors files path list source vectors
-      → IsRefusalOf profile source refusal → RefusesVectors profile files path list (Text refusal)
+      → IsRefusalOf profile source refusal
+      → RefusesVectors profile files path list (Text refusal)
   no_memory : {fault : Fault} → IsOutOfMemory fault → RefusesVectors profile files path list fault

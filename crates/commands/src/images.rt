@@ -3,7 +3,8 @@
 ghost use Rattle.std.specs.Prelude.{◌≡◌, ◌≤◌, ◌⊎◌, None, List, ℕ, length, map, Ok, IsTrue, IfOk, IfErr, OnOk, OnErr};
 ghost use Rattle.std.specs.String.{string_bytes};
 ghost use Rattle.std.specs.Option.{option_map};
-ghost use Rattle.commands.specs.Below.{AreWithin, collected, fault_of_texts, HasLines, most_parameters, Paired, params_of, Reaches, shifted, Writes, WritesPart};
+ghost use Rattle.commands.specs.Below.{AreWithin, collected, fault_of_texts, HasLines, most_parameters, Paired};
+ghost use Rattle.commands.specs.Below.{params_of, Reaches, shifted, Writes, WritesPart};
 ghost use Rattle.commands.specs.Failures.{IsReadBy, IsReadOrPrinted};
 ghost use Rattle.commands.specs.Images.{HoldsImage, NoImage};
 ghost use Rattle.commands.specs.Leaks.{SaysLeak, RefusesLeak, IsFaultOfLeak, IsOutputFault};

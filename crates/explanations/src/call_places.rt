@@ -7,7 +7,8 @@ ghost use Rattle.std.specs.Prelude.{◌≡◌, ◌++◌, IfOk, OnOk};
 ghost use Rattle.std.specs.Option.{option_map};
 ghost use Rattle.explanations.specs.call_places.CallPlaces.{call_places, calls_at, calls_in, calls_in_all};
 ghost use Rattle.explanations.specs.call_places.CallPlaces.{calls_in_right, procedure_at};
-ghost use Rattle.explanations.specs.Below.{block_tree, call_tree, procedure_tree, program_tree, right_tree, statement_tree};
+ghost use Rattle.explanations.specs.Below.{block_tree, call_tree, procedure_tree, program_tree, right_tree};
+ghost use Rattle.explanations.specs.Below.{statement_tree};
 
 use language::{Call, Procedure, Program, RightSide, Statement};
 use std::alloc::{AllocError, Global};

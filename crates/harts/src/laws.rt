@@ -7,7 +7,8 @@ ghost use Rattle.harts.specs.EverySchedule.{AllAgree, IsAlone, IsFromText};
 ghost use Rattle.harts.specs.RunHarts.{RunsHarts};
 ghost use Rattle.harts.specs.SideBySide.{Job, system_of};
 ghost use Rattle.harts.specs.declared.ends.HartEnd.{HartEnd};
-ghost use Rattle.harts.specs.Below.{ByteMap, Follows, HartObservation, Makes, Means, Member, most_images, Observation, Results, System, turns_of};
+ghost use Rattle.harts.specs.Below.{ByteMap, Follows, HartObservation, Makes, Means, Member, most_images};
+ghost use Rattle.harts.specs.Below.{Observation, Results, System, turns_of};
 
 use rv_machine::Stop;
 

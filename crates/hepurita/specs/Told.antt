@@ -30,7 +30,9 @@ pub data IsToldOfText (profile : Profile) (text : List ℕ) (refusal : Refusal) 
   -- it is no program
   of_reading : IsRefusedAs (Reads text) refusal → IsToldOfText profile text refusal
   -- it is one
-  of_program : {program : ProgramTree} → Reads text (accepted program) → IsToldOfProgram profile program refusal
+  of_program : {program : ProgramTree}
+      → Reads text (accepted program)
+      → IsToldOfProgram profile program refusal
       → IsToldOfText profile text refusal
 
 -- the refusal of the text, for an observer: it is out of memory, which has no place; or it has a place, is the

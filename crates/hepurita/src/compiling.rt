@@ -1,7 +1,8 @@
 // A text, compiled: the value from which all is taken that is made of an accepted text.
 
 ghost use Rattle.std.specs.Prelude.{◌≡◌, ℕ, List, IfOk, IfErr};
-ghost use Rattle.hepurita.specs.Below.{fields_of, IsGenerated, IsImage, IsRemoved, IsWantOfMemory, ProcedureTree, Profile, program_tree, straight_of, StraightProgram};
+ghost use Rattle.hepurita.specs.Below.{fields_of, IsGenerated, IsImage, IsRemoved, IsWantOfMemory, ProcedureTree};
+ghost use Rattle.hepurita.specs.Below.{Profile, program_tree, straight_of, StraightProgram};
 ghost use Rattle.hepurita.specs.Built.{IsCompilation};
 ghost use Rattle.hepurita.specs.CodeFor.{IsCodeFor};
 ghost use Rattle.hepurita.specs.Exact.{code_for, first_of, optimised_for};

@@ -1,7 +1,10 @@
 // What the answers of the calls are to each other.
 
 ghost use Rattle.std.specs.Prelude.{ℕ, ◌+◌, ◌*◌, ◌<◌, ◌≤◌, ◌≡◌, ◌≢◌, Bool, List, ◌++◌, Result, Ok, Err, Some, map};
-ghost use Rattle.hepurita.specs.Below.{accepted, Agree, AgreeInPublic, answer, AreBases, AreWithin, Arg, extents_of, Fields, flattened, IsGenerated, IsRemoved, most_nodes, most_work, nodes_of, Observation, Pairing, Param, param_of, params_of, ProcedureTree, Profile, ProgramTree, ranged, Reads, Results, State, Stop, StraightProgram, words_of};
+ghost use Rattle.hepurita.specs.Below.{accepted, Agree, AgreeInPublic, answer, AreBases, AreWithin, Arg, extents_of};
+ghost use Rattle.hepurita.specs.Below.{Fields, flattened, IsGenerated, IsRemoved, most_nodes, most_work, nodes_of};
+ghost use Rattle.hepurita.specs.Below.{Observation, Pairing, Param, param_of, params_of, ProcedureTree, Profile};
+ghost use Rattle.hepurita.specs.Below.{ProgramTree, ranged, Reads, Results, State, Stop, StraightProgram, words_of};
 ghost use Rattle.hepurita.specs.Bases.{code_base, frame_base, most_images, code_distance, frame_distance};
 ghost use Rattle.hepurita.specs.Built.{IsBuilt, IsCompilation, Judges, JudgesProgram, accepts};
 ghost use Rattle.hepurita.specs.Compiled.{IsCompiled, Means};

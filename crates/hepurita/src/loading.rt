@@ -1,7 +1,8 @@
 // Images and their arguments, loaded into a machine.
 
 ghost use Rattle.std.specs.Prelude.{◌≡◌, ◌≤◌, length, map, All, IfOk};
-ghost use Rattle.hepurita.specs.Below.{AreWithin, code_at, code_of, HasShape, IsImage, loaded_at, most_parameters, paged_bytes, params_of, state_of, with_argument, with_arguments, zeros};
+ghost use Rattle.hepurita.specs.Below.{AreWithin, code_at, code_of, HasShape, IsImage, loaded_at, most_parameters};
+ghost use Rattle.hepurita.specs.Below.{paged_bytes, params_of, state_of, with_argument, with_arguments, zeros};
 ghost use Rattle.hepurita.specs.Bases.{code_base, frame_base};
 ghost use Rattle.hepurita.specs.Frames.{HoldsSlot};
 

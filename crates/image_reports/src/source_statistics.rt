@@ -9,7 +9,8 @@ mod sizes;
 
 ghost use Rattle.std.specs.Prelude.{◌≡◌, [], ◌++◌, IfOk, IfErr, IfSome};
 ghost use Rattle.std.specs.String.{string_bytes};
-ghost use Rattle.image_reports.specs.Below.{exported, fields_of, flattened, IsRefusalOf, IsWantOfMemory, program_tree, straight_of};
+ghost use Rattle.image_reports.specs.Below.{exported, fields_of, flattened, IsRefusalOf, IsWantOfMemory};
+ghost use Rattle.image_reports.specs.Below.{program_tree, straight_of};
 ghost use Rattle.image_reports.specs.source_statistics.SourceText.{costs_text, export_lines, SaysCosts};
 
 use crate::source_statistics::sizes::push_sizes;

@@ -3,7 +3,11 @@
 ghost use Rattle.std.specs.Prelude.{◌≡◌, ◌*◌, fold, map, IfOk};
 ghost use Rattle.std.specs.Option.{option_map};
 ghost use Rattle.inline.specs.Measured.{extents_in};
-ghost use Rattle.inline.specs.Below.{block_tree, bodies_cost, body_shares, byte_shares, bytes_cost, counted_share, extents_of, larger, largest, node_shares, nodes_cost, parameter_share, parameter_tree, place_of, procedure_tree, return_shares, return_tree, statement_bodies, statement_bytes, statement_nodes, statement_shares, statement_tree};
+ghost use Rattle.inline.specs.Below.{block_tree, bodies_cost, body_shares, byte_shares, bytes_cost, counted_share};
+ghost use Rattle.inline.specs.Below.{extents_of, larger, largest, node_shares, nodes_cost, parameter_share};
+ghost use Rattle.inline.specs.Below.{parameter_tree, place_of, procedure_tree, return_shares, return_tree};
+ghost use Rattle.inline.specs.Below.{statement_bodies, statement_bytes, statement_nodes, statement_shares};
+ghost use Rattle.inline.specs.Below.{statement_tree};
 
 use crate::measured::{Measured, Size};
 use crate::nodes::nodes_in;

@@ -3,7 +3,8 @@
 ghost use Rattle.std.specs.Prelude.{◌≡◌, [], List, Some, length, map, IfOk, IfErr};
 ghost use Rattle.inline.specs.Kept.{IsFlat};
 ghost use Rattle.inline.specs.Numbering.{flattened};
-ghost use Rattle.inline.specs.Below.{exported, extents_of, IsRefusedFor, IsToldOf, IsWantOfMemory, nodes_of, procedure_tree, ProcedureTree, program_tree, size_violations};
+ghost use Rattle.inline.specs.Below.{exported, extents_of, IsRefusedFor, IsToldOf, IsWantOfMemory, nodes_of};
+ghost use Rattle.inline.specs.Below.{procedure_tree, ProcedureTree, program_tree, size_violations};
 
 use crate::Flat;
 use crate::numbering::Numbering;

@@ -2,7 +2,8 @@
 
 ghost use Rattle.std.specs.List.{AllByRecursion};
 ghost use Rattle.std.specs.Prelude.{◌≡◌, [], List, Some, length, map};
-ghost use Rattle.inline.specs.Below.{AreWithin, Arg, exported, Gives, IsGrammatical, Label, ProcedureTree, Profile, ProgramTree, size_violations, violations, WordType};
+ghost use Rattle.inline.specs.Below.{AreWithin, Arg, exported, Gives, IsGrammatical, Label, ProcedureTree, Profile};
+ghost use Rattle.inline.specs.Below.{ProgramTree, size_violations, violations, WordType};
 ghost use Rattle.inline.specs.declared.flat.FlatVariable.{FlatVariable};
 ghost use Rattle.inline.specs.Fitting.{Fits, IsWithinKind};
 ghost use Rattle.inline.specs.Flat.{FlatBlock, FlatProgram, FlatTree, TermTree};

@@ -1,7 +1,8 @@
 // How many nodes expressions have. A count stops at the greatest number.
 
 ghost use Rattle.std.specs.Prelude.{◌≡◌, map};
-ghost use Rattle.inline.specs.Below.{counted, expr_tree, nodes_in, nodes_in_all, nodes_passed, parameter_tree, word_arguments};
+ghost use Rattle.inline.specs.Below.{counted, expr_tree, nodes_in, nodes_in_all, nodes_passed, parameter_tree};
+ghost use Rattle.inline.specs.Below.{word_arguments};
 
 use language::{Expr, Form, Parameter};
 

@@ -2,7 +2,9 @@
 
 ghost use Rattle.std.specs.Prelude.{◌≡◌, ◌<◌, ◌≤◌, ◌*◌, ◌||◌, [], is_none, length, map, nat_lt, IfErr, IfOk, IfSome};
 ghost use Rattle.inline.specs.Measured.{extents_in};
-ghost use Rattle.inline.specs.Below.{excess, extents_of, IsNamed, IsRefusedFor, IsToldOf, IsWantOfMemory, limits_passed, most_bodies, most_declared_bytes, most_nodes, nodes_of, procedure_tree, size_violations};
+ghost use Rattle.inline.specs.Below.{excess, extents_of, IsNamed, IsRefusedFor, IsToldOf, IsWantOfMemory};
+ghost use Rattle.inline.specs.Below.{limits_passed, most_bodies, most_declared_bytes, most_nodes, nodes_of};
+ghost use Rattle.inline.specs.Below.{procedure_tree, size_violations};
 
 use crate::costs::{SizeCosts, costs_of};
 use crate::measured::{Measured, Size};

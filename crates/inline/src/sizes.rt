@@ -5,7 +5,10 @@ ghost use Rattle.inline.specs.Counts.{AreCountsOf};
 ghost use Rattle.std.specs.Option.{option_map};
 ghost use Rattle.inline.specs.Measured.{block_size, call_size, counted_size, export_size, extents_in};
 ghost use Rattle.inline.specs.Measured.{procedure_size, right_size, statement_size};
-ghost use Rattle.inline.specs.Below.{array_words, block_tree, call_tree, counted, expr_tree, extents_of, nodes_in, nodes_in_all, parameter_tree, parameter_words, passed_words, procedure_tree, return_nodes, return_tree, right_bodies, right_nodes, right_tree, right_words, statement_tree, written};
+ghost use Rattle.inline.specs.Below.{array_words, block_tree, call_tree, counted, expr_tree, extents_of, nodes_in};
+ghost use Rattle.inline.specs.Below.{nodes_in_all, parameter_tree, parameter_words, passed_words, procedure_tree};
+ghost use Rattle.inline.specs.Below.{return_nodes, return_tree, right_bodies, right_nodes, right_tree, right_words};
+ghost use Rattle.inline.specs.Below.{statement_tree, written};
 
 use crate::measured::{Measured, Size};
 use crate::nodes::{nodes_in, nodes_in_all, nodes_passed};

@@ -8,7 +8,8 @@ ghost use Rattle.inline.specs.Flat.{chain, counter_type, flat_block, term_tree, 
 ghost use Rattle.inline.specs.Numbering as numbered;
 ghost use Rattle.inline.specs.Callees.{called_by};
 ghost use Rattle.inline.specs.Numbering.{naming, single};
-ghost use Rattle.inline.specs.Below.{block_tree, call_tree, declaration, expr_tree, return_tree, right_tree, statement_tree};
+ghost use Rattle.inline.specs.Below.{block_tree, call_tree, declaration, expr_tree, return_tree, right_tree};
+ghost use Rattle.inline.specs.Below.{statement_tree};
 ghost use Rattle.language.specs.Tree as source;
 
 use crate::calls::push;

@@ -1,7 +1,8 @@
 // The laws, which hold of the definitions alone.
 
 ghost use Rattle.std.specs.Prelude.{◌≡◌, ℕ, ◌+◌, ◌≤◌, List, length};
-ghost use Rattle.intervals.specs.Below.{AreWithin, Arg, ending_of, FlatProgram, gives, IsTypedProgram, outcome_of, path_of, value_nodes};
+ghost use Rattle.intervals.specs.Below.{AreWithin, Arg, ending_of, FlatProgram, gives, IsTypedProgram, outcome_of};
+ghost use Rattle.intervals.specs.Below.{path_of, value_nodes};
 ghost use Rattle.intervals.specs.Evaluated.{evaluated_by};
 ghost use Rattle.intervals.specs.Loose.{IsLooseRun, IsSafe};
 ghost use Rattle.intervals.specs.Ranges.{range_violations, turns_of};

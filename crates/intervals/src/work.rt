@@ -2,7 +2,8 @@
 
 ghost use Rattle.std.specs.Prelude.{◌≡◌, ◌+◌, ◌*◌, map, slice_index};
 ghost use Rattle.std.specs.Option.{option_map};
-ghost use Rattle.intervals.specs.Below.{counted, flat_block, flat_tree, term_nodes, term_tree, terms_nodes, value_nodes};
+ghost use Rattle.intervals.specs.Below.{counted, flat_block, flat_tree, term_nodes, term_tree, terms_nodes};
+ghost use Rattle.intervals.specs.Below.{value_nodes};
 ghost use Rattle.intervals.specs.Work.{body_work, tree_work};
 
 use inline::{Flat, FlatStatement, Term};

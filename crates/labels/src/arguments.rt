@@ -1,5 +1,7 @@
 ghost use Rattle.std.specs.Prelude.{◌≡◌, ◌&&◌, fold, length, map};
-ghost use Rattle.labels.specs.Below.{are_met, argument_declared, argument_variable, argument_violations, expr_tree, is_immutable, is_mutable, parameter_tree, parameter_value, passed, passed_violations, sooner};
+ghost use Rattle.labels.specs.Below.{are_met, argument_declared, argument_variable, argument_violations, expr_tree};
+ghost use Rattle.labels.specs.Below.{is_immutable, is_mutable, parameter_tree, parameter_value, passed};
+ghost use Rattle.labels.specs.Below.{passed_violations, sooner};
 
 use crate::values::note_argument;
 use language::scopes::Scope;

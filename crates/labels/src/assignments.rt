@@ -1,6 +1,8 @@
 ghost use Rattle.std.specs.Prelude.{◌≡◌, ◌++◌, fold, map, OnOk};
 ghost use Rattle.std.specs.Option.{option_map};
-ghost use Rattle.labels.specs.Below.{Assign, AssignElement, assignment_violations, because_of, change_violations, element_assignment_violations, procedure_tree, put_why, sooner, statement_tree, statement_violations, target_rules, Typed, typed_part, Value};
+ghost use Rattle.labels.specs.Below.{Assign, AssignElement, assignment_violations, because_of, change_violations};
+ghost use Rattle.labels.specs.Below.{element_assignment_violations, procedure_tree, put_why, sooner, statement_tree};
+ghost use Rattle.labels.specs.Below.{statement_violations, target_rules, Typed, typed_part, Value};
 ghost use Rattle.language.specs.declared.why.Part.TheVariants.{Variable};
 
 use crate::declarations::right_side;

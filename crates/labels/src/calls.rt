@@ -1,6 +1,10 @@
 ghost use Rattle.std.specs.Prelude.{◌≡◌, ◌&&◌, ◌∷◌, [], None, Some, fold, is_some, length, map, IfOk, OnOk, if◌then◌else◌};
 ghost use Rattle.std.specs.Option.{option_map};
-ghost use Rattle.labels.specs.Below.{are_met, ArgumentCount, ArgumentCounts as Counts, arguments_violations, because, call_tree, call_type, call_violations, CallAssignsPublicUnderSecretControl, called_one, callee, clash_violations, control_why, expr_tree, found, known_call_type, known_call_violations, procedure_tree, result_value, sooner, when};
+ghost use Rattle.labels.specs.Below.{are_met, ArgumentCount, ArgumentCounts as Counts, arguments_violations, because};
+ghost use Rattle.labels.specs.Below.{call_tree, call_type, call_violations, CallAssignsPublicUnderSecretControl};
+ghost use Rattle.labels.specs.Below.{called_one, callee, clash_violations, control_why, expr_tree, found};
+ghost use Rattle.labels.specs.Below.{known_call_type, known_call_violations, procedure_tree, result_value, sooner};
+ghost use Rattle.labels.specs.Below.{when};
 
 use crate::arguments::note_all_passed;
 use crate::clashes::array_clash;

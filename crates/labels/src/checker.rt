@@ -2,7 +2,8 @@ ghost use Rattle.std.specs.Prelude.{◌≡◌, ◌<◌, None, Some, [], fold, le
 ghost use Rattle.std.specs.List.{AllByRecursion};
 ghost use Rattle.word.specs.Places.{origin};
 ghost use Rattle.word.specs.declared.profile.Profile.TheVariants.{P1};
-ghost use Rattle.labels.specs.Below.{empty, export_violations, exported, exports, IsGrammatical, NotExactlyOneExport, procedure_tree, procedures_violations, program_tree, sooner, violations};
+ghost use Rattle.labels.specs.Below.{empty, export_violations, exported, exports, IsGrammatical, NotExactlyOneExport};
+ghost use Rattle.labels.specs.Below.{procedure_tree, procedures_violations, program_tree, sooner, violations};
 ghost use Rattle.language.specs.FirstViolation.{IsRefusedFor, IsToldOf};
 ghost use Rattle.labels.specs.Exports.{export_index};
 

@@ -1,7 +1,8 @@
 ghost use Rattle.std.specs.Prelude.{◌≡◌, [], length, map, IfOk, OnOk, if◌then◌else◌};
 ghost use Rattle.std.specs.Option.{option_map};
 ghost use Rattle.language.specs.names.Scope.{declared, found};
-ghost use Rattle.labels.specs.Below.{Array, array_name, expr_tree, first_clash, is_mutable, name_place, parameter_tree, passed, shared_at};
+ghost use Rattle.labels.specs.Below.{Array, array_name, expr_tree, first_clash, is_mutable, name_place};
+ghost use Rattle.labels.specs.Below.{parameter_tree, passed, shared_at};
 ghost use Rattle.language.specs.declared.typing.ArrayType.{ArrayType};
 ghost use Rattle.labels.specs.private.Arrays.{given_before, with_array, with_changed};
 

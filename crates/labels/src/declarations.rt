@@ -1,6 +1,10 @@
 ghost use Rattle.std.specs.Prelude.{◌≡◌, ◌++◌, [], None, fold, is_some, map, OnOk, IfOk};
 ghost use Rattle.std.specs.Option.{option_map};
-ghost use Rattle.labels.specs.Below.{array_violations, count_violations, declaration_control_violations, declaration_violations, Declare, DeclareArray, exprs_violations, found, of_one, procedure_tree, right_tree, right_typed, right_violations, scope_after, sooner, statement_tree, statement_violations, typed_as, typed_of_all, values_violations, written};
+ghost use Rattle.labels.specs.Below.{array_violations, count_violations, declaration_control_violations};
+ghost use Rattle.labels.specs.Below.{declaration_violations, Declare, DeclareArray, exprs_violations, found, of_one};
+ghost use Rattle.labels.specs.Below.{procedure_tree, right_tree, right_typed, right_violations, scope_after, sooner};
+ghost use Rattle.labels.specs.Below.{statement_tree, statement_violations, typed_as, typed_of_all, values_violations};
+ghost use Rattle.labels.specs.Below.{written};
 ghost use Rattle.labels.specs.private.Written.{values_tree};
 
 use crate::calls::call;

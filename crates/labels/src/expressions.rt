@@ -1,6 +1,8 @@
 ghost use Rattle.std.specs.Prelude.{◌≡◌, ◌++◌, ◌∷◌, [], None, is_some, fold, length, map, IfOk, IfSome, OnOk};
 ghost use Rattle.std.specs.Option.{option_map};
-ghost use Rattle.labels.specs.Below.{expr_tree, expr_violations, exprs_violations, found as found_in, name_type, name_violations, Public, secret_name, sooner, typed_as, typed_of, typed_of_all, variable, word};
+ghost use Rattle.labels.specs.Below.{expr_tree, expr_violations, exprs_violations, found as found_in, name_type};
+ghost use Rattle.labels.specs.Below.{name_violations, Public, secret_name, sooner, typed_as, typed_of, typed_of_all};
+ghost use Rattle.labels.specs.Below.{variable, word};
 ghost use Rattle.language.specs.declared.signature.Kind.TheVariants.{Boolean};
 
 use crate::nodes::{binary, choice, convert, element, number, prefix, rotate};

@@ -1,6 +1,11 @@
 ghost use Rattle.std.specs.Prelude.{◌≡◌, Some, None, fold};
 ghost use Rattle.std.specs.Option.{option_map};
-ghost use Rattle.labels.specs.Below.{asked_of_one, asked_of_three, asked_of_two, because, binary_rules, binary_type, choice_why, convert_rules, convert_type, element_rules, element_type, element_why, Number, number_rules, of_one, of_three, of_two, operand_why, operands_why, prefix_rules, prefix_type, Public, rotate_rules, rotate_type, rotate_why, select_rules, select_type, sooner, typed_as, unless, word, WrongKind};
+ghost use Rattle.labels.specs.Below.{asked_of_one, asked_of_three, asked_of_two, because, binary_rules, binary_type};
+ghost use Rattle.labels.specs.Below.{choice_why, convert_rules, convert_type, element_rules, element_type};
+ghost use Rattle.labels.specs.Below.{element_why, Number, number_rules, of_one, of_three, of_two, operand_why};
+ghost use Rattle.labels.specs.Below.{operands_why, prefix_rules, prefix_type, Public, rotate_rules, rotate_type};
+ghost use Rattle.labels.specs.Below.{rotate_why, select_rules, select_type, sooner, typed_as, unless, word};
+ghost use Rattle.labels.specs.Below.{WrongKind};
 ghost use Rattle.language.specs.Operators.{operation_of};
 ghost use Rattle.labels.specs.private.Made.{of_choice, of_operand, of_operands};
 

@@ -1,6 +1,8 @@
 ghost use Rattle.std.specs.Prelude.{◌≡◌, [], fold, length, map, OnOk};
 ghost use Rattle.std.specs.Option.{option_map};
-ghost use Rattle.labels.specs.Below.{missing_violations, of_one, parameter_tree, parameter_violations, procedure_tree, procedure_violations, return_tree, return_violations, returned_violations, scope_after_all, sooner, with_parameters, with_procedure};
+ghost use Rattle.labels.specs.Below.{missing_violations, of_one, parameter_tree, parameter_violations};
+ghost use Rattle.labels.specs.Below.{procedure_tree, procedure_violations, return_tree, return_violations};
+ghost use Rattle.labels.specs.Below.{returned_violations, scope_after_all, sooner, with_parameters, with_procedure};
 ghost use Rattle.labels.specs.private.Inside.{inside_violations};
 
 use crate::arguments::parameter_value;

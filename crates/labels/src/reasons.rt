@@ -1,5 +1,6 @@
 ghost use Rattle.std.specs.Prelude.{◌≡◌};
-ghost use Rattle.labels.specs.Below.{control_why, either_literal, literal_as, number_as, operand_literal, typed_part, unknown_why, whole_literal};
+ghost use Rattle.labels.specs.Below.{control_why, either_literal, literal_as, number_as, operand_literal, typed_part};
+ghost use Rattle.labels.specs.Below.{unknown_why, whole_literal};
 
 use language::scopes::{Scope, nearest_place};
 use language::{

@@ -1,5 +1,8 @@
 ghost use Rattle.std.specs.Prelude.{◌≡◌, ◌++◌, fold, is_some, map, OnOk};
-ghost use Rattle.labels.specs.Below.{asked_of_one, asked_of_two, at, block_tree, block_violations, bounds_rules, bounds_why, condition_rules, condition_why, control_under, counter_as, declared, found, NameDeclaredTwice, procedure_tree, scope_after, scope_after_all, sooner, statement_tree, statement_violations, when};
+ghost use Rattle.labels.specs.Below.{asked_of_one, asked_of_two, at, block_tree, block_violations, bounds_rules};
+ghost use Rattle.labels.specs.Below.{bounds_why, condition_rules, condition_why, control_under, counter_as, declared};
+ghost use Rattle.labels.specs.Below.{found, NameDeclaredTwice, procedure_tree, scope_after, scope_after_all, sooner};
+ghost use Rattle.labels.specs.Below.{statement_tree, statement_violations, when};
 
 use crate::assignments::{assignment, element_assignment};
 use crate::calls::call;

@@ -1,5 +1,7 @@
 ghost use Rattle.std.specs.Prelude.{◌≡◌, fold};
-ghost use Rattle.labels.specs.Below.{are_met, argument_rules, argument_why, Array, because_of, control_violations, put_why, same_array, shape_rules, sooner, typed_part, value_rules, value_violations, Word};
+ghost use Rattle.labels.specs.Below.{are_met, argument_rules, argument_why, Array, because_of, control_violations};
+ghost use Rattle.labels.specs.Below.{put_why, same_array, shape_rules, sooner, typed_part, value_rules};
+ghost use Rattle.labels.specs.Below.{value_violations, Word};
 
 use crate::reasons::{control_why, literal_as, typed_part};
 use language::{

@@ -14,7 +14,8 @@ use Rattle.linked_calls.proofs.Below.{with_number, with_numbers, with_register, 
 use Rattle.linked_calls.proofs.Bytes.{number_beside, number_there, numbers_count, is_some-with_numbers, numbers_more}
 use Rattle.linked_calls.proofs.Bytes.{numbers_then}
 use Rattle.linked_calls.proofs.CopyElements.{Reached, chosen, copied_code, copied_value, copy_fit, copy_leaves}
-use Rattle.linked_calls.proofs.CopyElements.{copy_length, copy_made, copy_met, copy_plain, copy_works, element_even, element_size}
+use Rattle.linked_calls.proofs.CopyElements.{copy_length, copy_made, copy_met, copy_plain, copy_works, element_even}
+use Rattle.linked_calls.proofs.CopyElements.{element_size}
 use Rattle.linked_calls.proofs.CopyElements.{element_lies, elements_fit, some_bytes, source, target}
 use Rattle.linked_calls.proofs.Loops.{loop}
 use Rattle.linked_calls.proofs.Parts.{load_runs, number_then, same_number}

@@ -1,6 +1,7 @@
 -- Pieces of code, wherever they stand: an exact number of turns, and one list for all states that they may begin in, of
 -- allowed accesses alone. So what follows in a list is known before any state is given, which is equal leakage.
-use Rattle.std.proofs.Common.{◌≡◌, ℕ, ◌+◌, ◌*◌, Bool, true, false, List, [], ◌∷◌, ◌++◌, length, Option, None, Some, subst, sym, ◌∙◌}
+use Rattle.std.proofs.Common.{◌≡◌, ℕ, ◌+◌, ◌*◌, Bool, true, false, List, [], ◌∷◌, ◌++◌, length, Option, None, Some}
+use Rattle.std.proofs.Common.{subst, sym, ◌∙◌}
 use Rattle.std.proofs.Common.{arith, refl, length-append}
 use Rattle.linked_calls.proofs.Below.{after_all, are_straight, AreFit, AreMet, AreThere, at, Code, Data, Does, Event}
 use Rattle.linked_calls.proofs.Below.{Instr, LeadsWithin, LeadsWithin-append, LiesIn, Observation, Placed}

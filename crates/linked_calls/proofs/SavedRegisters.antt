@@ -1,5 +1,6 @@
 -- Registers that were stored into words, one after another.
-use Rattle.std.proofs.Common.{◌≡◌, ℕ, zero, suc, ◌+◌, ◌*◌, ◌%◌, ◌^◌, ◌<◌, ◌≤◌, List, [], ◌∷◌, ◌++◌, length, map, Some, ap, subst, inl}
+use Rattle.std.proofs.Common.{◌≡◌, ℕ, zero, suc, ◌+◌, ◌*◌, ◌%◌, ◌^◌, ◌<◌, ◌≤◌, List, [], ◌∷◌, ◌++◌, length, map, Some}
+use Rattle.std.proofs.Common.{ap, subst, inl}
 use Rattle.std.proofs.Common.{◌∙◌, arith}
 use Rattle.linked_calls.proofs.Below.{ByteMap, number_at, number_at-with_number, number_at_same, number_or_zero}
 use Rattle.linked_calls.proofs.Below.{with_number, with_numbers}

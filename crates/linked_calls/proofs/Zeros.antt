@@ -1,7 +1,8 @@
 -- The code that zeroes a frame, and the code that wipes a room: loops over blocks of four words, downward over the
 -- frame, and upward over all the room.
 use Rattle.std.proofs.Common.{◌≡◌, ◌≢◌, ℕ, suc, ◌+◌, ◌-◌, ◌*◌, ◌/◌, ◌%◌, ◌^◌, ◌<◌, ◌≤◌, ◌==◌, Bool, true, false, List}
-use Rattle.std.proofs.Common.{[], ◌∷◌, ◌++◌, length, Some, refl, sym, ap, ◌∙◌, subst, arith, append_assoc, length-append, if◌then◌else◌}
+use Rattle.std.proofs.Common.{[], ◌∷◌, ◌++◌, length, Some, refl, sym, ap, ◌∙◌, subst, arith, append_assoc}
+use Rattle.std.proofs.Common.{length-append, if◌then◌else◌}
 use Rattle.std.proofs.lemmas.Bool.{eqb-false, eqb-true}
 use Rattle.linked_calls.proofs.Below.{added, AreData, AreZeroed, block_turns, ByteMap, Code, constant_code, Data}
 use Rattle.linked_calls.proofs.Below.{difference_of, frame_code, frame_turns, FrameIsZeroed, HasFrame, HasRoom, Instr}

@@ -1,7 +1,8 @@
 // The lines of a run, written a turn at a time.
 
 ghost use Rattle.std.specs.Prelude.{◌≡◌, ◌++◌, ◌∷◌, [], Option, List, IsTrue, IfOk, OnOk, OnErr};
-ghost use Rattle.listing.specs.Below.{code_of, GainsPart, listed, Observation, one_more, state_of, Stop, Turned, Writes, WritesPart};
+ghost use Rattle.listing.specs.Below.{code_of, GainsPart, listed, Observation, one_more, state_of, Stop, Turned};
+ghost use Rattle.listing.specs.Below.{Writes, WritesPart};
 ghost use Rattle.listing.specs.Lines.{lines_of, stop_line};
 ghost use Rattle.listing.specs.Listings.{Ends, IsListing};
 

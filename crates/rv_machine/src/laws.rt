@@ -1,7 +1,9 @@
 // Laws of the machine, which hold of the definitions alone.
 
 ghost use Rattle.std.specs.Prelude.{◌≡◌, ◌≢◌, ◌↔◌, ℕ, ◌+◌, ◌%◌, ◌^◌, ◌<◌, ◌≤◌, ◌⊎◌, Bool, true, false, List, All, ◌∷◌, [], ◌++◌, length, take, Option, Some, None, is_some, slice_get};
-ghost use Rattle.rv_machine.specs.Below.{BranchTest, DivideOperation, ImmediateOperation, Instr, LoadOperation, MultiplyOperation, RegisterOperation, ShiftOperation, StoreOperation, UpperOperation};
+ghost use Rattle.rv_machine.specs.Below.{BranchTest, DivideOperation, ImmediateOperation, Instr, LoadOperation};
+ghost use Rattle.rv_machine.specs.Below.{MultiplyOperation, RegisterOperation, ShiftOperation, StoreOperation};
+ghost use Rattle.rv_machine.specs.Below.{UpperOperation};
 ghost use Rattle.rv_machine.specs.declared.observation.Observation.{Observation};
 ghost use Rattle.rv_machine.specs.declared.hart_recording.HartObservation.{HartObservation};
 ghost use Rattle.rv_machine.specs.declared.stops.Stop.{Stop};

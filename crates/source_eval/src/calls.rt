@@ -2,7 +2,8 @@
 
 ghost use Rattle.std.specs.Prelude.{◌≡◌, map, IfOk, IfErr, OnOk};
 ghost use Rattle.std.specs.Option.{option_map};
-ghost use Rattle.source_eval.specs.Below.{argument_held, array_named, begun, copied_out, empty, expr_tree, gone_back, parameter_tree, words_left};
+ghost use Rattle.source_eval.specs.Below.{argument_held, array_named, begun, copied_out, empty, expr_tree, gone_back};
+ghost use Rattle.source_eval.specs.Below.{parameter_tree, words_left};
 ghost use Rattle.source_eval.specs.Views.{held, value_of, word_of};
 ghost use Rattle.source_eval.specs.declared.fault.EvalFault.TheVariants.{Memory};
 

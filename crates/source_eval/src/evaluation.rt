@@ -2,7 +2,8 @@
 
 ghost use Rattle.std.specs.Prelude.{◌≡◌, ◌≢◌, Err, Some, map, IfOk, IfErr, OnOk};
 ghost use Rattle.std.specs.Option.{option_map};
-ghost use Rattle.source_eval.specs.Below.{argument_value, empty, export_run, fault_of, final_arrays, holding, most_bodies, param_of, parameter_tree, procedure_tree, program_tree};
+ghost use Rattle.source_eval.specs.Below.{argument_value, empty, export_run, fault_of, final_arrays, holding};
+ghost use Rattle.source_eval.specs.Below.{most_bodies, param_of, parameter_tree, procedure_tree, program_tree};
 ghost use Rattle.source_eval.specs.Answer.{answer, judged_answer, params_of};
 ghost use Rattle.source_eval.specs.Metering.{Ended, Stopped};
 ghost use Rattle.source_eval.specs.Views.{held, value_of, word_of};

@@ -1,7 +1,8 @@
 // The laws, which join the two forms of the meaning: its rules, and the function that works it out.
 
 ghost use Rattle.std.specs.Prelude.{◌≡◌, ◌≤◌, List, [], Some, length};
-ghost use Rattle.source_eval.specs.Below.{Arg, bodies_of, Ending, exported, extents_of, Gives, ProcedureTree, Profile, program_run, ProgramTree, Results, violations};
+ghost use Rattle.source_eval.specs.Below.{Arg, bodies_of, Ending, exported, extents_of, Gives, ProcedureTree};
+ghost use Rattle.source_eval.specs.Below.{Profile, program_run, ProgramTree, Results, violations};
 
 /// Whatever end the rules give a program, it is the one that is worked out.
 pub fn meaning_is_worked_out()

@@ -3,7 +3,10 @@
 
 ghost use Rattle.std.specs.Prelude.{◌≡◌, ◌≤◌, ◌<◌, map, Some, None, OnOk, IfOk, IfErr};
 ghost use Rattle.std.specs.Option.{option_map};
-ghost use Rattle.source_eval.specs.Below.{array_run, block_tree, body_run, branch_run, call_run, call_tree, counting, element_run, expr_tree, loop_run, made_array, procedure_tree, return_run, return_tree, right_run, right_tree, run, run_all, set_run, statement_tree, word_given};
+ghost use Rattle.source_eval.specs.Below.{array_run, block_tree, body_run, branch_run, call_run, call_tree, counting};
+ghost use Rattle.source_eval.specs.Below.{element_run, expr_tree, loop_run, made_array, procedure_tree, return_run};
+ghost use Rattle.source_eval.specs.Below.{return_tree, right_run, right_tree, run, run_all, set_run, statement_tree};
+ghost use Rattle.source_eval.specs.Below.{word_given};
 ghost use Rattle.source_eval.specs.Metering.{Ended, Stopped, known_of, returned};
 ghost use Rattle.source_eval.specs.Views.{held, value_of, word_of};
 ghost use Rattle.source_eval.specs.declared.fault.EvalFault.TheVariants.{Memory};

@@ -2,7 +2,8 @@
 
 ghost use Rattle.std.specs.Prelude.{◌≡◌, if◌then◌else◌, is_some, OnOk, IfOk, IfErr};
 ghost use Rattle.std.specs.Option.{option_map};
-ghost use Rattle.source_eval.specs.Below.{element_held, empty, final_words, gives, with_element, with_some, with_value, word_held};
+ghost use Rattle.source_eval.specs.Below.{element_held, empty, final_words, gives, with_element, with_some};
+ghost use Rattle.source_eval.specs.Below.{with_value, word_held};
 ghost use Rattle.source_eval.specs.Metering.{IsFault};
 ghost use Rattle.source_eval.specs.Views.{held, value_of, word_of};
 ghost use Rattle.source_eval.specs.declared.fault.EvalFault.TheVariants.{Memory};

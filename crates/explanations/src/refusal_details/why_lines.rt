@@ -3,7 +3,8 @@
 ghost use Rattle.std.specs.Prelude.{◌≡◌, IfOk};
 ghost use Rattle.std.specs.String.{string_bytes};
 ghost use Rattle.explanations.specs.refusal_details.WhyLines.{argument_line, control_lines, ending, fixed_line};
-ghost use Rattle.explanations.specs.refusal_details.WhyLines.{missing_line, nearest_line, returned_line, secret_line, shared_line};
+ghost use Rattle.explanations.specs.refusal_details.WhyLines.{missing_line, nearest_line, returned_line, secret_line};
+ghost use Rattle.explanations.specs.refusal_details.WhyLines.{shared_line};
 ghost use Rattle.explanations.specs.refusal_details.WhyLines.{things, value_line, why_lines};
 
 use crate::refusal_details::number_lines::{

@@ -3,7 +3,8 @@
 ghost use Rattle.std.specs.Prelude.{◌≡◌, map, List, Option, IfOk, IfErr};
 ghost use Rattle.std.specs.Option.{option_map};
 ghost use Rattle.std.specs.String.{string_bytes};
-ghost use Rattle.explanations.specs.Below.{excess, flattened, IsWantOfMemory, procedure_tree, ProcedureTree, program_tree, Work};
+ghost use Rattle.explanations.specs.Below.{excess, flattened, IsWantOfMemory, procedure_tree, ProcedureTree};
+ghost use Rattle.explanations.specs.Below.{program_tree, Work};
 ghost use Rattle.explanations.specs.refusal_details.Details.{SaysWork};
 ghost use Rattle.explanations.specs.refusal_details.Found.{IsExportOf, flat_of};
 ghost use Rattle.explanations.specs.refusal_details.SizeLines.{excess_line};

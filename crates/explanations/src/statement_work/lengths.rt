@@ -3,7 +3,8 @@
 
 ghost use Rattle.std.specs.Prelude.{◌≡◌, ◌+◌, length, map, if◌then◌else◌};
 ghost use Rattle.std.specs.Option.{option_map};
-ghost use Rattle.explanations.specs.Below.{block_tree, call_tree, counted, expr_tree, is_word, parameter_tree, right_tree, statement_tree, word_arguments};
+ghost use Rattle.explanations.specs.Below.{block_tree, call_tree, counted, expr_tree, is_word, parameter_tree};
+ghost use Rattle.explanations.specs.Below.{right_tree, statement_tree, word_arguments};
 ghost use Rattle.explanations.specs.statement_work.Lengths.{block_length, call_length, dropped_length, element_length};
 ghost use Rattle.explanations.specs.statement_work.Lengths.{right_length, statement_length};
 ghost use Rattle.explanations.specs.statement_work.Inlined.{inlined_of, lengths_in};

@@ -1,7 +1,9 @@
 // Arrays between the caller's memory and the frame, an element a turn.
 
 ghost use Rattle.std.specs.Prelude.{◌≡◌, ◌≤◌, ◌<◌, ◌++◌, ◌∷◌, [], length, OnOk, IfOk};
-ghost use Rattle.functions.specs.Below.{array_bytes, bounds_code, copied_in_code, copied_out_code, copy_in_code, copy_out_code, element_meant_code, load_by, MutableArray, next_code, store_by};
+ghost use Rattle.functions.specs.Below.{array_bytes, bounds_code, copied_in_code, copied_out_code, copy_in_code};
+ghost use Rattle.functions.specs.Below.{copy_out_code, element_meant_code, load_by, MutableArray, next_code};
+ghost use Rattle.functions.specs.Below.{store_by};
 
 use crate::function_code::pieces::{added, store_by, until_equal};
 use crate::function_code::room::argument_offset;

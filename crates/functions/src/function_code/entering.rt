@@ -1,7 +1,8 @@
 // Instructions of the sections before the body.
 
 ghost use Rattle.std.specs.Prelude.{◌≡◌, ◌-◌, ◌++◌, ◌∷◌, [], OnOk};
-ghost use Rattle.functions.specs.Below.{above_frame, added, argument_code, constant_code, meant_code, Register, stack_register, Sub, until_equal, word_code, zeros_code};
+ghost use Rattle.functions.specs.Below.{above_frame, added, argument_code, constant_code, meant_code, Register};
+ghost use Rattle.functions.specs.Below.{stack_register, Sub, until_equal, word_code, zeros_code};
 
 use crate::function_code::copying::copy_in;
 use crate::function_code::pieces::{added, until_equal, zeros};

@@ -1,7 +1,8 @@
 // Instructions of the sections behind the body.
 
 ghost use Rattle.std.specs.Prelude.{◌≡◌, ◌++◌, ◌∷◌, [], OnOk};
-ghost use Rattle.functions.specs.Below.{above_frame, Add, added, constant_code, copy_out_code, JumpRegister, link_register, Register, result_code, stack_register, wipe_code};
+ghost use Rattle.functions.specs.Below.{above_frame, Add, added, constant_code, copy_out_code, JumpRegister};
+ghost use Rattle.functions.specs.Below.{link_register, Register, result_code, stack_register, wipe_code};
 
 use crate::function_code::copying::copy_out;
 use crate::function_code::pieces::{added, until_equal, zeros};

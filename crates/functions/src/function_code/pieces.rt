@@ -1,7 +1,8 @@
 // Instructions that several sections have: registers to memory and back, loops, and zeros.
 
 ghost use Rattle.std.specs.Prelude.{◌≡◌, ◌≤◌, ◌<◌, ◌+◌, ◌*◌, ◌++◌, length, map, OnOk};
-ghost use Rattle.functions.specs.Below.{added, clear_registers_code, loads_code, store_by, stores_code, until_equal, zeros_code};
+ghost use Rattle.functions.specs.Below.{added, clear_registers_code, loads_code, store_by, stores_code, until_equal};
+ghost use Rattle.functions.specs.Below.{zeros_code};
 
 use language::Kind;
 use rv_code::{

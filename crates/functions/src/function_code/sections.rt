@@ -1,7 +1,8 @@
 // The sections of a function's code: one list of them is what its words, its text and its turns are made of.
 
 ghost use Rattle.std.specs.Prelude.{◌≡◌, ◌≤◌, ◌++◌, length, OnOk, IfOk};
-ghost use Rattle.functions.specs.Below.{argument_sections, array_section, array_sections, enter_sections, frame_sections, leave_sections, section_code};
+ghost use Rattle.functions.specs.Below.{argument_sections, array_section, array_sections, enter_sections};
+ghost use Rattle.functions.specs.Below.{frame_sections, leave_sections, section_code};
 
 use crate::function_code::entering::{argument, cleared_frame, frame_base, room_above};
 use crate::function_code::leaving::{array, callers_stack, frame_top, go_back, result, wiped_room};

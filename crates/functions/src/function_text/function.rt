@@ -5,7 +5,8 @@ ghost use Rattle.functions.specs.function_text.Functions.{IsFunctionOf, IsFaultO
 ghost use Rattle.functions.specs.function_text.Functions.{written_parameter};
 ghost use Rattle.functions.specs.function_text.Names.{is_taken_name};
 ghost use Rattle.functions.specs.function_text.private.OfExport.{IsOfExport, IsTaken};
-ghost use Rattle.functions.specs.Below.{exported, IsWantOfMemory, parameter_tree, procedure_tree, ProcedureTree, program_tree};
+ghost use Rattle.functions.specs.Below.{exported, IsWantOfMemory, parameter_tree, procedure_tree, ProcedureTree};
+ghost use Rattle.functions.specs.Below.{program_tree};
 
 use crate::function_text::fault::FunctionFault;
 use crate::function_text::naming::{Macros, is_taken_name, macros_of, written_name};

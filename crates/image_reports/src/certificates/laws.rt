@@ -1,7 +1,9 @@
 // What a certificate promises, and what it says of the answers of `pair` and `leak`.
 
 ghost use Rattle.std.specs.Prelude.{◌≡◌, ◌≢◌, ℕ, ◌+◌, ◌≤◌, List, [], ◌∷◌, ◌++◌, length, Option, Result, Ok, Err};
-ghost use Rattle.image_reports.specs.Below.{Arg, CertifiedEnd, Covers, entries_of, Entry, Fields, IsImage, IsLeak, loaded_at, Observation, Paired, Pairing, params_of, program_counter, RunFault, Stop};
+ghost use Rattle.image_reports.specs.Below.{Arg, CertifiedEnd, Covers, entries_of, Entry, Fields, IsImage, IsLeak};
+ghost use Rattle.image_reports.specs.Below.{loaded_at, Observation, Paired, Pairing, params_of, program_counter};
+ghost use Rattle.image_reports.specs.Below.{RunFault, Stop};
 ghost use Rattle.codegen.specs.Bases.{AreBases};
 ghost use Rattle.image_reports.specs.certificates.Certified.{Certified};
 ghost use Rattle.image_reports.specs.certificates.Given.{Completes};

@@ -1,7 +1,8 @@
 // An image, loaded with what is given of its arguments, and what is known of that.
 
 ghost use Rattle.std.specs.Prelude.{◌≡◌, ℕ, ◌+◌, ◌^◌, ◌<◌, ◌≤◌, true, false, is_some, None, length, map, All, IfOk};
-ghost use Rattle.image_reports.specs.Below.{code_base, frame_base, HoldsSlot, known_bytes, known_of, paged_bytes, params_of, state_of, with_bytes_known};
+ghost use Rattle.image_reports.specs.Below.{code_base, frame_base, HoldsSlot, known_bytes, known_of, paged_bytes};
+ghost use Rattle.image_reports.specs.Below.{params_of, state_of, with_bytes_known};
 ghost use Rattle.image_reports.specs.certificates.Given.{fault_of_given};
 ghost use Rattle.image_reports.specs.certificates.KnownImage.{argument_bytes, with_given, known_with_given, known_at};
 

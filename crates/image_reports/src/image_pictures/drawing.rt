@@ -1,7 +1,8 @@
 // An image's runs, loaded and drawn.
 
 ghost use Rattle.std.specs.Prelude.{◌≡◌, None, IfOk};
-ghost use Rattle.image_reports.specs.Below.{AreWithin, code_base, frame_base, IsImage, loaded_at, paged_bytes, params_of, state_of};
+ghost use Rattle.image_reports.specs.Below.{AreWithin, code_base, frame_base, IsImage, loaded_at, paged_bytes};
+ghost use Rattle.image_reports.specs.Below.{params_of, state_of};
 ghost use Rattle.image_reports.specs.certificates.Given.{fault_of_given};
 ghost use Rattle.image_reports.specs.certificates.KnownImage.{known_at};
 ghost use Rattle.image_reports.specs.image_pictures.Drawn.{BeginsAt, DrawsImage, DrawsOne, DrawsTwo};

@@ -1,7 +1,8 @@
 // Why what an observer sees of two runs differs.
 
 ghost use Rattle.std.specs.Prelude.{◌≡◌, ◌<◌, List, Ok, IfOk};
-ghost use Rattle.image_reports.specs.Below.{AreWithin, code_at, code_base, code_of, Differ, frame_base, loaded_at, Observation, Paired, params_of, ShowsFewer};
+ghost use Rattle.image_reports.specs.Below.{AreWithin, code_at, code_base, code_of, Differ, frame_base, loaded_at};
+ghost use Rattle.image_reports.specs.Below.{Observation, Paired, params_of, ShowsFewer};
 ghost use Rattle.image_reports.specs.pair_explanations.Explained.{SaysOf, Explains};
 
 use crate::pair_explanations::lines::{Said, lines, push_shown};

@@ -3,7 +3,8 @@
 ghost use Rattle.std.specs.Prelude.{◌≡◌, ◌<◌, Ok, length, All, IfOk, IfErr};
 ghost use Rattle.std.specs.Option.{option_map};
 ghost use Rattle.std.specs.String.{string_bytes};
-ghost use Rattle.image_reports.specs.Below.{AreWithin, CertifiedEnd, IsWantOfMemory, Means, params_of, ProgramTree, Results};
+ghost use Rattle.image_reports.specs.Below.{AreWithin, CertifiedEnd, IsWantOfMemory, Means, params_of, ProgramTree};
+ghost use Rattle.image_reports.specs.Below.{Results};
 ghost use Rattle.image_reports.specs.certificates.Certified.{Certified};
 ghost use Rattle.image_reports.specs.vectors.Spelled.{lists_of, publics};
 ghost use Rattle.image_reports.specs.vectors.Verdicts.{IsImageOf, wrong_in};

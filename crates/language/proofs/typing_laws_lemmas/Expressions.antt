@@ -23,7 +23,8 @@ use Rattle.language.specs.Operators.{operation_of}
 use Rattle.language.specs.Tree.{ExprTree, number, truth, name, prefix, binary, rotate, convert, select, element}
 use Rattle.language.specs.declared.why.Typed.{Typed}
 use Rattle.language.specs.declared.why.Why.{Why}
-use Rattle.language.specs.Types.{Scope, found, variable, bits_of, because, because_of, when, unless, of_one, of_two, of_three}
+use Rattle.language.specs.Types.{Scope, found, variable, bits_of, because, because_of, when, unless, of_one, of_two}
+use Rattle.language.specs.Types.{of_three}
 use Rattle.language.specs.Types.{typed_as, asked_of_one, asked_of_two, asked_of_three}
 use Rattle.language.specs.WellTyped.{HasType, of_number, of_truth, of_name, of_prefix, of_binary, of_rotation}
 use Rattle.language.specs.WellTyped.{of_conversion, of_selection, of_element}

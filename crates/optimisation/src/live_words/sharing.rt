@@ -1,6 +1,7 @@
 ghost use Rattle.std.specs.Prelude.{◌≡◌, ◌<◌, ◌^◌, length, IfErr, IfOk, IfSome, OnOk};
 ghost use Rattle.std.specs.Option.{option_map};
-ghost use Rattle.optimisation.specs.Below.{IsReplaced, IsStraight, IsWantOfMemory, straight_block, term_tree, with_body};
+ghost use Rattle.optimisation.specs.Below.{IsReplaced, IsStraight, IsWantOfMemory, straight_block, term_tree};
+ghost use Rattle.optimisation.specs.Below.{with_body};
 ghost use Rattle.optimisation.specs.live_words.Exact.{shared_of};
 ghost use Rattle.optimisation.specs.live_words.private.Held.{held_by};
 ghost use Rattle.optimisation.specs.live_words.private.Whole.{all_fits, at_end, at_start, kept, nothing_live, over};

@@ -1,7 +1,8 @@
 // A certified run in pieces.
 
 ghost use Rattle.std.specs.Prelude.{◌≡◌, ℕ, ◌+◌, ◌^◌, ◌<◌, List, IsTrue, is_some};
-ghost use Rattle.run_reports.specs.Below.{CertifiedRun, code_of, collected, end_of, known_of, Observation, RunEnding, state_of};
+ghost use Rattle.run_reports.specs.Below.{CertifiedRun, code_of, collected, end_of, known_of, Observation, RunEnding};
+ghost use Rattle.run_reports.specs.Below.{state_of};
 ghost use Rattle.run_reports.specs.progress.Certified.{GoesOnKnown, entries_at, end_behind};
 ghost use Rattle.run_reports.specs.progress.GoingOn.{HasLines, IsTold};
 

@@ -1,7 +1,8 @@
 // What the places of a run's entries are to each other.
 
 ghost use Rattle.std.specs.Prelude.{◌≡◌, ◌≢◌, ℕ, ◌+◌, ◌-◌, ◌<◌, ◌≤◌, List, None, length};
-ghost use Rattle.run_reports.specs.Below.{Code, entries_of, IsFirstDifference, Leads, Observation, State, Stop, word_at};
+ghost use Rattle.run_reports.specs.Below.{Code, entries_of, IsFirstDifference, Leads, Observation, State, Stop};
+ghost use Rattle.run_reports.specs.Below.{word_at};
 ghost use Rattle.run_reports.specs.run_places.Places.{Ends, IsLastBefore, ShowsFewer};
 ghost use Rattle.run_reports.specs.run_places.Shown.{ShowsAt};
 ghost use Rattle.run_reports.specs.declared.run_places.shown.Shown.{Shown};

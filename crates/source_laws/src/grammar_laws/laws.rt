@@ -3,7 +3,8 @@
 ghost use Rattle.std.specs.Prelude.{◌≡◌, ℕ, ◌≤◌, List, take};
 ghost use Rattle.std.specs.List.{All};
 ghost use Rattle.source_laws.specs.grammar_laws.Heads.{astray, here, in_program};
-ghost use Rattle.source_laws.specs.Below.{accepted, Answer, AreByCases, Ending, Lexeme, Lexes, origin, place_after, ProgramTree, Reads};
+ghost use Rattle.source_laws.specs.Below.{accepted, Answer, AreByCases, Ending, Lexeme, Lexes, origin, place_after};
+ghost use Rattle.source_laws.specs.Below.{ProgramTree, Reads};
 
 /// Some program begins with tokens exactly where they begin one by the cases of the grammar.
 pub fn beginnings_are_by_cases()

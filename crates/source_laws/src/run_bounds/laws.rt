@@ -2,7 +2,10 @@
 
 ghost use Rattle.std.specs.Prelude.{◌≡◌, ℕ, ◌≤◌, List, [], Some, Ok, length, map};
 ghost use Rattle.std.specs.List.{AllByRecursion};
-ghost use Rattle.source_laws.specs.Below.{AreWithin, Arg, bodies_of, evaluated_by, exported, extents_of, flattened, IsGrammatical, IsTypedProgram, most_bodies, most_work, outcome_of, param_of, ProcedureTree, Profile, program_run, ProgramTree, range_violations, run_answer, violations, work_of};
+ghost use Rattle.source_laws.specs.Below.{AreWithin, Arg, bodies_of, evaluated_by, exported, extents_of, flattened};
+ghost use Rattle.source_laws.specs.Below.{IsGrammatical, IsTypedProgram, most_bodies, most_work, outcome_of};
+ghost use Rattle.source_laws.specs.Below.{param_of, ProcedureTree, Profile, program_run, ProgramTree};
+ghost use Rattle.source_laws.specs.Below.{range_violations, run_answer, violations, work_of};
 
 /// A run of a program that violates no rule evaluates no more nodes than are counted for a run of the one body that it
 /// becomes.

@@ -2,7 +2,8 @@
 
 ghost use Rattle.std.specs.List.{AllByRecursion};
 ghost use Rattle.std.specs.Prelude.{◌≡◌, [], List, Some, length};
-ghost use Rattle.source_laws.specs.Below.{exported, flattened, IsGrammatical, ProcedureTree, Profile, ProgramTree, violations, work_of};
+ghost use Rattle.source_laws.specs.Below.{exported, flattened, IsGrammatical, ProcedureTree, Profile, ProgramTree};
+ghost use Rattle.source_laws.specs.Below.{violations, work_of};
 ghost use Rattle.source_laws.specs.source_work.SourceWork.{source_work};
 
 /// The work of the export of a program that violates no rule is that of its one body with numbered variables.

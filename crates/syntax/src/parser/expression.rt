@@ -2,7 +2,8 @@ ghost use Rattle.std.specs.Prelude.{◌≡◌, ◌≤◌, ◌<◌, ℕ, IfOk, If
 ghost use Rattle.syntax.specs.Lexeme.{lexeme};
 ghost use Rattle.syntax.specs.private.Machine.{State, expr, more, operand as operand_state, named as named_state, linked, link_level, after_select, converted, ended};
 ghost use Rattle.syntax.specs.private.ParserViews.{Leads, after_sign};
-ghost use Rattle.syntax.specs.Below.{binary as binary_tree, convert as convert_tree, element as element_tree, expr_tree, ExprTree, prefix as prefix_tree, rotate as rotate_tree};
+ghost use Rattle.syntax.specs.Below.{binary as binary_tree, convert as convert_tree, element as element_tree};
+ghost use Rattle.syntax.specs.Below.{expr_tree, ExprTree, prefix as prefix_tree, rotate as rotate_tree};
 
 use super::operator::{
     Begins, Link, OPERAND_LEVEL, PREFIX_LEVEL, begins_of, level_of, link_of, suffix_kind,

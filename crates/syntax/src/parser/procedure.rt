@@ -2,7 +2,8 @@ ghost use Rattle.std.specs.Prelude.{◌≡◌, ◌≤◌, ◌<◌, List, Option,
 ghost use Rattle.std.specs.Option.{option_map};
 ghost use Rattle.syntax.specs.private.Machine.{State, exported, result_type as result_type_state, parameter_name, parameter as parameter_state, labelled, parameters as parameters_state, returned as returned_state, procedure as procedure_state};
 ghost use Rattle.syntax.specs.private.ParserViews.{Leads};
-ghost use Rattle.syntax.specs.Below.{parameter_tree, ParameterTree, Place as PlaceOf, procedure_tree, ProcedureTree, return_tree, ReturnTree, WordType as WordTypeOf};
+ghost use Rattle.syntax.specs.Below.{parameter_tree, ParameterTree, Place as PlaceOf, procedure_tree, ProcedureTree};
+ghost use Rattle.syntax.specs.Below.{return_tree, ReturnTree, WordType as WordTypeOf};
 
 use super::{Fault, Parser};
 use crate::{
