@@ -14,5 +14,5 @@ conditional_is accepted otherwise is = ap statement_tree is ∙ conditional_tree
 pub loop_is : {s : Statement} {place : Place} {counter : Counter} {low high : Expr} (body : Vec Statement Global)
     → s ≡ For place counter low high body
     → statement_tree s
-    ≡ loop place counter.place counter.name.now (expr_tree low) (expr_tree high) (block_tree body.items)
+    ≡ loop place counter.place counter.name (expr_tree low) (expr_tree high) (block_tree body.items)
 loop_is {s} {place} {counter} {low} {high} body is = ap statement_tree is ∙ loop_tree place counter low high body

@@ -16,7 +16,7 @@ use word::Place;
 
 /// The last procedure whose name stands behind so many bytes or fewer.
 #[tactic(auto, using(crate::proofs::call_places_lemmas::CallLemmas::or_assoc))]
-pub fn procedure_at<'p, 'a>(at: u32, program: &'p Program<'a>) -> Option<&'p Procedure<'a>>
+pub fn procedure_at(at: u32, program: &Program) -> Option<&Procedure>
     ensures { option_map (λ found. procedure_tree found.now) result ≡ procedure_at at (program_tree program.now).procedures }
 {
     let mut last = None;
@@ -30,11 +30,7 @@ pub fn procedure_at<'p, 'a>(at: u32, program: &'p Program<'a>) -> Option<&'p Pro
 }
 
 /// The places of the calls of a name in a program, in their order.
-pub fn call_places(
-    alloc: Global,
-    program: &Program<'_>,
-    name: &str,
-) -> Result<Vec<Place>, AllocError>
+pub fn call_places(alloc: Global, program: &Program, name: &str) -> Result<Vec<Place>, AllocError>
     ensures { IfOk result (λ places. places.items ≡ call_places name.now (program_tree program.now).procedures) }
 {
     let mut places = Vec::new(alloc);
@@ -46,17 +42,17 @@ pub fn call_places(
 }
 
 /// Puts the place of a call at the end of others, where it is of this name.
-fn push_call(call: &Call<'_>, name: &str, places: &mut Vec<Place>) -> Result<(), AllocError>
+fn push_call(call: &Call, name: &str, places: &mut Vec<Place>) -> Result<(), AllocError>
     ensures { OnOk result (places.new.items ≡ places.old.items ++ calls_at name.now (call_tree call.now)) }
 {
-    if call.name == name {
+    if call.name.as_str() == name {
         places.push(call.place)?;
     }
     Ok(())
 }
 
 /// The same of a right side.
-fn push_right(right: &RightSide<'_>, name: &str, places: &mut Vec<Place>) -> Result<(), AllocError>
+fn push_right(right: &RightSide, name: &str, places: &mut Vec<Place>) -> Result<(), AllocError>
     ensures { OnOk result (places.new.items ≡ places.old.items ++ calls_in_right name.now (right_tree right.now)) }
 {
     match right {
@@ -68,7 +64,7 @@ fn push_right(right: &RightSide<'_>, name: &str, places: &mut Vec<Place>) -> Res
 /// The same of a statement.
 #[cycle(calls)]
 fn push_statement(
-    statement: &Statement<'_>,
+    statement: &Statement,
     name: &str,
     places: &mut Vec<Place>,
 ) -> Result<(), AllocError>
@@ -90,11 +86,7 @@ fn push_statement(
 
 /// The same of statements in their order.
 #[cycle(calls)]
-fn push_calls(
-    block: &[Statement<'_>],
-    name: &str,
-    places: &mut Vec<Place>,
-) -> Result<(), AllocError>
+fn push_calls(block: &[Statement], name: &str, places: &mut Vec<Place>) -> Result<(), AllocError>
     ensures { OnOk result (places.new.items ≡ places.old.items ++ calls_in_all name.now (block_tree block.now)) }
 {
     for statement in block {

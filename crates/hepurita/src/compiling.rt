@@ -57,7 +57,7 @@ pub fn code_of(
 /// The code of a text's export, where the text is accepted, or the first refusal.
 fn code_in(
     alloc: Global,
-    flattened: &Flattened<'_>,
+    flattened: &Flattened,
     optimisation: Optimisation,
 ) -> Result<Code, Refusal>
     ensures compiled { (profile : Profile) (text : List ℕ) (is : IsFlattened profile text flattened.now)
@@ -71,8 +71,8 @@ fn code_in(
 
 /// An accepted text, compiled: its program, and the code of its export.
 #[derive(Drop)]
-pub struct Compiled<'a> {
-    pub program: Program<'a>,
+pub struct Compiled {
+    pub program: Program,
     pub code: Code,
 }
 
@@ -83,12 +83,12 @@ pub struct Compiled<'a> {
 /// Either image, run on any arguments within the parameter types, gives what the text means, within its
 /// stated steps and its frame; and on arguments that are equal where they are public the observer
 /// sees one and the same.
-pub fn compile_with<'a>(
+pub fn compile_with(
     alloc: Global,
-    text: &'a str,
+    text: &str,
     profile: Profile,
     optimisation: Optimisation,
-) -> Result<Compiled<'a>, Refusal>
+) -> Result<Compiled, Refusal>
     ensures compiled { IfOk result (λ made. (before : List ProcedureTree) × (export : ProcedureTree)
         × IsCompilation optimisation profile text.now (program_tree made.program) before export made.code) }
     ensures refused { IfErr result (IsRefusalOf profile text.now) }

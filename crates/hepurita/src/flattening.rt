@@ -15,12 +15,12 @@ use syntax::parse;
 
 /// A text's program, and its export with the bodies that it calls as one body.
 #[derive(Drop)]
-pub struct Flattened<'a> {
-    pub program: Program<'a>,
+pub struct Flattened {
+    pub program: Program,
     pub flat: Flat,
 }
 
-impl<'a> Flattened<'a> {
+impl Flattened {
     /// The body with what is counted for it, where its text is accepted; or else the text's refusal, for a range or for the
     /// work.
     pub fn ranged<'f>(&'f self, alloc: Global) -> Result<Ranged<'f>, Refusal>
@@ -36,7 +36,7 @@ impl<'a> Flattened<'a> {
 
 /// The program of a text that passes the rules on the text itself, on names, types and labels, and on sizes, for an
 /// observer of this profile, with its export as one body; or the first refusal.
-pub fn flatten<'a>(alloc: Global, text: &'a str, profile: Profile) -> Result<Flattened<'a>, Refusal>
+pub fn flatten(alloc: Global, text: &str, profile: Profile) -> Result<Flattened, Refusal>
     ensures accepted { IfOk result (IsFlattened profile text.now) }
     ensures refused { IfErr result (IsRefusalOf profile text.now) }
 {

@@ -14,11 +14,7 @@ use std::alloc::Global;
 
 /// The export of a program that violates no rule on names, types and labels, with the bodies that it
 /// calls as one body within the limits on size; or the first refusal.
-pub(crate) fn flat_of(
-    alloc: Global,
-    program: &Program<'_>,
-    profile: Profile,
-) -> Result<Flat, Refusal>
+pub(crate) fn flat_of(alloc: Global, program: &Program, profile: Profile) -> Result<Flat, Refusal>
     ensures accepted { IfOk result (λ flat. (before : List ProcedureTree) × (export : ProcedureTree) × IsSmall profile (program_tree program.now) before export × (flat ≡ flattened profile before export)) }
     ensures refused { IfErr result (IsRefusal (JudgesProgram profile (program_tree program.now))) }
     ensures told { IfErr result (IsToldOfProgram profile (program_tree program.now)) }
@@ -29,15 +25,15 @@ pub(crate) fn flat_of(
 
 /// An accepted text's program, and of its export the parameters, and the type of the result where there is one.
 #[derive(Drop)]
-pub struct Accepted<'a> {
-    pub program: Program<'a>,
+pub struct Accepted {
+    pub program: Program,
     pub params: Vec<Param>,
     pub returned: Option<WordType>,
 }
 
 /// The program of a text that is accepted for an observer of profile 1, or the first refusal: the one that
 /// `build` names, which tells what was found there.
-pub fn judge<'a>(alloc: Global, text: &'a str) -> Result<Accepted<'a>, Refusal>
+pub fn judge(alloc: Global, text: &str) -> Result<Accepted, Refusal>
     ensures accepted { IfOk result (λ accepted. (before : List ProcedureTree) × (export : ProcedureTree) × Judges Profile.P1 text.now (accepts (program_tree accepted.program) before export) × (accepted.params.items ≡ map param_of export.parameters) × (accepted.returned ≡ export.result)) }
     ensures refused { IfErr result (IsRefusalOf Profile.P1 text.now) }
 {
@@ -45,7 +41,7 @@ pub fn judge<'a>(alloc: Global, text: &'a str) -> Result<Accepted<'a>, Refusal>
 }
 
 /// The same for an observer of this profile: the refusal is the one that `build_as` names.
-pub fn judge_as<'a>(alloc: Global, text: &'a str, profile: Profile) -> Result<Accepted<'a>, Refusal>
+pub fn judge_as(alloc: Global, text: &str, profile: Profile) -> Result<Accepted, Refusal>
     ensures accepted { IfOk result (λ accepted. (before : List ProcedureTree) × (export : ProcedureTree) × Judges profile text.now (accepts (program_tree accepted.program) before export) × (accepted.params.items ≡ map param_of export.parameters) × (accepted.returned ≡ export.result)) }
     ensures refused { IfErr result (IsRefusalOf profile text.now) }
 {

@@ -32,7 +32,7 @@ pub fn source_statistics(alloc: Global, source: &str, profile: Profile) -> Resul
 }
 
 /// The lines of a body with what was counted for it, and of the program whose export it is. Only memory refuses them.
-fn costs(alloc: Global, ranged: &Ranged<'_>, program: &Program<'_>) -> Result<String, Refusal>
+fn costs(alloc: Global, ranged: &Ranged<'_>, program: &Program) -> Result<String, Refusal>
     requires { IfSome (exported [] (program_tree program.now).procedures) (λ export. ranged.now.flat ≡ flattened ranged.now.flat.profile export.0 export.1) }
     ensures said { IfOk result (λ text. string_bytes text ≡ costs_text ranged.now (fields_of (straight_of ranged.now)) ++ export_lines (exported [] (program_tree program.now).procedures)) }
     ensures memory { IfErr result (λ refusal. IsWantOfMemory refusal.rule refusal.place) }

@@ -45,7 +45,7 @@ conditional_whole place condition accepted otherwise is first_arm second_arm =
 -- a loop, by the list of its body
 pub loop_whole : (place : Place) (counter : Counter) (low high : Expr) (body : Vec Statement Global) {s : Statement}
     {ones : List Statement} → s ≡ For place counter low high body → ones ≡ body.items
-    → statement_tree s ≡ source.loop place counter.place counter.name.now (expr_tree low) (expr_tree high)
+    → statement_tree s ≡ source.loop place counter.place counter.name (expr_tree low) (expr_tree high)
     (block_tree ones)
 loop_whole place counter low high body is list =
     rw (is, list) (loop_tree place counter low high body)

@@ -36,10 +36,10 @@ module _ {Entry Made Told : Type 0} (told : Entry → Told) (count : Made → To
       (x : Entry) (all : Known Made)
       → i < length procedures → p ≡ get_or procedures i p → Knows table (drop i procedures) all
       → ((known : Known Made) → Tells table known → told x ≡ count (make known (procedure_tree p)))
-      → later ≡ declared table p.name.now x → Knows later (drop (i + 1) procedures) all
+      → later ≡ declared table p.name x → Knows later (drop (i + 1) procedures) all
   one_told procedures i p table later x all within is knows one more =
       let known = knows.0 in
-      let name = p.name.now in
+      let name = p.name in
       let made = make known (procedure_tree p) in
       let next = drop_more procedures i p within ∙ ap (λ q. q ∷ drop (i + 1) procedures) (sym is) in (
         with_known known name made,

@@ -19,9 +19,9 @@ pub fn push(flat: &mut Vec<FlatStatement>, one: FlatStatement) -> Result<(), All
     Ok(())
 }
 
-impl<'a> Numbering<'a> {
+impl Numbering<'_> {
     /// The number of the array that an argument names.
-    fn number_given(&self, argument: &Expr<'_>) -> u32
+    fn number_given(&self, argument: &Expr) -> u32
         ensures { result ≡ number_given self.now.names (expr_tree argument.now) }
     {
         match argument {
@@ -39,11 +39,11 @@ impl<'a> Numbering<'a> {
 
     /// Passes an argument: a word is put into a variable, an array keeps the caller's number.
     #[tactic(auto, using(crate::proofs::BlockLemmas::chain_nothing))]
-    fn pass_one(
+    fn pass_one<'p>(
         &self,
-        own: &mut Names<'a, Numbered>,
-        parameter: &Parameter<'a>,
-        argument: &Expr<'a>,
+        own: &mut Names<'p, Numbered>,
+        parameter: &'p Parameter,
+        argument: &Expr,
         declared: &mut Vec<FlatVariable>,
         flat: &mut Vec<FlatStatement>,
     ) -> Result<(), AllocError>
@@ -66,7 +66,7 @@ impl<'a> Numbering<'a> {
             Form::FixedArray | Form::MutableArray => self.number_given(argument),
         };
         own.declare(
-            parameter.name,
+            parameter.name.as_str(),
             Numbered {
                 number,
                 declaration,
@@ -76,13 +76,13 @@ impl<'a> Numbering<'a> {
     }
 
     /// Passes the arguments of a call from the first to the last, and gives the names in which the called body begins.
-    pub(crate) fn pass(
+    pub(crate) fn pass<'p>(
         &self,
-        parameters: &[Parameter<'a>],
-        arguments: &[Expr<'a>],
+        parameters: &'p [Parameter],
+        arguments: &[Expr],
         declared: &mut Vec<FlatVariable>,
         flat: &mut Vec<FlatStatement>,
-    ) -> Result<Numbering<'a>, AllocError>
+    ) -> Result<Numbering<'p>, AllocError>
         ensures block { OnOk result (flat_block flat.new.items ≡ chain (flat_block flat.old.items) (passed self.now.names (length declared.old.items) (map parameter_tree parameters.now) (map expr_tree arguments.now))) }
         ensures own { IfOk result (λ own. own.names ≡ begun self.now.names [] (length declared.old.items) (map parameter_tree parameters.now) (map expr_tree arguments.now)) }
         ensures declared { OnOk result (declared.new.items ≡ declared.old.items ++ passed_variables (map parameter_tree parameters.now) (map expr_tree arguments.now)) }

@@ -36,10 +36,10 @@ struct Largest {
 }
 
 /// What an export costs of each limit behind the procedures that it may call.
-pub fn size_costs<'a>(
+pub fn size_costs(
     alloc: Global,
-    earlier: &[Procedure<'a>],
-    export: &Procedure<'a>,
+    earlier: &[Procedure],
+    export: &Procedure,
 ) -> Result<SizeCosts, AllocError>
     ensures nodes { IfOk result (λ costs. costs.nodes ≡ nodes_cost (extents_of (map procedure_tree earlier.now)) (procedure_tree export.now)) }
     ensures bodies { IfOk result (λ costs. costs.bodies ≡ bodies_cost (extents_of (map procedure_tree earlier.now)) (procedure_tree export.now)) }
@@ -50,7 +50,7 @@ pub fn size_costs<'a>(
 }
 
 /// What an export costs of each limit, by the sizes of the procedures that it may call.
-pub fn costs_of<'s, 'a>(earlier: &Names<'a, Measured<'s, 'a>>, export: &Procedure<'a>) -> SizeCosts
+pub fn costs_of<'s>(earlier: &Names<'s, Measured<'s>>, export: &Procedure) -> SizeCosts
     ensures nodes { result.nodes ≡ nodes_cost (extents_in earlier.now) (procedure_tree export.now) }
     ensures bodies { result.bodies ≡ bodies_cost (extents_in earlier.now) (procedure_tree export.now) }
     ensures declared_bytes { result.declared_bytes ≡ bytes_cost (extents_in earlier.now) (procedure_tree export.now) }
@@ -74,7 +74,7 @@ pub fn costs_of<'s, 'a>(earlier: &Names<'a, Measured<'s, 'a>>, export: &Procedur
 }
 
 /// The largest parts of an export: of its parameters, its statements and its `return`.
-fn largest_parts<'s, 'a>(earlier: &Names<'a, Measured<'s, 'a>>, export: &Procedure<'a>) -> Largest
+fn largest_parts<'s>(earlier: &Names<'s, Measured<'s>>, export: &Procedure) -> Largest
     ensures nodes { result.nodes ≡ largest (map counted_share (node_shares (extents_in earlier.now) (procedure_tree export.now))) }
     ensures bodies { result.bodies ≡ largest (map counted_share (body_shares (extents_in earlier.now) (procedure_tree export.now))) }
     ensures declared_bytes { result.declared_bytes ≡ largest (map counted_share (byte_shares (extents_in earlier.now) (procedure_tree export.now))) }
@@ -92,7 +92,7 @@ fn largest_parts<'s, 'a>(earlier: &Names<'a, Measured<'s, 'a>>, export: &Procedu
 }
 
 /// The parameter of an export that takes most bytes.
-fn largest_parameter(parameters: &[Parameter<'_>]) -> Option<Share>
+fn largest_parameter(parameters: &[Parameter]) -> Option<Share>
     ensures { result ≡ largest (map counted_share (map parameter_share (map parameter_tree parameters.now))) }
 {
     let mut most = None;
@@ -107,9 +107,9 @@ fn largest_parameter(parameters: &[Parameter<'_>]) -> Option<Share>
 }
 
 /// The largest of statements and of the parts before them.
-fn largest_statements<'s, 'a>(
-    earlier: &Names<'a, Measured<'s, 'a>>,
-    block: &[Statement<'a>],
+fn largest_statements<'s>(
+    earlier: &Names<'s, Measured<'s>>,
+    block: &[Statement],
     before: Largest,
 ) -> Largest
     ensures nodes { result.nodes ≡ fold larger before.nodes (map counted_share (statement_shares (statement_nodes (extents_in earlier.now)) (block_tree block.now))) }
@@ -159,7 +159,7 @@ fn larger_statement(most: Largest, place: Place, size: Size) -> Largest
 }
 
 /// The part that has most nodes of those before and of a `return`.
-pub fn larger_return(most: Option<Share>, returned: Option<&Return<'_>>) -> Option<Share>
+pub fn larger_return(most: Option<Share>, returned: Option<&Return>) -> Option<Share>
     ensures { result ≡ fold larger most (map counted_share (return_shares (option_map (λ r. return_tree r.now) returned.entry))) }
 {
     match returned {

@@ -14,12 +14,12 @@ use language::{Procedure, Profile, Refusal};
 use std::alloc::{AllocError, Global};
 
 /// The export behind the procedures that it may call, as one body of so many nodes for an observer.
-fn flat_with<'a>(
+fn flat_with(
     alloc: Global,
     profile: Profile,
     nodes: u32,
-    earlier: &[Procedure<'a>],
-    export: &Procedure<'a>,
+    earlier: &[Procedure],
+    export: &Procedure,
 ) -> Result<Flat, AllocError>
     requires counted { nodes ≡ nodes_of (extents_of (map procedure_tree earlier.now)) (procedure_tree export.now) }
     requires kept { IsFlat (flattened profile (map procedure_tree earlier.now) (procedure_tree export.now)) }
@@ -44,11 +44,11 @@ fn flat_with<'a>(
 
 /// The export behind the procedures that it may call, as one body for an observer, where it passes no limit on its size;
 /// else the first limit that it passes.
-fn flat_of<'a>(
+fn flat_of(
     alloc: Global,
     profile: Profile,
-    earlier: &[Procedure<'a>],
-    export: &Procedure<'a>,
+    earlier: &[Procedure],
+    export: &Procedure,
 ) -> Result<Flat, Refusal>
     requires { length (size_violations (map procedure_tree earlier.now) (procedure_tree export.now)) ≡ 0 → IsFlat (flattened profile (map procedure_tree earlier.now) (procedure_tree export.now)) }
     ensures accepted { IfOk result (λ flat. flat ≡ flattened profile (map procedure_tree earlier.now) (procedure_tree export.now)) }
@@ -64,7 +64,7 @@ fn flat_of<'a>(
 /// The export of a checked program as one body for the same observer, with every call replaced by the called body, where
 /// that passes no limit on its size; else the first limit that it passes. Of a program whose export is its first procedure,
 /// memory is asked for only where no limit is passed.
-pub fn inline(alloc: Global, checked: &Checked<'_, '_>) -> Result<Flat, Refusal>
+pub fn inline(alloc: Global, checked: &Checked<'_>) -> Result<Flat, Refusal>
     ensures accepted { IfOk result (λ flat. (before : List ProcedureTree) × (p : ProcedureTree) × (exported [] (program_tree checked.now.program.now).procedures ≡ Some (before, p)) × (length (size_violations before p) ≡ 0) × (flat ≡ flattened checked.now.profile before p)) }
     ensures memory { (p : ProcedureTree) → exported [] (program_tree checked.now.program.now).procedures ≡ Some ([], p) → IfErr result (λ refusal. IsWantOfMemory refusal.rule refusal.place → length (size_violations [] p) ≡ 0) }
     ensures refused { IfErr result (λ refusal. (before : List ProcedureTree) × (p : ProcedureTree) × (exported [] (program_tree checked.now.program.now).procedures ≡ Some (before, p)) × IsRefusedFor (size_violations before p) refusal.rule refusal.place) }

@@ -58,7 +58,7 @@ impl Size {
 
 /// A procedure where it is called: its parameters, and the size of its body with its word parameters.
 #[derive(Clone, Copy)]
-pub struct Measured<'s, 'a> {
-    pub parameters: &'s [Parameter<'a>],
+pub struct Measured<'s> {
+    pub parameters: &'s [Parameter],
     pub size: Size,
 }

@@ -7,7 +7,7 @@ ghost use Rattle.inline.specs.Below.{word_arguments};
 use language::{Expr, Form, Parameter};
 
 /// How many nodes an expression has.
-pub fn nodes_in(expr: &Expr<'_>) -> u64
+pub fn nodes_in(expr: &Expr) -> u64
     ensures { result ≡ counted (nodes_in (expr_tree expr.now)) }
 {
     let below = match expr {
@@ -24,7 +24,7 @@ pub fn nodes_in(expr: &Expr<'_>) -> u64
 }
 
 /// How many nodes the first values of an array have.
-pub fn nodes_in_all(values: &[Expr<'_>]) -> u64
+pub fn nodes_in_all(values: &[Expr]) -> u64
     ensures { result ≡ counted (nodes_in_all (map expr_tree values.now)) }
 {
     let mut sum = 0u64;
@@ -35,7 +35,7 @@ pub fn nodes_in_all(values: &[Expr<'_>]) -> u64
 }
 
 /// How many nodes arguments cost: a word is put into a parameter, an array stays where it is.
-pub fn nodes_passed(parameters: &[Parameter<'_>], arguments: &[Expr<'_>]) -> u64
+pub fn nodes_passed(parameters: &[Parameter], arguments: &[Expr]) -> u64
     ensures { result ≡ counted (nodes_passed (word_arguments (map parameter_tree parameters.now) (map expr_tree arguments.now))) }
 {
     let mut sum = 0u64;

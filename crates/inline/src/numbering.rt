@@ -10,7 +10,7 @@ ghost use Rattle.inline.specs.Below.{expr_tree, joined, labelled, parameter_tree
 use crate::typed::{binary, element, prefix, rotate, select};
 use crate::{FlatStatement, FlatVariable, Term};
 use language::names::Names;
-use language::{ArrayDeclaration, Expr, Kind, Label, Param, Parameter, Return, WordType};
+use language::{ArrayDeclaration, Expr, Kind, Label, Name, Param, Parameter, Return, WordType};
 use std::alloc::{AllocError, Global};
 
 /// What a name stands for: a variable's number, and what it is declared as.
@@ -76,7 +76,7 @@ impl<'a> Numbering<'a> {
     /// Gives a name the next number.
     pub(crate) fn declare(
         &mut self,
-        name: &'a str,
+        name: &'a Name,
         declaration: FlatVariable,
         declared: &mut Vec<FlatVariable>,
     ) -> Result<u32, AllocError>
@@ -86,7 +86,7 @@ impl<'a> Numbering<'a> {
     {
         let number = add(declared, declaration)?;
         self.names.declare(
-            name,
+            name.as_str(),
             Numbered {
                 number,
                 declaration,
@@ -98,7 +98,7 @@ impl<'a> Numbering<'a> {
     /// The parameters without their names, each of which gets a number.
     pub fn parameters(
         &mut self,
-        parameters: &[Parameter<'a>],
+        parameters: &'a [Parameter],
         declared: &mut Vec<FlatVariable>,
     ) -> Result<Vec<Param>, AllocError>
         ensures params { IfOk result (λ params. params.items ≡ map numbered.param_of (map parameter_tree parameters.now)) }
@@ -108,25 +108,25 @@ impl<'a> Numbering<'a> {
         let mut params = Vec::new(self.alloc);
         for parameter in parameters {
             let param = parameter.param();
-            self.declare(parameter.name, FlatVariable::parameter(param), declared)?;
+            self.declare(&parameter.name, FlatVariable::parameter(param), declared)?;
             params.push(param)?;
         }
         Ok(params)
     }
 
     /// What a name stands for. Each name is declared in a program that violates no rule.
-    pub(crate) fn numbered(&self, name: &str) -> Numbered
+    pub(crate) fn numbered(&self, name: &Name) -> Numbered
         ensures { result ≡ numbered.numbered self.now.names name.now }
     {
         let nothing = Numbered {
             number: 0,
             declaration: counter(),
         };
-        self.names.find(name).unwrap_or(nothing)
+        self.names.find(name.as_str()).unwrap_or(nothing)
     }
 
     /// The label of an expression: secret where one of its operands is.
-    pub(crate) fn label(&self, expr: &Expr<'a>) -> Label
+    pub(crate) fn label(&self, expr: &Expr) -> Label
         ensures { result ≡ numbered.label_in self.now.names (expr_tree expr.now) }
     {
         match expr {
@@ -146,7 +146,7 @@ impl<'a> Numbering<'a> {
     }
 
     /// An expression with numbers in place of names, and its kind.
-    fn typed(&self, expr: &Expr<'a>) -> Result<(Term, Kind), AllocError>
+    fn typed(&self, expr: &Expr) -> Result<(Term, Kind), AllocError>
         ensures term { IfOk result (λ whole. term_tree whole.0 ≡ numbered.term self.now.names (expr_tree expr.now)) }
         ensures kind { IfOk result (λ whole. whole.1 ≡ numbered.kind_in self.now.names (expr_tree expr.now)) }
     {
@@ -186,14 +186,14 @@ impl<'a> Numbering<'a> {
     }
 
     /// An expression with numbers in place of names.
-    pub(crate) fn term(&self, expr: &Expr<'a>) -> Result<Term, AllocError>
+    pub(crate) fn term(&self, expr: &Expr) -> Result<Term, AllocError>
         ensures { IfOk result (λ whole. term_tree whole ≡ numbered.term self.now.names (expr_tree expr.now)) }
     {
         Ok(self.typed(expr)?.0)
     }
 
     /// Expressions with numbers in place of names.
-    fn terms(&self, exprs: &[Expr<'a>]) -> Result<Vec<Term>, AllocError>
+    fn terms(&self, exprs: &[Expr]) -> Result<Vec<Term>, AllocError>
         ensures { IfOk result (λ terms. map term_tree terms.items ≡ map (numbered.term self.now.names) (map expr_tree exprs.now)) }
     {
         let mut terms = Vec::new(self.alloc);
@@ -206,11 +206,11 @@ impl<'a> Numbering<'a> {
     /// A declaration of an array. Its first values are numbered before its name is declared.
     pub(crate) fn array(
         &mut self,
-        array: &ArrayDeclaration<'a>,
+        array: &'a ArrayDeclaration,
         declared: &mut Vec<FlatVariable>,
     ) -> Result<FlatStatement, AllocError>
         ensures statement { IfOk result (λ whole. flat_tree whole ≡ flat.array (length declared.old.items) (labelled array.now.kind array.now.label) array.now.mutable array.now.length (map (numbered.term self.old.names) (written (option_map (λ values. map expr_tree values.items) array.now.values)))) }
-        ensures names { OnOk result (self.new.names ≡ numbered.naming self.old.names array.now.name.now (length declared.old.items) (array_as (labelled array.now.kind array.now.label) array.now.mutable array.now.length)) }
+        ensures names { OnOk result (self.new.names ≡ numbered.naming self.old.names array.now.name (length declared.old.items) (array_as (labelled array.now.kind array.now.label) array.now.mutable array.now.length)) }
         ensures declared { OnOk result (declared.new.items ≡ declared.old.items ++ array_as (labelled array.now.kind array.now.label) array.now.mutable array.now.length ∷ []) }
     {
         let values = match &array.values {
@@ -223,12 +223,12 @@ impl<'a> Numbering<'a> {
         };
         let size = u32::from(array.length);
         let declaration = FlatVariable::array(word, array.mutable, size);
-        let number = self.declare(array.name, declaration, declared)?;
+        let number = self.declare(&array.name, declaration, declared)?;
         Ok(FlatStatement::DeclareArray(number, word, array.mutable, size, values))
     }
 
     /// A result in the names where `return` stands.
-    pub(crate) fn value(&self, returned: &Option<Return<'a>>) -> Result<Option<Term>, AllocError>
+    pub(crate) fn value(&self, returned: &Option<Return>) -> Result<Option<Term>, AllocError>
         ensures { IfOk result (λ value. option_map term_tree value ≡ numbered.value_of self.now.names (option_map return_tree returned.now)) }
     {
         match returned {

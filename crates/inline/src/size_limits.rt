@@ -63,10 +63,7 @@ fn first_passed(place: Place, costs: SizeCosts) -> Violation
 
 /// How many nodes the export has with every call replaced by the called body, where it passes no limit; else the first that
 /// it passes.
-fn limited<'s, 'a>(
-    earlier: &Names<'a, Measured<'s, 'a>>,
-    export: &Procedure<'a>,
-) -> Result<u32, Violation>
+fn limited<'s>(earlier: &Names<'s, Measured<'s>>, export: &Procedure) -> Result<u32, Violation>
     ensures nodes { IfOk result (λ nodes. (nodes ≤ most_nodes) × (nodes ≡ nodes_of (extents_in earlier.now) (procedure_tree export.now))) }
     ensures within { IfOk result (λ _. length (limits_passed (extents_in earlier.now) (procedure_tree export.now)) ≡ 0) }
     ensures named { IfErr result (IsNamed (limits_passed (extents_in earlier.now) (procedure_tree export.now))) }
@@ -79,11 +76,7 @@ fn limited<'s, 'a>(
 
 /// How many nodes the export has with every call replaced by the called body, where it passes no limit; else the
 /// first that it passes. Where no procedure is earlier no memory is asked for.
-pub fn measure<'a>(
-    alloc: Global,
-    earlier: &[Procedure<'a>],
-    export: &Procedure<'a>,
-) -> Result<u32, Refusal>
+pub fn measure(alloc: Global, earlier: &[Procedure], export: &Procedure) -> Result<u32, Refusal>
     ensures nodes { IfOk result (λ nodes. nodes ≡ nodes_of (extents_of (map procedure_tree earlier.now)) (procedure_tree export.now)) }
     ensures within { IfOk result (λ _. length (size_violations (map procedure_tree earlier.now) (procedure_tree export.now)) ≡ 0) }
     ensures refused { IfErr result (λ refusal. IsRefusedFor (size_violations (map procedure_tree earlier.now) (procedure_tree export.now)) refusal.rule refusal.place) }

@@ -20,10 +20,10 @@ use language::{
 use std::alloc::{AllocError, Global};
 
 /// How large a call is: itself, its word arguments and the called body.
-fn size_of_call<'s, 'a>(earlier: &Names<'a, Measured<'s, 'a>>, call: &Call<'a>) -> Size
+fn size_of_call<'s>(earlier: &Names<'s, Measured<'s>>, call: &Call) -> Size
     ensures { result ≡ call_size (extents_in earlier.now) (call_tree call.now) }
 {
-    match earlier.find(call.name) {
+    match earlier.find(call.name.as_str()) {
         Some(called) => {
             let passed = nodes_passed(called.parameters, &call.arguments);
             called.size.with(passed.saturating_add(1), 0)
@@ -33,7 +33,7 @@ fn size_of_call<'s, 'a>(earlier: &Names<'a, Measured<'s, 'a>>, call: &Call<'a>) 
 }
 
 /// How large a right side is.
-fn size_of_right<'s, 'a>(earlier: &Names<'a, Measured<'s, 'a>>, right: &RightSide<'a>) -> Size
+fn size_of_right<'s>(earlier: &Names<'s, Measured<'s>>, right: &RightSide) -> Size
     ensures { result ≡ right_size (extents_in earlier.now) (right_tree right.now) }
 {
     match right {
@@ -43,7 +43,7 @@ fn size_of_right<'s, 'a>(earlier: &Names<'a, Measured<'s, 'a>>, right: &RightSid
 }
 
 /// How large a declaration of an array is.
-fn size_of_array(array: &ArrayDeclaration<'_>) -> Size
+fn size_of_array(array: &ArrayDeclaration) -> Size
     ensures { result ≡ counted_size
         (1 + nodes_in_all (written (option_map (λ values. map expr_tree values.items) array.now.values)))
         (array_words array.now.kind array.now.length) 0 }
@@ -59,10 +59,7 @@ fn size_of_array(array: &ArrayDeclaration<'_>) -> Size
 }
 
 /// How large an assignment to an element is.
-fn size_of_element<'s, 'a>(
-    earlier: &Names<'a, Measured<'s, 'a>>,
-    assignment: &ElementAssignment<'a>,
-) -> Size
+fn size_of_element<'s>(earlier: &Names<'s, Measured<'s>>, assignment: &ElementAssignment) -> Size
     ensures { result ≡ counted_size
         (1 + (1 + nodes_in (expr_tree assignment.now.index))
         + right_nodes (extents_in earlier.now) (right_tree assignment.now.value))
@@ -74,7 +71,7 @@ fn size_of_element<'s, 'a>(
 }
 
 /// How large a conditional is, whose arms are so large.
-fn size_of_branch(condition: &Expr<'_>, accepted: Size, otherwise: Size) -> Size
+fn size_of_branch(condition: &Expr, accepted: Size, otherwise: Size) -> Size
     ensures { result ≡ counted_size (1 + nodes_in (expr_tree condition.now) + accepted.nodes + otherwise.nodes)
         (accepted.words + otherwise.words) (max accepted.bodies otherwise.bodies) }
 {
@@ -83,7 +80,7 @@ fn size_of_branch(condition: &Expr<'_>, accepted: Size, otherwise: Size) -> Size
 }
 
 /// How large a loop is, whose body is so large.
-fn size_of_loop(low: &Expr<'_>, high: &Expr<'_>, body: Size) -> Size
+fn size_of_loop(low: &Expr, high: &Expr, body: Size) -> Size
     ensures { result ≡ counted_size (1 + nodes_in (expr_tree low.now) + nodes_in (expr_tree high.now) + body.nodes)
         (1 + body.words) body.bodies }
 {
@@ -93,10 +90,7 @@ fn size_of_loop(low: &Expr<'_>, high: &Expr<'_>, body: Size) -> Size
 
 /// How large a statement is.
 #[cycle(sizes)]
-pub fn size_of_statement<'s, 'a>(
-    earlier: &Names<'a, Measured<'s, 'a>>,
-    statement: &Statement<'a>,
-) -> Size
+pub fn size_of_statement<'s>(earlier: &Names<'s, Measured<'s>>, statement: &Statement) -> Size
     ensures { result ≡ statement_size (extents_in earlier.now) (statement_tree statement.now) }
 {
     match statement {
@@ -118,7 +112,7 @@ pub fn size_of_statement<'s, 'a>(
 
 /// How large some statements are.
 #[cycle(sizes)]
-fn size_of_block<'s, 'a>(earlier: &Names<'a, Measured<'s, 'a>>, block: &[Statement<'a>]) -> Size
+fn size_of_block<'s>(earlier: &Names<'s, Measured<'s>>, block: &[Statement]) -> Size
     ensures { result ≡ block_size (extents_in earlier.now) (block_tree block.now) }
 {
     let mut size = Size::of(0, 0);
@@ -129,7 +123,7 @@ fn size_of_block<'s, 'a>(earlier: &Names<'a, Measured<'s, 'a>>, block: &[Stateme
 }
 
 /// How many nodes a `return` is, where it stands.
-fn nodes_of_return(returned: &Option<Return<'_>>) -> u64
+fn nodes_of_return(returned: &Option<Return>) -> u64
     ensures { result ≡ counted (return_nodes (option_map return_tree returned.now)) }
 {
     match returned {
@@ -139,11 +133,7 @@ fn nodes_of_return(returned: &Option<Return<'_>>) -> u64
 }
 
 /// How large a procedure is whose parameters take so many words.
-fn size_of<'s, 'a>(
-    earlier: &Names<'a, Measured<'s, 'a>>,
-    procedure: &Procedure<'a>,
-    words: u64,
-) -> Size
+fn size_of<'s>(earlier: &Names<'s, Measured<'s>>, procedure: &Procedure, words: u64) -> Size
     ensures { result ≡ procedure_size (extents_in earlier.now) words (procedure_tree procedure.now) }
 {
     let returned = nodes_of_return(&procedure.returned);
@@ -155,14 +145,14 @@ fn size_of<'s, 'a>(
 }
 
 /// How large the export is.
-pub fn size_of_export<'s, 'a>(earlier: &Names<'a, Measured<'s, 'a>>, export: &Procedure<'a>) -> Size
+pub fn size_of_export<'s>(earlier: &Names<'s, Measured<'s>>, export: &Procedure) -> Size
     ensures { result ≡ export_size (extents_in earlier.now) (procedure_tree export.now) }
 {
     size_of(earlier, export, parameter_words(&export.parameters))
 }
 
 /// How many words the parameters of the export take.
-fn parameter_words(parameters: &[Parameter<'_>]) -> u64
+fn parameter_words(parameters: &[Parameter]) -> u64
     ensures { result ≡ counted (parameter_words (map parameter_tree parameters.now)) }
 {
     let mut sum = 0u64;
@@ -173,7 +163,7 @@ fn parameter_words(parameters: &[Parameter<'_>]) -> u64
 }
 
 /// How many words the parameters of a called procedure take: an array is the caller's own.
-fn passed_words(parameters: &[Parameter<'_>]) -> u64
+fn passed_words(parameters: &[Parameter]) -> u64
     ensures { result ≡ counted (passed_words (map parameter_tree parameters.now)) }
 {
     let mut sum = 0u64;
@@ -186,9 +176,9 @@ fn passed_words(parameters: &[Parameter<'_>]) -> u64
 }
 
 /// Puts the first procedures into a table that is empty, each with its size.
-fn measure_all<'s, 'a>(
-    table: &mut Names<'a, Measured<'s, 'a>>,
-    procedures: &'s [Procedure<'a>],
+fn measure_all<'s>(
+    table: &mut Names<'s, Measured<'s>>,
+    procedures: &'s [Procedure],
 ) -> Result<(), AllocError>
     requires { table.old ≡ [] }
     ensures counts { OnOk result (AreCountsOf (extents_in table.new) (extents_of (map procedure_tree procedures.now))) }
@@ -197,16 +187,16 @@ fn measure_all<'s, 'a>(
     for procedure in procedures {
         let parameters = procedure.parameters.as_slice();
         let size = size_of(table, procedure, passed_words(parameters));
-        let _taken = table.declare(procedure.name, Measured { parameters, size })?;
+        let _taken = table.declare(procedure.name.as_str(), Measured { parameters, size })?;
     }
     Ok(())
 }
 
 /// How large procedures are where they are called, by their names.
-pub fn measured_all<'s, 'a>(
+pub fn measured_all<'s>(
     alloc: Global,
-    procedures: &'s [Procedure<'a>],
-) -> Result<Names<'a, Measured<'s, 'a>>, AllocError>
+    procedures: &'s [Procedure],
+) -> Result<Names<'s, Measured<'s>>, AllocError>
     ensures counts { IfOk result (λ table. AreCountsOf (extents_in table) (extents_of (map procedure_tree procedures.now))) }
     ensures memory { IfErr result (λ _. 1 ≤ length procedures.now) }
 {

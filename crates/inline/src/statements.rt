@@ -44,17 +44,17 @@ impl<'a> Numbering<'a> {
     #[cycle(numbering)]
     fn call(
         &self,
-        earlier: &[Procedure<'a>],
-        call: &Call<'a>,
+        earlier: &[Procedure],
+        call: &Call,
         declared: &mut Vec<FlatVariable>,
         flat: &mut Vec<FlatStatement>,
     ) -> Result<Given, AllocError>
-        ensures word { IfOk result (λ given. given.word ≡ numbered.call_result (called_by earlier.now call.now.name.now)) }
-        ensures value { IfOk result (λ given. option_map term_tree given.value ≡ numbered.call_value (called_by earlier.now call.now.name.now) self.now.names (length declared.old.items) (map expr_tree call.now.arguments.items)) }
-        ensures block { OnOk result (flat_block flat.new.items ≡ chain (flat_block flat.old.items) (numbered.call_block (called_by earlier.now call.now.name.now) self.now.names (length declared.old.items) (map expr_tree call.now.arguments.items))) }
-        ensures declared { OnOk result (declared.new.items ≡ declared.old.items ++ numbered.call_variables (called_by earlier.now call.now.name.now) (map expr_tree call.now.arguments.items)) }
+        ensures word { IfOk result (λ given. given.word ≡ numbered.call_result (called_by earlier.now call.now.name)) }
+        ensures value { IfOk result (λ given. option_map term_tree given.value ≡ numbered.call_value (called_by earlier.now call.now.name) self.now.names (length declared.old.items) (map expr_tree call.now.arguments.items)) }
+        ensures block { OnOk result (flat_block flat.new.items ≡ chain (flat_block flat.old.items) (numbered.call_block (called_by earlier.now call.now.name) self.now.names (length declared.old.items) (map expr_tree call.now.arguments.items))) }
+        ensures declared { OnOk result (declared.new.items ≡ declared.old.items ++ numbered.call_variables (called_by earlier.now call.now.name) (map expr_tree call.now.arguments.items)) }
     {
-        let Some((before, callee)) = procedure_named(earlier, call.name) else {
+        let Some((before, callee)) = procedure_named(earlier, &call.name) else {
             return Ok(Given {
                 word: None,
                 value: None,
@@ -72,8 +72,8 @@ impl<'a> Numbering<'a> {
     #[cycle(numbering)]
     pub fn inside(
         &mut self,
-        earlier: &[Procedure<'a>],
-        procedure: &Procedure<'a>,
+        earlier: &[Procedure],
+        procedure: &'a Procedure,
         declared: &mut Vec<FlatVariable>,
         flat: &mut Vec<FlatStatement>,
     ) -> Result<Option<Term>, AllocError>
@@ -98,8 +98,8 @@ impl<'a> Numbering<'a> {
     #[cycle(numbering)]
     fn right(
         &self,
-        earlier: &[Procedure<'a>],
-        right: &RightSide<'a>,
+        earlier: &[Procedure],
+        right: &RightSide,
         declared: &mut Vec<FlatVariable>,
         flat: &mut Vec<FlatStatement>,
     ) -> Result<Term, AllocError>
@@ -123,14 +123,14 @@ impl<'a> Numbering<'a> {
     #[cycle(numbering)]
     fn word(
         &mut self,
-        earlier: &[Procedure<'a>],
-        declaration: &Declaration<'a>,
+        earlier: &[Procedure],
+        declaration: &'a Declaration,
         declared: &mut Vec<FlatVariable>,
         flat: &mut Vec<FlatStatement>,
     ) -> Result<(), AllocError>
-        ensures block { OnOk result (flat_block flat.new.items ≡ chain (flat_block flat.old.items) (numbered.statement (called_by earlier.now) self.old.names (length declared.old.items) (source.declaration declaration.now.place declaration.now.label declaration.now.mutable declaration.now.kind declaration.now.name.now (right_tree declaration.now.value)))) }
-        ensures names { OnOk result (self.new.names ≡ numbered.names_after (called_by earlier.now) self.old.names (length declared.old.items) (source.declaration declaration.now.place declaration.now.label declaration.now.mutable declaration.now.kind declaration.now.name.now (right_tree declaration.now.value))) }
-        ensures declared { OnOk result (declared.new.items ≡ declared.old.items ++ numbered.declared_in (called_by earlier.now) (source.declaration declaration.now.place declaration.now.label declaration.now.mutable declaration.now.kind declaration.now.name.now (right_tree declaration.now.value))) }
+        ensures block { OnOk result (flat_block flat.new.items ≡ chain (flat_block flat.old.items) (numbered.statement (called_by earlier.now) self.old.names (length declared.old.items) (source.declaration declaration.now.place declaration.now.label declaration.now.mutable declaration.now.kind declaration.now.name (right_tree declaration.now.value)))) }
+        ensures names { OnOk result (self.new.names ≡ numbered.names_after (called_by earlier.now) self.old.names (length declared.old.items) (source.declaration declaration.now.place declaration.now.label declaration.now.mutable declaration.now.kind declaration.now.name (right_tree declaration.now.value))) }
+        ensures declared { OnOk result (declared.new.items ≡ declared.old.items ++ numbered.declared_in (called_by earlier.now) (source.declaration declaration.now.place declaration.now.label declaration.now.mutable declaration.now.kind declaration.now.name (right_tree declaration.now.value))) }
     {
         let value = self.right(earlier, &declaration.value, declared, flat)?;
         let word = WordType {
@@ -139,7 +139,7 @@ impl<'a> Numbering<'a> {
         };
         let mutable = declaration.mutable;
         let number = self.declare(
-            declaration.name,
+            &declaration.name,
             FlatVariable::word(word, mutable),
             declared,
         )?;
@@ -151,15 +151,15 @@ impl<'a> Numbering<'a> {
     #[cycle(numbering)]
     fn assign(
         &self,
-        earlier: &[Procedure<'a>],
-        assignment: &Assignment<'a>,
+        earlier: &[Procedure],
+        assignment: &Assignment,
         declared: &mut Vec<FlatVariable>,
         flat: &mut Vec<FlatStatement>,
     ) -> Result<(), AllocError>
-        ensures block { OnOk result (flat_block flat.new.items ≡ chain (flat_block flat.old.items) (numbered.statement (called_by earlier.now) self.now.names (length declared.old.items) (source.assignment assignment.now.place assignment.now.target assignment.now.name.now (right_tree assignment.now.value)))) }
+        ensures block { OnOk result (flat_block flat.new.items ≡ chain (flat_block flat.old.items) (numbered.statement (called_by earlier.now) self.now.names (length declared.old.items) (source.assignment assignment.now.place assignment.now.target assignment.now.name (right_tree assignment.now.value)))) }
         ensures declared { OnOk result (declared.new.items ≡ declared.old.items ++ numbered.right_variables (called_by earlier.now) (right_tree assignment.now.value)) }
     {
-        let number = self.numbered(assignment.name).number;
+        let number = self.numbered(&assignment.name).number;
         let value = self.right(earlier, &assignment.value, declared, flat)?;
         push(flat, FlatStatement::Assign(number, value))
     }
@@ -169,19 +169,19 @@ impl<'a> Numbering<'a> {
     #[cycle(numbering)]
     fn element(
         &self,
-        earlier: &[Procedure<'a>],
-        assignment: &ElementAssignment<'a>,
+        earlier: &[Procedure],
+        assignment: &ElementAssignment,
         declared: &mut Vec<FlatVariable>,
         flat: &mut Vec<FlatStatement>,
     ) -> Result<(), AllocError>
-        ensures block { OnOk result (flat_block flat.new.items ≡ chain (flat_block flat.old.items) (numbered.element_block (called_by earlier.now) self.now.names (length declared.old.items) assignment.now.bracket assignment.now.name.now (expr_tree assignment.now.index) (right_tree assignment.now.value))) }
+        ensures block { OnOk result (flat_block flat.new.items ≡ chain (flat_block flat.old.items) (numbered.element_block (called_by earlier.now) self.now.names (length declared.old.items) assignment.now.bracket assignment.now.name (expr_tree assignment.now.index) (right_tree assignment.now.value))) }
         ensures declared { OnOk result (declared.new.items ≡ declared.old.items ++ numbered.element_variables (called_by earlier.now) (right_tree assignment.now.value)) }
     {
         let place = assignment.bracket;
         let Numbered {
             number,
             declaration,
-        } = self.numbered(assignment.name);
+        } = self.numbered(&assignment.name);
         let size = declaration.numbers();
         let index = self.term(&assignment.index)?;
         match &assignment.value {
@@ -211,8 +211,8 @@ impl<'a> Numbering<'a> {
     #[cycle(numbering)]
     fn call_alone(
         &self,
-        earlier: &[Procedure<'a>],
-        call: &Call<'a>,
+        earlier: &[Procedure],
+        call: &Call,
         declared: &mut Vec<FlatVariable>,
         flat: &mut Vec<FlatStatement>,
     ) -> Result<(), AllocError>
@@ -235,10 +235,10 @@ impl<'a> Numbering<'a> {
     #[cycle(numbering)]
     fn branch(
         &mut self,
-        earlier: &[Procedure<'a>],
-        condition: &Expr<'a>,
-        accepted: &[Statement<'a>],
-        otherwise: &[Statement<'a>],
+        earlier: &[Procedure],
+        condition: &Expr,
+        accepted: &'a [Statement],
+        otherwise: &'a [Statement],
         declared: &mut Vec<FlatVariable>,
         flat: &mut Vec<FlatStatement>,
     ) -> Result<(), AllocError>
@@ -260,8 +260,8 @@ impl<'a> Numbering<'a> {
     #[cycle(numbering)]
     fn arm(
         &mut self,
-        earlier: &[Procedure<'a>],
-        arm: &[Statement<'a>],
+        earlier: &[Procedure],
+        arm: &'a [Statement],
         declared: &mut Vec<FlatVariable>,
     ) -> Result<Vec<FlatStatement>, AllocError>
         ensures block { IfOk result (λ whole. flat_block whole.items ≡ numbered.block (called_by earlier.now) self.old.names (length declared.old.items) (block_tree arm.now)) }
@@ -279,22 +279,22 @@ impl<'a> Numbering<'a> {
     #[cycle(numbering)]
     fn turns(
         &mut self,
-        earlier: &[Procedure<'a>],
-        counted: &Counter<'a>,
-        low: &Expr<'a>,
-        high: &Expr<'a>,
-        body: &[Statement<'a>],
+        earlier: &[Procedure],
+        counted: &'a Counter,
+        low: &Expr,
+        high: &Expr,
+        body: &'a [Statement],
         declared: &mut Vec<FlatVariable>,
         flat: &mut Vec<FlatStatement>,
     ) -> Result<(), AllocError>
-        ensures block { OnOk result (flat_block flat.new.items ≡ chain (flat_block flat.old.items) (single (flat_forms.loop (length declared.old.items) (numbered.term self.old.names (expr_tree low.now)) (numbered.term self.old.names (expr_tree high.now)) (numbered.block (called_by earlier.now) (naming self.old.names counted.now.name.now (length declared.old.items) (word_as counter_type false)) (length declared.old.items + 1) (block_tree body.now))))) }
+        ensures block { OnOk result (flat_block flat.new.items ≡ chain (flat_block flat.old.items) (single (flat_forms.loop (length declared.old.items) (numbered.term self.old.names (expr_tree low.now)) (numbered.term self.old.names (expr_tree high.now)) (numbered.block (called_by earlier.now) (naming self.old.names counted.now.name (length declared.old.items) (word_as counter_type false)) (length declared.old.items + 1) (block_tree body.now))))) }
         ensures names { OnOk result (self.new.names ≡ self.old.names) }
         ensures declared { OnOk result (declared.new.items ≡ declared.old.items ++ word_as counter_type false ∷ numbered.declared_in_all (called_by earlier.now) (block_tree body.now)) }
     {
         let low = self.term(low)?;
         let high = self.term(high)?;
         let names = self.names.len();
-        let number = self.declare(counted.name, counter(), declared)?;
+        let number = self.declare(&counted.name, counter(), declared)?;
         let turn = self.arm(earlier, body, declared)?;
         self.names.truncate(names);
         push(flat, FlatStatement::Loop(number, low, high, turn))
@@ -304,8 +304,8 @@ impl<'a> Numbering<'a> {
     #[cycle(numbering)]
     fn statement(
         &mut self,
-        earlier: &[Procedure<'a>],
-        statement: &Statement<'a>,
+        earlier: &[Procedure],
+        statement: &'a Statement,
         declared: &mut Vec<FlatVariable>,
         flat: &mut Vec<FlatStatement>,
     ) -> Result<(), AllocError>
@@ -332,8 +332,8 @@ impl<'a> Numbering<'a> {
     #[cycle(numbering)]
     fn block(
         &mut self,
-        earlier: &[Procedure<'a>],
-        block: &[Statement<'a>],
+        earlier: &[Procedure],
+        block: &'a [Statement],
         declared: &mut Vec<FlatVariable>,
         flat: &mut Vec<FlatStatement>,
     ) -> Result<(), AllocError>

@@ -152,8 +152,8 @@ loop_violations : (seen : Option Violation) (earlier : List ProcedureTree) (scop
     (fold sooner (fold sooner (fold sooner seen (expr_violations scope (expr_tree low)))
     (expr_violations scope (expr_tree high)))
     (asked_of_two bounds_why place bounds_rules (typed_of scope (expr_tree low)) (typed_of scope (expr_tree high))))
-    (at counter.place (when (is_some (found scope counter.name.now)) NameDeclaredTwice)
-    ++ block_violations earlier (declared scope counter.place counter.name.now counter_as) control (block_tree body.items))
+    (at counter.place (when (is_some (found scope counter.name)) NameDeclaredTwice)
+    ++ block_violations earlier (declared scope counter.place counter.name counter_as) control (block_tree body.items))
 loop_violations seen earlier scope control statement place counter low high body is =
     ap (λ s. fold sooner seen (statement_violations earlier scope control s)) (ap statement_tree is
     ∙ loop_tree place counter low high body) ∙ simp (fold-append sooner)
@@ -167,8 +167,8 @@ pub loop_seen : (seen of_low of_high noted of_turns : Option Violation) (earlier
     of_low ≡ fold sooner seen (expr_violations scope (expr_tree low))
     → of_high ≡ fold sooner of_low (expr_violations scope (expr_tree high)) →
     noted ≡ fold sooner of_high (asked_of_two bounds_why place bounds_rules lower upper) →
-    of_turns ≡ fold sooner noted (at counter.place (when (is_some (found scope counter.name.now)) NameDeclaredTwice)
-    ++ block_violations earlier (declared scope counter.place counter.name.now counter_as) control (block_tree ones)) →
+    of_turns ≡ fold sooner noted (at counter.place (when (is_some (found scope counter.name)) NameDeclaredTwice)
+    ++ block_violations earlier (declared scope counter.place counter.name counter_as) control (block_tree ones)) →
     of_turns ≡ fold sooner seen (statement_violations earlier scope control (statement_tree statement))
 loop_seen seen of_low of_high noted of_turns earlier scope control lower upper statement place counter low high body
     ones is items typed typed' l h n t =

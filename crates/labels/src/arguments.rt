@@ -11,7 +11,7 @@ use language::{
 };
 
 /// What a parameter is.
-pub fn parameter_value(parameter: &Parameter<'_>) -> ValueType
+pub fn parameter_value(parameter: &Parameter) -> ValueType
     ensures { result ≡ parameter_value (parameter_tree parameter.now) parameter.now.form }
 {
     let element = WordType {
@@ -27,11 +27,11 @@ pub fn parameter_value(parameter: &Parameter<'_>) -> ValueType
 }
 
 /// The variable that an argument is the bare name of.
-fn argument_variable<'a>(names: &Scope<'a>, argument: &Expr<'a>) -> Option<VariableType>
+fn argument_variable(names: &Scope<'_>, argument: &Expr) -> Option<VariableType>
     ensures { result ≡ argument_variable names.now (expr_tree argument.now) }
 {
     match argument {
-        Expr::Name(_, text) => names.variable(text),
+        Expr::Name(_, text) => names.variable(text.as_str()),
         _ => None,
     }
 }
@@ -47,30 +47,30 @@ fn is_immutable(variable: Option<VariableType>) -> bool
 }
 
 /// Whether a parameter may change its argument, and that is an array that may not be assigned to.
-fn is_fixed<'a>(names: &Scope<'a>, parameter: &Parameter<'a>, argument: &Expr<'a>) -> bool
+fn is_fixed(names: &Scope<'_>, parameter: &Parameter, argument: &Expr) -> bool
     ensures { result ≡ (is_mutable parameter.now.form && is_immutable (argument_variable names.now (expr_tree argument.now))) }
 {
     parameter.form.is_mutable() && is_immutable(argument_variable(names, argument))
 }
 
 /// Where the variable is declared that an argument is the bare name of.
-fn argument_declared<'a>(names: &Scope<'a>, argument: &Expr<'a>) -> Place
+fn argument_declared(names: &Scope<'_>, argument: &Expr) -> Place
     ensures { result ≡ argument_declared names.now (expr_tree argument.now) }
 {
     match argument {
-        Expr::Name(_, text) => names.place(text),
+        Expr::Name(_, text) => names.place(text.as_str()),
         _ => Place::ORIGIN,
     }
 }
 
 /// Notes what an argument violates beside its parameter, and says whether it violates nothing.
-fn note_passed<'a>(
-    names: &Scope<'a>,
+fn note_passed(
+    names: &Scope<'_>,
     first: &mut First,
     place: Place,
-    parameter: &Parameter<'a>,
+    parameter: &Parameter,
     given: Typed,
-    argument: &Expr<'a>,
+    argument: &Expr,
 ) -> bool
     ensures met { result ≡ are_met (argument_violations names.now place (record { parameter = parameter_tree parameter.now; given = given; argument = expr_tree argument.now })) }
     ensures first { first.new.seen ≡ fold sooner first.old.seen (argument_violations names.now place (record { parameter = parameter_tree parameter.now; given = given; argument = expr_tree argument.now })) }
@@ -84,13 +84,13 @@ fn note_passed<'a>(
 }
 
 /// Notes what well-typed arguments violate beside the parameters, and says whether they violate nothing.
-pub fn note_all_passed<'a>(
-    names: &Scope<'a>,
+pub fn note_all_passed(
+    names: &Scope<'_>,
     first: &mut First,
     place: Place,
-    parameters: &[Parameter<'a>],
+    parameters: &[Parameter],
     types: &[Typed],
-    arguments: &[Expr<'a>],
+    arguments: &[Expr],
 ) -> bool
     requires types { length types.now ≡ length parameters.now }
     requires arguments { length arguments.now ≡ length parameters.now }

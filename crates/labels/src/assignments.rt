@@ -69,23 +69,24 @@ fn note_assignment(
 }
 
 /// An assignment to a name.
-pub fn assignment<'a>(
+pub fn assignment(
     alloc: Global,
-    names: &Scope<'a>,
+    names: &Scope<'_>,
     first: &mut First,
-    earlier: &[Procedure<'a>],
+    earlier: &[Procedure],
     control: Option<SecretControl>,
-    assignment: &Assignment<'a>,
+    assignment: &Assignment,
 ) -> Result<(), AllocError>
     ensures { OnOk result (first.new.seen ≡ fold sooner first.old.seen (statement_violations (map procedure_tree earlier.now) names.now control (statement_tree (Assign assignment.now)))) }
 {
-    let variable = names.variable(assignment.name);
+    let text = assignment.name.as_str();
+    let variable = names.variable(text);
     let change = Change {
         place: assignment.place,
         control,
-        declared_at: names.place(assignment.name),
+        declared_at: names.place(text),
     };
-    note_name(names, first, assignment.target, assignment.name, variable);
+    note_name(names, first, assignment.target, &assignment.name, variable);
     let given = right_side(alloc, names, first, earlier, control, &assignment.value)?;
     note_assignment(first, change, variable, given);
     Ok(())
@@ -124,23 +125,24 @@ fn value_of(typed: Option<Typed>) -> Option<ValueType>
 }
 
 /// An assignment to an element.
-pub fn element_assignment<'a>(
+pub fn element_assignment(
     alloc: Global,
-    names: &Scope<'a>,
+    names: &Scope<'_>,
     first: &mut First,
-    earlier: &[Procedure<'a>],
+    earlier: &[Procedure],
     control: Option<SecretControl>,
-    assignment: &ElementAssignment<'a>,
+    assignment: &ElementAssignment,
 ) -> Result<(), AllocError>
     ensures { OnOk result (first.new.seen ≡ fold sooner first.old.seen (statement_violations (map procedure_tree earlier.now) names.now control (statement_tree (AssignElement assignment.now)))) }
 {
-    let variable = names.variable(assignment.name);
+    let text = assignment.name.as_str();
+    let variable = names.variable(text);
     let change = Change {
         place: assignment.place,
         control,
-        declared_at: names.place(assignment.name),
+        declared_at: names.place(text),
     };
-    let array = name(names, first, assignment.target, assignment.name);
+    let array = name(names, first, assignment.target, &assignment.name);
     let index = expression(names, first, &assignment.index);
     let element = value_of(element(first, assignment.bracket, array, index));
     let given = right_side(alloc, names, first, earlier, control, &assignment.value)?;

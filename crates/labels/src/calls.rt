@@ -37,7 +37,7 @@ fn note_clash(first: &mut First, place: Place, clash: Option<SharedArray>)
 }
 
 /// Notes that a call has too few arguments, or too many.
-fn note_count(first: &mut First, call: &Call<'_>, procedure: &Procedure<'_>)
+fn note_count(first: &mut First, call: &Call, procedure: &Procedure)
     ensures { first.new.seen ≡ fold sooner first.old.seen (because
         (Counts (record { given = length call.now.arguments.items; taken = length procedure.now.parameters.items; procedure = procedure.now.place }))
         call.now.place (ArgumentCount ∷ [])) }
@@ -52,13 +52,13 @@ fn note_count(first: &mut First, call: &Call<'_>, procedure: &Procedure<'_>)
 }
 
 /// Notes what well-typed arguments violate, and says whether they violate nothing.
-fn note_arguments<'a>(
+fn note_arguments(
     alloc: Global,
-    names: &Scope<'a>,
+    names: &Scope<'_>,
     first: &mut First,
-    procedure: &Procedure<'a>,
+    procedure: &Procedure,
     types: &[Typed],
-    call: &Call<'a>,
+    call: &Call,
 ) -> Result<bool, AllocError>
     requires { length types.now ≡ length call.now.arguments.items }
     ensures met { IfOk result (λ met. met ≡ are_met (arguments_violations names.now call.now.place (procedure_tree procedure.now) types.now (map expr_tree call.now.arguments.items))) }
@@ -77,10 +77,7 @@ fn note_arguments<'a>(
 }
 
 /// The earlier procedure that is called, with what is known of it.
-fn called<'p, 'a>(
-    earlier: &'p [Procedure<'a>],
-    what: Option<Callee>,
-) -> Option<(Callee, &'p Procedure<'a>)>
+fn called<'p>(earlier: &'p [Procedure], what: Option<Callee>) -> Option<(Callee, &'p Procedure)>
     ensures { option_map (λ known. (known.0, procedure_tree known.1.now)) result ≡ called_one (map procedure_tree earlier.now) what }
 {
     let Some(callee) = what else {
@@ -120,23 +117,23 @@ fn given(met: bool, wanted: Option<WordType>) -> Option<ValueType>
 }
 
 /// Notes what a call violates whose arguments are well typed, and gives its type where it is too.
-fn known_call<'a>(
+fn known_call(
     alloc: Global,
-    names: &Scope<'a>,
+    names: &Scope<'_>,
     first: &mut First,
-    earlier: &[Procedure<'a>],
+    earlier: &[Procedure],
     control: Option<SecretControl>,
-    call: &Call<'a>,
+    call: &Call,
     types: &[Typed],
 ) -> Result<Option<ValueType>, AllocError>
     requires { length types.now ≡ length call.now.arguments.items }
     ensures typed { IfOk result (λ type. type ≡ known_call_type names.now control (call_tree call.now)
-        (called_one (map procedure_tree earlier.now) (callee (found names.now call.now.name.now))) types.now) }
+        (called_one (map procedure_tree earlier.now) (callee (found names.now call.now.name))) types.now) }
     ensures first { OnOk result (first.new.seen ≡ fold sooner first.old.seen
         (known_call_violations names.now control (call_tree call.now)
-        (called_one (map procedure_tree earlier.now) (callee (found names.now call.now.name.now))) types.now)) }
+        (called_one (map procedure_tree earlier.now) (callee (found names.now call.now.name))) types.now)) }
 {
-    let Some((callee, procedure)) = called(earlier, names.callee(call.name)) else {
+    let Some((callee, procedure)) = called(earlier, names.callee(call.name.as_str())) else {
         first.note_if(true, call.place, Rule::ProcedureNotDeclaredEarlier);
         return Ok(None);
     };
@@ -146,13 +143,13 @@ fn known_call<'a>(
 }
 
 /// Notes what a call violates, and gives its type where it is well typed.
-pub fn call<'a>(
+pub fn call(
     alloc: Global,
-    names: &Scope<'a>,
+    names: &Scope<'_>,
     first: &mut First,
-    earlier: &[Procedure<'a>],
+    earlier: &[Procedure],
     control: Option<SecretControl>,
-    call: &Call<'a>,
+    call: &Call,
 ) -> Result<Option<ValueType>, AllocError>
     ensures typed { IfOk result (λ type. type ≡ call_type (map procedure_tree earlier.now) names.now control (call_tree call.now)) }
     ensures first { OnOk result (first.new.seen ≡ fold sooner first.old.seen

@@ -15,8 +15,8 @@ use std::alloc::{AllocError, Global};
 /// A program that violates no rule on names, types and labels, where this is the observer; so one of
 /// its procedures is exported.
 #[derive(Drop)]
-pub struct Checked<'p, 'a> {
-    program: &'p Program<'a>,
+pub struct Checked<'p> {
+    program: &'p Program,
     profile: Profile,
     /// How many procedures stand before the exported one.
     export: usize,
@@ -25,9 +25,9 @@ pub struct Checked<'p, 'a> {
     pub ghost exported: { export_index (exported [] (program_tree program.now).procedures) ≡ Some export },
 }
 
-impl<'p, 'a> Checked<'p, 'a> {
+impl<'p> Checked<'p> {
     /// The program.
-    pub fn program(&self) -> &'p Program<'a>
+    pub fn program(&self) -> &'p Program
         ensures program { result ≡ self.now.program }
         ensures well_typed { length (violations self.now.profile (program_tree result.now)) ≡ 0 }
     {
@@ -42,7 +42,7 @@ impl<'p, 'a> Checked<'p, 'a> {
     }
 
     /// The exported procedure, and those before it.
-    pub fn export(&self) -> (&'p [Procedure<'a>], &'p Procedure<'a>)
+    pub fn export(&self) -> (&'p [Procedure], &'p Procedure)
         ensures exported { exported [] (program_tree self.now.program.now).procedures ≡ Some (map procedure_tree result.0.now, procedure_tree result.1.now) }
         ensures earlier { AllByRecursion IsGrammatical (map procedure_tree result.0.now) }
         ensures grammatical { IsGrammatical (procedure_tree result.1.now) }
@@ -53,7 +53,7 @@ impl<'p, 'a> Checked<'p, 'a> {
 }
 
 /// Notes that no procedure is exported, or which further ones are; and counts those before the first.
-fn note_exports(procedures: &[Procedure<'_>], first: &mut First) -> Option<usize>
+fn note_exports(procedures: &[Procedure], first: &mut First) -> Option<usize>
     ensures first { first.new.seen ≡ fold sooner first.old.seen (export_violations (exports (map procedure_tree procedures.now))) }
     ensures export { result ≡ export_index (exported [] (map procedure_tree procedures.now)) }
 {
@@ -73,7 +73,7 @@ fn note_each<'a>(
     alloc: Global,
     names: &mut Scope<'a>,
     first: &mut First,
-    procedures: &[Procedure<'a>],
+    procedures: &'a [Procedure],
 ) -> Result<(), AllocError>
     ensures first { OnOk result (first.new.seen ≡ fold sooner first.old.seen
         (procedures_violations [] names.old (map procedure_tree procedures.now))) }
@@ -88,7 +88,7 @@ fn note_each<'a>(
 /// Notes what the procedures violate, where this is the observer.
 fn note_procedures(
     alloc: Global,
-    procedures: &[Procedure<'_>],
+    procedures: &[Procedure],
     first: &mut First,
     profile: Profile,
 ) -> Result<(), AllocError>
@@ -107,11 +107,7 @@ struct Findings {
 }
 
 /// What is found of these procedures, where this is the observer.
-fn judged(
-    alloc: Global,
-    procedures: &[Procedure<'_>],
-    profile: Profile,
-) -> Result<Findings, AllocError>
+fn judged(alloc: Global, procedures: &[Procedure], profile: Profile) -> Result<Findings, AllocError>
     ensures export { IfOk result (λ found. found.export ≡ export_index (exported [] (map procedure_tree procedures.now))) }
     ensures violation { IfOk result
         (λ found. found.violation ≡ fold sooner None
@@ -129,11 +125,11 @@ fn judged(
 
 /// The program, where it is well typed for an observer; else its first violation. Memory is asked for
 /// the names of procedures and of what they declare, so not for an empty program.
-pub fn check_as<'p, 'a>(
+pub fn check_as<'p>(
     alloc: Global,
-    program: &'p Program<'a>,
+    program: &'p Program,
     profile: Profile,
-) -> Result<Checked<'p, 'a>, Refusal>
+) -> Result<Checked<'p>, Refusal>
     ensures program { IfOk result (λ checked. checked.program.now ≡ program.now) }
     ensures profile { IfOk result (λ checked. checked.profile ≡ profile) }
     ensures well_typed { IfOk result (λ _. length (violations profile (program_tree program.now)) ≡ 0) }
@@ -156,7 +152,7 @@ pub fn check_as<'p, 'a>(
 }
 
 /// The same, for the observer who sees nothing of multiplications.
-pub fn check<'p, 'a>(alloc: Global, program: &'p Program<'a>) -> Result<Checked<'p, 'a>, Refusal>
+pub fn check<'p>(alloc: Global, program: &'p Program) -> Result<Checked<'p>, Refusal>
     ensures program { IfOk result (λ checked. checked.program.now ≡ program.now) }
     ensures profile { IfOk result (λ checked. checked.profile ≡ P1) }
     ensures well_typed { IfOk result (λ _. length (violations P1 (program_tree program.now)) ≡ 0) }

@@ -11,17 +11,17 @@ use language::{Expr, Parameter, Place, SharedArray, Typed, ValueType};
 use std::alloc::{AllocError, Global};
 
 /// The name that an argument is.
-fn bare_name<'a>(argument: &Expr<'a>) -> Option<&'a str>
+fn bare_name(argument: &Expr) -> Option<&str>
     ensures { (array : ArrayType) → option_map (λ name. name.now) result ≡ array_name (Array array) (expr_tree argument.now) }
 {
     match argument {
-        Expr::Name(_, text) => Some(text),
+        Expr::Name(_, text) => Some(text.as_str()),
         _ => None,
     }
 }
 
 /// The array that an argument is the bare name of.
-fn array_name<'a>(given: ValueType, argument: &Expr<'a>) -> Option<&'a str>
+fn array_name(given: ValueType, argument: &Expr) -> Option<&str>
     ensures { option_map (λ name. name.now) result ≡ array_name given (expr_tree argument.now) }
 {
     match given {
@@ -68,9 +68,9 @@ impl<'a> Arrays<'a> {
     /// One more argument, which is an array or none. Answers the same of an array.
     fn take(
         &mut self,
-        parameter: &Parameter<'_>,
+        parameter: &Parameter,
         given: ValueType,
-        argument: &Expr<'a>,
+        argument: &'a Expr,
     ) -> Result<Option<Place>, AllocError>
         ensures before { IfOk result (λ before. before ≡ given_before self.old.given self.old.changed (is_mutable parameter.now.form)
             (array_name given (expr_tree argument.now))) }
@@ -86,7 +86,7 @@ impl<'a> Arrays<'a> {
 }
 
 /// The place of an argument that is a bare name.
-fn name_place(argument: &Expr<'_>) -> Place
+fn name_place(argument: &Expr) -> Place
     ensures { result ≡ name_place (expr_tree argument.now) }
 {
     match argument {
@@ -96,11 +96,7 @@ fn name_place(argument: &Expr<'_>) -> Place
 }
 
 /// The array that an argument is, by an earlier parameter for which it is given too, where there is one.
-fn shared(
-    argument: &Expr<'_>,
-    parameter: &Parameter<'_>,
-    earlier: Option<Place>,
-) -> Option<SharedArray>
+fn shared(argument: &Expr, parameter: &Parameter, earlier: Option<Place>) -> Option<SharedArray>
     ensures { result ≡ option_map (shared_at (name_place (expr_tree argument.now)) parameter.now.place) earlier }
 {
     match earlier {
@@ -116,9 +112,9 @@ fn shared(
 /// The first array that is given twice and may be changed, where none is taken yet.
 fn first_clash<'a>(
     arrays: &mut Arrays<'a>,
-    parameters: &[Parameter<'a>],
+    parameters: &[Parameter],
     types: &[Typed],
-    arguments: &[Expr<'a>],
+    arguments: &'a [Expr],
 ) -> Result<Option<SharedArray>, AllocError>
     requires given { arrays.old.given ≡ [] }
     requires changed { arrays.old.changed ≡ [] }
@@ -137,11 +133,11 @@ fn first_clash<'a>(
 }
 
 /// The first array that is given twice and may be changed.
-pub fn array_clash<'a>(
+pub fn array_clash(
     alloc: Global,
-    parameters: &[Parameter<'a>],
+    parameters: &[Parameter],
     types: &[Typed],
-    arguments: &[Expr<'a>],
+    arguments: &[Expr],
 ) -> Result<Option<SharedArray>, AllocError>
     requires types { length types.now ≡ length parameters.now }
     requires arguments { length arguments.now ≡ length parameters.now }

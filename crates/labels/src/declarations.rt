@@ -32,13 +32,13 @@ fn given(value: Option<ValueType>) -> Option<Typed>
 }
 
 /// Notes what a right side violates, and gives what is known of it where it is well typed.
-pub fn right_side<'a>(
+pub fn right_side(
     alloc: Global,
-    names: &Scope<'a>,
+    names: &Scope<'_>,
     first: &mut First,
-    earlier: &[Procedure<'a>],
+    earlier: &[Procedure],
     control: Option<SecretControl>,
-    right: &RightSide<'a>,
+    right: &RightSide,
 ) -> Result<Option<Typed>, AllocError>
     ensures typed { IfOk result (λ typed. typed ≡ right_typed (map procedure_tree earlier.now) names.now control (right_tree right.now)) }
     ensures first { OnOk result (first.new.seen ≡ fold sooner first.old.seen (right_violations (map procedure_tree earlier.now) names.now control (right_tree right.now))) }
@@ -72,7 +72,7 @@ fn note_declaration(
     first: &mut First,
     control: Option<SecretControl>,
     taken: bool,
-    declaration: &Declaration<'_>,
+    declaration: &Declaration,
     given: Option<Typed>,
 )
     ensures { first.new.seen ≡ fold sooner first.old.seen
@@ -96,9 +96,9 @@ pub fn declaration<'a>(
     alloc: Global,
     names: &mut Scope<'a>,
     first: &mut First,
-    earlier: &[Procedure<'a>],
+    earlier: &[Procedure],
     control: Option<SecretControl>,
-    declaration: &Declaration<'a>,
+    declaration: &'a Declaration,
 ) -> Result<(), AllocError>
     ensures names { OnOk result (names.new ≡ scope_after names.old (statement_tree (Declare declaration.now))) }
     ensures first { OnOk result (first.new.seen ≡ fold sooner first.old.seen (statement_violations (map procedure_tree earlier.now) names.old control (statement_tree (Declare declaration.now)))) }
@@ -110,7 +110,7 @@ pub fn declaration<'a>(
     };
     let taken = names.declare(
         declaration.place,
-        declaration.name,
+        declaration.name.as_str(),
         Declared::Variable(variable),
     )?;
     note_declaration(first, control, taken, declaration, given);
@@ -127,7 +127,7 @@ fn note_values(first: &mut First, place: Place, wanted: WordType, types: &[Typed
 }
 
 /// Notes first values that are not as many as the elements.
-fn note_count(first: &mut First, place: Place, length: u16, values: &Option<Vec<Expr<'_>>>)
+fn note_count(first: &mut First, place: Place, length: u16, values: &Option<Vec<Expr>>)
     ensures { first.new.seen ≡ fold sooner first.old.seen (count_violations place length (values_tree values.now)) }
 {
     if let Some(values) = values {
@@ -146,7 +146,7 @@ fn note_array(
     first: &mut First,
     control: Option<SecretControl>,
     taken: bool,
-    array: &ArrayDeclaration<'_>,
+    array: &ArrayDeclaration,
     types: &[Typed],
 )
     ensures { first.new.seen ≡ fold sooner first.old.seen (array_violations control array.now.place taken array.now.label array.now.mutable array.now.kind array.now.length
@@ -164,11 +164,11 @@ fn note_array(
 }
 
 /// Notes what an array's written values violate, and gives what is known of them where all are well typed.
-fn written<'a>(
+fn written(
     alloc: Global,
-    names: &Scope<'a>,
+    names: &Scope<'_>,
     first: &mut First,
-    values: &Option<Vec<Expr<'a>>>,
+    values: &Option<Vec<Expr>>,
 ) -> Result<Option<Vec<Typed>>, AllocError>
     ensures typed { IfOk result (λ types. option_map (λ given. given.items) types ≡ typed_of_all names.now (written (values_tree values.now))) }
     ensures first { OnOk result (first.new.seen ≡ fold sooner first.old.seen (exprs_violations names.now (written (values_tree values.now)))) }
@@ -185,12 +185,12 @@ pub fn array<'a>(
     names: &mut Scope<'a>,
     first: &mut First,
     control: Option<SecretControl>,
-    array: &ArrayDeclaration<'a>,
+    array: &'a ArrayDeclaration,
 ) -> Result<(), AllocError>
     ensures names { OnOk result (names.new ≡ scope_after names.old (statement_tree (DeclareArray array.now))) }
     ensures first { OnOk result (first.new.seen ≡ fold sooner first.old.seen
         (exprs_violations names.old (written (values_tree array.now.values))
-        ++ of_one [] (array_violations control array.now.place (is_some (found names.old array.now.name.now)) array.now.label array.now.mutable array.now.kind array.now.length (values_tree array.now.values))
+        ++ of_one [] (array_violations control array.now.place (is_some (found names.old array.now.name)) array.now.label array.now.mutable array.now.kind array.now.length (values_tree array.now.values))
         (typed_of_all names.old (written (values_tree array.now.values))))) }
 {
     let types = written(alloc, names, first, &array.values)?;
@@ -205,7 +205,11 @@ pub fn array<'a>(
         }),
         mutable: array.mutable,
     };
-    let taken = names.declare(array.place, array.name, Declared::Variable(variable))?;
+    let taken = names.declare(
+        array.place,
+        array.name.as_str(),
+        Declared::Variable(variable),
+    )?;
     if let Some(types) = types {
         note_array(first, control, taken, array, types.as_slice());
     }

@@ -8,18 +8,21 @@ ghost use Rattle.language.specs.declared.signature.Kind.TheVariants.{Boolean};
 use crate::nodes::{binary, choice, convert, element, number, prefix, rotate};
 use crate::reasons::unknown_why;
 use language::scopes::Scope;
-use language::{Expr, First, Kind, Label, Place, Rule, Typed, ValueType, VariableType};
+use language::{Expr, First, Kind, Label, Name, Place, Rule, Typed, ValueType, VariableType};
 use std::alloc::{AllocError, Global};
 
 /// What is known of a name, by its variable where there is one.
-fn known<'a>(names: &Scope<'a>, text: &str, found: Option<VariableType>) -> Option<Typed>
+fn known(names: &Scope<'_>, text: &Name, found: Option<VariableType>) -> Option<Typed>
     requires { found ≡ variable (found_in names.now text.now) }
     ensures { result ≡ option_map (typed_as (secret_name names.now text.now) None) (name_type names.now text.now) }
 {
     match found {
         Some(known) => Some(Typed {
             value: known.value,
-            secret: known.value.is_hidden().then_some(names.place(text)),
+            secret: known
+                .value
+                .is_hidden()
+                .then_some(names.place(text.as_str())),
             literal: None,
         }),
         None => None,
@@ -27,11 +30,11 @@ fn known<'a>(names: &Scope<'a>, text: &str, found: Option<VariableType>) -> Opti
 }
 
 /// Notes a name that is no variable's. What is near it is looked for only where this would be named.
-pub fn note_name<'a>(
-    names: &Scope<'a>,
+pub fn note_name(
+    names: &Scope<'_>,
     first: &mut First,
     place: Place,
-    text: &str,
+    text: &Name,
     found: Option<VariableType>,
 )
     requires { found ≡ variable (found_in names.now text.now) }
@@ -46,11 +49,11 @@ pub fn note_name<'a>(
 }
 
 /// Notes a name that is no variable's, and gives what is known of the variable.
-pub fn name<'a>(names: &Scope<'a>, first: &mut First, place: Place, text: &str) -> Option<Typed>
+pub fn name(names: &Scope<'_>, first: &mut First, place: Place, text: &Name) -> Option<Typed>
     ensures typed { result ≡ option_map (typed_as (secret_name names.now text.now) None) (name_type names.now text.now) }
     ensures first { first.new.seen ≡ fold sooner first.old.seen (name_violations names.now place text.now) }
 {
-    let variable = names.variable(text);
+    let variable = names.variable(text.as_str());
     note_name(names, first, place, text, variable);
     known(names, text, variable)
 }
@@ -67,7 +70,7 @@ fn truth() -> Typed
 }
 
 /// Notes what an expression's nodes violate, and gives what is known of it where it is well typed.
-pub fn expression<'a>(names: &Scope<'a>, first: &mut First, expr: &Expr<'a>) -> Option<Typed>
+pub fn expression(names: &Scope<'_>, first: &mut First, expr: &Expr) -> Option<Typed>
     ensures typed { result ≡ typed_of names.now (expr_tree expr.now) }
     ensures first { first.new.seen ≡ fold sooner first.old.seen (expr_violations names.now (expr_tree expr.now)) }
 {
@@ -121,11 +124,11 @@ fn keep(types: &mut Vec<Typed>, one: Option<Typed>) -> Result<bool, AllocError>
 }
 
 /// Notes what expressions violate, and gives what is known of them where all are well typed.
-pub fn expressions<'a>(
+pub fn expressions(
     alloc: Global,
-    names: &Scope<'a>,
+    names: &Scope<'_>,
     first: &mut First,
-    exprs: &[Expr<'a>],
+    exprs: &[Expr],
 ) -> Result<Option<Vec<Typed>>, AllocError>
     ensures count { IfOk result (λ types. IfSome types (λ given. length given.items ≡ length exprs.now)) }
     ensures typed { IfOk result (λ types. option_map (λ given. given.items) types ≡ typed_of_all names.now (map expr_tree exprs.now)) }

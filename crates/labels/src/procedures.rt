@@ -20,7 +20,7 @@ use std::alloc::{AllocError, Global};
 fn parameters<'a>(
     names: &mut Scope<'a>,
     first: &mut First,
-    parameters: &[Parameter<'a>],
+    parameters: &'a [Parameter],
 ) -> Result<(), AllocError>
     ensures names { OnOk result (names.new ≡ with_parameters names.old (map parameter_tree parameters.now)) }
     ensures first { OnOk result (first.new.seen ≡ fold sooner first.old.seen (parameter_violations names.old (map parameter_tree parameters.now))) }
@@ -32,7 +32,7 @@ fn parameters<'a>(
         };
         let taken = names.declare(
             parameter.place,
-            parameter.name,
+            parameter.name.as_str(),
             Declared::Variable(variable),
         )?;
         first.note_if(taken, parameter.place, Rule::NameDeclaredTwice);
@@ -55,11 +55,11 @@ fn note_return(first: &mut First, place: Place, wanted: Option<WordType>, given:
 }
 
 /// The `return` of a procedure with this type of result.
-fn returned<'a>(
-    names: &Scope<'a>,
+fn returned(
+    names: &Scope<'_>,
     first: &mut First,
     wanted: Option<WordType>,
-    returned: &Option<Return<'a>>,
+    returned: &Option<Return>,
 )
     ensures { first.new.seen ≡ fold sooner first.old.seen (return_violations names.now wanted (option_map return_tree returned.now)) }
 {
@@ -70,7 +70,7 @@ fn returned<'a>(
 }
 
 /// Notes that a procedure with a result has no `return`.
-fn note_missing(first: &mut First, procedure: &Procedure<'_>)
+fn note_missing(first: &mut First, procedure: &Procedure)
     ensures { first.new.seen ≡ fold sooner first.old.seen
         (missing_violations procedure.now.place procedure.now.result (option_map return_tree procedure.now.returned)) }
 {
@@ -86,8 +86,8 @@ fn inside<'a>(
     alloc: Global,
     names: &mut Scope<'a>,
     first: &mut First,
-    earlier: &[Procedure<'a>],
-    procedure: &Procedure<'a>,
+    earlier: &[Procedure],
+    procedure: &'a Procedure,
 ) -> Result<(), AllocError>
     ensures names { OnOk result (names.new ≡ scope_after_all
         (with_parameters names.old (procedure_tree procedure.now).parameters) (procedure_tree procedure.now).body) }
@@ -107,8 +107,8 @@ pub fn procedure<'a>(
     alloc: Global,
     names: &mut Scope<'a>,
     first: &mut First,
-    earlier: &[Procedure<'a>],
-    procedure: &Procedure<'a>,
+    earlier: &[Procedure],
+    procedure: &'a Procedure,
 ) -> Result<(), AllocError>
     ensures names { OnOk result (names.new ≡ with_procedure names.old (length earlier.now) (procedure_tree procedure.now)) }
     ensures first { OnOk result (first.new.seen ≡ fold sooner first.old.seen (procedure_violations (map procedure_tree earlier.now) names.old (procedure_tree procedure.now))) }
@@ -117,7 +117,11 @@ pub fn procedure<'a>(
         number: earlier.len(),
         assigns_public: assigns_public(names, procedure),
     };
-    let taken = names.declare(procedure.place, procedure.name, Declared::Procedure(callee))?;
+    let taken = names.declare(
+        procedure.place,
+        procedure.name.as_str(),
+        Declared::Procedure(callee),
+    )?;
     let outside = names.len();
     first.note_if(taken, procedure.place, Rule::NameDeclaredTwice);
     note_missing(first, procedure);

@@ -4,7 +4,7 @@ ghost use Rattle.labels.specs.Below.{unknown_why, whole_literal};
 
 use language::scopes::{Scope, nearest_place};
 use language::{
-    Kind, Label, Literal, Operation, Part, SecretControl, Typed, TypedPart, ValueType, Why,
+    Kind, Label, Literal, Name, Operation, Part, SecretControl, Typed, TypedPart, ValueType, Why,
 };
 
 /// A part that has a type.
@@ -66,10 +66,10 @@ pub fn operand_literal(operation: Operation, left: Typed, right: Typed) -> Optio
 }
 
 /// Why a name is unknown: the nearest of the variables in scope, where one is near.
-pub fn unknown_why<'a>(names: &Scope<'a>, text: &str) -> Why
+pub fn unknown_why(names: &Scope<'_>, text: &Name) -> Why
     ensures { result ≡ unknown_why names.now text.now }
 {
-    match nearest_place(names, text) {
+    match nearest_place(names, text.as_str()) {
         Some(place) => Why::Nearest(place),
         None => Why::Plain,
     }

@@ -72,9 +72,9 @@ fn statement<'a>(
     alloc: Global,
     names: &mut Scope<'a>,
     first: &mut First,
-    earlier: &[Procedure<'a>],
+    earlier: &[Procedure],
     control: Option<SecretControl>,
-    statement: &Statement<'a>,
+    statement: &'a Statement,
 ) -> Result<(), AllocError>
     ensures names { OnOk result (names.new ≡ scope_after names.old (statement_tree statement.now)) }
     ensures first { OnOk result (first.new.seen ≡ fold sooner first.old.seen (statement_violations (map procedure_tree earlier.now) names.old control (statement_tree statement.now))) }
@@ -120,9 +120,9 @@ fn arm<'a>(
     alloc: Global,
     names: &mut Scope<'a>,
     first: &mut First,
-    earlier: &[Procedure<'a>],
+    earlier: &[Procedure],
     control: Option<SecretControl>,
-    arm: &[Statement<'a>],
+    arm: &'a [Statement],
 ) -> Result<(), AllocError>
     ensures names { OnOk result (names.new ≡ names.old) }
     ensures first { OnOk result (first.new.seen ≡ fold sooner first.old.seen (block_violations (map procedure_tree earlier.now) names.old control (block_tree arm.now))) }
@@ -139,22 +139,26 @@ fn turns<'a>(
     alloc: Global,
     names: &mut Scope<'a>,
     first: &mut First,
-    earlier: &[Procedure<'a>],
+    earlier: &[Procedure],
     control: Option<SecretControl>,
-    counter: &Counter<'a>,
-    body: &[Statement<'a>],
+    counter: &'a Counter,
+    body: &'a [Statement],
 ) -> Result<(), AllocError>
     ensures names { OnOk result (names.new ≡ names.old) }
     ensures first { OnOk result (first.new.seen ≡ fold sooner first.old.seen
-        (at counter.now.place (when (is_some (found names.old counter.now.name.now)) NameDeclaredTwice)
-        ++ block_violations (map procedure_tree earlier.now) (declared names.old counter.now.place counter.now.name.now counter_as) control (block_tree body.now))) }
+        (at counter.now.place (when (is_some (found names.old counter.now.name)) NameDeclaredTwice)
+        ++ block_violations (map procedure_tree earlier.now) (declared names.old counter.now.place counter.now.name counter_as) control (block_tree body.now))) }
 {
     let before = names.len();
     let variable = VariableType {
         value: ValueType::word(Kind::Uint32, Label::Public),
         mutable: false,
     };
-    let taken = names.declare(counter.place, counter.name, Declared::Variable(variable))?;
+    let taken = names.declare(
+        counter.place,
+        counter.name.as_str(),
+        Declared::Variable(variable),
+    )?;
     first.note_if(taken, counter.place, Rule::NameDeclaredTwice);
     statements(alloc, names, first, earlier, control, body)?;
     names.truncate(before);
@@ -167,9 +171,9 @@ pub fn statements<'a>(
     alloc: Global,
     names: &mut Scope<'a>,
     first: &mut First,
-    earlier: &[Procedure<'a>],
+    earlier: &[Procedure],
     control: Option<SecretControl>,
-    statements: &[Statement<'a>],
+    statements: &'a [Statement],
 ) -> Result<(), AllocError>
     ensures names { OnOk result (names.new ≡ scope_after_all names.old (block_tree statements.now)) }
     ensures first { OnOk result (first.new.seen ≡ fold sooner first.old.seen (block_violations (map procedure_tree earlier.now) names.old control (block_tree statements.now))) }

@@ -31,10 +31,10 @@ conditional_tree place condition accepted otherwise =
 
 pub loop_tree : (place : Place) (counter : Counter) (low high : Expr) (body : Vec Statement Global) →
     statement_tree (For place counter low high body)
-    ≡ loop place counter.place counter.name.now (expr_tree low) (expr_tree high) (block_tree body.items)
+    ≡ loop place counter.place counter.name (expr_tree low) (expr_tree high) (block_tree body.items)
 loop_tree place counter low high body =
     let both = arms (For place counter low high body) in
-    ap (loop place counter.place counter.name.now (expr_tree low) (expr_tree high))
+    ap (loop place counter.place counter.name (expr_tree low) (expr_tree high))
     (rows both.0.0 both.0.1 ∙ ap block_tree (items_hidden-the_row-Statement-0 body))
 
 pub row_trees : RowsAreBlocks

@@ -14,4 +14,4 @@ pub record RowsAreBlocks : Type 0 where
       ≡ conditional place (expr_tree condition) (block_tree accepted.items) (block_tree otherwise.items)
   pub bodies : (place : Place) (counter : Counter) (low high : Expr) (body : Vec Statement)
       → statement_tree (For place counter low high body)
-      ≡ loop place counter.place counter.name.now (expr_tree low) (expr_tree high) (block_tree body.items)
+      ≡ loop place counter.place counter.name (expr_tree low) (expr_tree high) (block_tree body.items)

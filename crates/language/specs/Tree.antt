@@ -110,17 +110,17 @@ pub record ProgramTree : Type 0 where
 abbrev pub expr_tree : Expr → ExprTree
 expr_tree (Number place value kind) = number place value kind
 expr_tree (Truth place value) = truth place value
-expr_tree (Name place text) = name place text.now
+expr_tree (Name place text) = name place text
 expr_tree (Prefix' place operator p operand) = prefix place operator (expr_tree operand)
 expr_tree (Binary' place operator p left q right) = binary place operator (expr_tree left) (expr_tree right)
 expr_tree (Rotate' place p operand amount) = rotate place (expr_tree operand) amount
 expr_tree (Convert' place kind p operand) = convert place kind (expr_tree operand)
 expr_tree (Select' place p condition q accepted r otherwise) =
     select place (expr_tree condition) (expr_tree accepted) (expr_tree otherwise)
-expr_tree (Element' place target text p index) = element place target text.now (expr_tree index)
+expr_tree (Element' place target text p index) = element place target text (expr_tree index)
 
 abbrev pub call_tree : Call → CallTree
-call_tree c = record { place = c.place; name = c.name.now; arguments = map expr_tree c.arguments.items }
+call_tree c = record { place = c.place; name = c.name; arguments = map expr_tree c.arguments.items }
 
 abbrev pub right_tree : RightSide → RightTree
 right_tree (OfCall c) = called (call_tree c)
@@ -128,18 +128,18 @@ right_tree (Value e) = computed (expr_tree e)
 
 abbrev mutual
   pub statement_tree : Statement → StatementTree
-  statement_tree (Declare d) = declaration d.place d.label d.mutable d.kind d.name.now (right_tree d.value)
+  statement_tree (Declare d) = declaration d.place d.label d.mutable d.kind d.name (right_tree d.value)
   statement_tree (DeclareArray d) =
-      array d.place d.label d.mutable d.kind d.length d.name.now
+      array d.place d.label d.mutable d.kind d.length d.name
       (option_map (λ values. map expr_tree values.items) d.values)
-  statement_tree (Assign a) = assignment a.place a.target a.name.now (right_tree a.value)
+  statement_tree (Assign a) = assignment a.place a.target a.name (right_tree a.value)
   statement_tree (AssignElement a) =
-      element_assignment a.place a.bracket a.target a.name.now (expr_tree a.index) (right_tree a.value)
+      element_assignment a.place a.bracket a.target a.name (expr_tree a.index) (right_tree a.value)
   statement_tree (CallStatement c) = call (call_tree c)
   statement_tree (If' place condition shape accepted shape' otherwise) =
       conditional place (expr_tree condition) (row_tree accepted) (row_tree otherwise)
   statement_tree (For' place counter low high shape body) =
-      loop place counter.place counter.name.now (expr_tree low) (expr_tree high) (row_tree body)
+      loop place counter.place counter.name (expr_tree low) (expr_tree high) (row_tree body)
 
   -- the statements of an arm or a loop
   pub row_tree : {m : _} → Row_of-Statement m → BlockTree
@@ -158,7 +158,7 @@ parameter_tree p = record {
   form = p.form;
   length = p.length;
   place = p.place;
-  name = p.name.now;
+  name = p.name;
 }
 
 abbrev pub return_tree : Return → ReturnTree
@@ -169,7 +169,7 @@ procedure_tree p = record {
   export = p.export;
   result = p.result;
   place = p.place;
-  name = p.name.now;
+  name = p.name;
   parameters = map parameter_tree p.parameters.items;
   body = block_tree p.body.items;
   returned = option_map return_tree p.returned;

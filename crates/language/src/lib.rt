@@ -10,6 +10,7 @@ mod first;
 mod interval;
 mod laws;
 mod limits;
+mod name;
 pub mod names;
 mod operation;
 mod operators;
@@ -30,6 +31,7 @@ pub use laws::{largest_is_first_of_greatest, rows_are_blocks, shares_make_the_wh
 pub use limits::{
     MOST_BODIES, MOST_DECLARED_BYTES, MOST_ELEMENTS, MOST_NODES, limits_are_as_stated,
 };
+pub use name::Name;
 pub use operation::Operation;
 pub use operators::{BinaryOperator, PrefixOperator, is_true};
 pub use refusal::Refusal;

@@ -3,61 +3,62 @@ ghost use Rattle.std.specs.Option.{option_map};
 ghost use Rattle.language.specs.Meaning.{named};
 ghost use Rattle.language.specs.Tree.{procedure_tree};
 
+use crate::name::Name;
 use crate::{BinaryOperator, Form, Kind, Label, Param, Place, PrefixOperator, WordType};
 use std::alloc::{AllocError, Global};
 use std::marker::Model;
 
 /// An expression. Each has the place of its head token.
 #[derive(Drop)]
-pub enum Expr<'a> {
+pub enum Expr {
     /// A number and the kind that its suffix names, `Uint32` without one.
     Number(Place, u32, Kind),
     Truth(Place, bool),
-    Name(Place, &'a str),
-    Prefix(Place, PrefixOperator, Box<Expr<'a>>),
-    Binary(Place, BinaryOperator, Box<Expr<'a>>, Box<Expr<'a>>),
+    Name(Place, Name),
+    Prefix(Place, PrefixOperator, Box<Expr>),
+    Binary(Place, BinaryOperator, Box<Expr>, Box<Expr>),
     /// A rotation to the left, by so many bits.
-    Rotate(Place, Box<Expr<'a>>, u32),
+    Rotate(Place, Box<Expr>, u32),
     /// A word made one of this kind of number.
-    Convert(Place, Kind, Box<Expr<'a>>),
+    Convert(Place, Kind, Box<Expr>),
     /// The first operand chooses between the second, where it is true, and the third.
-    Select(Place, Box<Expr<'a>>, Box<Expr<'a>>, Box<Expr<'a>>),
+    Select(Place, Box<Expr>, Box<Expr>, Box<Expr>),
     /// An element of an array: the place of `[`, the array's name and its place, the index.
-    Element(Place, Place, &'a str, Box<Expr<'a>>),
+    Element(Place, Place, Name, Box<Expr>),
 }
 
 /// A call of a procedure.
 #[derive(Drop)]
-pub struct Call<'a> {
+pub struct Call {
     /// The place of the procedure's name.
     pub place: Place,
-    pub name: &'a str,
-    pub arguments: Vec<Expr<'a>>,
+    pub name: Name,
+    pub arguments: Vec<Expr>,
 }
 
 /// What a declaration or an assignment gives its target.
 #[derive(Drop)]
-pub enum RightSide<'a> {
-    Call(Call<'a>),
-    Value(Expr<'a>),
+pub enum RightSide {
+    Call(Call),
+    Value(Expr),
 }
 
 /// A declaration of a word, with its first value.
 #[derive(Drop)]
-pub struct Declaration<'a> {
+pub struct Declaration {
     pub label: Label,
     /// Whether it may be assigned to.
     pub mutable: bool,
     pub kind: Kind,
     /// The place of its name.
     pub place: Place,
-    pub name: &'a str,
-    pub value: RightSide<'a>,
+    pub name: Name,
+    pub value: RightSide,
 }
 
 /// A declaration of an array.
 #[derive(Drop)]
-pub struct ArrayDeclaration<'a> {
+pub struct ArrayDeclaration {
     pub label: Label,
     /// Whether its elements may be assigned to.
     pub mutable: bool,
@@ -66,60 +67,60 @@ pub struct ArrayDeclaration<'a> {
     pub length: u16,
     /// The place of its name.
     pub place: Place,
-    pub name: &'a str,
+    pub name: Name,
     /// Its first values, where they are written; else it holds zeros.
-    pub values: Option<Vec<Expr<'a>>>,
+    pub values: Option<Vec<Expr>>,
 }
 
 /// An assignment to a name.
 #[derive(Drop)]
-pub struct Assignment<'a> {
+pub struct Assignment {
     /// The place of `=`.
     pub place: Place,
     /// The place of the assigned name.
     pub target: Place,
-    pub name: &'a str,
-    pub value: RightSide<'a>,
+    pub name: Name,
+    pub value: RightSide,
 }
 
 /// An assignment to an element.
 #[derive(Drop)]
-pub struct ElementAssignment<'a> {
+pub struct ElementAssignment {
     /// The place of `=`.
     pub place: Place,
     /// The place of `[`.
     pub bracket: Place,
     /// The place of the array's name.
     pub target: Place,
-    pub name: &'a str,
-    pub index: Expr<'a>,
-    pub value: RightSide<'a>,
+    pub name: Name,
+    pub index: Expr,
+    pub value: RightSide,
 }
 
 /// The counter of a loop.
-#[derive(Clone, Copy)]
-pub struct Counter<'a> {
+#[derive(Drop)]
+pub struct Counter {
     /// The place of its name.
     pub place: Place,
-    pub name: &'a str,
+    pub name: Name,
 }
 
 /// A statement.
 #[derive(Drop)]
-pub enum Statement<'a> {
-    Declare(Declaration<'a>),
-    DeclareArray(ArrayDeclaration<'a>),
-    Assign(Assignment<'a>),
-    AssignElement(ElementAssignment<'a>),
-    Call(Call<'a>),
+pub enum Statement {
+    Declare(Declaration),
+    DeclareArray(ArrayDeclaration),
+    Assign(Assignment),
+    AssignElement(ElementAssignment),
+    Call(Call),
     /// The place of `if`, the condition, and what runs where it is true and where it is not.
-    If(Place, Expr<'a>, Vec<Statement<'a>>, Vec<Statement<'a>>),
+    If(Place, Expr, Vec<Statement>, Vec<Statement>),
     /// The place of `for`, the counter, the first number that it is, the first that it is no longer,
     /// and what runs in each turn.
-    For(Place, Counter<'a>, Expr<'a>, Expr<'a>, Vec<Statement<'a>>),
+    For(Place, Counter, Expr, Expr, Vec<Statement>),
 }
 
-impl Statement<'_> {
+impl Statement {
     ghost use Rattle.language.specs.Tree.{place_of, statement_tree};
 
     /// Where it stands.
@@ -138,8 +139,8 @@ impl Statement<'_> {
 }
 
 /// A parameter of a procedure.
-#[derive(Clone, Copy)]
-pub struct Parameter<'a> {
+#[derive(Drop)]
+pub struct Parameter {
     pub label: Label,
     pub kind: Kind,
     pub form: Form,
@@ -147,10 +148,10 @@ pub struct Parameter<'a> {
     pub length: u16,
     /// The place of its name.
     pub place: Place,
-    pub name: &'a str,
+    pub name: Name,
 }
 
-impl Parameter<'_> {
+impl Parameter {
     ghost use Rattle.language.specs.Signature.{param_of};
     ghost use Rattle.language.specs.Tree.{parameter_tree};
 
@@ -169,29 +170,29 @@ impl Parameter<'_> {
 
 /// The `return` of a procedure.
 #[derive(Drop)]
-pub struct Return<'a> {
+pub struct Return {
     /// The place of the word `return`.
     pub place: Place,
-    pub value: Expr<'a>,
+    pub value: Expr,
 }
 
 /// A procedure.
 #[derive(Drop)]
-pub struct Procedure<'a> {
+pub struct Procedure {
     /// The place of the word `export`, where it stands.
     pub export: Option<Place>,
     /// The type of its result, where it has one.
     pub result: Option<WordType>,
     /// The place of its name.
     pub place: Place,
-    pub name: &'a str,
-    pub parameters: Vec<Parameter<'a>>,
-    pub body: Vec<Statement<'a>>,
+    pub name: Name,
+    pub parameters: Vec<Parameter>,
+    pub body: Vec<Statement>,
     /// Its `return`, where it has one.
-    pub returned: Option<Return<'a>>,
+    pub returned: Option<Return>,
 }
 
-impl Procedure<'_> {
+impl Procedure {
     ghost use Rattle.std.specs.Prelude.{IfOk};
     ghost use Rattle.language.specs.Signature.{param_of};
 
@@ -209,12 +210,11 @@ impl Procedure<'_> {
 
 /// A program: the tree of a text, its procedures in their order. Each is as the grammar has it.
 #[derive(Drop)]
-pub struct Program<'a> {
-    procedures: Vec<Procedure<'a>>,
+pub struct Program {
+    procedures: Vec<Procedure>,
 }
 
-impl<'a> Model for Program<'a> {
-    ghost use denote.Signature.{static_lft};
+impl Model for Program {
     ghost use Rattle.std.specs.Coded.{coded_list};
     ghost use Rattle.std.specs.List.{AllByRecursion};
     ghost use Rattle.std.specs.Prelude.{List, map};
@@ -225,30 +225,29 @@ impl<'a> Model for Program<'a> {
 
     ghost Value = { List Procedure };
 
-    // A procedure is told from another in the same way at each lifetime.
-    ghost coded = { coded_list (procedure.the_row static_lft).coded };
+    ghost coded = { coded_list procedure.the_row.coded };
 
     ghost view = { λ p. p.procedures.items };
 
     ghost invariant = { λ p. AllByRecursion IsGrammatical (map procedure_tree p.procedures.items) };
 }
 
-impl<'a> Program<'a> {
+impl Program {
     ghost use Rattle.std.specs.List.{AllByRecursion};
     ghost use Rattle.language.specs.Grammatical.{IsGrammatical};
     ghost use Rattle.language.specs.Signature.{exported};
     ghost use Rattle.language.specs.Tree.{program_tree};
 
     /// A program of these procedures.
-    pub fn new(procedures: Vec<Procedure<'a>>) -> Self
+    pub fn new(procedures: Vec<Procedure>) -> Self
         requires { AllByRecursion IsGrammatical (map procedure_tree procedures.items) }
-        ensures { result ≡ procedures.entry.items }
+        ensures { result ≡ procedures.items }
     {
         Program { procedures }
     }
 
     /// The procedures, in their order.
-    pub fn procedures(&self) -> &[Procedure<'a>]
+    pub fn procedures(&self) -> &[Procedure]
         ensures procedures { result.now ≡ self.now }
         ensures grammatical { AllByRecursion IsGrammatical (map procedure_tree self.now) }
     {
@@ -256,7 +255,7 @@ impl<'a> Program<'a> {
     }
 
     /// The first exported procedure, and those before it.
-    pub fn exported(&self) -> Option<(&[Procedure<'a>], &Procedure<'a>)>
+    pub fn exported(&self) -> Option<(&[Procedure], &Procedure)>
         ensures { option_map (λ found. (map procedure_tree found.0.now, procedure_tree found.1.now)) result ≡ exported [] (program_tree self.now).procedures }
     {
         for (index, procedure) in self.procedures.iter().enumerate() {
@@ -269,14 +268,14 @@ impl<'a> Program<'a> {
 }
 
 /// The first procedure of a name, and those before it.
-pub fn procedure_named<'p, 'a>(
-    procedures: &'p [Procedure<'a>],
-    name: &str,
-) -> Option<(&'p [Procedure<'a>], &'p Procedure<'a>)>
+pub fn procedure_named<'p>(
+    procedures: &'p [Procedure],
+    name: &Name,
+) -> Option<(&'p [Procedure], &'p Procedure)>
     ensures { option_map (λ found. (map procedure_tree found.0.now, procedure_tree found.1.now)) result ≡ named [] (map procedure_tree procedures.now) name.now }
 {
     for (index, procedure) in procedures.iter().enumerate() {
-        if procedure.name == name {
+        if procedure.name.as_str() == name.as_str() {
             return Some((&procedures[..index], procedure));
         }
     }

@@ -61,19 +61,19 @@ module _ (s whole : State) (ps : List Parameter) (es : List Expr) (i : ℕ) (d :
   abbrev others : State
   others = begun s (map parameter_tree (drop (i + 1) ps)) (map expr_tree (drop (i + 1) es)) rest
 
-  at_next : over before (with_some others p.name.now (argument_held s p.form (expr_tree e) vs)) ≡ whole
+  at_next : over before (with_some others p.name (argument_held s p.form (expr_tree e) vs)) ≡ whole
   at_next = rw (drop_more ps i d inside_ps, next_of es i e inside_es is_e, ← left) at so_far
 
   pub begun_more : (v : Value) (after : State) → Some v ≡ argument_held s p.form (expr_tree e) vs
-      → after ≡ with_first before p.name.now v → over after others ≡ whole
+      → after ≡ with_first before p.name v → over after others ≡ whole
   begun_more v after holds set =
-      ap (λ t. over t others) set ∙ over_first before others p.name.now v
-      ∙ ap (λ o. over before (with_some others p.name.now o)) holds ∙ at_next
+      ap (λ t. over t others) set ∙ over_first before others p.name v
+      ∙ ap (λ o. over before (with_some others p.name o)) holds ∙ at_next
 
   pub begun_same : (after : State) → None ≡ argument_held s p.form (expr_tree e) vs → after ≡ before
       → over after others ≡ whole
   begun_same after none same =
-      ap (λ t. over t others) same ∙ ap (λ o. over before (with_some others p.name.now o)) none ∙ at_next
+      ap (λ t. over t others) same ∙ ap (λ o. over before (with_some others p.name o)) none ∙ at_next
 
 -- nothing is left to hold
 no_begun : (s : State) (ps : List ParameterTree) (vs : List Word) → begun s ps [] vs ≡ empty
@@ -96,14 +96,14 @@ begun_early s whole before ps es i vs past so_far =
 -- the names of the export
 pub holding_more : (whole : State) (ps : List Parameter) (args : List Arg) (i : ℕ) (d : Parameter) (a : Arg)
     (v : Value) (before after : State) → i < length ps → i < length args → a ≡ get_or args i a
-    → v ≡ argument_value (get_or ps i d).kind a → after ≡ with_first before (get_or ps i d).name.now v
+    → v ≡ argument_value (get_or ps i d).kind a → after ≡ with_first before (get_or ps i d).name v
     → over before (holding (map parameter_tree (drop i ps)) (drop i args)) ≡ whole
     → over after (holding (map parameter_tree (drop (i + 1) ps)) (drop (i + 1) args)) ≡ whole
 holding_more whole ps args i d a v before after inside_ps inside_args is_a holds set so_far =
     let p = get_or ps i d in
     let others = holding (map parameter_tree (drop (i + 1) ps)) (drop (i + 1) args) in
-    ap (λ t. over t others) set ∙ over_first before others p.name.now v
-    ∙ ap (λ w. over before (with_value others p.name.now w)) holds
+    ap (λ t. over t others) set ∙ over_first before others p.name v
+    ∙ ap (λ w. over before (with_value others p.name w)) holds
     ∙ sym
     (ap (over before) (ap₂ (λ xs ys. holding (map parameter_tree xs) ys) (drop_more ps i d inside_ps)
     (next_of args i a inside_args is_a)))

@@ -85,7 +85,7 @@ module _ (whole : Run State) (known : Runnables) (text : List ℕ) (body : Block
 module _ (earlier front : List Procedure) (callee : Procedure) (s : State) (c : Call) (ps : List Parameter)
     (es : List Expr) (before left room : ℕ)
     (found : Some (map procedure_tree front, procedure_tree callee)
-    ≡ named [] (map procedure_tree earlier) c.name.now) (one : before ≡ left + 1)
+    ≡ named [] (map procedure_tree earlier) c.name) (one : before ≡ left + 1)
     (parameters : ps ≡ callee.parameters.items) (arguments : es ≡ c.arguments.items) where
   abbrev words_of : List Parameter → List Expr → List ExprTree
   words_of xs ys = word_arguments (map parameter_tree xs) (map expr_tree ys)
@@ -94,7 +94,7 @@ module _ (earlier front : List Procedure) (callee : Procedure) (s : State) (c : 
   same_words = ap₂ words_of parameters arguments
 
   abbrev o : Option Runnable
-  o = known_of earlier c.name.now
+  o = known_of earlier c.name
 
   abbrev known : Runnables
   known = known_of front
@@ -103,7 +103,7 @@ module _ (earlier front : List Procedure) (callee : Procedure) (s : State) (c : 
   k = runnable known (procedure_tree callee)
 
   is : o ≡ Some k
-  is = known-named runnable (map procedure_tree earlier) (map procedure_tree front) (procedure_tree callee) c.name.now
+  is = known-named runnable (map procedure_tree earlier) (map procedure_tree front) (procedure_tree callee) c.name
       (sym found)
 
   stops_so : (fault : EvalFault) → Stopped (called_run (Some k) s (call_tree c)) left room fault
@@ -162,11 +162,11 @@ pub for_run : (known : Runnables) (s : State) (statement : Statement) (place : P
     (low high : Expr) (body : Vec Statement Global) (b : List Statement)
     → statement ≡ For place counter low high body → b ≡ body.items
     → loop_run s (expr_tree low) (expr_tree high)
-    (λ i t. run_all known (counting t counter.name.now i) (block_tree b))
+    (λ i t. run_all known (counting t counter.name i) (block_tree b))
     ≡ run known s (statement_tree statement)
 for_run known s statement place counter low high body b is one =
     ap (λ xs. loop_run s (expr_tree low) (expr_tree high)
-    (λ i t. run_all known (counting t counter.name.now i) (block_tree xs))) one
+    (λ i t. run_all known (counting t counter.name i) (block_tree xs))) one
     ∙ sym (ap (run known s) (ap statement_tree is ∙ loop_tree place counter low high body))
 
 pub ends_along : {A : Type 0} (r q : Run A) (left room : ℕ) (a : A) (after : ℕ) → r ≡ q → Ended r left room a after

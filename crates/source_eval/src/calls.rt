@@ -14,10 +14,7 @@ use language::{Expr, Form, Parameter};
 use std::alloc::Global;
 
 /// A copy of the array that an argument names.
-fn array_named<'a>(
-    variables: &Variables<'a>,
-    argument: &Expr<'a>,
-) -> Result<Option<Value>, EvalFault>
+fn array_named(variables: &Variables<'_>, argument: &Expr) -> Result<Option<Value>, EvalFault>
     ensures ok { IfOk result (λ value. option_map value_of value ≡ array_named (held variables.now) (expr_tree argument.now)) }
     ensures memory { IfErr result (λ fault. fault ≡ Memory) }
 {
@@ -35,10 +32,10 @@ fn array_named<'a>(
 }
 
 /// What a parameter holds: the next word, or a copy of the array that the argument names.
-fn argument_held<'a>(
-    variables: &Variables<'a>,
+fn argument_held(
+    variables: &Variables<'_>,
     form: Form,
-    argument: &Expr<'a>,
+    argument: &Expr,
     words: &[Word],
 ) -> Result<Option<Value>, EvalFault>
     ensures ok { IfOk result (λ value. option_map value_of value ≡ argument_held (held variables.now) form (expr_tree argument.now) (map word_of words.now)) }
@@ -65,8 +62,8 @@ fn words_left(form: Form, words: &[Word]) -> &[Word]
 fn begin<'a>(
     inner: &mut Variables<'a>,
     caller: &Variables<'a>,
-    parameters: &[Parameter<'a>],
-    arguments: &[Expr<'a>],
+    parameters: &'a [Parameter],
+    arguments: &[Expr],
     words: &[Word],
 ) -> Result<(), EvalFault>
     requires { held inner.old ≡ empty }
@@ -80,7 +77,7 @@ fn begin<'a>(
             return Ok(());
         };
         if let Some(value) = argument_held(caller, parameter.form, argument, left)? {
-            inner.set_first(parameter.name, value)?;
+            inner.set_first(&parameter.name, value)?;
         }
         left = words_left(parameter.form, left);
     }
@@ -91,8 +88,8 @@ fn begin<'a>(
 pub fn begun<'a>(
     alloc: Global,
     caller: &Variables<'a>,
-    parameters: &[Parameter<'a>],
-    arguments: &[Expr<'a>],
+    parameters: &'a [Parameter],
+    arguments: &[Expr],
     words: &[Word],
 ) -> Result<Variables<'a>, EvalFault>
     ensures ok { IfOk result (λ inner. held inner
@@ -109,14 +106,14 @@ pub fn begun<'a>(
 fn give_back<'a>(
     caller: &mut Variables<'a>,
     inner: &Variables<'a>,
-    parameter: &Parameter<'a>,
-    argument: &Expr<'a>,
+    parameter: &Parameter,
+    argument: &'a Expr,
 ) -> Result<(), EvalFault>
-    ensures ok { OnOk result (held caller.new ≡ gone_back parameter.now.form (held caller.old) (held inner.now) (expr_tree argument.now) parameter.now.name.now) }
+    ensures ok { OnOk result (held caller.new ≡ gone_back parameter.now.form (held caller.old) (held inner.now) (expr_tree argument.now) parameter.now.name) }
     ensures memory { IfErr result (λ fault. fault ≡ Memory) }
 {
     if let (Form::MutableArray, Expr::Name(_, name)) = (parameter.form, argument) {
-        if let Some(value) = inner.copy(parameter.name)? {
+        if let Some(value) = inner.copy(&parameter.name)? {
             caller.set(name, value)?;
         }
     }
@@ -127,8 +124,8 @@ fn give_back<'a>(
 pub fn copy_out<'a>(
     caller: &mut Variables<'a>,
     inner: &Variables<'a>,
-    parameters: &[Parameter<'a>],
-    arguments: &[Expr<'a>],
+    parameters: &[Parameter],
+    arguments: &'a [Expr],
 ) -> Result<(), EvalFault>
     ensures ok { OnOk result (held caller.new ≡ copied_out (held caller.old) (held inner.now) (map parameter_tree parameters.now) (map expr_tree arguments.now)) }
     ensures memory { IfErr result (λ fault. fault ≡ Memory) }

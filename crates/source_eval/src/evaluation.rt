@@ -38,7 +38,7 @@ fn argument_value(alloc: Global, kind: Kind, arg: &Arg) -> Result<Value, EvalFau
 fn hold<'a>(
     alloc: Global,
     variables: &mut Variables<'a>,
-    parameters: &[Parameter<'a>],
+    parameters: &'a [Parameter],
     args: &[Arg],
 ) -> Result<(), EvalFault>
     requires { held variables.old ≡ empty }
@@ -50,7 +50,7 @@ fn hold<'a>(
             return Ok(());
         };
         let value = argument_value(alloc, parameter.kind, arg)?;
-        variables.set_first(parameter.name, value)?;
+        variables.set_first(&parameter.name, value)?;
     }
     Ok(())
 }
@@ -58,7 +58,7 @@ fn hold<'a>(
 /// What the names of the export hold at first.
 fn holding<'a>(
     alloc: Global,
-    parameters: &[Parameter<'a>],
+    parameters: &'a [Parameter],
     args: &[Arg],
 ) -> Result<Variables<'a>, EvalFault>
     ensures ok { IfOk result (λ variables. held variables ≡ holding (map parameter_tree parameters.now) args.now) }
@@ -70,10 +70,10 @@ fn holding<'a>(
 }
 
 /// The words of each `mut` array, in parameter order.
-fn final_arrays<'a>(
+fn final_arrays(
     alloc: Global,
-    variables: &Variables<'a>,
-    parameters: &[Parameter<'a>],
+    variables: &Variables<'_>,
+    parameters: &[Parameter],
 ) -> Result<Vec<Numbers>, EvalFault>
     ensures ok { IfOk result (λ arrays. arrays.items ≡ final_arrays (held variables.now) (map parameter_tree parameters.now)) }
     ensures memory { IfErr result (λ fault. fault ≡ Memory) }
@@ -81,7 +81,7 @@ fn final_arrays<'a>(
     let mut arrays = Vec::new(alloc);
     for parameter in parameters {
         if parameter.form == Form::MutableArray {
-            arrays.push(Numbers::new(variables.words(alloc, parameter.name)?))?;
+            arrays.push(Numbers::new(variables.words(alloc, &parameter.name)?))?;
         }
     }
     Ok(arrays)
@@ -98,11 +98,11 @@ fn number(word: Option<Word>) -> Option<u32>
 }
 
 /// Runs an export after the earlier procedures.
-fn run_export<'a>(
+fn run_export(
     alloc: Global,
-    earlier: &[Procedure<'a>],
+    earlier: &[Procedure],
     left: &mut u64,
-    export: &Procedure<'a>,
+    export: &Procedure,
     args: &[Arg],
 ) -> Result<Outcome, EvalFault>
     ensures ok { IfOk result (λ outcome. Ended
@@ -126,10 +126,10 @@ fn run_export<'a>(
 }
 
 /// What an export gives on arguments behind the earlier procedures, as `eval`.
-fn eval_export<'a>(
+fn eval_export(
     alloc: Global,
-    earlier: &[Procedure<'a>],
-    export: &Procedure<'a>,
+    earlier: &[Procedure],
+    export: &Procedure,
     args: &Args,
     budget: u64,
 ) -> Result<Outcome, EvalFault>
@@ -152,7 +152,7 @@ fn eval_export<'a>(
 /// or meets its fault; else the fault that it meets.
 pub fn eval(
     alloc: Global,
-    program: &Program<'_>,
+    program: &Program,
     args: &Args,
     budget: u64,
 ) -> Result<Outcome, EvalFault>

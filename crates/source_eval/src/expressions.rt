@@ -15,11 +15,7 @@ use std::alloc::Global;
 
 /// The value of an expression.
 #[tactic(auto, unfolding(language::specs::Evaluation::tick, language::specs::Evaluation::andthen))]
-pub fn value<'a>(
-    variables: &Variables<'a>,
-    left: &mut u64,
-    expr: &Expr<'a>,
-) -> Result<Word, EvalFault>
+pub fn value(variables: &Variables<'_>, left: &mut u64, expr: &Expr) -> Result<Word, EvalFault>
     ensures ok { IfOk result (λ w. Ended (value (held variables.now) (expr_tree expr.now)) left.old 0 (word_of w) left.new) }
     ensures err { IfErr result (λ fault. Stopped (value (held variables.now) (expr_tree expr.now)) left.old 0 fault) }
 {
@@ -65,11 +61,11 @@ pub fn value<'a>(
 }
 
 /// The values of expressions, from left to right.
-pub fn values<'a>(
+pub fn values(
     alloc: Global,
-    variables: &Variables<'a>,
+    variables: &Variables<'_>,
     left: &mut u64,
-    exprs: &[Expr<'a>],
+    exprs: &[Expr],
 ) -> Result<Vec<Word>, EvalFault>
     ensures ok { IfOk result (λ words. Ended (values (held variables.now) (map expr_tree exprs.now)) left.old 0 (map word_of words.items) left.new) }
     ensures err { IfErr result (λ fault. Stopped (values (held variables.now) (map expr_tree exprs.now)) left.old 0 fault) }
@@ -82,12 +78,12 @@ pub fn values<'a>(
 }
 
 /// The values of a call's word arguments, from left to right.
-pub fn passed<'a>(
+pub fn passed(
     alloc: Global,
-    variables: &Variables<'a>,
+    variables: &Variables<'_>,
     left: &mut u64,
-    parameters: &[Parameter<'a>],
-    arguments: &[Expr<'a>],
+    parameters: &[Parameter],
+    arguments: &[Expr],
 ) -> Result<Vec<Word>, EvalFault>
     ensures ok { IfOk result (λ words. Ended (passed (held variables.now) (word_arguments (map parameter_tree parameters.now) (map expr_tree arguments.now))) left.old 0 (map word_of words.items) left.new) }
     ensures err { IfErr result (λ fault. Stopped (passed (held variables.now) (word_arguments (map parameter_tree parameters.now) (map expr_tree arguments.now))) left.old 0 fault) }

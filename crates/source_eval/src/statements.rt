@@ -19,8 +19,8 @@ use crate::spending::spend;
 use crate::values::{Value, Word};
 use crate::variables::Variables;
 use language::{
-    ArrayDeclaration, Call, Counter, ElementAssignment, Expr, Kind, Procedure, Return, RightSide,
-    Statement, is_true, procedure_named,
+    ArrayDeclaration, Call, Counter, ElementAssignment, Expr, Kind, Name, Procedure, Return,
+    RightSide, Statement, is_true, procedure_named,
 };
 use std::alloc::Global;
 
@@ -41,14 +41,14 @@ fn array_of(alloc: Global, kind: Kind, length: u16, words: &[Word]) -> Result<Va
 #[tactic(auto, using(crate::proofs::RunLemmas::value_opens, crate::proofs::RunLemmas::values_open, crate::proofs::RunLemmas::passed_open), unfolding(language::specs::Evaluation::tick, language::specs::Evaluation::andthen, language::specs::Evaluation::inside))]
 fn declare_array<'a>(
     running: &mut Running<'a>,
-    declaration: &ArrayDeclaration<'a>,
+    declaration: &'a ArrayDeclaration,
 ) -> Result<(), EvalFault>
     ensures ok { OnOk result (Ended
-        (array_run (held running.old.variables) declaration.now.name.now declaration.now.kind declaration.now.length
+        (array_run (held running.old.variables) declaration.now.name declaration.now.kind declaration.now.length
         (option_map (λ values. map expr_tree values.items) declaration.now.values))
         running.old.left 0 (held running.new.variables) running.new.left) }
     ensures err { IfErr result (λ fault. Stopped
-        (array_run (held running.old.variables) declaration.now.name.now declaration.now.kind declaration.now.length
+        (array_run (held running.old.variables) declaration.now.name declaration.now.kind declaration.now.length
         (option_map (λ values. map expr_tree values.items) declaration.now.values))
         running.old.left 0 fault) }
 {
@@ -58,26 +58,26 @@ fn declare_array<'a>(
         None => Vec::new(running.alloc),
     };
     let array = array_of(running.alloc, declaration.kind, declaration.length, &words)?;
-    running.variables.set(declaration.name, array)
+    running.variables.set(&declaration.name, array)
 }
 
 /// A call.
 #[cycle(statement)]
 fn call<'a>(
-    earlier: &[Procedure<'a>],
+    earlier: &'a [Procedure],
     room: u32,
     running: &mut Running<'a>,
-    call: &Call<'a>,
+    call: &'a Call,
 ) -> Result<Option<Word>, EvalFault>
     ensures ok { IfOk result (λ w. Ended
-        (call_run (known_of earlier.now call.now.name.now) (held running.old.variables) (call_tree call.now))
+        (call_run (known_of earlier.now call.now.name) (held running.old.variables) (call_tree call.now))
         running.old.left room (returned w (held running.new.variables)) running.new.left) }
     ensures err { IfErr result (λ fault. Stopped
-        (call_run (known_of earlier.now call.now.name.now) (held running.old.variables) (call_tree call.now))
+        (call_run (known_of earlier.now call.now.name) (held running.old.variables) (call_tree call.now))
         running.old.left room fault) }
 {
     spend(&mut running.left)?;
-    let Some((before, callee)) = procedure_named(earlier, call.name) else {
+    let Some((before, callee)) = procedure_named(earlier, &call.name) else {
         return Ok(None);
     };
     let alloc = running.alloc;
@@ -103,10 +103,10 @@ fn call<'a>(
 
 /// The end of a body: its `return`, where it has one.
 #[tactic(auto, using(crate::proofs::RunLemmas::value_opens, crate::proofs::RunLemmas::values_open, crate::proofs::RunLemmas::passed_open), unfolding(language::specs::Evaluation::tick, language::specs::Evaluation::andthen, language::specs::Evaluation::inside))]
-fn end<'a>(
-    variables: &Variables<'a>,
+fn end(
+    variables: &Variables<'_>,
     left: &mut u64,
-    end: &Option<Return<'a>>,
+    end: &Option<Return>,
 ) -> Result<Option<Word>, EvalFault>
     ensures ok { IfOk result (λ w. Ended
         (return_run (held variables.now) (option_map return_tree end.now))
@@ -129,10 +129,10 @@ fn end<'a>(
 #[tactic(auto, using(crate::proofs::RunLemmas::value_opens, crate::proofs::RunLemmas::return_opens), unfolding(language::specs::Evaluation::tick, language::specs::Evaluation::andthen))]
 #[cycle(statement)]
 pub fn body<'a>(
-    earlier: &[Procedure<'a>],
+    earlier: &'a [Procedure],
     room: u32,
     running: &mut Running<'a>,
-    procedure: &Procedure<'a>,
+    procedure: &'a Procedure,
 ) -> Result<Option<Word>, EvalFault>
     ensures ok { IfOk result (λ w. Ended
         (body_run (known_of earlier.now) (procedure_tree procedure.now) (held running.old.variables))
@@ -149,10 +149,10 @@ pub fn body<'a>(
 #[tactic(auto, using(crate::proofs::RunLemmas::value_opens, crate::proofs::RunLemmas::return_opens), unfolding(language::specs::Evaluation::tick, language::specs::Evaluation::andthen))]
 #[cycle(statement)]
 fn right<'a>(
-    earlier: &[Procedure<'a>],
+    earlier: &'a [Procedure],
     room: u32,
     running: &mut Running<'a>,
-    right: &RightSide<'a>,
+    right: &'a RightSide,
 ) -> Result<Option<Word>, EvalFault>
     ensures ok { IfOk result (λ w. Ended
         (right_run (known_of earlier.now) (held running.old.variables) (right_tree right.now))
@@ -187,11 +187,11 @@ fn given(word: Option<Word>) -> Word
 #[tactic(auto, using(crate::proofs::RunLemmas::value_opens, crate::proofs::RunLemmas::return_opens), unfolding(language::specs::Evaluation::tick, language::specs::Evaluation::andthen))]
 #[cycle(statement)]
 fn set<'a>(
-    earlier: &[Procedure<'a>],
+    earlier: &'a [Procedure],
     room: u32,
     running: &mut Running<'a>,
-    name: &'a str,
-    source: &RightSide<'a>,
+    name: &'a Name,
+    source: &'a RightSide,
 ) -> Result<(), EvalFault>
     ensures ok { OnOk result (Ended
         (set_run (known_of earlier.now) (held running.old.variables) name.now (right_tree source.now))
@@ -209,18 +209,18 @@ fn set<'a>(
 #[tactic(auto, using(crate::proofs::RunLemmas::value_opens, crate::proofs::RunLemmas::return_opens), unfolding(language::specs::Evaluation::tick, language::specs::Evaluation::andthen))]
 #[cycle(statement)]
 fn set_element<'a>(
-    earlier: &[Procedure<'a>],
+    earlier: &'a [Procedure],
     room: u32,
     running: &mut Running<'a>,
-    assignment: &ElementAssignment<'a>,
+    assignment: &'a ElementAssignment,
 ) -> Result<(), EvalFault>
     ensures ok { OnOk result (Ended
         (element_run (known_of earlier.now) (held running.old.variables) assignment.now.bracket
-        assignment.now.name.now (expr_tree assignment.now.index) (right_tree assignment.now.value))
+        assignment.now.name (expr_tree assignment.now.index) (right_tree assignment.now.value))
         running.old.left room (held running.new.variables) running.new.left) }
     ensures err { IfErr result (λ fault. Stopped
         (element_run (known_of earlier.now) (held running.old.variables) assignment.now.bracket
-        assignment.now.name.now (expr_tree assignment.now.index) (right_tree assignment.now.value))
+        assignment.now.name (expr_tree assignment.now.index) (right_tree assignment.now.value))
         running.old.left room fault) }
 {
     spend(&mut running.left)?;
@@ -228,11 +228,11 @@ fn set_element<'a>(
     let index = value(&running.variables, &mut running.left, &assignment.index)?;
     running
         .variables
-        .element(assignment.bracket, assignment.name, index.value)?;
+        .element(assignment.bracket, &assignment.name, index.value)?;
     let word = right(earlier, room, running, &assignment.value)?;
     running
         .variables
-        .set_element(assignment.name, index.value, given(word));
+        .set_element(&assignment.name, index.value, given(word));
     Ok(())
 }
 
@@ -240,12 +240,12 @@ fn set_element<'a>(
 #[tactic(auto, using(crate::proofs::RunLemmas::value_opens, crate::proofs::RunLemmas::return_opens), unfolding(language::specs::Evaluation::tick, language::specs::Evaluation::andthen))]
 #[cycle(statement)]
 fn branch<'a>(
-    earlier: &[Procedure<'a>],
+    earlier: &'a [Procedure],
     room: u32,
     running: &mut Running<'a>,
-    condition: &Expr<'a>,
-    accepted: &[Statement<'a>],
-    otherwise: &[Statement<'a>],
+    condition: &Expr,
+    accepted: &'a [Statement],
+    otherwise: &'a [Statement],
 ) -> Result<(), EvalFault>
     ensures ok { OnOk result (Ended
         (branch_run (held running.old.variables) (expr_tree condition.now)
@@ -270,21 +270,21 @@ fn branch<'a>(
 /// The turns of a loop from one number to another, each bound evaluated once.
 #[cycle(statement)]
 fn repeat<'a>(
-    earlier: &[Procedure<'a>],
+    earlier: &'a [Procedure],
     room: u32,
     running: &mut Running<'a>,
-    counter: &Counter<'a>,
-    low: &Expr<'a>,
-    high: &Expr<'a>,
-    body: &[Statement<'a>],
+    counter: &'a Counter,
+    low: &Expr,
+    high: &Expr,
+    body: &'a [Statement],
 ) -> Result<(), EvalFault>
     ensures ok { OnOk result (Ended
         (loop_run (held running.old.variables) (expr_tree low.now) (expr_tree high.now)
-        (λ i t. run_all (known_of earlier.now) (counting t counter.now.name.now i) (block_tree body.now)))
+        (λ i t. run_all (known_of earlier.now) (counting t counter.now.name i) (block_tree body.now)))
         running.old.left room (held running.new.variables) running.new.left) }
     ensures err { IfErr result (λ fault. Stopped
         (loop_run (held running.old.variables) (expr_tree low.now) (expr_tree high.now)
-        (λ i t. run_all (known_of earlier.now) (counting t counter.now.name.now i) (block_tree body.now)))
+        (λ i t. run_all (known_of earlier.now) (counting t counter.now.name i) (block_tree body.now)))
         running.old.left room fault) }
 {
     spend(&mut running.left)?;
@@ -296,7 +296,9 @@ fn repeat<'a>(
             kind: Kind::Uint32,
             value: number,
         };
-        running.variables.set(counter.name, Value::Single(counted))?;
+        running
+            .variables
+            .set(&counter.name, Value::Single(counted))?;
         block(earlier, room, running, body)?;
     }
     Ok(())
@@ -306,10 +308,10 @@ fn repeat<'a>(
 #[tactic(auto, using(crate::proofs::RunLemmas::array_opens), unfolding(language::specs::Evaluation::tick, language::specs::Evaluation::andthen))]
 #[cycle(statement)]
 fn statement<'a>(
-    earlier: &[Procedure<'a>],
+    earlier: &'a [Procedure],
     room: u32,
     running: &mut Running<'a>,
-    statement: &Statement<'a>,
+    statement: &'a Statement,
 ) -> Result<(), EvalFault>
     ensures ok { OnOk result (Ended
         (run (known_of earlier.now) (held running.old.variables) (statement_tree statement.now))
@@ -319,9 +321,9 @@ fn statement<'a>(
         running.old.left room fault) }
 {
     match statement {
-        Statement::Declare(it) => set(earlier, room, running, it.name, &it.value),
+        Statement::Declare(it) => set(earlier, room, running, &it.name, &it.value),
         Statement::DeclareArray(it) => declare_array(running, it),
-        Statement::Assign(it) => set(earlier, room, running, it.name, &it.value),
+        Statement::Assign(it) => set(earlier, room, running, &it.name, &it.value),
         Statement::AssignElement(it) => set_element(earlier, room, running, it),
         Statement::Call(it) => {
             call(earlier, room, running, it)?;
@@ -339,10 +341,10 @@ fn statement<'a>(
 /// Statements in their order.
 #[cycle(statement)]
 fn block<'a>(
-    earlier: &[Procedure<'a>],
+    earlier: &'a [Procedure],
     room: u32,
     running: &mut Running<'a>,
-    block: &[Statement<'a>],
+    block: &'a [Statement],
 ) -> Result<(), EvalFault>
     ensures ok { OnOk result (Ended
         (run_all (known_of earlier.now) (held running.old.variables) (block_tree block.now))

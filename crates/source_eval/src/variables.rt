@@ -11,7 +11,7 @@ ghost use Rattle.source_eval.specs.declared.fault.EvalFault.TheVariants.{Memory}
 use crate::EvalFault;
 use crate::values::{Value, Word};
 use indexmap::IndexMap;
-use language::{Kind, Place};
+use language::{Kind, Name, Place};
 use std::alloc::Global;
 
 /// The element of an array, at the place of `[`.
@@ -59,23 +59,23 @@ impl<'a> Variables<'a> {
     }
 
     /// From here on a name holds this.
-    pub fn set(&mut self, name: &'a str, value: Value) -> Result<(), EvalFault>
+    pub fn set(&mut self, name: &'a Name, value: Value) -> Result<(), EvalFault>
         ensures ok { OnOk result (held self.new ≡ with_value (held self.old) name.now (value_of value)) }
         ensures memory { IfErr result (λ fault. fault ≡ Memory) }
     {
-        self.values.insert(name, value)?;
+        self.values.insert(name.as_str(), value)?;
         Ok(())
     }
 
     /// What a name holds.
-    fn get(&self, name: &str) -> Option<&Value>
+    fn get(&self, name: &Name) -> Option<&Value>
         ensures { option_map (λ value. value_of value.now) result ≡ held self.now name.now }
     {
-        self.values.get(name)
+        self.values.get(name.as_str())
     }
 
     /// From here on a name holds this, unless it holds something already: of a name that stands twice the first counts.
-    pub fn set_first(&mut self, name: &'a str, value: Value) -> Result<(), EvalFault>
+    pub fn set_first(&mut self, name: &'a Name, value: Value) -> Result<(), EvalFault>
         ensures ok { OnOk result (held self.new ≡ (if is_some (held self.old name.now) then held self.old else with_value (held self.old) name.now (value_of value))) }
         ensures memory { IfErr result (λ fault. fault ≡ Memory) }
     {
@@ -86,7 +86,7 @@ impl<'a> Variables<'a> {
     }
 
     /// The word that a name holds.
-    pub fn word(&self, name: &str) -> Word
+    pub fn word(&self, name: &Name) -> Word
         ensures { word_of result ≡ word_held (held self.now name.now) }
     {
         match self.get(name) {
@@ -103,7 +103,7 @@ impl<'a> Variables<'a> {
     }
 
     /// The element of the array that a name holds, at the place of `[`.
-    pub fn element(&self, place: Place, name: &str, index: u32) -> Result<Word, EvalFault>
+    pub fn element(&self, place: Place, name: &Name, index: u32) -> Result<Word, EvalFault>
         ensures ok { IfOk result (λ w. element_held place (held self.now name.now) index ≡ gives (word_of w)) }
         ensures err { IfErr result (IsFault (element_held place (held self.now name.now) index)) }
     {
@@ -114,16 +114,16 @@ impl<'a> Variables<'a> {
     }
 
     /// From here on an element of the array that a name holds is this.
-    pub fn set_element(&mut self, name: &str, index: u32, word: Word)
+    pub fn set_element(&mut self, name: &Name, index: u32, word: Word)
         ensures { held self.new ≡ with_some (held self.old) name.now (with_element (held self.old name.now) index (word_of word)) }
     {
-        if let Some(held) = self.values.get_mut(name) {
+        if let Some(held) = self.values.get_mut(name.as_str()) {
             put(held, index, word);
         }
     }
 
     /// A copy of what a name holds.
-    pub fn copy(&self, name: &str) -> Result<Option<Value>, EvalFault>
+    pub fn copy(&self, name: &Name) -> Result<Option<Value>, EvalFault>
         ensures ok { IfOk result (λ value. option_map value_of value ≡ held self.now name.now) }
         ensures memory { IfErr result (λ fault. fault ≡ Memory) }
     {
@@ -135,7 +135,7 @@ impl<'a> Variables<'a> {
     }
 
     /// The words of the array that a name holds.
-    pub fn words(&self, alloc: Global, name: &str) -> Result<Vec<u32>, EvalFault>
+    pub fn words(&self, alloc: Global, name: &Name) -> Result<Vec<u32>, EvalFault>
         ensures ok { IfOk result (λ words. words.items ≡ final_words (held self.now name.now)) }
         ensures memory { IfErr result (λ fault. fault ≡ Memory) }
     {

@@ -9,8 +9,8 @@ mod token;
 
 pub use language::{
     Arg, Args, ArrayDeclaration, Assignment, BinaryOperator, Call, Counter, Declaration,
-    ElementAssignment, Expr, Form, Kind, Label, Outcome, Param, Parameter, Place, PrefixOperator,
-    Procedure, Program, Refusal, Return, RightSide, Rule, Statement, WordType,
+    ElementAssignment, Expr, Form, Kind, Label, Name, Outcome, Param, Parameter, Place,
+    PrefixOperator, Procedure, Program, Refusal, Return, RightSide, Rule, Statement, WordType,
 };
 pub use lexer::{Lexed, ListEnd, TEXT_LIMIT, lex, one_list_for_a_text, text_limit_is_as_stated};
 pub use nesting::{NESTING_LIMIT, nesting_limit_is_as_stated};

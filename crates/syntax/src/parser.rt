@@ -9,6 +9,7 @@ ghost use Rattle.syntax.specs.Tokens.{ending};
 
 mod declaration;
 mod expression;
+mod naming;
 mod operator;
 mod procedure;
 mod right_side;
@@ -49,15 +50,15 @@ impl<T: Drop> From<AllocFailed<T>> for Fault {
 
 /// What is left to read, and what the tokens before it say of it.
 #[derive(Drop)]
-struct Parser<'a, 't> {
+struct Parser<'t> {
     alloc: Global,
-    rest: &'t [Token<'a>],
+    rest: &'t [Token<'t>],
     end: ListEnd,
     nesting: Nesting,
 }
 
-impl<'a, 't> Parser<'a, 't> {
-    fn procedures(&mut self) -> Result<Vec<Procedure<'a>>, Fault>
+impl<'t> Parser<'t> {
+    fn procedures(&mut self) -> Result<Vec<Procedure>, Fault>
         ensures leads { MatchResult result (λ procedures. ahead program_state self.old ≡ accepted (program_tree procedures.items))
             (λ f. FaultIs f (ahead program_state self.old)) }
     {
@@ -74,11 +75,11 @@ impl<'a, 't> Parser<'a, 't> {
 }
 
 /// The procedures of the program that the tokens are.
-fn parse_tokens<'t, 'a>(
+fn parse_tokens<'t>(
     alloc: Global,
-    tokens: &'t [Token<'a>],
+    tokens: &'t [Token<'t>],
     end: ListEnd,
-) -> Result<Vec<Procedure<'a>>, Refusal>
+) -> Result<Vec<Procedure>, Refusal>
     ensures accepted { IfOk result (λ procedures. Answers (lexemes tokens.entry.now) (ending end) (accepted (program_tree procedures.items))) }
     ensures refused { IfErr result (IsRefusedAs (Answers (lexemes tokens.entry.now) (ending end))) }
 {
@@ -97,7 +98,7 @@ fn parse_tokens<'t, 'a>(
 
 /// The program of a text, or the first refusal. A place is named for all refusals but running out of
 /// memory. A text that is too long is refused as that whatever memory there is.
-pub fn parse(alloc: Global, text: &str) -> Result<Program<'_>, Refusal>
+pub fn parse(alloc: Global, text: &str) -> Result<Program, Refusal>
     ensures too_long { text_limit < length text.now
         → IsErrAnd result (λ r. (r.rule ≡ Rule.TextTooLong) × (r.place ≡ Some origin) × (r.why ≡ Plain)) }
     ensures accepted { IfOk result (λ p. Reads text.now (accepted (program_tree p))) }

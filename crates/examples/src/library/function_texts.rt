@@ -10,7 +10,7 @@ const ADD_ONE: &str = "export secret uint32 add_one(secret uint32 number) { retu
 /// The texts of the function have these lines.
 fn has_lines(
     rt: &(impl Abort + AllocGlobal),
-    function: &Function<'_>,
+    function: &Function,
     assembler_line: &str,
     header_line: &str,
 ) -> Result<(), AllocError> {

@@ -7,7 +7,7 @@ use std::process::Abort;
 use syntax::parse;
 
 /// The refusal of a program for an observer.
-fn violation(alloc: Global, program: &Program<'_>, profile: Profile) -> Option<Refusal> {
+fn violation(alloc: Global, program: &Program, profile: Profile) -> Option<Refusal> {
     match check_as(alloc, program, profile) {
         Ok(_) => None,
         Err(refusal) => Some(refusal),

@@ -16,13 +16,14 @@ use std::fmt::Write;
 const MOST_OTHERS: usize = 7;
 
 /// What is said of the procedure that a place behind so many bytes is in.
-pub fn calls_line(alloc: Global, at: u32, program: &Program<'_>) -> Result<String, AllocError>
+pub fn calls_line(alloc: Global, at: u32, program: &Program) -> Result<String, AllocError>
     ensures { IfOk result (λ line. string_bytes line ≡ calls_line at (program_tree program.now).procedures) }
 {
     match procedure_at(at, program) {
         Some(procedure) => {
-            let places = call_places(alloc, program, procedure.name)?;
-            called_line(alloc, procedure.name, places.as_slice())
+            let name = procedure.name.as_str();
+            let places = call_places(alloc, program, name)?;
+            called_line(alloc, name, places.as_slice())
         }
         None => Ok(String::new(alloc)),
     }

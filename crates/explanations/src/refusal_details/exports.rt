@@ -11,7 +11,7 @@ use language::{Program, Refusal};
 use std::alloc::Global;
 
 /// The export with the bodies that it calls; none where a pass before the ranges refuses the program.
-pub fn flat_in(alloc: Global, program: &Program<'_>) -> Result<Option<Flat>, Refusal>
+pub fn flat_in(alloc: Global, program: &Program) -> Result<Option<Flat>, Refusal>
     ensures found { IfOk result (λ flat. (export : Option (List ProcedureTree × ProcedureTree)) × IsExportOf (program_tree program.now) export × (flat ≡ option_map flat_of export)) }
     ensures memory { IfErr result (λ refusal. IsWantOfMemory refusal.rule refusal.place) }
 {

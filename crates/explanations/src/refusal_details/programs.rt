@@ -35,7 +35,7 @@ pub fn call_lines(alloc: Global, source: &str, at: u32) -> Result<String, Refusa
 }
 
 /// The program that a source is, if it is one.
-fn program_in(alloc: Global, source: &str) -> Result<Option<Program<'_>>, Refusal>
+fn program_in(alloc: Global, source: &str) -> Result<Option<Program>, Refusal>
     ensures read { IfOk result (λ program. IsProgramOf source.now (option_map program_tree program)) }
     ensures memory { IfErr result (λ fault. IsWantOfMemory fault.rule fault.place) }
 {

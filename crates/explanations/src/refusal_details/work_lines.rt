@@ -20,7 +20,7 @@ use std::alloc::{AllocError, Global};
 
 /// What is said of a program whose export has too much work: how much it has, how much is allowed, and where the part stands
 /// that has most.
-pub fn work_lines(alloc: Global, program: &Program<'_>) -> Result<String, Refusal>
+pub fn work_lines(alloc: Global, program: &Program) -> Result<String, Refusal>
     ensures said { IfOk result (λ lines. SaysWork (program_tree program.now) (string_bytes lines)) }
     ensures memory { IfErr result (λ refusal. IsWantOfMemory refusal.rule refusal.place) }
 {
@@ -29,11 +29,7 @@ pub fn work_lines(alloc: Global, program: &Program<'_>) -> Result<String, Refusa
 }
 
 /// The same, where this is the program's export as one body, if it is made one.
-fn flat_line(
-    alloc: Global,
-    program: &Program<'_>,
-    flat: &Option<Flat>,
-) -> Result<String, AllocError>
+fn flat_line(alloc: Global, program: &Program, flat: &Option<Flat>) -> Result<String, AllocError>
     requires { (export : Option (List ProcedureTree × ProcedureTree)) × IsExportOf (program_tree program.now) export × (flat.now ≡ option_map flat_of export) }
     ensures { IfOk result (λ line. SaysWork (program_tree program.now) (string_bytes line)) }
 {
@@ -47,10 +43,10 @@ fn flat_line(
 }
 
 /// The same of an export behind the procedures that it may call.
-fn export_line<'a>(
+fn export_line(
     alloc: Global,
-    earlier: &[Procedure<'a>],
-    export: &Procedure<'a>,
+    earlier: &[Procedure],
+    export: &Procedure,
     flat: &Flat,
 ) -> Result<String, AllocError>
     requires { flat.now ≡ flattened flat.now.profile (map procedure_tree earlier.now) (procedure_tree export.now) }

@@ -12,8 +12,8 @@ use std::alloc::{AllocError, Global};
 
 /// How long a procedure is where it is called.
 #[derive(Clone, Copy)]
-pub struct Inlined<'s, 'a> {
-    pub parameters: &'s [Parameter<'a>],
+pub struct Inlined<'s> {
+    pub parameters: &'s [Parameter],
     /// How many statements its body becomes; the greatest number where that is as much or more.
     pub statements: u64,
     /// Whether it gives something.
@@ -21,10 +21,7 @@ pub struct Inlined<'s, 'a> {
 }
 
 /// How long a procedure is where it is called.
-fn counted_procedure<'s, 'a>(
-    earlier: &Names<'a, Inlined<'s, 'a>>,
-    procedure: &'s Procedure<'a>,
-) -> Inlined<'s, 'a>
+fn counted_procedure<'s>(earlier: &Names<'s, Inlined<'s>>, procedure: &'s Procedure) -> Inlined<'s>
     ensures { inlined_of result ≡ counted_inlined (inlined (lengths_in earlier.now) (procedure_tree procedure.now)) }
 {
     Inlined {
@@ -35,16 +32,16 @@ fn counted_procedure<'s, 'a>(
 }
 
 /// How long procedures are where they are called, by their names.
-pub fn lengths<'s, 'a>(
+pub fn lengths<'s>(
     alloc: Global,
-    procedures: &'s [Procedure<'a>],
-) -> Result<Names<'a, Inlined<'s, 'a>>, AllocError>
+    procedures: &'s [Procedure],
+) -> Result<Names<'s, Inlined<'s>>, AllocError>
     ensures { IfOk result (λ table. AreCountsOf (lengths_in table) (lengths_of (map procedure_tree procedures.now))) }
 {
     let mut table = Names::new(alloc);
     for procedure in procedures {
         let one = counted_procedure(&table, procedure);
-        let _taken = table.declare(procedure.name, one)?;
+        let _taken = table.declare(procedure.name.as_str(), one)?;
     }
     Ok(table)
 }

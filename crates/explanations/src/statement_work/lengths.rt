@@ -24,7 +24,7 @@ fn words_in(form: Form) -> u64
 }
 
 /// How many words a call passes.
-fn words_passed<'a>(parameters: &[Parameter<'a>], arguments: &[Expr<'a>]) -> u64
+fn words_passed(parameters: &[Parameter], arguments: &[Expr]) -> u64
     ensures { result ≡ counted (length (word_arguments (map parameter_tree parameters.now) (map expr_tree arguments.now))) }
 {
     let mut sum = 0u64;
@@ -38,7 +38,7 @@ fn words_passed<'a>(parameters: &[Parameter<'a>], arguments: &[Expr<'a>]) -> u64
 }
 
 /// How many statements a call of such a procedure becomes, without its own node.
-fn call_length<'a>(called: Option<Inlined<'_, 'a>>, call: &Call<'a>) -> u64
+fn call_length(called: Option<Inlined<'_>>, call: &Call) -> u64
     ensures { result ≡ counted (call_length (option_map inlined_of called.entry) (call_tree call.now).arguments) }
 {
     match called {
@@ -50,7 +50,7 @@ fn call_length<'a>(called: Option<Inlined<'_, 'a>>, call: &Call<'a>) -> u64
 }
 
 /// How many statements hold a result that nothing takes.
-fn dropped_length(called: Option<Inlined<'_, '_>>) -> u64
+fn dropped_length(called: Option<Inlined<'_>>) -> u64
     ensures { result ≡ dropped_length (option_map inlined_of called.entry) }
 {
     match called {
@@ -60,37 +60,41 @@ fn dropped_length(called: Option<Inlined<'_, '_>>) -> u64
 }
 
 /// How many statements stand before a right side is known.
-fn right_length<'a>(earlier: &Names<'a, Inlined<'_, 'a>>, right: &RightSide<'a>) -> u64
+fn right_length<'s>(earlier: &Names<'s, Inlined<'s>>, right: &RightSide) -> u64
     ensures { result ≡ counted (right_length (lengths_in earlier.now) (right_tree right.now)) }
 {
     match right {
-        RightSide::Call(call) => call_length(earlier.find(call.name), call).saturating_add(2),
+        RightSide::Call(call) => call_length(earlier.find(call.name.as_str()), call).saturating_add(
+            2,
+        ),
         RightSide::Value(_) => 0,
     }
 }
 
 /// How many statements an assignment to an element becomes.
-fn element_length<'a>(earlier: &Names<'a, Inlined<'_, 'a>>, right: &RightSide<'a>) -> u64
+fn element_length<'s>(earlier: &Names<'s, Inlined<'s>>, right: &RightSide) -> u64
     ensures { result ≡ counted (element_length (lengths_in earlier.now) (right_tree right.now)) }
 {
     match right {
-        RightSide::Call(call) => call_length(earlier.find(call.name), call).saturating_add(2),
+        RightSide::Call(call) => call_length(earlier.find(call.name.as_str()), call).saturating_add(
+            2,
+        ),
         RightSide::Value(_) => 1,
     }
 }
 
 /// How many statements a call becomes whose result nothing takes.
-fn statement_of_call<'a>(earlier: &Names<'a, Inlined<'_, 'a>>, call: &Call<'a>) -> u64
+fn statement_of_call<'s>(earlier: &Names<'s, Inlined<'s>>, call: &Call) -> u64
     ensures { result ≡ counted (1 + call_length (lengths_in earlier.now (call_tree call.now).name) (call_tree call.now).arguments + dropped_length (lengths_in earlier.now (call_tree call.now).name)) }
 {
-    let called = earlier.find(call.name);
+    let called = earlier.find(call.name.as_str());
     call_length(called, call)
         .saturating_add(dropped_length(called))
         .saturating_add(1)
 }
 
 /// How many statements a statement becomes.
-pub fn statement_length<'a>(earlier: &Names<'a, Inlined<'_, 'a>>, statement: &Statement<'a>) -> u64
+pub fn statement_length<'s>(earlier: &Names<'s, Inlined<'s>>, statement: &Statement) -> u64
     ensures { result ≡ counted (statement_length (lengths_in earlier.now) (statement_tree statement.now)) }
 {
     match statement {
@@ -105,7 +109,7 @@ pub fn statement_length<'a>(earlier: &Names<'a, Inlined<'_, 'a>>, statement: &St
 }
 
 /// How many statements some statements become.
-pub fn block_length<'a>(earlier: &Names<'a, Inlined<'_, 'a>>, block: &[Statement<'a>]) -> u64
+pub fn block_length<'s>(earlier: &Names<'s, Inlined<'s>>, block: &[Statement]) -> u64
     ensures { result ≡ counted (block_length (lengths_in earlier.now) (block_tree block.now)) }
 {
     let mut sum = 0u64;

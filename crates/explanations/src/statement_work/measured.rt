@@ -13,10 +13,10 @@ use std::alloc::{AllocError, Global};
 
 /// What an export behind the procedures that it may call costs of the limit on work, and its first part of those that cost
 /// most. They are given as one body with numbered variables too, and with the turns that are counted for its loops.
-pub fn measured_work<'a>(
+pub fn measured_work(
     alloc: Global,
-    earlier: &[Procedure<'a>],
-    export: &Procedure<'a>,
+    earlier: &[Procedure],
+    export: &Procedure,
     turns: &[u32],
     flat: &Flat,
 ) -> Result<Cost, AllocError>
@@ -33,7 +33,7 @@ pub fn measured_work<'a>(
 }
 
 /// The part that has most work of those before and of the `return` of the export.
-fn with_return(most: Option<Share>, export: &Procedure<'_>) -> Option<Share>
+fn with_return(most: Option<Share>, export: &Procedure) -> Option<Share>
     ensures { result ≡ fold larger most (map counted_share (return_shares (procedure_tree export.now).returned)) }
 {
     larger_return(most, export.returned.as_ref())

@@ -22,11 +22,11 @@ fn split(body: &[FlatStatement], count: u64) -> (&[FlatStatement], &[FlatStateme
 }
 
 /// The statement that has most work, of statements that become these of the one body.
-pub fn largest_statement<'a>(
-    earlier: &Names<'a, Inlined<'_, 'a>>,
+pub fn largest_statement<'s>(
+    earlier: &Names<'s, Inlined<'s>>,
     turns: &[u32],
     body: &[FlatStatement],
-    block: &[Statement<'a>],
+    block: &[Statement],
 ) -> Option<Share>
     ensures { result ≡ fold larger None (map counted_share (pieces turns.now (lengths_in earlier.now) body.now (block_tree block.now))) }
 {

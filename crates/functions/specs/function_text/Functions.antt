@@ -26,7 +26,7 @@ abbrev pub named : NamedParam → Named
 named p = record { name = string_bytes p.name; param = p.param }
 
 abbrev pub parts_of : Function → Parts
-parts_of f = record { name = f.name.now; parameters = map named f.parameters.items; image = f.image }
+parts_of f = record { name = f.name; parameters = map named f.parameters.items; image = f.image }
 
 -- a parameter of the source, in a function of this name
 abbrev pub written_parameter : List ℕ → ParameterTree → Named

@@ -83,7 +83,7 @@ fn body_lines(alloc: Global, words: &[u32]) -> Result<String, AllocError>
 }
 
 /// How large the function is, and for which observer, at the end of a text.
-fn push_sizes(alloc: Global, text: &mut String, function: &Function<'_>) -> Result<(), AllocError>
+fn push_sizes(alloc: Global, text: &mut String, function: &Function) -> Result<(), AllocError>
     ensures { OnOk result (string_bytes text.new ≡ string_bytes text.old ++ sizes_text (parts_of function.now)) }
 {
     let words = function_words(alloc, &function.image)?;
@@ -95,42 +95,42 @@ fn push_sizes(alloc: Global, text: &mut String, function: &Function<'_>) -> Resu
 }
 
 /// What the function is, at the end of a text.
-fn push_first(alloc: Global, text: &mut String, function: &Function<'_>) -> Result<(), AllocError>
+fn push_first(alloc: Global, text: &mut String, function: &Function) -> Result<(), AllocError>
     ensures { OnOk result (string_bytes text.new ≡ string_bytes text.old ++ first_line (parts_of function.now)) }
 {
     text.push_str("# ")?;
-    text.push_str(function.name)?;
+    text.push_str(function.name.as_str())?;
     text.push_str(": made by factc function; ")?;
     push_sizes(alloc, text, function)?;
     text.push_str("\n")
 }
 
 /// How its words stand, at the end of a text.
-fn push_place(text: &mut String, function: &Function<'_>) -> Result<(), AllocError>
+fn push_place(text: &mut String, function: &Function) -> Result<(), AllocError>
     ensures { OnOk result (string_bytes text.new ≡ string_bytes text.old ++ place_lines (parts_of function.now)) }
 {
     text.push_str(
         "    .option push\n    .option norvc\n    .option norelax\n    .cfi_sections .debug_frame\n    .section .text.",
     )?;
-    text.push_str(function.name)?;
+    text.push_str(function.name.as_str())?;
     text.push_str(", \"ax\", @progbits\n    .p2align 2\n")
 }
 
 /// Its symbol, at the end of a text.
-fn push_symbol(text: &mut String, function: &Function<'_>) -> Result<(), AllocError>
+fn push_symbol(text: &mut String, function: &Function) -> Result<(), AllocError>
     ensures { OnOk result (string_bytes text.new ≡ string_bytes text.old ++ symbol_lines (parts_of function.now)) }
 {
     text.push_str("    .globl ")?;
-    text.push_str(function.name)?;
+    text.push_str(function.name.as_str())?;
     text.push_str("\n    .type ")?;
-    text.push_str(function.name)?;
+    text.push_str(function.name.as_str())?;
     text.push_str(", @function\n")?;
-    text.push_str(function.name)?;
+    text.push_str(function.name.as_str())?;
     text.push_str(":\n    .cfi_startproc\n")
 }
 
 /// What stands before the words, at the end of a text.
-fn push_head(alloc: Global, text: &mut String, function: &Function<'_>) -> Result<(), AllocError>
+fn push_head(alloc: Global, text: &mut String, function: &Function) -> Result<(), AllocError>
     ensures { OnOk result (string_bytes text.new ≡ string_bytes text.old ++ head_lines (parts_of function.now)) }
 {
     push_first(alloc, text, function)?;
@@ -139,13 +139,13 @@ fn push_head(alloc: Global, text: &mut String, function: &Function<'_>) -> Resul
 }
 
 /// What stands behind the words, at the end of a text.
-fn push_tail(text: &mut String, function: &Function<'_>) -> Result<(), AllocError>
+fn push_tail(text: &mut String, function: &Function) -> Result<(), AllocError>
     ensures { OnOk result (string_bytes text.new ≡ string_bytes text.old ++ tail_lines (parts_of function.now)) }
 {
     text.push_str("    .cfi_endproc\n    .size ")?;
-    text.push_str(function.name)?;
+    text.push_str(function.name.as_str())?;
     text.push_str(", . - ")?;
-    text.push_str(function.name)?;
+    text.push_str(function.name.as_str())?;
     text.push_str("\n    .option pop\n")
 }
 
@@ -177,7 +177,7 @@ fn push_exit(alloc: Global, text: &mut String, image: &ImageFields) -> Result<()
 
 /// The text of a function for a GNU or LLVM assembler: its words as numbers, each with its instruction as a comment, with
 /// the function's symbol, and what a debugger has to know at each word. It is refused only when out of memory.
-pub fn assembler_text(alloc: Global, function: &Function<'_>) -> Result<String, AllocError>
+pub fn assembler_text(alloc: Global, function: &Function) -> Result<String, AllocError>
     ensures { IfOk result (λ text. IsAssemblerText (parts_of function.now) (string_bytes text)) }
 {
     let mut text = String::new(alloc);

@@ -13,7 +13,7 @@ use crate::function_text::naming::{Macros, is_taken_name, macros_of, written_nam
 use codegen::Code;
 use codegen::image_fields::ImageFields;
 use hepurita::{Compiled, Optimisation, compile_with};
-use language::{Param, Parameter, Procedure, Profile, Program, Refusal};
+use language::{Name, Param, Parameter, Procedure, Profile, Program, Refusal};
 use std::alloc::{AllocError, Global};
 
 /// A parameter under the name that is written for it.
@@ -25,8 +25,8 @@ pub struct NamedParam {
 
 /// A function for C: the code of the image of an accepted text, under the names of its export.
 #[derive(Drop)]
-pub struct Function<'a> {
-    pub name: &'a str,
+pub struct Function {
+    pub name: Name,
     pub parameters: Vec<NamedParam>,
     pub image: ImageFields,
 }
@@ -35,13 +35,13 @@ pub struct Function<'a> {
 fn named_params(
     alloc: Global,
     macros: &Macros<'_>,
-    parameters: &[Parameter<'_>],
+    parameters: &[Parameter],
 ) -> Result<Vec<NamedParam>, AllocError>
     ensures { IfOk result (λ params. map named params.items ≡ map (written_parameter macros.now.function.now) (map parameter_tree parameters.now)) }
 {
     let mut params = Vec::with_capacity(alloc, parameters.len())?;
     for parameter in parameters {
-        let name = written_name(alloc, macros, parameter.name)?;
+        let name = written_name(alloc, macros, parameter.name.as_str())?;
         params.push(NamedParam {
             name,
             param: parameter.param(),
@@ -51,7 +51,7 @@ fn named_params(
 }
 
 /// The export of a program that has one.
-fn export_of<'p, 'a>(program: &'p Program<'a>) -> &'p Procedure<'a>
+fn export_of(program: &Program) -> &Procedure
     requires { (before : List ProcedureTree) × (export : ProcedureTree) × (exported [] (program_tree program.now).procedures ≡ Some (before, export)) }
     ensures { (before : List ProcedureTree) × (exported [] (program_tree program.now).procedures ≡ Some (before, procedure_tree result.now)) }
 {
@@ -62,34 +62,32 @@ fn export_of<'p, 'a>(program: &'p Program<'a>) -> &'p Procedure<'a>
 }
 
 /// The function of an export whose name is free, and of its code.
-fn named_function<'a>(
-    alloc: Global,
-    export: &Procedure<'a>,
-    code: Code,
-) -> Result<Function<'a>, Refusal>
-    requires { is_taken_name export.now.name.now ≡ false }
+fn named_function(alloc: Global, export: &Procedure, code: Code) -> Result<Function, Refusal>
+    requires { is_taken_name export.now.name ≡ false }
     ensures made { IfOk result (λ function. IsOfExport (procedure_tree export.now) code (parts_of function)) }
     ensures memory { IfErr result (λ refusal. IsWantOfMemory refusal.rule refusal.place) }
 {
-    let macros = macros_of(alloc, export.name)?;
+    let text = export.name.as_str();
+    let macros = macros_of(alloc, text)?;
     let parameters = named_params(alloc, &macros, export.parameters.as_slice())?;
+    let name = Name::new(alloc, text)?;
     Ok(Function {
-        name: export.name,
+        name,
         parameters,
         image: code.into_fields(),
     })
 }
 
 /// The function of an export and of its code.
-fn of_export<'a>(
+fn of_export(
     alloc: Global,
-    export: &Procedure<'a>,
+    export: &Procedure,
     code: Code,
-) -> Result<Function<'a>, FunctionFault<Refusal>>
+) -> Result<Function, FunctionFault<Refusal>>
     ensures made { IfOk result (λ function. IsOfExport (procedure_tree export.now) code (parts_of function)) }
     ensures fault { IfErr result (λ fault. IsUnlessMemory fault (IsTaken (procedure_tree export.now))) }
 {
-    if is_taken_name(export.name) {
+    if is_taken_name(export.name.as_str()) {
         return Err(FunctionFault::Name(export.place));
     }
     Ok(named_function(alloc, export, code)?)
@@ -97,12 +95,12 @@ fn of_export<'a>(
 
 /// The function of a text that is accepted for an observer of this profile, with plain or optimised code. A text that is not
 /// is refused as by `compile_with`, before its names are looked at; then an export's name that C, C++ or an assembler cannot take.
-pub fn function_of<'a>(
+pub fn function_of(
     alloc: Global,
-    text: &'a str,
+    text: &str,
     profile: Profile,
     optimisation: Optimisation,
-) -> Result<Function<'a>, FunctionFault<Refusal>>
+) -> Result<Function, FunctionFault<Refusal>>
     ensures made { IfOk result (λ function. IsFunctionOf optimisation profile text.now (parts_of function)) }
     ensures fault { IfErr result (IsFaultOf profile text.now) }
 {

@@ -152,10 +152,10 @@ fn push_promise(text: &mut String, profile: Profile) -> Result<(), AllocError>
 }
 
 /// What is premised and what is promised, at the end of a text.
-fn push_comment(text: &mut String, function: &Function<'_>) -> Result<(), AllocError>
+fn push_comment(text: &mut String, function: &Function) -> Result<(), AllocError>
     ensures { OnOk result (string_bytes text.new ≡ string_bytes text.old ++ comment_lines (parts_of function.now)) }
 {
-    push_premise(text, function.name)?;
+    push_premise(text, function.name.as_str())?;
     push_promise(text, function.image.profile())
 }
 
@@ -206,13 +206,13 @@ fn push_stack(text: &mut String, name: &str, bytes: u32) -> Result<(), AllocErro
 }
 
 /// The prototype, at the end of a text.
-fn push_prototype(text: &mut String, function: &Function<'_>) -> Result<(), AllocError>
+fn push_prototype(text: &mut String, function: &Function) -> Result<(), AllocError>
     ensures { OnOk result (string_bytes text.new ≡ string_bytes text.old ++ prototype_lines (parts_of function.now)) }
 {
     text.push_str("#ifdef __cplusplus\nextern \"C\" {\n#endif\n")?;
     push_result(text, function.image.returned())?;
     text.push_str(" ")?;
-    text.push_str(function.name)?;
+    text.push_str(function.name.as_str())?;
     text.push_str("(\n    ")?;
     push_parameters(text, function.parameters.as_slice())?;
     text.push_str(");\n#ifdef __cplusplus\n}\n#endif\n#endif\n")
@@ -220,14 +220,14 @@ fn push_prototype(text: &mut String, function: &Function<'_>) -> Result<(), Allo
 
 /// The C header of a function: its prototype with the names of the source, the bytes of stack that a call takes, and what
 /// it needs of its caller. It is refused only when out of memory.
-pub fn header_text(alloc: Global, function: &Function<'_>) -> Result<String, AllocError>
+pub fn header_text(alloc: Global, function: &Function) -> Result<String, AllocError>
     ensures { IfOk result (λ text. string_bytes text ≡ header_text (parts_of function.now)) }
 {
     let mut text = String::new(alloc);
     push_comment(&mut text, function)?;
-    push_guard(&mut text, function.name)?;
+    push_guard(&mut text, function.name.as_str())?;
     push_includes(&mut text)?;
-    push_stack(&mut text, function.name, room_of(&function.image))?;
+    push_stack(&mut text, function.name.as_str(), room_of(&function.image))?;
     push_prototype(&mut text, function)?;
     Ok(text)
 }

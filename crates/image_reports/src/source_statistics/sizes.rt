@@ -19,7 +19,7 @@ pub fn push_sizes(
     alloc: Global,
     text: &mut String,
     ranged: &Ranged<'_>,
-    program: &Program<'_>,
+    program: &Program,
 ) -> Result<(), AllocError>
     requires { IfSome (exported [] (program_tree program.now).procedures) (λ export. ranged.now.flat ≡ flattened ranged.now.flat.profile export.0 export.1) }
     ensures { OnOk result (string_bytes text.new ≡ string_bytes text.old ++ export_lines (exported [] (program_tree program.now).procedures)) }
@@ -31,10 +31,10 @@ pub fn push_sizes(
 }
 
 /// The same of an export behind the procedures that it may call.
-fn push_export<'a>(
+fn push_export(
     alloc: Global,
-    earlier: &[Procedure<'a>],
-    export: &Procedure<'a>,
+    earlier: &[Procedure],
+    export: &Procedure,
     ranged: &Ranged<'_>,
     text: &mut String,
 ) -> Result<(), AllocError>
@@ -47,10 +47,10 @@ fn push_export<'a>(
 }
 
 /// What it costs of the limit on work.
-fn work_of<'a>(
+fn work_of(
     alloc: Global,
-    earlier: &[Procedure<'a>],
-    export: &Procedure<'a>,
+    earlier: &[Procedure],
+    export: &Procedure,
     ranged: &Ranged<'_>,
 ) -> Result<Cost, AllocError>
     requires { ranged.now.flat ≡ flattened ranged.now.flat.profile (map procedure_tree earlier.now) (procedure_tree export.now) }

@@ -72,12 +72,12 @@ pub fn first_fault_by<P, A, F: Fn(&P, &A) -> Option<ArgumentRule>>(
 }
 
 /// The first fault of a procedure's arguments: of each argument its shape before its values.
-pub fn first_fault_of(parameters: &[Parameter<'_>], args: &Args) -> Option<ArgumentFault>
+pub fn first_fault_of(parameters: &[Parameter], args: &Args) -> Option<ArgumentFault>
     ensures { result ≡ fault_of (map param_of (map parameter_tree parameters.now)) args.now }
 {
     first_fault_by(
         parameters,
         args.as_slice(),
-        |parameter: &Parameter<'_>, arg: &Arg| broken_rule(&parameter.param(), arg),
+        |parameter: &Parameter, arg: &Arg| broken_rule(&parameter.param(), arg),
     )
 }

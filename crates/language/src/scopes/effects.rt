@@ -23,14 +23,14 @@ fn may_assign(callee: Option<Callee>) -> bool
 }
 
 /// Whether the call may assign to something public.
-fn call_assigns<'a>(names: &Scope<'a>, call: &Call<'a>) -> bool
+fn call_assigns(names: &Scope<'_>, call: &Call) -> bool
     ensures { result ≡ calls_one names.now (call_tree call.now) }
 {
-    may_assign(names.callee(call.name))
+    may_assign(names.callee(call.name.as_str()))
 }
 
 /// Whether a right side may assign to something public.
-fn right_assigns<'a>(names: &Scope<'a>, right: &RightSide<'a>) -> bool
+fn right_assigns(names: &Scope<'_>, right: &RightSide) -> bool
     ensures { result ≡ right_assigns names.now (right_tree right.now) }
 {
     match right {
@@ -42,7 +42,7 @@ fn right_assigns<'a>(names: &Scope<'a>, right: &RightSide<'a>) -> bool
 /// Whether a statement declares a public name with `mut`, or calls a procedure that may assign to
 /// something public.
 #[cycle(effect)]
-fn statement_assigns<'a>(names: &Scope<'a>, statement: &Statement<'a>) -> bool
+fn statement_assigns(names: &Scope<'_>, statement: &Statement) -> bool
     ensures { result ≡ statement_assigns names.now (statement_tree statement.now) }
 {
     match statement {
@@ -62,7 +62,7 @@ fn statement_assigns<'a>(names: &Scope<'a>, statement: &Statement<'a>) -> bool
 
 /// Whether one of these statements does.
 #[cycle(effect)]
-fn block_assigns<'a>(names: &Scope<'a>, statements: &[Statement<'a>]) -> bool
+fn block_assigns(names: &Scope<'_>, statements: &[Statement]) -> bool
     ensures { result ≡ block_assigns names.now (block_tree statements.now) }
 {
     for one in statements {
@@ -74,7 +74,7 @@ fn block_assigns<'a>(names: &Scope<'a>, statements: &[Statement<'a>]) -> bool
 }
 
 /// Whether one of the parameters is public and may be assigned to.
-fn parameters_assign(parameters: &[Parameter<'_>]) -> bool
+fn parameters_assign(parameters: &[Parameter]) -> bool
     ensures { result ≡ parameters_assign (map parameter_tree parameters.now) }
 {
     for parameter in parameters {
@@ -87,7 +87,7 @@ fn parameters_assign(parameters: &[Parameter<'_>]) -> bool
 
 /// Whether a call of the procedure may assign to something public. The names are those of the
 /// earlier procedures.
-pub fn assigns_public<'a>(names: &Scope<'a>, procedure: &Procedure<'a>) -> bool
+pub fn assigns_public(names: &Scope<'_>, procedure: &Procedure) -> bool
     ensures { result ≡ assigns_public names.now (procedure_tree procedure.now) }
 {
     parameters_assign(procedure.parameters.as_slice())

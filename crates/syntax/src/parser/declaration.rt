@@ -6,14 +6,11 @@ ghost use Rattle.syntax.specs.private.ParserViews.{Leads};
 ghost use Rattle.syntax.specs.Below.{expr_tree, ExprTree, statement_tree, StatementTree};
 
 use super::{Fault, Parser};
-use crate::{
-    ArrayDeclaration, Assignment, Declaration, ElementAssignment, Expr, Keyword, Kind, Label,
-    Place, Sign, Statement, Token, TokenKind,
-};
+use crate::{Expr, Keyword, Kind, Label, Place, Sign, Statement, Token, TokenKind};
 
-impl<'a, 't> Parser<'a, 't> {
+impl<'t> Parser<'t> {
     /// The first values of an array, where they are written.
-    fn first_values(&mut self) -> Result<Option<Vec<Expr<'a>>>, Fault>
+    fn first_values(&mut self) -> Result<Option<Vec<Expr>>, Fault>
         ensures leads { (k : Option (List ExprTree) → State)
             → Leads (first_values k) (λ vs. k (option_map (λ values. map expr_tree values.items) vs)) result self.old self.new }
         ensures shorter { OnOk result (length self.new.rest.now ≤ length self.old.rest.now) }
@@ -33,7 +30,7 @@ impl<'a, 't> Parser<'a, 't> {
         mutable: bool,
         kind: Kind,
         words: u16,
-    ) -> Result<Statement<'a>, Fault>
+    ) -> Result<Statement, Fault>
         ensures leads { (k : StatementTree → State)
             → Leads (declared_array label mutable kind words k) (λ s. k (statement_tree s)) result self.old self.new }
         ensures shorter { OnOk result (length self.new.rest.now ≤ length self.old.rest.now) }
@@ -41,24 +38,11 @@ impl<'a, 't> Parser<'a, 't> {
         let name = self.expect(TokenKind::Name)?;
         let values = self.first_values()?;
         self.expect(TokenKind::Sign(Sign::Semicolon))?;
-        Ok(Statement::DeclareArray(ArrayDeclaration {
-            label,
-            mutable,
-            kind,
-            length: words,
-            place: name.place,
-            name: name.text,
-            values,
-        }))
+        self.array_named(name, label, mutable, kind, words, values)
     }
 
     /// A declaration of a word, after its type.
-    fn declared_word(
-        &mut self,
-        label: Label,
-        mutable: bool,
-        kind: Kind,
-    ) -> Result<Statement<'a>, Fault>
+    fn declared_word(&mut self, label: Label, mutable: bool, kind: Kind) -> Result<Statement, Fault>
         ensures leads { (k : StatementTree → State)
             → Leads (declared_word label mutable kind k) (λ s. k (statement_tree s)) result self.old self.new }
         ensures shorter { OnOk result (length self.new.rest.now ≤ length self.old.rest.now) }
@@ -66,18 +50,11 @@ impl<'a, 't> Parser<'a, 't> {
         let name = self.expect(TokenKind::Name)?;
         self.expect(TokenKind::Sign(Sign::Assign))?;
         let value = self.right_end()?;
-        Ok(Statement::Declare(Declaration {
-            label,
-            mutable,
-            kind,
-            place: name.place,
-            name: name.text,
-            value,
-        }))
+        self.word_named(name, label, mutable, kind, value)
     }
 
     /// A declaration, after its label and `mut`.
-    fn declared_as(&mut self, label: Label, mutable: bool) -> Result<Statement<'a>, Fault>
+    fn declared_as(&mut self, label: Label, mutable: bool) -> Result<Statement, Fault>
         ensures leads { (k : StatementTree → State)
             → Leads (declared_as label mutable k) (λ s. k (statement_tree s)) result self.old self.new }
         ensures shorter { OnOk result (length self.new.rest.now ≤ length self.old.rest.now) }
@@ -93,7 +70,7 @@ impl<'a, 't> Parser<'a, 't> {
     }
 
     /// A declaration, after its label.
-    pub fn declared(&mut self, label: Label) -> Result<Statement<'a>, Fault>
+    pub fn declared(&mut self, label: Label) -> Result<Statement, Fault>
         ensures leads { (k : StatementTree → State)
             → Leads (declared_state label k) (λ s. k (statement_tree s)) result self.old self.new }
         ensures shorter { OnOk result (length self.new.rest.now ≤ length self.old.rest.now) }
@@ -105,22 +82,17 @@ impl<'a, 't> Parser<'a, 't> {
     }
 
     /// An assignment, after its name and `=`.
-    fn assigned(&mut self, name: Token<'a>, place: Place) -> Result<Statement<'a>, Fault>
+    fn assigned(&mut self, name: Token<'t>, place: Place) -> Result<Statement, Fault>
         ensures leads { (k : StatementTree → State)
             → Leads (assigned (lexeme name.entry) place k) (λ s. k (statement_tree s)) result self.old self.new }
         ensures shorter { OnOk result (length self.new.rest.now ≤ length self.old.rest.now) }
     {
         let value = self.right_end()?;
-        Ok(Statement::Assign(Assignment {
-            place,
-            target: name.place,
-            name: name.text,
-            value,
-        }))
+        self.assignment_named(name, place, value)
     }
 
     /// An assignment to an element, after its name and `[`.
-    fn element_assigned(&mut self, name: Token<'a>, bracket: Place) -> Result<Statement<'a>, Fault>
+    fn element_assigned(&mut self, name: Token<'t>, bracket: Place) -> Result<Statement, Fault>
         ensures leads { (k : StatementTree → State)
             → Leads (element_assigned (lexeme name.entry) bracket k) (λ s. k (statement_tree s)) result self.old self.new }
         ensures shorter { OnOk result (length self.new.rest.now ≤ length self.old.rest.now) }
@@ -128,18 +100,11 @@ impl<'a, 't> Parser<'a, 't> {
         let index = self.expression_to(TokenKind::Sign(Sign::CloseSquare))?;
         let sign = self.expect(TokenKind::Sign(Sign::Assign))?;
         let value = self.right_end()?;
-        Ok(Statement::AssignElement(ElementAssignment {
-            place: sign.place,
-            bracket,
-            target: name.place,
-            name: name.text,
-            index,
-            value,
-        }))
+        self.element_named(name, sign.place, bracket, index, value)
     }
 
     /// A call as a statement, after its name.
-    fn called_alone(&mut self, name: Token<'a>) -> Result<Statement<'a>, Fault>
+    fn called_alone(&mut self, name: Token<'t>) -> Result<Statement, Fault>
         ensures leads { (k : StatementTree → State)
             → Leads (called_alone (lexeme name.entry) k) (λ s. k (statement_tree s)) result self.old self.new }
         ensures shorter { OnOk result (length self.new.rest.now ≤ length self.old.rest.now) }
@@ -151,7 +116,7 @@ impl<'a, 't> Parser<'a, 't> {
     }
 
     /// A statement that begins with a name, after the name.
-    pub fn targeted(&mut self, name: Token<'a>) -> Result<Statement<'a>, Fault>
+    pub fn targeted(&mut self, name: Token<'t>) -> Result<Statement, Fault>
         ensures leads { (k : StatementTree → State)
             → Leads (targeted_state (lexeme name.entry) k) (λ s. k (statement_tree s)) result self.old self.new }
         ensures shorter { OnOk result (length self.new.rest.now ≤ length self.old.rest.now) }

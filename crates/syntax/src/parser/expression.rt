@@ -3,7 +3,7 @@ ghost use Rattle.syntax.specs.Lexeme.{lexeme};
 ghost use Rattle.syntax.specs.private.Machine.{State, expr, more, operand as operand_state, named as named_state, linked, link_level, after_select, converted, ended};
 ghost use Rattle.syntax.specs.private.ParserViews.{Leads, after_sign};
 ghost use Rattle.syntax.specs.Below.{binary as binary_tree, convert as convert_tree, element as element_tree};
-ghost use Rattle.syntax.specs.Below.{expr_tree, ExprTree, prefix as prefix_tree, rotate as rotate_tree};
+ghost use Rattle.syntax.specs.Below.{expr_tree, ExprTree, name as name_tree, prefix as prefix_tree, rotate as rotate_tree};
 
 use super::operator::{
     Begins, Link, OPERAND_LEVEL, PREFIX_LEVEL, begins_of, level_of, link_of, suffix_kind,
@@ -19,22 +19,17 @@ struct Joint {
     place: Place,
 }
 
-impl<'a, 't> Parser<'a, 't> {
+impl<'t> Parser<'t> {
     /// An expression that is a part of another.
-    fn boxed(&self, part: Expr<'a>) -> Result<Box<Expr<'a>>, Fault>
-        ensures same { IfOk result (λ b. b.value ≡ part.entry) }
+    fn boxed(&self, part: Expr) -> Result<Box<Expr>, Fault>
+        ensures same { IfOk result (λ b. b.value ≡ part) }
         ensures memory { IfErr result (λ f. f ≡ Fault.Memory) }
     {
         Ok(Box::new(self.alloc, part)?)
     }
 
-    fn prefix(
-        &self,
-        place: Place,
-        operator: PrefixOperator,
-        operand: Expr<'a>,
-    ) -> Result<Expr<'a>, Fault>
-        ensures tree { IfOk result (λ e. expr_tree e ≡ prefix_tree place operator (expr_tree operand.entry)) }
+    fn prefix(&self, place: Place, operator: PrefixOperator, operand: Expr) -> Result<Expr, Fault>
+        ensures tree { IfOk result (λ e. expr_tree e ≡ prefix_tree place operator (expr_tree operand)) }
         ensures memory { IfErr result (λ f. f ≡ Fault.Memory) }
     {
         let operand = self.boxed(operand)?;
@@ -45,11 +40,11 @@ impl<'a, 't> Parser<'a, 't> {
         &self,
         place: Place,
         operator: BinaryOperator,
-        left: Expr<'a>,
-        right: Expr<'a>,
-    ) -> Result<Expr<'a>, Fault>
+        left: Expr,
+        right: Expr,
+    ) -> Result<Expr, Fault>
         ensures tree { IfOk result (λ e. expr_tree e
-            ≡ binary_tree place operator (expr_tree left.entry) (expr_tree right.entry)) }
+            ≡ binary_tree place operator (expr_tree left) (expr_tree right)) }
         ensures memory { IfErr result (λ f. f ≡ Fault.Memory) }
     {
         let left = self.boxed(left)?;
@@ -57,35 +52,44 @@ impl<'a, 't> Parser<'a, 't> {
         Ok(Expr::Binary(place, operator, left, right))
     }
 
-    fn rotate(&self, place: Place, operand: Expr<'a>, amount: u32) -> Result<Expr<'a>, Fault>
-        ensures tree { IfOk result (λ e. expr_tree e ≡ rotate_tree place (expr_tree operand.entry) amount) }
+    fn rotate(&self, place: Place, operand: Expr, amount: u32) -> Result<Expr, Fault>
+        ensures tree { IfOk result (λ e. expr_tree e ≡ rotate_tree place (expr_tree operand) amount) }
         ensures memory { IfErr result (λ f. f ≡ Fault.Memory) }
     {
         let operand = self.boxed(operand)?;
         Ok(Expr::Rotate(place, operand, amount))
     }
 
-    fn convert(&self, place: Place, kind: Kind, operand: Expr<'a>) -> Result<Expr<'a>, Fault>
-        ensures tree { IfOk result (λ e. expr_tree e ≡ convert_tree place kind (expr_tree operand.entry)) }
+    fn convert(&self, place: Place, kind: Kind, operand: Expr) -> Result<Expr, Fault>
+        ensures tree { IfOk result (λ e. expr_tree e ≡ convert_tree place kind (expr_tree operand)) }
         ensures memory { IfErr result (λ f. f ≡ Fault.Memory) }
     {
         let operand = self.boxed(operand)?;
         Ok(Expr::Convert(place, kind, operand))
     }
 
-    fn element(&self, place: Place, array: Token<'a>, index: Expr<'a>) -> Result<Expr<'a>, Fault>
-        ensures tree { IfOk result (λ e. expr_tree e
-            ≡ element_tree place array.entry.place array.entry.text.now (expr_tree index.entry)) }
+    fn variable(&self, name: Token<'t>) -> Result<Expr, Fault>
+        ensures tree { IfOk result (λ e. expr_tree e ≡ name_tree name.entry.place name.entry.text.now) }
         ensures memory { IfErr result (λ f. f ≡ Fault.Memory) }
     {
+        let text = self.name(name)?;
+        Ok(Expr::Name(name.place, text))
+    }
+
+    fn element(&self, place: Place, array: Token<'t>, index: Expr) -> Result<Expr, Fault>
+        ensures tree { IfOk result (λ e. expr_tree e
+            ≡ element_tree place array.entry.place array.entry.text.now (expr_tree index)) }
+        ensures memory { IfErr result (λ f. f ≡ Fault.Memory) }
+    {
+        let name = self.name(array)?;
         let index = self.boxed(index)?;
-        Ok(Expr::Element(place, array.place, array.text, index))
+        Ok(Expr::Element(place, array.place, name, index))
     }
 
     /// An expression in which no sign between operands, outside all brackets, binds below the
     /// level.
     #[cycle(expression)]
-    pub fn expression(&mut self, level: u8) -> Result<Expr<'a>, Fault>
+    pub fn expression(&mut self, level: u8) -> Result<Expr, Fault>
         ensures leads { (k : ExprTree → State)
             → Leads (expr level k) (λ e. k (expr_tree e)) result self.old self.new }
         ensures shorter { OnOk result (length self.new.rest.now < length self.old.rest.now) }
@@ -96,9 +100,9 @@ impl<'a, 't> Parser<'a, 't> {
 
     /// What stands after the first operand of an expression.
     #[cycle(expression)]
-    pub fn further(&mut self, level: u8, first: Expr<'a>) -> Result<Expr<'a>, Fault>
+    pub fn further(&mut self, level: u8, first: Expr) -> Result<Expr, Fault>
         ensures leads { (k : ExprTree → State)
-            → Leads (more level OPERAND_LEVEL (expr_tree first.entry) k) (λ e. k (expr_tree e)) result self.old self.new }
+            → Leads (more level OPERAND_LEVEL (expr_tree first) k) (λ e. k (expr_tree e)) result self.old self.new }
         ensures shorter { OnOk result (length self.new.rest.now ≤ length self.old.rest.now) }
     {
         let mut left = first;
@@ -135,9 +139,9 @@ impl<'a, 't> Parser<'a, 't> {
 
     /// What stands after a sign between operands.
     #[cycle(expression)]
-    fn joined(&mut self, joint: Joint, left: Expr<'a>) -> Result<Expr<'a>, Fault>
+    fn joined(&mut self, joint: Joint, left: Expr) -> Result<Expr, Fault>
         ensures leads { (level : ℕ) (k : ExprTree → State)
-            → Leads (linked joint.link joint.place level (expr_tree left.entry) k)
+            → Leads (linked joint.link joint.place level (expr_tree left) k)
             (λ e. more level (link_level joint.link) (expr_tree e) k) result self.old self.new }
         ensures shorter { OnOk result (length self.new.rest.now ≤ length self.old.rest.now) }
     {
@@ -154,7 +158,7 @@ impl<'a, 't> Parser<'a, 't> {
     }
 
     #[cycle(expression)]
-    fn operand(&mut self) -> Result<Expr<'a>, Fault>
+    fn operand(&mut self) -> Result<Expr, Fault>
         ensures leads { (level : ℕ) (k : ExprTree → State)
             → Leads (expr level k) (λ e. more level OPERAND_LEVEL (expr_tree e) k) result self.old self.new }
         ensures shorter { OnOk result (length self.new.rest.now < length self.old.rest.now) }
@@ -169,7 +173,7 @@ impl<'a, 't> Parser<'a, 't> {
 
     /// An operand, after its first token.
     #[cycle(expression)]
-    fn operand_from(&mut self, begins: Begins, token: Token<'a>) -> Result<Expr<'a>, Fault>
+    fn operand_from(&mut self, begins: Begins, token: Token<'t>) -> Result<Expr, Fault>
         ensures leads { (k : ExprTree → State)
             → Leads (operand_state begins (lexeme token.entry) k) (λ e. k (expr_tree e)) result self.old self.new }
         ensures shorter { OnOk result (length self.new.rest.now ≤ length self.old.rest.now) }
@@ -194,13 +198,13 @@ impl<'a, 't> Parser<'a, 't> {
 
     /// A name's value, or an element's, after the name.
     #[cycle(expression)]
-    pub fn named(&mut self, name: Token<'a>) -> Result<Expr<'a>, Fault>
+    pub fn named(&mut self, name: Token<'t>) -> Result<Expr, Fault>
         ensures leads { (k : ExprTree → State)
             → Leads (named_state (lexeme name.entry) k) (λ e. k (expr_tree e)) result self.old self.new }
         ensures shorter { OnOk result (length self.new.rest.now ≤ length self.old.rest.now) }
     {
         match self.takes(TokenKind::Sign(Sign::OpenSquare))? {
-            None => Ok(Expr::Name(name.place, name.text)),
+            None => self.variable(name),
             Some(opening) => {
                 let index = self.expression_to(TokenKind::Sign(Sign::CloseSquare))?;
                 self.element(opening.place, name, index)
@@ -210,7 +214,7 @@ impl<'a, 't> Parser<'a, 't> {
 
     /// An expression, and the token that ends it.
     #[cycle(expression)]
-    pub fn expression_to(&mut self, end: TokenKind) -> Result<Expr<'a>, Fault>
+    pub fn expression_to(&mut self, end: TokenKind) -> Result<Expr, Fault>
         ensures leads { (k : ExprTree → State)
             → Leads (ended end k) (λ e. k (expr_tree e)) result self.old self.new }
         ensures shorter { OnOk result (length self.new.rest.now < length self.old.rest.now) }
@@ -222,7 +226,7 @@ impl<'a, 't> Parser<'a, 't> {
 
     /// An expression that is a part of another, and the token that ends it.
     #[cycle(expression)]
-    fn part_to(&mut self, end: TokenKind) -> Result<Box<Expr<'a>>, Fault>
+    fn part_to(&mut self, end: TokenKind) -> Result<Box<Expr>, Fault>
         ensures leads { (k : ExprTree → State)
             → Leads (ended end k) (λ b. k (expr_tree b.value)) result self.old self.new }
         ensures shorter { OnOk result (length self.new.rest.now < length self.old.rest.now) }
@@ -233,7 +237,7 @@ impl<'a, 't> Parser<'a, 't> {
 
     /// A conversion, after its keyword.
     #[cycle(expression)]
-    fn conversion(&mut self, place: Place, kind: Kind) -> Result<Expr<'a>, Fault>
+    fn conversion(&mut self, place: Place, kind: Kind) -> Result<Expr, Fault>
         ensures leads { (k : ExprTree → State)
             → Leads (converted place kind k) (λ e. k (expr_tree e)) result self.old self.new }
         ensures shorter { OnOk result (length self.new.rest.now ≤ length self.old.rest.now) }
@@ -245,7 +249,7 @@ impl<'a, 't> Parser<'a, 't> {
 
     /// A `select`, after its keyword.
     #[cycle(expression)]
-    fn select(&mut self, place: Place) -> Result<Expr<'a>, Fault>
+    fn select(&mut self, place: Place) -> Result<Expr, Fault>
         ensures leads { (k : ExprTree → State)
             → Leads (after_select place k) (λ e. k (expr_tree e)) result self.old self.new }
         ensures shorter { OnOk result (length self.new.rest.now ≤ length self.old.rest.now) }

@@ -10,8 +10,8 @@ use crate::{
     Form, Keyword, Kind, Label, Parameter, Place, Procedure, Return, Sign, TokenKind, WordType,
 };
 
-impl<'a, 't> Parser<'a, 't> {
-    pub fn procedure(&mut self) -> Result<Procedure<'a>, Fault>
+impl<'t> Parser<'t> {
+    pub fn procedure(&mut self) -> Result<Procedure, Fault>
         ensures leads { (k : ProcedureTree → State)
             → Leads (procedure_state k) (λ p. k (procedure_tree p)) result self.old self.new }
         ensures shorter { OnOk result (length self.new.rest.now < length self.old.rest.now) }
@@ -24,11 +24,12 @@ impl<'a, 't> Parser<'a, 't> {
         self.expect(TokenKind::Sign(Sign::OpenCurly))?;
         let body = self.statements()?;
         let returned = self.returned()?;
+        let text = self.name(name)?;
         Ok(Procedure {
             export,
             result,
             place: name.place,
-            name: name.text,
+            name: text,
             parameters,
             body,
             returned,
@@ -60,7 +61,7 @@ impl<'a, 't> Parser<'a, 't> {
     }
 
     /// The parameters, after their opening bracket, and the closing one.
-    fn parameters(&mut self) -> Result<Vec<Parameter<'a>>, Fault>
+    fn parameters(&mut self) -> Result<Vec<Parameter>, Fault>
         ensures leads { (k : List ParameterTree → State)
             → Leads (parameters_state k) (λ ps. k (map parameter_tree ps.items)) result self.old self.new }
         ensures shorter { OnOk result (length self.new.rest.now ≤ length self.old.rest.now) }
@@ -79,7 +80,7 @@ impl<'a, 't> Parser<'a, 't> {
         Ok(parameters)
     }
 
-    fn parameter(&mut self) -> Result<Parameter<'a>, Fault>
+    fn parameter(&mut self) -> Result<Parameter, Fault>
         ensures leads { (k : ParameterTree → State)
             → Leads (parameter_state k) (λ p. k (parameter_tree p)) result self.old self.new }
         ensures shorter { OnOk result (length self.new.rest.now < length self.old.rest.now) }
@@ -89,7 +90,7 @@ impl<'a, 't> Parser<'a, 't> {
     }
 
     /// A parameter, after its label.
-    fn labelled(&mut self, label: Label) -> Result<Parameter<'a>, Fault>
+    fn labelled(&mut self, label: Label) -> Result<Parameter, Fault>
         ensures leads { (k : ParameterTree → State)
             → Leads (labelled label k) (λ p. k (parameter_tree p)) result self.old self.new }
         ensures shorter { OnOk result (length self.new.rest.now ≤ length self.old.rest.now) }
@@ -115,24 +116,17 @@ impl<'a, 't> Parser<'a, 't> {
         kind: Kind,
         form: Form,
         words: u16,
-    ) -> Result<Parameter<'a>, Fault>
+    ) -> Result<Parameter, Fault>
         ensures leads { (k : ParameterTree → State)
             → Leads (parameter_name label kind form words k) (λ p. k (parameter_tree p)) result self.old self.new }
         ensures shorter { OnOk result (length self.new.rest.now ≤ length self.old.rest.now) }
     {
         let name = self.expect(TokenKind::Name)?;
-        Ok(Parameter {
-            label,
-            kind,
-            form,
-            length: words,
-            place: name.place,
-            name: name.text,
-        })
+        self.parameter_named(name, label, kind, form, words)
     }
 
     /// The `return` of a body, where it has one, and the closing bracket.
-    fn returned(&mut self) -> Result<Option<Return<'a>>, Fault>
+    fn returned(&mut self) -> Result<Option<Return>, Fault>
         ensures leads { (k : Option ReturnTree → State)
             → Leads (returned_state k) (λ r. k (option_map return_tree r)) result self.old self.new }
         ensures shorter { OnOk result (length self.new.rest.now ≤ length self.old.rest.now) }

@@ -7,9 +7,9 @@ ghost use Rattle.syntax.specs.Below.{call_tree, CallTree, expr_tree, ExprTree, r
 use super::{Fault, Parser};
 use crate::{Call, Expr, RightSide, Sign, Token, TokenKind};
 
-impl<'a, 't> Parser<'a, 't> {
+impl<'t> Parser<'t> {
     /// Expressions, each but the first after a comma, and the token that ends them.
-    pub fn expressions(&mut self, end: TokenKind) -> Result<Vec<Expr<'a>>, Fault>
+    pub fn expressions(&mut self, end: TokenKind) -> Result<Vec<Expr>, Fault>
         ensures leads { (k : List ExprTree → State)
             → Leads (some_exprs end k) (λ es. k (map expr_tree es.items)) result self.old self.new }
         ensures shorter { OnOk result (length self.new.rest.now < length self.old.rest.now) }
@@ -26,7 +26,7 @@ impl<'a, 't> Parser<'a, 't> {
     }
 
     /// Arguments, after their opening bracket, and the closing one.
-    fn arguments(&mut self) -> Result<Vec<Expr<'a>>, Fault>
+    fn arguments(&mut self) -> Result<Vec<Expr>, Fault>
         ensures leads { (k : List ExprTree → State)
             → Leads (arguments_state k) (λ es. k (map expr_tree es.items)) result self.old self.new }
         ensures shorter { OnOk result (length self.new.rest.now < length self.old.rest.now) }
@@ -38,21 +38,22 @@ impl<'a, 't> Parser<'a, 't> {
     }
 
     /// A call, after its opening bracket.
-    pub fn call(&mut self, name: Token<'a>) -> Result<Call<'a>, Fault>
+    pub fn call(&mut self, name: Token<'t>) -> Result<Call, Fault>
         ensures leads { (k : CallTree → State)
             → Leads (call_of (lexeme name.entry) k) (λ c. k (call_tree c)) result self.old self.new }
         ensures shorter { OnOk result (length self.new.rest.now < length self.old.rest.now) }
     {
         let arguments = self.arguments()?;
+        let text = self.name(name)?;
         Ok(Call {
             place: name.place,
-            name: name.text,
+            name: text,
             arguments,
         })
     }
 
     /// A right side that begins with a name, after the name.
-    fn right_side_from(&mut self, name: Token<'a>) -> Result<RightSide<'a>, Fault>
+    fn right_side_from(&mut self, name: Token<'t>) -> Result<RightSide, Fault>
         ensures leads { (k : RightTree → State)
             → Leads (right_from (lexeme name.entry) k) (λ r. k (right_tree r)) result self.old self.new }
         ensures shorter { OnOk result (length self.new.rest.now ≤ length self.old.rest.now) }
@@ -66,7 +67,7 @@ impl<'a, 't> Parser<'a, 't> {
         }
     }
 
-    fn right_side(&mut self) -> Result<RightSide<'a>, Fault>
+    fn right_side(&mut self) -> Result<RightSide, Fault>
         ensures leads { (k : RightTree → State)
             → Leads (right_state k) (λ r. k (right_tree r)) result self.old self.new }
         ensures shorter { OnOk result (length self.new.rest.now < length self.old.rest.now) }
@@ -78,7 +79,7 @@ impl<'a, 't> Parser<'a, 't> {
     }
 
     /// A right side, after its `=`, and the semicolon.
-    pub fn right_end(&mut self) -> Result<RightSide<'a>, Fault>
+    pub fn right_end(&mut self) -> Result<RightSide, Fault>
         ensures leads { (k : RightTree → State)
             → Leads (right_end_state k) (λ r. k (right_tree r)) result self.old self.new }
         ensures shorter { OnOk result (length self.new.rest.now < length self.old.rest.now) }

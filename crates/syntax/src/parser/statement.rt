@@ -19,9 +19,9 @@ pub enum Start {
 
 /// A statement of which the first token is taken.
 #[derive(Clone, Copy)]
-struct Begun<'a> {
+struct Begun<'t> {
     start: Start,
-    token: Token<'a>,
+    token: Token<'t>,
 }
 
 /// How a statement that begins with such a token begins.
@@ -36,10 +36,10 @@ fn starts_with(kind: TokenKind) -> Option<Start>
     }
 }
 
-impl<'a, 't> Parser<'a, 't> {
+impl<'t> Parser<'t> {
     /// A block of one statement.
-    fn alone(&self, statement: Statement<'a>) -> Result<Vec<Statement<'a>>, Fault>
-        ensures items { IfOk result (λ ss. ss.items ≡ statement.entry ∷ []) }
+    fn alone(&self, statement: Statement) -> Result<Vec<Statement>, Fault>
+        ensures items { IfOk result (λ ss. ss.items ≡ statement ∷ []) }
         ensures memory { IfErr result (λ f. f ≡ Fault.Memory) }
     {
         let mut statements = Vec::new(self.alloc);
@@ -49,7 +49,7 @@ impl<'a, 't> Parser<'a, 't> {
 
     /// Statements, up to a token that begins none.
     #[cycle(statement)]
-    pub fn statements(&mut self) -> Result<Vec<Statement<'a>>, Fault>
+    pub fn statements(&mut self) -> Result<Vec<Statement>, Fault>
         ensures leads { (k : BlockTree → State)
             → Leads (statements_state k) (λ ss. k (block_tree ss.items)) result self.old self.new }
         ensures shorter { OnOk result (length self.new.rest.now ≤ length self.old.rest.now) }
@@ -62,7 +62,7 @@ impl<'a, 't> Parser<'a, 't> {
     }
 
     /// Takes the token that stands next, where it begins a statement.
-    fn start(&mut self) -> Result<Option<Begun<'a>>, Fault>
+    fn start(&mut self) -> Result<Option<Begun<'t>>, Fault>
         ensures leads { (k : BlockTree → State)
             → Leads (statements_state k) (after_start k) result self.old self.new }
         ensures shorter { IfOk result (λ b. OnSome b (length self.new.rest.now < length self.old.rest.now)) }
@@ -80,7 +80,7 @@ impl<'a, 't> Parser<'a, 't> {
 
     /// A statement, after its first token.
     #[cycle(statement)]
-    fn statement(&mut self, begun: Begun<'a>) -> Result<Statement<'a>, Fault>
+    fn statement(&mut self, begun: Begun<'t>) -> Result<Statement, Fault>
         ensures leads { (k : StatementTree → State)
             → Leads (statement_state begun.entry.start (lexeme begun.entry.token) k) (λ s. k (statement_tree s)) result self.old self.new }
         ensures shorter { OnOk result (length self.new.rest.now ≤ length self.old.rest.now) }
@@ -95,7 +95,7 @@ impl<'a, 't> Parser<'a, 't> {
 
     /// A conditional, after its keyword.
     #[cycle(statement)]
-    fn conditional(&mut self, place: Place) -> Result<Statement<'a>, Fault>
+    fn conditional(&mut self, place: Place) -> Result<Statement, Fault>
         ensures leads { (k : StatementTree → State)
             → Leads (conditioned place k) (λ s. k (statement_tree s)) result self.old self.new }
         ensures shorter { OnOk result (length self.new.rest.now ≤ length self.old.rest.now) }
@@ -108,7 +108,7 @@ impl<'a, 't> Parser<'a, 't> {
     }
 
     /// The counter of a loop, after its keyword, and the word before its first number.
-    fn counter(&mut self) -> Result<Token<'a>, Fault>
+    fn counter(&mut self) -> Result<Token<'t>, Fault>
         ensures leads { (k : Lexeme → State)
             → Leads (counter_state k) (λ t. k (lexeme t)) result self.old self.new }
         ensures shorter { OnOk result (length self.new.rest.now < length self.old.rest.now) }
@@ -120,9 +120,22 @@ impl<'a, 't> Parser<'a, 't> {
         Ok(name)
     }
 
+    /// The counter that a token names.
+    fn counter_named(&self, token: Token<'t>) -> Result<Counter, Fault>
+        ensures place { IfOk result (λ counter. counter.place ≡ token.entry.place) }
+        ensures name { IfOk result (λ counter. counter.name ≡ token.entry.text.now) }
+        ensures memory { IfErr result (λ f. f ≡ Fault.Memory) }
+    {
+        let name = self.name(token)?;
+        Ok(Counter {
+            place: token.place,
+            name,
+        })
+    }
+
     /// A loop, after its keyword.
     #[cycle(statement)]
-    fn counted(&mut self, place: Place) -> Result<Statement<'a>, Fault>
+    fn counted(&mut self, place: Place) -> Result<Statement, Fault>
         ensures leads { (k : StatementTree → State)
             → Leads (looped place k) (λ s. k (statement_tree s)) result self.old self.new }
         ensures shorter { OnOk result (length self.new.rest.now ≤ length self.old.rest.now) }
@@ -131,16 +144,13 @@ impl<'a, 't> Parser<'a, 't> {
         let low = self.expression_to(TokenKind::Keyword(Keyword::To))?;
         let high = self.expression_to(TokenKind::Sign(Sign::CloseRound))?;
         let body = self.block()?;
-        let counter = Counter {
-            place: name.place,
-            name: name.text,
-        };
+        let counter = self.counter_named(name)?;
         Ok(Statement::For(place, counter, low, high, body))
     }
 
     /// Statements in curly brackets.
     #[cycle(statement)]
-    fn block(&mut self) -> Result<Vec<Statement<'a>>, Fault>
+    fn block(&mut self) -> Result<Vec<Statement>, Fault>
         ensures leads { (k : BlockTree → State)
             → Leads (block_state k) (λ ss. k (block_tree ss.items)) result self.old self.new }
         ensures shorter { OnOk result (length self.new.rest.now < length self.old.rest.now) }
@@ -153,7 +163,7 @@ impl<'a, 't> Parser<'a, 't> {
 
     /// The second arm, where there is one.
     #[cycle(statement)]
-    fn otherwise(&mut self) -> Result<Vec<Statement<'a>>, Fault>
+    fn otherwise(&mut self) -> Result<Vec<Statement>, Fault>
         ensures leads { (k : BlockTree → State)
             → Leads (otherwise_state k) (λ ss. k (block_tree ss.items)) result self.old self.new }
         ensures shorter { OnOk result (length self.new.rest.now ≤ length self.old.rest.now) }
@@ -166,7 +176,7 @@ impl<'a, 't> Parser<'a, 't> {
 
     /// What stands after `else`: one more conditional, or a block.
     #[cycle(statement)]
-    fn after_else(&mut self) -> Result<Vec<Statement<'a>>, Fault>
+    fn after_else(&mut self) -> Result<Vec<Statement>, Fault>
         ensures leads { (k : BlockTree → State)
             → Leads (after_else k) (λ ss. k (block_tree ss.items)) result self.old self.new }
         ensures shorter { OnOk result (length self.new.rest.now ≤ length self.old.rest.now) }

@@ -8,7 +8,7 @@ ghost use Rattle.syntax.specs.Below.{Kind as KindOf, Label as LabelOf};
 
 use super::{Fault, Parser};
 use crate::nesting::NESTING_LIMIT;
-use crate::{Keyword, Kind, Label, ListEnd, Rule, Sign, Token, TokenKind};
+use crate::{Keyword, Kind, Label, ListEnd, Name, Rule, Sign, Token, TokenKind};
 use language::MOST_ELEMENTS;
 
 /// The label that a keyword names.
@@ -84,9 +84,9 @@ fn at_end(end: ListEnd) -> Fault
     }
 }
 
-impl<'a, 't> Parser<'a, 't> {
+impl<'t> Parser<'t> {
     /// The next token, and those after it.
-    pub fn first(&self) -> Result<(Token<'a>, &'t [Token<'a>]), Fault>
+    pub fn first(&self) -> Result<(Token<'t>, &'t [Token<'t>]), Fault>
         ensures found { IfOk result (λ f. self.now.rest.now ≡ f.0 ∷ f.1.now) }
         ensures ended { IfErr result (λ f. (self.now.rest.now ≡ [])
             × FaultIs f (ending_answer (ending self.now.end) None)) }
@@ -98,7 +98,7 @@ impl<'a, 't> Parser<'a, 't> {
     }
 
     /// Takes the next token, which may stand here.
-    pub fn advance(&mut self, token: Token<'a>, rest: &'t [Token<'a>]) -> Result<(), Fault>
+    pub fn advance(&mut self, token: Token<'t>, rest: &'t [Token<'t>]) -> Result<(), Fault>
         requires { self.old.rest.now ≡ token ∷ rest.now }
         ensures leads { (s next : State) → step s (lexeme token.entry) ≡ Some next
             → Leads s (λ _. next) result self.old self.new }
@@ -113,7 +113,7 @@ impl<'a, 't> Parser<'a, 't> {
     }
 
     /// Takes a token of this kind.
-    pub fn expect(&mut self, wanted: TokenKind) -> Result<Token<'a>, Fault>
+    pub fn expect(&mut self, wanted: TokenKind) -> Result<Token<'t>, Fault>
         ensures leads { (k : Lexeme → State)
             → Leads (one wanted k) (λ t. k (lexeme t)) result self.old self.new }
         ensures shorter { OnOk result (length self.new.rest.now < length self.old.rest.now) }
@@ -127,7 +127,7 @@ impl<'a, 't> Parser<'a, 't> {
     }
 
     /// Takes the token that stands next, where it is of this kind.
-    pub fn takes(&mut self, wanted: TokenKind) -> Result<Option<Token<'a>>, Fault>
+    pub fn takes(&mut self, wanted: TokenKind) -> Result<Option<Token<'t>>, Fault>
         ensures leads { (next : Lexeme → State) (other : State)
             → Leads (either wanted next other) (taken next other) result self.old self.new }
         ensures shorter { IfOk result (λ t. OnSome t (length self.new.rest.now < length self.old.rest.now)) }
@@ -141,6 +141,14 @@ impl<'a, 't> Parser<'a, 't> {
         }
         self.advance(token, rest)?;
         Ok(Some(token))
+    }
+
+    /// The name that a token spells.
+    pub fn name(&self, token: Token<'t>) -> Result<Name, Fault>
+        ensures name { IfOk result (λ name. name ≡ token.entry.text.now) }
+        ensures memory { IfErr result (λ f. f ≡ Fault.Memory) }
+    {
+        Ok(Name::new(self.alloc, token.text)?)
     }
 
     pub fn label(&mut self) -> Result<Label, Fault>

@@ -6,6 +6,7 @@ use Rattle.inline.specs.Counts.{counted_extent}
 use Rattle.inline.specs.Measured.{extent_of_measured, extents_in}
 use Rattle.inline.specs.Below.{counted, extent_of, extents_of, nothing_known, parameter_tree, passed_words}
 use Rattle.inline.specs.Below.{procedure_tree}
+use Rattle.language.specs.names.Scope.{declared}
 use Rattle.inline.proofs.sizes.measure_all.Goals as goal
 
 pub loop-procedure-init : goal.loop-procedure-init
@@ -22,4 +23,4 @@ loop-procedure-preserved c =
     c.loop-procedure.invariant
     (λ known same. measured_alike known c.loop-procedure.table c.procedure-item.result measured
     c.passed_words.result same c.as_slice-parameters.ensures.value taken c.size_of-size.ensures)
-    c.in_ok-_taken.ensures.ok
+    (c.in_ok-_taken.ensures.ok ∙ ap (λ text. declared c.loop-procedure.table text measured) c.as_str.ensures)

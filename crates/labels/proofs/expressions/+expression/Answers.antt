@@ -78,7 +78,7 @@ returns-in-Select-clause-typed t c =
 pub returns-in-Element-clause-typed : goal.returns-in-Element-clause-typed
 returns-in-Element-clause-typed t c =
     let n = c.args.names.now in
-    let text = c.in-Element.text.now in
+    let text = c.in-Element.text in
     let b = expr_tree c.in-Element.index.value in
     c.element.ensures.typed
     ∙ ap₂ (of_two None (of_operands element_type)) c.name-array.ensures.typed
@@ -92,7 +92,7 @@ returns-in-Element-clause-first t c =
     let n = c.args.names.now in
     let b = expr_tree c.in-Element.index.value in
     element_seen c.args.first.now.seen c.name-array.new.first.seen c.expression-index.new.first.seen
-    c.element.new.first.seen n c.in-Element.place c.in-Element.target c.in-Element.text.now b c.name-array.result
+    c.element.new.first.seen n c.in-Element.place c.in-Element.target c.in-Element.text b c.name-array.result
     c.expression-index.result c.name-array.ensures.typed
     (c.expression-index.ensures.typed ∙ ap (λ e. typed_of n (expr_tree e)) c.deref-in-Element.ensures)
     c.name-array.ensures.first

@@ -1,4 +1,4 @@
-use Rattle.std.proofs.Common.{length, ap, ◌∙◌}
+use Rattle.std.proofs.Common.{length, ap, ap₂, ◌∙◌}
 use Rattle.labels.specs.Below.{declared, Procedure, procedure_tree, shortened}
 use Rattle.labels.proofs.TreeLemmas.{scope_before_body}
 use Rattle.labels.proofs.procedures.procedure.Goals as goal
@@ -10,6 +10,6 @@ returns-clause-names c =
     ∙ scope_before_body c.len-outside.result c.declare.new.self (procedure_tree c.args.procedure.now).parameters
     (procedure_tree c.args.procedure.now).body c.len-outside.ensures.names c.len-outside.ensures.places
     ∙ c.in_ok-taken.ensures.ok
-    ∙ ap (λ assigns. declared c.args.names.now c.args.procedure.now.place c.args.procedure.now.name.now
+    ∙ ap₂ (λ text assigns. declared c.args.names.now c.args.procedure.now.place text
     (Procedure (record { number = length c.args.earlier.now; assigns_public = assigns })))
-    c.assigns_public.ensures
+    c.as_str.ensures c.assigns_public.ensures

@@ -1,4 +1,4 @@
-use Rattle.std.proofs.Common.{map, false, ◌∙◌, ap}
+use Rattle.std.proofs.Common.{map, false, ◌∙◌, ap, ap₂}
 use Rattle.labels.specs.Below.{block_tree, counter_as, declared, procedure_tree, scope_after_all, shortened, Variable}
 use Rattle.std.proofs.lemmas.Result.{on_ok_weaker}
 use Rattle.labels.proofs.TreeLemmas.{conditional_seen, loop_seen, scope_before, scope_before_turns}
@@ -15,9 +15,9 @@ turns-returns-clause-names t c =
     c.truncate.ensures
     ∙ ap (shortened c.len-before.result) (c.in_ok-statements.ensures.names
     ∙ ap (λ scope. scope_after_all scope (block_tree c.args.body.now)) (c.in_ok-taken.ensures.ok
-    ∙ ap (λ value. declared c.args.names.now c.args.counter.now.place c.args.counter.now.name.now
-    (Variable (record { value = value; mutable = false }))) c.word.ensures))
-    ∙ scope_before_turns c.len-before.result c.args.names.now c.args.counter.now.place c.args.counter.now.name.now
+    ∙ ap₂ (λ text value. declared c.args.names.now c.args.counter.now.place text
+    (Variable (record { value = value; mutable = false }))) c.as_str.ensures c.word.ensures))
+    ∙ scope_before_turns c.len-before.result c.args.names.now c.args.counter.now.place c.args.counter.now.name
     counter_as (block_tree c.args.body.now) c.len-before.ensures.names c.len-before.ensures.places
 
 pub statement-returns-in_ok-arm-in-If-clause-first :

@@ -45,7 +45,7 @@ call-returns-in_err-spend-clause-err t c =
 pub call-returns-in_default-clause-ok : goal.call-returns-in_default-clause-ok
 call-returns-in_default-clause-ok t c =
     call_none _ _ (call_tree c.args.call.now) _ _ _
-    (known-none runnable (map procedure_tree c.args.earlier.now) c.args.call.now.name.now
+    (known-none runnable (map procedure_tree c.args.earlier.now) c.args.call.now.name
     (sym c.in_default.ensures)) c.in_ok-spend.ensures.ok
 
 pub call-returns-in_err-words-clause-err : goal.call-returns-in_err-words-clause-err
@@ -106,7 +106,7 @@ pub repeat-returns-in_err-first-clause-err : goal.repeat-returns-in_err-first-cl
 repeat-returns-in_err-first-clause-err t c =
     passes _ _ _ c.from_residual-in_err-first.ensures.1
     (low_stops (held c.args.running.now.variables) (expr_tree c.args.low.now) (expr_tree c.args.high.now)
-    (λ (i : ℕ) (u : State). run_all (known_of c.args.earlier.now) (counting u c.args.counter.now.name.now i)
+    (λ (i : ℕ) (u : State). run_all (known_of c.args.earlier.now) (counting u c.args.counter.now.name i)
     (block_tree c.args.body.now)) c.args.running.now.left _ c.args.room c.in_ok-spend.ensures.ok _
     c.in_err-first.ensures.err)
 
@@ -114,7 +114,7 @@ pub repeat-returns-in_err-last-clause-err : goal.repeat-returns-in_err-last-clau
 repeat-returns-in_err-last-clause-err t c =
     passes _ _ _ c.from_residual-in_err-last.ensures.1
     (high_stops (held c.args.running.now.variables) (expr_tree c.args.low.now) (expr_tree c.args.high.now)
-    (λ (i : ℕ) (u : State). run_all (known_of c.args.earlier.now) (counting u c.args.counter.now.name.now i)
+    (λ (i : ℕ) (u : State). run_all (known_of c.args.earlier.now) (counting u c.args.counter.now.name i)
     (block_tree c.args.body.now)) c.args.running.now.left _ c.args.room c.in_ok-spend.ensures.ok _ _ _
     c.in_ok-first.ensures.ok c.in_err-last.ensures.err)
 
@@ -146,7 +146,7 @@ pub repeat-returns-in_err-block-clause-err : goal.repeat-returns-in_err-block-cl
 repeat-returns-in_err-block-clause-err t c =
     let l = c.loop-number in
     passes _ _ _ c.from_residual-in_err-block.ensures.1
-    (turn_stops _ (known_of c.args.earlier.now) c.args.counter.now.name.now (block_tree c.args.body.now) _ _
+    (turn_stops _ (known_of c.args.earlier.now) c.args.counter.now.name (block_tree c.args.body.now) _ _
     (held l.running.variables) _ l.number _ l.running.left _ _ c.loop-number-test.true l.invariant.leads
     c.in_ok-spend-2.ensures.ok c.in_ok-set.ensures.ok c.in_err-block.ensures.err)
 
@@ -154,7 +154,7 @@ pub repeat-loop-number-preserved : goal.repeat-loop-number-preserved
 repeat-loop-number-preserved t c =
     let l = c.loop-number in
     record {
-      leads = each_turn _ (known_of c.args.earlier.now) c.args.counter.now.name.now (block_tree c.args.body.now) _ _
+      leads = each_turn _ (known_of c.args.earlier.now) c.args.counter.now.name (block_tree c.args.body.now) _ _
           (held l.running.variables) _ _ l.number _ l.running.left _ _ c.loop-number-test.true l.invariant.leads
           c.in_ok-spend-2.ensures.ok c.in_ok-set.ensures.ok c.in_ok-block.ensures.ok;
       spends = omega (arith, c.in_ok-spend-2.ensures.ok, c.in_ok-block.ensures.ok.spends);

@@ -46,7 +46,7 @@ invariant-block-loop-one l = record {
 -- the turns left lead to the end of all
 abbrev pub invariant-repeat-loop-number : goal.invariant-repeat-loop-number
 invariant-repeat-loop-number l = let turn : ℕ → State
-    → Run State = λ i t. run_all (known_of l.earlier) (counting t l.counter.name.now i) (block_tree l.body) in
+    → Run State = λ i t. run_all (known_of l.earlier) (counting t l.counter.name i) (block_tree l.body) in
     record {
       leads : Leads (loop_run (held l.fn.running.variables) (expr_tree l.fn.low) (expr_tree l.fn.high) turn)
           l.fn.running.left l.room

@@ -4,6 +4,7 @@ use Rattle.explanations.specs.statement_work.Inlined.{counted_inlined, inlined_o
 use Rattle.explanations.specs.statement_work.Lengths.{inlined, lengths_of}
 use Rattle.explanations.proofs.statement_work_lemmas.Below.{one_told}
 use Rattle.explanations.proofs.statement_work_lemmas.Counts.{inlined_same}
+use Rattle.language.specs.names.Scope.{declared}
 use Rattle.explanations.proofs.statement_work.inlined.lengths.Goals as goal
 
 pub loop-procedure-init : goal.loop-procedure-init
@@ -17,4 +18,5 @@ loop-procedure-preserved c =
     (lengths_of (map procedure_tree c.args.procedures.now)) c.loop-procedure-test.true c.procedure-item.is
     c.loop-procedure.invariant
     (λ known same. c.counted_procedure-one.ensures ∙ inlined_same (lengths_in c.loop-procedure.table) known same tree)
-    c.in_ok-_taken.ensures.ok
+    (c.in_ok-_taken.ensures.ok
+    ∙ ap (λ text. declared c.loop-procedure.table text c.counted_procedure-one.result) c.as_str.ensures)

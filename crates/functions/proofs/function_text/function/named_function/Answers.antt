@@ -9,11 +9,12 @@ returns-clause-made c =
     let given = c.as_slice.result.now in
     record {
       image = c.into_fields.ensures;
-      name = refl;
+      name = c.in_ok-name.ensures ∙ c.as_str-text.ensures;
       free = c.requires;
       parameters =
           c.in_ok-parameters.ensures
-          ∙ ap (λ (name : List ℕ). map (written_parameter name) (map parameter_tree given)) c.in_ok-macros.ensures
-          ∙ ap (λ (ps : List Parameter). map (written_parameter c.args.export.now.name.now) (map parameter_tree ps))
+          ∙ ap (λ (name : List ℕ). map (written_parameter name) (map parameter_tree given))
+          (c.in_ok-macros.ensures ∙ c.as_str-text.ensures)
+          ∙ ap (λ (ps : List Parameter). map (written_parameter c.args.export.now.name) (map parameter_tree ps))
           c.as_slice.ensures.value;
     }

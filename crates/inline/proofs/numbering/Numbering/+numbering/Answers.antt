@@ -72,7 +72,7 @@ turns-returns-clause-names t c =
     ok_any c.push.result
     (c.truncate.ensures
     ∙ ap₂ take c.len-names.ensures (c.in_ok-turn.ensures.names ∙ c.in_ok-number.ensures.names)
-    ∙ names_before_one c.args.self.now.names c.args.counted.now.name.now _)
+    ∙ names_before_one c.args.self.now.names c.args.counted.now.name _)
 
 pub statement-branch-self-requires : goal.statement-branch-self-requires
 statement-branch-self-requires t c =
@@ -113,7 +113,7 @@ word-returns-clause-block t c =
 
 pub call-returns-in_default : goal.call-returns-in_default
 call-returns-in_default t c =
-    let is = not_called c.args.earlier.now c.args.call.now.name.now c.in_default.ensures in
+    let is = not_called c.args.earlier.now c.args.call.now.name c.in_default.ensures in
     record {
       word = rw is refl;
       value = rw is refl;
@@ -146,7 +146,7 @@ inside-returns t c =
 
 pub call-returns : goal.call-returns
 call-returns t c =
-    let is = called c.args.earlier.now c.in-Some.before.now c.in-Some.callee.now c.args.call.now.name.now
+    let is = called c.args.earlier.now c.in-Some.before.now c.in-Some.callee.now c.args.call.now.name
     c.in-Some.ensures in
     let own = c.in_ok-own.ensures in
     let made = c.in_ok-value.ensures in
@@ -162,7 +162,7 @@ call-returns t c =
 
 pub call_alone-returns-in_ok-push-2-clause-block : goal.call_alone-returns-in_ok-push-2-clause-block
 call_alone-returns-in_ok-push-2-clause-block t c =
-    let known = called_by c.args.earlier.now c.args.call.now.name.now in
+    let known = called_by c.args.earlier.now c.args.call.now.name in
     let called = c.in_ok-word.ensures in
     let result : call_result known ≡ Some c.in-Some.word =
     let a = called.word in let b = c.in_ok-word.word-is in let d = c.in-Some.is in cc in

@@ -20,8 +20,12 @@ conditional-returns-clause-leads t c = λ k.
 
 pub counted-returns-clause-leads : goal.counted-returns-clause-leads
 counted-returns-clause-leads t c = λ k.
-    rw row_trees.bodies (simp (c.in_ok-name.ensures.leads, c.in_ok-low.ensures.leads)
-    (simp c.in_ok-high.ensures.leads (c.in_ok-body.ensures.leads _)))
+    rw row_trees.bodies (simp (
+      c.in_ok-counter.ensures.place,
+      c.in_ok-counter.ensures.name,
+      c.in_ok-name.ensures.leads,
+      c.in_ok-low.ensures.leads,
+    ) (simp c.in_ok-high.ensures.leads (c.in_ok-body.ensures.leads _)))
 
 pub otherwise-returns-in_err-takes-clause-leads : goal.otherwise-returns-in_err-takes-clause-leads
 otherwise-returns-in_err-takes-clause-leads t c = λ k.
