@@ -2,7 +2,7 @@
 use Rattle.std.proofs.Common.{◌≡◌, ℕ, ◌+◌, ◌<◌, ◌≤◌, Bool, true, false, cond, is_some, List, [], ◌∷◌, Option, Some}
 use Rattle.std.proofs.Common.{None, drop, get_or, length, map, nat_lt, refl, sym, ap, ap₂, ◌∙◌}
 use Rattle.std.proofs.Math.Path.{fun_ext}
-use Rattle.std.proofs.lemmas.List.{drop_all, drop_more}
+use Rattle.std.proofs.lemmas.List.{drop_all}
 use Rattle.std.proofs.lemmas.Slice.Eq.{bytes_eq-Decides}
 use Rattle.std.specs.Str.{bytes_eq}
 use Rattle.source_eval.specs.Below.{Arg, argument_held, argument_value, begun, empty, Expr, expr_tree, holding}
@@ -51,18 +51,15 @@ over_first s t text v = fun_ext (λ other.
     (λ same. ap s ((bytes_eq-Decides other text).0 same)))
 
 -- the names of a called body
-module _ (s whole : State) (ps : List Parameter) (es : List Expr) (i : ℕ) (d : Parameter) (e : Expr)
-    (inside_ps : i < length ps) (inside_es : i < length es) (is_e : e ≡ get_or es i e)
-    (vs rest : List Word) (left : rest ≡ words_left (get_or ps i d).form vs) (before : State)
+module _ (s whole : State) (ps : List Parameter) (es : List Expr) (i : ℕ) (p : Parameter) (e : Expr)
+    (inside_ps : i < length ps) (inside_es : i < length es) (is_p : p ≡ get_or ps i p) (is_e : e ≡ get_or es i e)
+    (vs rest : List Word) (left : rest ≡ words_left p.form vs) (before : State)
     (so_far : over before (begun s (map parameter_tree (drop i ps)) (map expr_tree (drop i es)) vs) ≡ whole) where
-  abbrev p : Parameter
-  p = get_or ps i d
-
   abbrev others : State
   others = begun s (map parameter_tree (drop (i + 1) ps)) (map expr_tree (drop (i + 1) es)) rest
 
   at_next : over before (with_some others p.name (argument_held s p.form (expr_tree e) vs)) ≡ whole
-  at_next = rw (drop_more ps i d inside_ps, next_of es i e inside_es is_e, ← left) at so_far
+  at_next = rw (next_of ps i p inside_ps is_p, next_of es i e inside_es is_e, ← left) at so_far
 
   pub begun_more : (v : Value) (after : State) → Some v ≡ argument_held s p.form (expr_tree e) vs
       → after ≡ with_first before p.name v → over after others ≡ whole
@@ -94,18 +91,17 @@ begun_early s whole before ps es i vs past so_far =
     ∙ (rw (none_after es i past, no_begun s (map parameter_tree (drop i ps)) vs) at so_far)
 
 -- the names of the export
-pub holding_more : (whole : State) (ps : List Parameter) (args : List Arg) (i : ℕ) (d : Parameter) (a : Arg)
-    (v : Value) (before after : State) → i < length ps → i < length args → a ≡ get_or args i a
-    → v ≡ argument_value (get_or ps i d).kind a → after ≡ with_first before (get_or ps i d).name v
+pub holding_more : (whole : State) (ps : List Parameter) (args : List Arg) (i : ℕ) (p : Parameter) (a : Arg)
+    (v : Value) (before after : State) → i < length ps → i < length args → p ≡ get_or ps i p → a ≡ get_or args i a
+    → v ≡ argument_value p.kind a → after ≡ with_first before p.name v
     → over before (holding (map parameter_tree (drop i ps)) (drop i args)) ≡ whole
     → over after (holding (map parameter_tree (drop (i + 1) ps)) (drop (i + 1) args)) ≡ whole
-holding_more whole ps args i d a v before after inside_ps inside_args is_a holds set so_far =
-    let p = get_or ps i d in
+holding_more whole ps args i p a v before after inside_ps inside_args is_p is_a holds set so_far =
     let others = holding (map parameter_tree (drop (i + 1) ps)) (drop (i + 1) args) in
     ap (λ t. over t others) set ∙ over_first before others p.name v
     ∙ ap (λ w. over before (with_value others p.name w)) holds
     ∙ sym
-    (ap (over before) (ap₂ (λ xs ys. holding (map parameter_tree xs) ys) (drop_more ps i d inside_ps)
+    (ap (over before) (ap₂ (λ xs ys. holding (map parameter_tree xs) ys) (next_of ps i p inside_ps is_p)
     (next_of args i a inside_args is_a)))
     ∙ so_far
 

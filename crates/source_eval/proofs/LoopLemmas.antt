@@ -128,18 +128,17 @@ module _ (s : State) (whole : Run (List state.Word)) (ps : List Parameter) (es :
   abbrev LeadsFrom : ℕ → ℕ → List Word → Type 0
   LeadsFrom i now words = Leads whole start 0 (passed s (words_from i)) now (λ vs. map word_of words ++ vs)
 
-  module _ (i : ℕ) (d : Parameter) (e : Expr) (inside_ps : i < length ps) (inside_es : i < length es)
-      (is_e : e ≡ get_or es i e) where
-    both_next : words_from i ≡ cond (is_word (get_or ps i d).form) (expr_tree e ∷ words_from (i + 1))
-        (words_from (i + 1))
-    both_next = ap₂ (λ xs ys. word_arguments (map parameter_tree xs) (map expr_tree ys)) (drop_more ps i d inside_ps)
-        (next_of es i e inside_es is_e)
+  module _ (i : ℕ) (p : Parameter) (e : Expr) (inside_ps : i < length ps) (inside_es : i < length es)
+      (is_p : p ≡ get_or ps i p) (is_e : e ≡ get_or es i e) where
+    both_next : words_from i ≡ cond (is_word p.form) (expr_tree e ∷ words_from (i + 1)) (words_from (i + 1))
+    both_next = ap₂ (λ xs ys. word_arguments (map parameter_tree xs) (map expr_tree ys))
+        (next_of ps i p inside_ps is_p) (next_of es i e inside_es is_e)
 
-    next_word : (get_or ps i d).form ≡ SingleWord → words_from i ≡ expr_tree e ∷ words_from (i + 1)
+    next_word : p.form ≡ SingleWord → words_from i ≡ expr_tree e ∷ words_from (i + 1)
     next_word is = both_next
         ∙ ap (λ form. cond (is_word form) (expr_tree e ∷ words_from (i + 1)) (words_from (i + 1))) is
 
-    pub pass_more : (before now middle : ℕ) (words new : List Word) (v : Word) → (get_or ps i d).form ≡ SingleWord
+    pub pass_more : (before now middle : ℕ) (words new : List Word) (v : Word) → p.form ≡ SingleWord
         → new ≡ words ++ v ∷ [] → LeadsFrom i before words → before ≡ now + 1
         → Ended (value s (expr_tree e)) now 0 (word_of v) middle → LeadsFrom (i + 1) middle new
     pass_more before now middle words new v is more leads one h =
@@ -147,23 +146,23 @@ module _ (s : State) (whole : Run (List state.Word)) (ps : List Parameter) (es :
         (passed_more s whole (expr_tree e) (words_from (i + 1)) start before now middle (map word_of words)
         (word_of v) (rw (next_word is) at leads) one h)
 
-    pub pass_stops : (before now : ℕ) (words : List Word) (fault : EvalFault) → (get_or ps i d).form ≡ SingleWord
+    pub pass_stops : (before now : ℕ) (words : List Word) (fault : EvalFault) → p.form ≡ SingleWord
         → LeadsFrom i before words → before ≡ now + 1
         → Stopped (value s (expr_tree e)) now 0 fault → Stopped whole start 0 fault
     pass_stops before now words fault is leads one h =
         passed_stop s whole (expr_tree e) (words_from (i + 1)) start before now (λ vs. map word_of words ++ vs) fault
         (rw (next_word is) at leads) one h
 
-    pub pass_lacks : (before : ℕ) (words : List Word) (fault : EvalFault) → (get_or ps i d).form ≡ SingleWord
+    pub pass_lacks : (before : ℕ) (words : List Word) (fault : EvalFault) → p.form ≡ SingleWord
         → LeadsFrom i before words → before ≡ 0 → fault ≡ Budget → Stopped whole start 0 fault
     pass_lacks before words fault is leads none budget =
         passed_lacks s whole (expr_tree e) (words_from (i + 1)) start before (λ vs. map word_of words ++ vs) fault
         (rw (next_word is) at leads) none budget
 
-    pub pass_over : (now : ℕ) (words : List Word) → ((get_or ps i d).form ≡ FixedArray)
-        ⊎ ((get_or ps i d).form ≡ MutableArray) → LeadsFrom i now words → LeadsFrom (i + 1) now words
+    pub pass_over : (now : ℕ) (words : List Word) → (p.form ≡ FixedArray) ⊎ (p.form ≡ MutableArray)
+        → LeadsFrom i now words → LeadsFrom (i + 1) now words
     pass_over now words is leads =
-        rw (both_next, no_word (get_or ps i d).form is) at leads
+        rw (both_next, no_word p.form is) at leads
 
   pub pass_ends : (i now : ℕ) (words : List Word) → words_from i ≡ [] → LeadsFrom i now words
       → Ended whole start 0 (map word_of words) now

@@ -18,15 +18,15 @@ loop-index-preserved c =
     let holds = c.in_ok-value.ensures.ok in
     elim c.match-branch-2.branch [
       | in-Some-2+in_ok-set_first w ↦
-          begun_more _ _ c.args.parameters.now c.args.arguments.now l.index _ c.in-Some.argument.now
-          c.loop-index-test.true argument.3.0 argument.1
+          begun_more _ _ c.args.parameters.now c.args.arguments.now l.index c.index-parameters-index.result
+          c.in-Some.argument.now c.loop-index-test.true argument.3.0 c.index-parameters-index.is argument.1
           (map word_of l.left.now) (map word_of c.words_left-left.result.now) c.words_left-left.ensures (held l.inner)
           l.invariant
           (value_of w.in-Some-2.value) (held c.match-branch-2.inner) (sym (ap (option_map value_of) w.in-Some-2.is)
           ∙ holds) (ap held w.inner-is ∙ w.in_ok-set_first.ensures.ok)
       | in_default-2 w ↦
-          begun_same _ _ c.args.parameters.now c.args.arguments.now l.index _ c.in-Some.argument.now
-          c.loop-index-test.true argument.3.0 argument.1
+          begun_same _ _ c.args.parameters.now c.args.arguments.now l.index c.index-parameters-index.result
+          c.in-Some.argument.now c.loop-index-test.true argument.3.0 c.index-parameters-index.is argument.1
           (map word_of l.left.now) (map word_of c.words_left-left.result.now) c.words_left-left.ensures (held l.inner)
           l.invariant
           (held c.match-branch-2.inner) (sym (ap (option_map value_of) w.in_default-2.is)

@@ -12,8 +12,9 @@ pub loop-index-preserved : goal.loop-index-preserved
 loop-index-preserved c =
     let l = c.loop-index in
     let arg = c.in-Some.ensures.lookup in
-    holding_more _ c.args.parameters.now c.args.args.now l.index _ c.in-Some.arg.now (value_of c.in_ok-value.value)
-    (held l.variables) (held c.set_first.new.self) c.loop-index-test.true arg.3.0 arg.1
+    holding_more _ c.args.parameters.now c.args.args.now l.index c.index-parameters-index.result c.in-Some.arg.now
+    (value_of c.in_ok-value.value) (held l.variables) (held c.set_first.new.self) c.loop-index-test.true arg.3.0
+    c.index-parameters-index.is arg.1
     c.in_ok-value.ensures.ok c.in_ok-set_first.ensures.ok l.invariant
 
 pub returns-clause-ok : goal.returns-clause-ok

@@ -12,33 +12,35 @@ returns-then-arguments-index-clause-ok c =
 pub loop-index-preserved-in-FixedArray : goal.loop-index-preserved-in-FixedArray
 loop-index-preserved-in-FixedArray c =
     let l = c.loop-index in
-    pass_over (held c.args.variables.now) _ c.args.parameters.now c.args.arguments.now _ l.index _
-    c.index-arguments-index.result c.loop-index-test.true c.if-arguments-index.false c.index-arguments-index.is
+    pass_over (held c.args.variables.now) _ c.args.parameters.now c.args.arguments.now _ l.index
+    c.index-parameters-index.result c.index-arguments-index.result c.loop-index-test.true c.if-arguments-index.false
+    c.index-parameters-index.is c.index-arguments-index.is
     l.left l.words.items c.in-FixedArray.is l.invariant
 
 pub returns-in_err-spend-clause-err : goal.returns-in_err-spend-clause-err
 returns-in_err-spend-clause-err c =
     let l = c.loop-index in
     passes _ _ _ c.from_residual.ensures.1
-    (pass_lacks (held c.args.variables.now) _ c.args.parameters.now c.args.arguments.now _ l.index _
-    c.index-arguments-index.result c.loop-index-test.true c.if-arguments-index.false
-    c.index-arguments-index.is
+    (pass_lacks (held c.args.variables.now) _ c.args.parameters.now c.args.arguments.now _ l.index
+    c.index-parameters-index.result c.index-arguments-index.result c.loop-index-test.true c.if-arguments-index.false
+    c.index-parameters-index.is c.index-arguments-index.is
     l.left l.words.items _ c.in-SingleWord.is l.invariant c.in_err-spend.ensures.err c.in_err-spend.ensures.budget)
 
 pub returns-in_err-value-clause-err : goal.returns-in_err-value-clause-err
 returns-in_err-value-clause-err c =
     let l = c.loop-index in
     passes _ _ _ c.from_residual-in_err-value.ensures.1
-    (pass_stops (held c.args.variables.now) _ c.args.parameters.now c.args.arguments.now _ l.index _
-    c.index-arguments-index.result c.loop-index-test.true c.if-arguments-index.false
-    c.index-arguments-index.is
+    (pass_stops (held c.args.variables.now) _ c.args.parameters.now c.args.arguments.now _ l.index
+    c.index-parameters-index.result c.index-arguments-index.result c.loop-index-test.true c.if-arguments-index.false
+    c.index-parameters-index.is c.index-arguments-index.is
     l.left _ l.words.items _ c.in-SingleWord.is l.invariant c.in_ok-spend.ensures.ok c.in_err-value.ensures.err)
 
 pub loop-index-preserved : goal.loop-index-preserved
 loop-index-preserved c =
     let l = c.loop-index in
-    pass_more (held c.args.variables.now) _ c.args.parameters.now c.args.arguments.now _ l.index _
-    c.index-arguments-index.result c.loop-index-test.true c.if-arguments-index.false c.index-arguments-index.is
+    pass_more (held c.args.variables.now) _ c.args.parameters.now c.args.arguments.now _ l.index
+    c.index-parameters-index.result c.index-arguments-index.result c.loop-index-test.true c.if-arguments-index.false
+    c.index-parameters-index.is c.index-arguments-index.is
     l.left _ c.value.new.left l.words.items c.push.new.self.items c.in_ok-value.field-0 c.in-SingleWord.is
     c.in_ok-push.ensures.items l.invariant c.in_ok-spend.ensures.ok c.in_ok-value.ensures.ok
 
