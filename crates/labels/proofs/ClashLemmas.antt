@@ -189,10 +189,10 @@ all_long ps ts es same same' =
 -- one more argument
 module _ (p : Parameter) (t : Typed) (ps : List Parameter) (ts : List Typed) (es : List Expr) (e : Expr)
     (i : ℕ) (h : i < length ps) (same : length ts ≡ length ps) (same' : length es ≡ length ps)
-    (here : e ≡ get_or es i e) where
+    (there : p ≡ get_or ps i p) (here : e ≡ get_or es i e) where
   abbrev next : Passed
   next = record {
-    parameter = parameter_tree (get_or ps i p);
+    parameter = parameter_tree p;
     given = get_or ts i t;
     argument = expr_tree e;
   }
@@ -203,7 +203,8 @@ module _ (p : Parameter) (t : Typed) (ps : List Parameter) (ts : List Typed) (es
       (omega (arith, length-map ps parameter_tree)) (omega (arith, length-map ps parameter_tree))
       (omega (arith, length-map ps parameter_tree, length-map es expr_tree))
       ∙ ap₂ (λ (x : ParameterTree) (y : ExprTree). record { parameter = x; given = get_or ts i t; argument = y })
-      (get_or-map parameter_tree ps i p) (get_or-map expr_tree es i e ∙ ap expr_tree (sym here))
+      (get_or-map parameter_tree ps i p ∙ ap parameter_tree (sym there))
+      (get_or-map expr_tree es i e ∙ ap expr_tree (sym here))
 
   below : i < length (all_passed ps ts es)
   below = omega (arith, h, all_long ps ts es same same')
@@ -211,11 +212,11 @@ module _ (p : Parameter) (t : Typed) (ps : List Parameter) (ts : List Typed) (es
   pub argument_more : (given changed given' changed' : Names) (one : Option (List ℕ))
       (mutable : Bool) (before : Option Place) (clashed this final : Option SharedArray)
       → SoFar (all_passed ps ts es) i given changed clashed final
-      → one ≡ array_name (get_or ts i t).value (expr_tree e) → mutable ≡ is_mutable (get_or ps i p).form
-      → given' ≡ with_array given one (get_or ps i p).place
-      → changed' ≡ with_changed changed mutable one (get_or ps i p).place
+      → one ≡ array_name (get_or ts i t).value (expr_tree e) → mutable ≡ is_mutable p.form
+      → given' ≡ with_array given one p.place
+      → changed' ≡ with_changed changed mutable one p.place
       → before ≡ given_before given changed mutable one
-      → this ≡ option_map (shared_at (name_place (expr_tree e)) (get_or ps i p).place) before
+      → this ≡ option_map (shared_at (name_place (expr_tree e)) p.place) before
       → SoFar (all_passed ps ts es) (i + 1) given' changed' (option_or clashed this) final
   argument_more given changed given' changed' (Some one) mutable before clashed this final so_far is m g k new answer =
       record {

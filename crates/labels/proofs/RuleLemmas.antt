@@ -28,25 +28,25 @@ violated_from i scope place ps ts es =
     passed_violations scope place (passed (map parameter_tree (drop i ps)) (drop i ts) (map expr_tree (drop i es)))
 
 -- an argument beside its parameter
-abbrev pub beside : Parameter → Typed → ℕ → List Parameter → List Typed → Expr → Passed
-beside p t i ps ts e = record {
-  parameter = parameter_tree (get_or ps i p);
+abbrev pub beside : Parameter → Typed → ℕ → List Typed → Expr → Passed
+beside p t i ts e = record {
+  parameter = parameter_tree p;
   given = get_or ts i t;
   argument = expr_tree e;
 }
 
 module _ (p : Parameter) (t : Typed) (i : ℕ) (scope : Scope) (place : Place) (ps : List Parameter) (ts : List Typed)
     (es : List Expr) (e : Expr) (h : i < length ps) (same : length ts ≡ length ps) (same' : length es ≡ length ps)
-    (is : e ≡ get_or es i e) where
+    (here : p ≡ get_or ps i p) (is : e ≡ get_or es i e) where
   abbrev this : List Violation
-  this = argument_violations scope place (beside p t i ps ts e)
+  this = argument_violations scope place (beside p t i ts e)
 
   abbrev rest : List Violation
   rest = violated_from (i + 1) scope place ps ts es
 
   from-more : violated_from i scope place ps ts es ≡ this ++ rest
   from-more =
-      rw (drop_more ps i p h, drop_more ts i t (omega arith), drop_more es i e (omega arith), ← is) refl
+      rw (drop_more ps i p h, drop_more ts i t (omega arith), drop_more es i e (omega arith), ← here, ← is) refl
 
   pub from-met : (met fits all : Bool) → (met && are_met (violated_from i scope place ps ts es)) ≡ all
       → fits ≡ are_met this → ((met && fits) && are_met rest) ≡ all

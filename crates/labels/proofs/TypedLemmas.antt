@@ -6,8 +6,7 @@ use Rattle.labels.specs.Below.{asked_of_two, declared_at, element, element_assig
 use Rattle.labels.specs.Below.{element_rules, element_type, element_why, expr_violations, ExprTree, found, name}
 use Rattle.labels.specs.Below.{name_type, name_violations, of_one, of_three, of_two, Place, ProcedureTree, right_typed}
 use Rattle.labels.specs.Below.{right_violations, RightTree, Scope, SecretControl, sooner, statement_violations, type_of}
-use Rattle.labels.specs.Below.{Typed, typed_as, typed_of, ValueType, variable, Violation}
-use Rattle.language.specs.declared.typing.VariableType.{VariableType}
+use Rattle.labels.specs.Below.{Typed, typed_as, typed_of, ValueType, variable, VariableType, Violation}
 use Rattle.labels.specs.private.Made.{of_operand, of_operands, of_choice}
 
 pub of_one-typed : (a : Option Place) (k : Option ℕ) (type : ValueType → Option ValueType) (o : Option ValueType)

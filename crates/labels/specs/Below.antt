@@ -8,7 +8,7 @@ pub use Rattle.language.specs.Grammatical.{IsGrammatical}
 pub use Rattle.language.specs.Reasons.{bounds_why, choice_why, condition_why, control_under, control_why}
 pub use Rattle.language.specs.Reasons.{either_literal, element_why, literal_as, literal_in, number_as, operand_literal}
 pub use Rattle.language.specs.Reasons.{operand_why, operands_why, put_why, rotate_why, secret_in, secret_name}
-pub use Rattle.language.specs.Reasons.{typed_part, unknown_why, whole_literal}
+pub use Rattle.language.specs.Reasons.{typed_part, unknown_why, where_hidden, whole_literal}
 pub use Rattle.language.specs.Signature.{exported}
 pub use Rattle.language.specs.Sooner.{sooner}
 pub use Rattle.language.specs.Tree.{array, block_tree, BlockTree, call_tree, declaration, element, element_assignment}
@@ -45,6 +45,7 @@ pub use Rattle.language.specs.declared.tree.Statement.{Assign, AssignElement, De
 pub use Rattle.language.specs.declared.typing.Declared.TheVariants.{Procedure, Variable}
 pub use Rattle.language.specs.declared.typing.ValueType.{ValueType}
 pub use Rattle.language.specs.declared.typing.ValueType.TheVariants.{Array, Word}
+pub use Rattle.language.specs.declared.typing.VariableType.{VariableType}
 pub use Rattle.language.specs.declared.typing.Violation.{Violation}
 pub use Rattle.language.specs.declared.why.Part.TheVariants.{Argument, Value}
 pub use Rattle.language.specs.declared.why.SecretControl.{SecretControl}

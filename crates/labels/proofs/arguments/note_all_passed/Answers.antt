@@ -3,12 +3,12 @@ use Rattle.labels.proofs.arguments.note_all_passed.Goals as goal
 
 pub loop-index-preserved : goal.loop-index-preserved
 loop-index-preserved c = record {
-  met = from-met _ _ c.loop-index.index c.args.names.now c.args.place c.args.parameters.now c.args.types.now
+  met = from-met c.index-parameters-index.result _ c.loop-index.index c.args.names.now c.args.place c.args.parameters.now c.args.types.now
       c.args.arguments.now c.index-arguments-index.result c.loop-index-test.true c.requires.types c.requires.arguments
-      c.index-arguments-index.is c.loop-index.met c.note_passed-met.result _ c.loop-index.invariant.met
+      c.index-parameters-index.is c.index-arguments-index.is c.loop-index.met c.note_passed-met.result _ c.loop-index.invariant.met
       c.note_passed-met.ensures.met;
-  first = from-noted _ _ c.loop-index.index c.args.names.now c.args.place c.args.parameters.now c.args.types.now
+  first = from-noted c.index-parameters-index.result _ c.loop-index.index c.args.names.now c.args.place c.args.parameters.now c.args.types.now
       c.args.arguments.now c.index-arguments-index.result c.loop-index-test.true c.requires.types c.requires.arguments
-      c.index-arguments-index.is c.loop-index.first.seen c.note_passed-met.new.first.seen _
+      c.index-parameters-index.is c.index-arguments-index.is c.loop-index.first.seen c.note_passed-met.new.first.seen _
       c.loop-index.invariant.first c.note_passed-met.ensures.first;
 }

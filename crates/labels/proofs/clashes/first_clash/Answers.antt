@@ -10,8 +10,9 @@ loop-index-init c =
 pub loop-index-preserved : goal.loop-index-preserved
 loop-index-preserved c =
     rw c.or-clash.ensures
-    (argument_more _ _ c.args.parameters.now c.args.types.now c.args.arguments.now c.index-arguments-index.result
-    c.loop-index.index c.loop-index-test.true c.requires.types c.requires.arguments c.index-arguments-index.is
+    (argument_more c.index-parameters-index.result _ c.args.parameters.now c.args.types.now c.args.arguments.now c.index-arguments-index.result
+    c.loop-index.index c.loop-index-test.true c.requires.types c.requires.arguments c.index-parameters-index.is
+    c.index-arguments-index.is
     c.loop-index.arrays.given c.loop-index.arrays.changed c.take.new.self.given c.take.new.self.changed _ _
     c.in_ok-earlier.earlier c.loop-index.clash c.shared.result _ c.loop-index.invariant refl refl
     c.in_ok-earlier.ensures.given c.in_ok-earlier.ensures.changed c.in_ok-earlier.ensures.before c.shared.ensures)
