@@ -43,16 +43,16 @@ passes_more {old = old} {new = new} {p = p} is starts more all = elim (cases_Boo
 
 -- so it is for lists and an index into them
 pub passes_next : {names own next names_begun : Numbers} {done between whole : FlatBlock}
-    {old new variables : List FlatVariable} (ps : List Parameter) (es : List Expr) (i : ℕ) (d : Parameter) {e : Expr}
-    → i < length ps → i < length es → e ≡ get_or es i e
-    → between ≡ chain done (passed names (length old) (parameter_tree (get_or ps i d) ∷ []) (expr_tree e ∷ []))
-    → next ≡ begun names own (length old) (parameter_tree (get_or ps i d) ∷ []) (expr_tree e ∷ [])
-    → new ≡ old ++ passed_variables (parameter_tree (get_or ps i d) ∷ []) (expr_tree e ∷ [])
+    {old new variables : List FlatVariable} (ps : List Parameter) (es : List Expr) (i : ℕ) (p : Parameter) {e : Expr}
+    → i < length ps → i < length es → p ≡ get_or ps i p → e ≡ get_or es i e
+    → between ≡ chain done (passed names (length old) (parameter_tree p ∷ []) (expr_tree e ∷ []))
+    → next ≡ begun names own (length old) (parameter_tree p ∷ []) (expr_tree e ∷ [])
+    → new ≡ old ++ passed_variables (parameter_tree p ∷ []) (expr_tree e ∷ [])
     → Passes names done own old (map parameter_tree (drop i ps)) (map expr_tree (drop i es)) whole names_begun variables
     → Passes names between next new (map parameter_tree (drop (i + 1) ps)) (map expr_tree (drop (i + 1) es)) whole
     names_begun variables
-passes_next ps es i d {e = e} inside_ps inside_es is_e is starts more all = passes_more is starts more
-    (rw (drop_more ps i d inside_ps, drop_more es i e inside_es, ← is_e) at all)
+passes_next ps es i p {e = e} inside_ps inside_es is_p is_e is starts more all = passes_more is starts more
+    (rw (drop_more ps i p inside_ps, drop_more es i e inside_es, ← is_p, ← is_e) at all)
 
 -- no argument is left, or no parameter
 passes_end : {names own names_begun : Numbers} {done whole : FlatBlock} {now variables : List FlatVariable}

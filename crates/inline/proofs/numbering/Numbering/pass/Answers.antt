@@ -17,8 +17,8 @@ loop-index-preserved c =
     let argument = c.in-Some.ensures.lookup in
     let made = c.in_ok-pass_one.ensures in
     record {
-      all = passes_next c.args.parameters.now c.args.arguments.now l.index _ c.loop-index-test.true argument.3.0
-          argument.1 made.block made.own made.declared l.invariant.all;
+      all = passes_next c.args.parameters.now c.args.arguments.now l.index c.index-parameters-index.result
+          c.loop-index-test.true argument.3.0 c.index-parameters-index.is argument.1 made.block made.own made.declared l.invariant.all;
     }
 
 pub returns-in_default : goal.returns-in_default
