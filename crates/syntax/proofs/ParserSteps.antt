@@ -1,7 +1,7 @@
 -- States of the machine that the parser's functions take for one another.
-use Rattle.std.proofs.Common.{◌≡◌, true, false, List, [], ◌∷◌, ◌++◌, length, nat_eq, Option, Some, None, refl}
+use Rattle.std.proofs.Common.{◌≡◌, Bool, true, false, List, [], ◌∷◌, ◌++◌, length, nat_eq, refl}
 use Rattle.std.proofs.Common.{ap}
-use Rattle.std.specs.Prelude.{is_some}
+use Rattle.std.specs.Prelude.{if◌then◌else◌}
 use Rattle.syntax.specs.declared.parser.Parser.{Parser}
 use Rattle.syntax.specs.declared.token.Token.{Token}
 use Rattle.syntax.specs.Lexeme.{Lexeme, lexemes}
@@ -15,14 +15,10 @@ use Rattle.syntax.specs.Below.{BlockTree, ExprTree, ParameterTree, ProcedureTree
 use Rattle.syntax.proofs.MachineSteps.{after_exprs, after_parameters, before_else}
 use Rattle.syntax.specs.declared.token.TokenKind.{TokenKind}
 
--- what is there, and what is not
-pub some-is : {A : Type 0} (o : Option A) → is_some o ≡ true → (x : A) × (o ≡ Some x)
-some-is (Some x) e = (x, refl)
-some-is None e = cc
-
-pub none-is : {A : Type 0} (o : Option A) → is_some o ≡ false → o ≡ None
-none-is (Some x) e = cc
-none-is None e = refl
+-- the one of two states that a test picks, where both come of it
+pub either_way : (b : Bool) (k : Bool → State) → (if b then k true else k false) ≡ k b
+either_way true k = refl
+either_way false k = refl
 
 -- states between which no token can tell
 same-verdict : (s s' : State) (n : Nest) (ts : List Lexeme) (e : Ending) → at_end s ≡ at_end s'

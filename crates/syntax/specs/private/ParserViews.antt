@@ -1,5 +1,5 @@
 -- The values of the parser, as the machine sees them.
-use Rattle.std.specs.Prelude.{◌≡◌, Option, Some, None, Result, MatchResult, ℕ}
+use Rattle.std.specs.Prelude.{◌≡◌, Bool, if◌then◌else◌, List, [], ◌∷◌, Option, Some, None, Result, MatchResult, ℕ}
 use Rattle.syntax.specs.declared.nesting.Nesting.{Nesting}
 use Rattle.syntax.specs.declared.parser.Fault.{Fault}
 use Rattle.syntax.specs.declared.parser.Fault.TheVariants.{Refused, Memory}
@@ -7,12 +7,13 @@ use Rattle.syntax.specs.declared.parser.Parser.{Parser}
 use Rattle.syntax.specs.declared.parser.expression.Joint.{Joint}
 use Rattle.syntax.specs.declared.parser.statement.Begun.{Begun}
 use Rattle.syntax.specs.declared.token.Token.{Token}
+use Rattle.syntax.specs.declared.token.TokenKind.TheVariants.{Name}
 use Rattle.syntax.specs.Lexeme.{Lexeme, lexeme, lexemes}
 use Rattle.syntax.specs.private.Machine.{State, linked, statements, statement, verdict}
 use Rattle.syntax.specs.Nesting.{Nest}
 use Rattle.syntax.specs.Reading.{Answer, refused}
 use Rattle.syntax.specs.Tokens.{ending}
-use Rattle.syntax.specs.Below.{BlockTree, ExprTree, first, nothing}
+use Rattle.syntax.specs.Below.{BlockTree, ExprTree, first, nothing, origin}
 
 -- how deeply the tokens so far are nested
 abbrev pub nest : Nesting → Nest
@@ -31,6 +32,15 @@ FaultIs Memory answer = Unit {0}
 abbrev pub Leads : {T : Type 0} → State → (T → State) → Result T Fault → Parser → Parser → Type 0
 Leads s next result old new =
     MatchResult result (λ x. ahead s old ≡ ahead (next x) new) (λ f. FaultIs f (ahead s old))
+
+-- the token that stands next; where none does, a name without letters
+abbrev pub front : List Token → Lexeme
+front [] = record { kind = Name; place = origin; text = [] }
+front (token ∷ rest) = lexeme token
+
+-- after the token that stands next, where it may stand there, and without it
+abbrev pub skipped : (Lexeme → State) → State → List Token → Bool → State
+skipped next other tokens is = if is then next (front tokens) else other
 
 -- after a token that may stand there, and without it
 abbrev pub taken : (Lexeme → State) → State → Option Token → State

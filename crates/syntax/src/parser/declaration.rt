@@ -1,7 +1,9 @@
 ghost use Rattle.std.specs.Prelude.{◌≡◌, ◌≤◌, ◌<◌, List, Option, OnOk, length, map};
 ghost use Rattle.std.specs.Option.{option_map};
 ghost use Rattle.syntax.specs.Lexeme.{lexeme};
-ghost use Rattle.syntax.specs.private.Machine.{State, first_values, declared_array, declared_word, declared_as, declared as declared_state, assigned, element_assigned, called_alone, targeted as targeted_state};
+ghost use Rattle.syntax.specs.private.Machine.{State, first_values, declared_array, declared_word, declared_as};
+ghost use Rattle.syntax.specs.private.Machine.{declared as declared_state, assigned, element_assigned, called_alone};
+ghost use Rattle.syntax.specs.private.Machine.{targeted as targeted_state};
 ghost use Rattle.syntax.specs.private.ParserViews.{Leads};
 ghost use Rattle.syntax.specs.Below.{expr_tree, ExprTree, statement_tree, StatementTree};
 
@@ -12,13 +14,14 @@ impl<'t> Parser<'t> {
     /// The first values of an array, where they are written.
     fn first_values(&mut self) -> Result<Option<Vec<Expr>>, Fault>
         ensures leads { (k : Option (List ExprTree) → State)
-            → Leads (first_values k) (λ vs. k (option_map (λ values. map expr_tree values.items) vs)) result self.old self.new }
+            → Leads (first_values k) (λ vs. k (option_map (λ values. map expr_tree values.items) vs))
+            result self.old self.new }
         ensures shorter { OnOk result (length self.new.rest.now ≤ length self.old.rest.now) }
     {
-        if self.takes(TokenKind::Sign(Sign::Assign))?.is_none() {
+        if !self.skips(TokenKind::Sign(Sign::Assign))? {
             return Ok(None);
         }
-        self.expect(TokenKind::Sign(Sign::OpenCurly))?;
+        self.pass(TokenKind::Sign(Sign::OpenCurly))?;
         let values = self.expressions(TokenKind::Sign(Sign::CloseCurly))?;
         Ok(Some(values))
     }
@@ -37,7 +40,7 @@ impl<'t> Parser<'t> {
     {
         let name = self.expect(TokenKind::Name)?;
         let values = self.first_values()?;
-        self.expect(TokenKind::Sign(Sign::Semicolon))?;
+        self.pass(TokenKind::Sign(Sign::Semicolon))?;
         self.array_named(name, label, mutable, kind, words, values)
     }
 
@@ -48,7 +51,7 @@ impl<'t> Parser<'t> {
         ensures shorter { OnOk result (length self.new.rest.now ≤ length self.old.rest.now) }
     {
         let name = self.expect(TokenKind::Name)?;
-        self.expect(TokenKind::Sign(Sign::Assign))?;
+        self.pass(TokenKind::Sign(Sign::Assign))?;
         let value = self.right_end()?;
         self.word_named(name, label, mutable, kind, value)
     }
@@ -60,13 +63,11 @@ impl<'t> Parser<'t> {
         ensures shorter { OnOk result (length self.new.rest.now ≤ length self.old.rest.now) }
     {
         let kind = self.kind()?;
-        match self.takes(TokenKind::Sign(Sign::OpenSquare))? {
-            Some(_) => {
-                let length = self.length()?;
-                self.declared_array(label, mutable, kind, length)
-            }
-            None => self.declared_word(label, mutable, kind),
+        if self.skips(TokenKind::Sign(Sign::OpenSquare))? {
+            let length = self.length()?;
+            return self.declared_array(label, mutable, kind, length);
         }
+        self.declared_word(label, mutable, kind)
     }
 
     /// A declaration, after its label.
@@ -75,10 +76,8 @@ impl<'t> Parser<'t> {
             → Leads (declared_state label k) (λ s. k (statement_tree s)) result self.old self.new }
         ensures shorter { OnOk result (length self.new.rest.now ≤ length self.old.rest.now) }
     {
-        match self.takes(TokenKind::Keyword(Keyword::Mut))? {
-            Some(_) => self.declared_as(label, true),
-            None => self.declared_as(label, false),
-        }
+        let mutable = self.skips(TokenKind::Keyword(Keyword::Mut))?;
+        self.declared_as(label, mutable)
     }
 
     /// An assignment, after its name and `=`.
@@ -94,7 +93,8 @@ impl<'t> Parser<'t> {
     /// An assignment to an element, after its name and `[`.
     fn element_assigned(&mut self, name: Token<'t>, bracket: Place) -> Result<Statement, Fault>
         ensures leads { (k : StatementTree → State)
-            → Leads (element_assigned (lexeme name.entry) bracket k) (λ s. k (statement_tree s)) result self.old self.new }
+            → Leads (element_assigned (lexeme name.entry) bracket k) (λ s. k (statement_tree s))
+            result self.old self.new }
         ensures shorter { OnOk result (length self.new.rest.now ≤ length self.old.rest.now) }
     {
         let index = self.expression_to(TokenKind::Sign(Sign::CloseSquare))?;
@@ -109,9 +109,9 @@ impl<'t> Parser<'t> {
             → Leads (called_alone (lexeme name.entry) k) (λ s. k (statement_tree s)) result self.old self.new }
         ensures shorter { OnOk result (length self.new.rest.now ≤ length self.old.rest.now) }
     {
-        self.expect(TokenKind::Sign(Sign::OpenRound))?;
+        self.pass(TokenKind::Sign(Sign::OpenRound))?;
         let call = self.call(name)?;
-        self.expect(TokenKind::Sign(Sign::Semicolon))?;
+        self.pass(TokenKind::Sign(Sign::Semicolon))?;
         Ok(Statement::Call(call))
     }
 

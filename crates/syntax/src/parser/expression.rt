@@ -1,9 +1,11 @@
 ghost use Rattle.std.specs.Prelude.{◌≡◌, ◌≤◌, ◌<◌, ℕ, IfOk, IfErr, OnOk, OnSome, length};
 ghost use Rattle.syntax.specs.Lexeme.{lexeme};
-ghost use Rattle.syntax.specs.private.Machine.{State, expr, more, operand as operand_state, named as named_state, linked, link_level, after_select, converted, ended};
+ghost use Rattle.syntax.specs.private.Machine.{State, expr, more, operand as operand_state, named as named_state};
+ghost use Rattle.syntax.specs.private.Machine.{linked, link_level, after_select, converted, ended};
 ghost use Rattle.syntax.specs.private.ParserViews.{Leads, after_sign};
 ghost use Rattle.syntax.specs.Below.{binary as binary_tree, convert as convert_tree, element as element_tree};
-ghost use Rattle.syntax.specs.Below.{expr_tree, ExprTree, name as name_tree, prefix as prefix_tree, rotate as rotate_tree};
+ghost use Rattle.syntax.specs.Below.{expr_tree, ExprTree, name as name_tree, prefix as prefix_tree};
+ghost use Rattle.syntax.specs.Below.{rotate as rotate_tree};
 
 use super::operator::{
     Begins, Link, OPERAND_LEVEL, PREFIX_LEVEL, begins_of, level_of, link_of, suffix_kind,
@@ -220,7 +222,7 @@ impl<'t> Parser<'t> {
         ensures shorter { OnOk result (length self.new.rest.now < length self.old.rest.now) }
     {
         let expression = self.expression(1)?;
-        self.expect(end)?;
+        self.pass(end)?;
         Ok(expression)
     }
 
@@ -242,7 +244,7 @@ impl<'t> Parser<'t> {
             → Leads (converted place kind k) (λ e. k (expr_tree e)) result self.old self.new }
         ensures shorter { OnOk result (length self.new.rest.now ≤ length self.old.rest.now) }
     {
-        self.expect(TokenKind::Sign(Sign::OpenRound))?;
+        self.pass(TokenKind::Sign(Sign::OpenRound))?;
         let operand = self.expression_to(TokenKind::Sign(Sign::CloseRound))?;
         self.convert(place, kind, operand)
     }
@@ -254,7 +256,7 @@ impl<'t> Parser<'t> {
             → Leads (after_select place k) (λ e. k (expr_tree e)) result self.old self.new }
         ensures shorter { OnOk result (length self.new.rest.now ≤ length self.old.rest.now) }
     {
-        self.expect(TokenKind::Sign(Sign::OpenRound))?;
+        self.pass(TokenKind::Sign(Sign::OpenRound))?;
         let condition = self.part_to(TokenKind::Sign(Sign::Comma))?;
         let accepted = self.part_to(TokenKind::Sign(Sign::Comma))?;
         let otherwise = self.part_to(TokenKind::Sign(Sign::CloseRound))?;

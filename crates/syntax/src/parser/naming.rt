@@ -2,7 +2,9 @@
 
 ghost use Rattle.std.specs.Prelude.{◌≡◌, IfErr, IfOk, map};
 ghost use Rattle.std.specs.Option.{option_map};
-ghost use Rattle.syntax.specs.Below.{array as array_tree, assignment as assignment_tree, declaration as declaration_tree, element_assignment as element_assignment_tree, expr_tree, parameter_tree, right_tree, statement_tree};
+ghost use Rattle.syntax.specs.Below.{array as array_tree, assignment as assignment_tree};
+ghost use Rattle.syntax.specs.Below.{declaration as declaration_tree, element_assignment as element_assignment_tree};
+ghost use Rattle.syntax.specs.Below.{expr_tree, parameter_tree, right_tree, statement_tree};
 
 use super::{Fault, Parser};
 use crate::{
@@ -22,7 +24,8 @@ impl<'t> Parser<'t> {
         values: Option<Vec<Expr>>,
     ) -> Result<Statement, Fault>
         ensures tree { IfOk result (λ s. statement_tree s
-            ≡ array_tree name.entry.place label mutable kind length name.entry.text.now (option_map (λ values. map expr_tree values.items) values)) }
+            ≡ array_tree name.entry.place label mutable kind length name.entry.text.now
+            (option_map (λ values. map expr_tree values.items) values)) }
         ensures memory { IfErr result (λ f. f ≡ Fault.Memory) }
     {
         let text = self.name(name)?;
@@ -91,7 +94,8 @@ impl<'t> Parser<'t> {
         value: RightSide,
     ) -> Result<Statement, Fault>
         ensures tree { IfOk result (λ s. statement_tree s
-            ≡ element_assignment_tree place bracket name.entry.place name.entry.text.now (expr_tree index) (right_tree value)) }
+            ≡ element_assignment_tree place bracket name.entry.place name.entry.text.now
+            (expr_tree index) (right_tree value)) }
         ensures memory { IfErr result (λ f. f ≡ Fault.Memory) }
     {
         let text = self.name(name)?;
@@ -115,7 +119,14 @@ impl<'t> Parser<'t> {
         length: u16,
     ) -> Result<Parameter, Fault>
         ensures tree { IfOk result (λ p. parameter_tree p
-            ≡ record { label = label; kind = kind; form = form; length = length; place = name.entry.place; name = name.entry.text.now }) }
+            ≡ record {
+              label = label;
+              kind = kind;
+              form = form;
+              length = length;
+              place = name.entry.place;
+              name = name.entry.text.now;
+            }) }
         ensures memory { IfErr result (λ f. f ≡ Fault.Memory) }
     {
         let text = self.name(name)?;

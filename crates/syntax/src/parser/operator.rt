@@ -1,6 +1,9 @@
 ghost use Rattle.std.specs.Prelude.{◌≡◌, ◌<◌};
-ghost use Rattle.syntax.specs.Grammar.{prefix_of as prefix_that, operator_of as operator_that, level_of as level_that, left_level_of as left_level_that, conversion_of as conversion_that, suffix_kind as suffix_that};
-ghost use Rattle.syntax.specs.private.Machine.{begins_of as begins_that, link_of as link_that, link_level, link_left_level};
+ghost use Rattle.syntax.specs.Grammar.{prefix_of as prefix_that, operator_of as operator_that};
+ghost use Rattle.syntax.specs.Grammar.{level_of as level_that, left_level_of as left_level_that};
+ghost use Rattle.syntax.specs.Grammar.{conversion_of as conversion_that, suffix_kind as suffix_that};
+ghost use Rattle.syntax.specs.private.Machine.{begins_of as begins_that, link_of as link_that, link_level};
+ghost use Rattle.syntax.specs.private.Machine.{link_left_level};
 
 use crate::{BinaryOperator, Keyword, Kind, PrefixOperator, Sign, Suffix, TokenKind};
 

@@ -1,6 +1,9 @@
 ghost use Rattle.std.specs.Prelude.{◌≡◌, ◌≤◌, ◌<◌, List, Option, OnOk, length, map};
 ghost use Rattle.std.specs.Option.{option_map};
-ghost use Rattle.syntax.specs.private.Machine.{State, exported, result_type as result_type_state, parameter_name, parameter as parameter_state, labelled, parameters as parameters_state, returned as returned_state, procedure as procedure_state};
+ghost use Rattle.syntax.specs.private.Machine.{State, exported, result_type as result_type_state, parameter_name};
+ghost use Rattle.syntax.specs.private.Machine.{parameter as parameter_state, labelled};
+ghost use Rattle.syntax.specs.private.Machine.{parameters as parameters_state, returned as returned_state};
+ghost use Rattle.syntax.specs.private.Machine.{procedure as procedure_state};
 ghost use Rattle.syntax.specs.private.ParserViews.{Leads};
 ghost use Rattle.syntax.specs.Below.{parameter_tree, ParameterTree, Place as PlaceOf, procedure_tree, ProcedureTree};
 ghost use Rattle.syntax.specs.Below.{return_tree, ReturnTree, WordType as WordTypeOf};
@@ -19,9 +22,9 @@ impl<'t> Parser<'t> {
         let export = self.exported()?;
         let result = self.result_type()?;
         let name = self.expect(TokenKind::Name)?;
-        self.expect(TokenKind::Sign(Sign::OpenRound))?;
+        self.pass(TokenKind::Sign(Sign::OpenRound))?;
         let parameters = self.parameters()?;
-        self.expect(TokenKind::Sign(Sign::OpenCurly))?;
+        self.pass(TokenKind::Sign(Sign::OpenCurly))?;
         let body = self.statements()?;
         let returned = self.returned()?;
         let text = self.name(name)?;
@@ -52,7 +55,7 @@ impl<'t> Parser<'t> {
         ensures leads { (k : Option WordTypeOf → State) → Leads (result_type_state k) k result self.old self.new }
         ensures shorter { OnOk result (length self.new.rest.now < length self.old.rest.now) }
     {
-        if self.takes(TokenKind::Keyword(Keyword::Void))?.is_some() {
+        if self.skips(TokenKind::Keyword(Keyword::Void))? {
             return Ok(None);
         }
         let label = self.label()?;
@@ -67,16 +70,16 @@ impl<'t> Parser<'t> {
         ensures shorter { OnOk result (length self.new.rest.now ≤ length self.old.rest.now) }
     {
         let mut parameters = Vec::new(self.alloc);
-        if self.takes(TokenKind::Sign(Sign::CloseRound))?.is_some() {
+        if self.skips(TokenKind::Sign(Sign::CloseRound))? {
             return Ok(parameters);
         }
         'list: loop {
             parameters.push(self.parameter()?)?;
-            if self.takes(TokenKind::Sign(Sign::Comma))?.is_none() {
+            if !self.skips(TokenKind::Sign(Sign::Comma))? {
                 break 'list;
             }
         }
-        self.expect(TokenKind::Sign(Sign::CloseRound))?;
+        self.pass(TokenKind::Sign(Sign::CloseRound))?;
         Ok(parameters)
     }
 
@@ -95,14 +98,14 @@ impl<'t> Parser<'t> {
             → Leads (labelled label k) (λ p. k (parameter_tree p)) result self.old self.new }
         ensures shorter { OnOk result (length self.new.rest.now ≤ length self.old.rest.now) }
     {
-        if self.takes(TokenKind::Keyword(Keyword::Mut))?.is_some() {
+        if self.skips(TokenKind::Keyword(Keyword::Mut))? {
             let kind = self.kind()?;
-            self.expect(TokenKind::Sign(Sign::OpenSquare))?;
+            self.pass(TokenKind::Sign(Sign::OpenSquare))?;
             let length = self.length()?;
             return self.parameter_name(label, kind, Form::MutableArray, length);
         }
         let kind = self.kind()?;
-        if self.takes(TokenKind::Sign(Sign::OpenSquare))?.is_some() {
+        if self.skips(TokenKind::Sign(Sign::OpenSquare))? {
             let length = self.length()?;
             return self.parameter_name(label, kind, Form::FixedArray, length);
         }
@@ -132,11 +135,11 @@ impl<'t> Parser<'t> {
         ensures shorter { OnOk result (length self.new.rest.now ≤ length self.old.rest.now) }
     {
         let Some(word) = self.takes(TokenKind::Keyword(Keyword::Return))? else {
-            self.expect(TokenKind::Sign(Sign::CloseCurly))?;
+            self.pass(TokenKind::Sign(Sign::CloseCurly))?;
             return Ok(None);
         };
         let value = self.expression_to(TokenKind::Sign(Sign::Semicolon))?;
-        self.expect(TokenKind::Sign(Sign::CloseCurly))?;
+        self.pass(TokenKind::Sign(Sign::CloseCurly))?;
         Ok(Some(Return {
             place: word.place,
             value,

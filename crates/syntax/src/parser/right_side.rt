@@ -1,6 +1,7 @@
 ghost use Rattle.std.specs.Prelude.{◌≡◌, ◌≤◌, ◌<◌, List, OnOk, length, map};
 ghost use Rattle.syntax.specs.Lexeme.{lexeme};
-ghost use Rattle.syntax.specs.private.Machine.{State, some_exprs, arguments as arguments_state, call_of, right_from, right as right_state, right_end as right_end_state};
+ghost use Rattle.syntax.specs.private.Machine.{State, some_exprs, arguments as arguments_state, call_of, right_from};
+ghost use Rattle.syntax.specs.private.Machine.{right as right_state, right_end as right_end_state};
 ghost use Rattle.syntax.specs.private.ParserViews.{Leads};
 ghost use Rattle.syntax.specs.Below.{call_tree, CallTree, expr_tree, ExprTree, right_tree, RightTree};
 
@@ -17,11 +18,11 @@ impl<'t> Parser<'t> {
         let mut expressions = Vec::new(self.alloc);
         'list: loop {
             expressions.push(self.expression(1)?)?;
-            if self.takes(TokenKind::Sign(Sign::Comma))?.is_none() {
+            if !self.skips(TokenKind::Sign(Sign::Comma))? {
                 break 'list;
             }
         }
-        self.expect(end)?;
+        self.pass(end)?;
         Ok(expressions)
     }
 
@@ -31,10 +32,10 @@ impl<'t> Parser<'t> {
             → Leads (arguments_state k) (λ es. k (map expr_tree es.items)) result self.old self.new }
         ensures shorter { OnOk result (length self.new.rest.now < length self.old.rest.now) }
     {
-        match self.takes(TokenKind::Sign(Sign::CloseRound))? {
-            Some(_) => Ok(Vec::new(self.alloc)),
-            None => self.expressions(TokenKind::Sign(Sign::CloseRound)),
+        if self.skips(TokenKind::Sign(Sign::CloseRound))? {
+            return Ok(Vec::new(self.alloc));
         }
+        self.expressions(TokenKind::Sign(Sign::CloseRound))
     }
 
     /// A call, after its opening bracket.
@@ -58,13 +59,11 @@ impl<'t> Parser<'t> {
             → Leads (right_from (lexeme name.entry) k) (λ r. k (right_tree r)) result self.old self.new }
         ensures shorter { OnOk result (length self.new.rest.now ≤ length self.old.rest.now) }
     {
-        match self.takes(TokenKind::Sign(Sign::OpenRound))? {
-            Some(_) => Ok(RightSide::Call(self.call(name)?)),
-            None => {
-                let first = self.named(name)?;
-                Ok(RightSide::Value(self.further(1, first)?))
-            }
+        if self.skips(TokenKind::Sign(Sign::OpenRound))? {
+            return Ok(RightSide::Call(self.call(name)?));
         }
+        let first = self.named(name)?;
+        Ok(RightSide::Value(self.further(1, first)?))
     }
 
     fn right_side(&mut self) -> Result<RightSide, Fault>
@@ -85,7 +84,7 @@ impl<'t> Parser<'t> {
         ensures shorter { OnOk result (length self.new.rest.now < length self.old.rest.now) }
     {
         let right_side = self.right_side()?;
-        self.expect(TokenKind::Sign(Sign::Semicolon))?;
+        self.pass(TokenKind::Sign(Sign::Semicolon))?;
         Ok(right_side)
     }
 }

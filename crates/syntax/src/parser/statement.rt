@@ -1,6 +1,9 @@
 ghost use Rattle.std.specs.Prelude.{◌≡◌, ◌≤◌, ◌<◌, IfOk, IfErr, OnOk, OnSome, length, [], ◌∷◌};
 ghost use Rattle.syntax.specs.Lexeme.{Lexeme, lexeme};
-ghost use Rattle.syntax.specs.private.Machine.{State, starts_with, statements as statements_state, statement as statement_state, conditioned, counter as counter_state, looped, block as block_state, otherwise as otherwise_state, after_else};
+ghost use Rattle.syntax.specs.private.Machine.{State, starts_with, statements as statements_state};
+ghost use Rattle.syntax.specs.private.Machine.{statement as statement_state, conditioned, counter as counter_state};
+ghost use Rattle.syntax.specs.private.Machine.{looped, block as block_state, otherwise as otherwise_state};
+ghost use Rattle.syntax.specs.private.Machine.{after_else};
 ghost use Rattle.syntax.specs.private.ParserViews.{Leads, after_start};
 ghost use Rattle.syntax.specs.Below.{block_tree, BlockTree, statement_tree, StatementTree};
 
@@ -82,7 +85,8 @@ impl<'t> Parser<'t> {
     #[cycle(statement)]
     fn statement(&mut self, begun: Begun<'t>) -> Result<Statement, Fault>
         ensures leads { (k : StatementTree → State)
-            → Leads (statement_state begun.entry.start (lexeme begun.entry.token) k) (λ s. k (statement_tree s)) result self.old self.new }
+            → Leads (statement_state begun.entry.start (lexeme begun.entry.token) k) (λ s. k (statement_tree s))
+            result self.old self.new }
         ensures shorter { OnOk result (length self.new.rest.now ≤ length self.old.rest.now) }
     {
         match begun.start {
@@ -100,7 +104,7 @@ impl<'t> Parser<'t> {
             → Leads (conditioned place k) (λ s. k (statement_tree s)) result self.old self.new }
         ensures shorter { OnOk result (length self.new.rest.now ≤ length self.old.rest.now) }
     {
-        self.expect(TokenKind::Sign(Sign::OpenRound))?;
+        self.pass(TokenKind::Sign(Sign::OpenRound))?;
         let condition = self.expression_to(TokenKind::Sign(Sign::CloseRound))?;
         let accepted = self.block()?;
         let otherwise = self.otherwise()?;
@@ -113,10 +117,10 @@ impl<'t> Parser<'t> {
             → Leads (counter_state k) (λ t. k (lexeme t)) result self.old self.new }
         ensures shorter { OnOk result (length self.new.rest.now < length self.old.rest.now) }
     {
-        self.expect(TokenKind::Sign(Sign::OpenRound))?;
-        self.expect(TokenKind::Keyword(Keyword::Uint32))?;
+        self.pass(TokenKind::Sign(Sign::OpenRound))?;
+        self.pass(TokenKind::Keyword(Keyword::Uint32))?;
         let name = self.expect(TokenKind::Name)?;
-        self.expect(TokenKind::Keyword(Keyword::From))?;
+        self.pass(TokenKind::Keyword(Keyword::From))?;
         Ok(name)
     }
 
@@ -155,9 +159,9 @@ impl<'t> Parser<'t> {
             → Leads (block_state k) (λ ss. k (block_tree ss.items)) result self.old self.new }
         ensures shorter { OnOk result (length self.new.rest.now < length self.old.rest.now) }
     {
-        self.expect(TokenKind::Sign(Sign::OpenCurly))?;
+        self.pass(TokenKind::Sign(Sign::OpenCurly))?;
         let statements = self.statements()?;
-        self.expect(TokenKind::Sign(Sign::CloseCurly))?;
+        self.pass(TokenKind::Sign(Sign::CloseCurly))?;
         Ok(statements)
     }
 
@@ -168,10 +172,10 @@ impl<'t> Parser<'t> {
             → Leads (otherwise_state k) (λ ss. k (block_tree ss.items)) result self.old self.new }
         ensures shorter { OnOk result (length self.new.rest.now ≤ length self.old.rest.now) }
     {
-        match self.takes(TokenKind::Keyword(Keyword::Else))? {
-            Some(_) => self.after_else(),
-            None => Ok(Vec::new(self.alloc)),
+        if self.skips(TokenKind::Keyword(Keyword::Else))? {
+            return self.after_else();
         }
+        Ok(Vec::new(self.alloc))
     }
 
     /// What stands after `else`: one more conditional, or a block.

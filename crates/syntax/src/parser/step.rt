@@ -1,8 +1,10 @@
-ghost use Rattle.std.specs.Prelude.{◌≡◌, ◌≤◌, ◌<◌, IfOk, IfErr, OnOk, OnSome, Some, None, [], ◌∷◌, length, ℕ};
-ghost use Rattle.syntax.specs.Grammar.{label_of as label_that, word_of as word_that, amount_of as amount_that, length_of as length_that};
+ghost use Rattle.std.specs.Prelude.{◌≡◌, ◌≤◌, ◌<◌, true, IfOk, IfErr, OnOk, OnSome, Some, None, [], ◌∷◌, length, ℕ};
+ghost use Rattle.syntax.specs.Grammar.{label_of as label_that, word_of as word_that, amount_of as amount_that};
+ghost use Rattle.syntax.specs.Grammar.{length_of as length_that};
 ghost use Rattle.syntax.specs.Lexeme.{Lexeme, lexeme};
-ghost use Rattle.syntax.specs.private.Machine.{State, one, either, a_label, a_kind, a_length, an_amount, fits as fits_that, sized, step, ending_answer};
-ghost use Rattle.syntax.specs.private.ParserViews.{Leads, FaultIs, taken};
+ghost use Rattle.syntax.specs.private.Machine.{State, one, either, a_label, a_kind, a_length, an_amount};
+ghost use Rattle.syntax.specs.private.Machine.{fits as fits_that, sized, step, ending_answer};
+ghost use Rattle.syntax.specs.private.ParserViews.{Leads, FaultIs, front, skipped, taken};
 ghost use Rattle.syntax.specs.Tokens.{ending};
 ghost use Rattle.syntax.specs.Below.{Kind as KindOf, Label as LabelOf};
 
@@ -112,18 +114,45 @@ impl<'t> Parser<'t> {
         Ok(())
     }
 
-    /// Takes a token of this kind.
-    pub fn expect(&mut self, wanted: TokenKind) -> Result<Token<'t>, Fault>
+    /// Takes a token of this kind, of which no more is asked.
+    pub fn pass(&mut self, wanted: TokenKind) -> Result<(), Fault>
         ensures leads { (k : Lexeme → State)
-            → Leads (one wanted k) (λ t. k (lexeme t)) result self.old self.new }
+            → Leads (one wanted k) (λ _. k (front self.old.rest.now)) result self.old self.new }
         ensures shorter { OnOk result (length self.new.rest.now < length self.old.rest.now) }
     {
         let (token, rest) = self.first()?;
         if !fits(wanted, token.kind) {
             return Err(unexpected(token));
         }
-        self.advance(token, rest)?;
+        self.advance(token, rest)
+    }
+
+    /// Takes a token of this kind.
+    pub fn expect(&mut self, wanted: TokenKind) -> Result<Token<'t>, Fault>
+        ensures leads { (k : Lexeme → State)
+            → Leads (one wanted k) (λ t. k (lexeme t)) result self.old self.new }
+        ensures shorter { OnOk result (length self.new.rest.now < length self.old.rest.now) }
+    {
+        let (token, _) = self.first()?;
+        self.pass(wanted)?;
         Ok(token)
+    }
+
+    /// Whether the token that stands next is of this kind: then it is taken, and no more is asked of it.
+    pub fn skips(&mut self, wanted: TokenKind) -> Result<bool, Fault>
+        ensures leads { (next : Lexeme → State) (other : State)
+            → Leads (either wanted next other) (skipped next other self.old.rest.now) result self.old self.new }
+        ensures shorter { IfOk result (λ is. is ≡ true → length self.new.rest.now < length self.old.rest.now) }
+        ensures same { OnOk result (length self.new.rest.now ≤ length self.old.rest.now) }
+    {
+        let Ok((token, rest)) = self.first() else {
+            return Ok(false);
+        };
+        if !fits(wanted, token.kind) {
+            return Ok(false);
+        }
+        self.advance(token, rest)?;
+        Ok(true)
     }
 
     /// Takes the token that stands next, where it is of this kind.
@@ -133,14 +162,13 @@ impl<'t> Parser<'t> {
         ensures shorter { IfOk result (λ t. OnSome t (length self.new.rest.now < length self.old.rest.now)) }
         ensures same { OnOk result (length self.new.rest.now ≤ length self.old.rest.now) }
     {
-        let Ok((token, rest)) = self.first() else {
+        let Ok((token, _)) = self.first() else {
             return Ok(None);
         };
-        if !fits(wanted, token.kind) {
-            return Ok(None);
+        if self.skips(wanted)? {
+            return Ok(Some(token));
         }
-        self.advance(token, rest)?;
-        Ok(Some(token))
+        Ok(None)
     }
 
     /// The name that a token spells.

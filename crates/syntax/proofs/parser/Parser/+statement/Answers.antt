@@ -15,7 +15,7 @@ after_else-returns-in-None-clause-leads t c = λ k.
 
 pub conditional-returns-clause-leads : goal.conditional-returns-clause-leads
 conditional-returns-clause-leads t c = λ k.
-    rw row_trees.arms (simp (c.in_ok-expect.ensures.leads, c.in_ok-condition.ensures.leads)
+    rw row_trees.arms (simp (c.in_ok-pass.ensures.leads, c.in_ok-condition.ensures.leads)
     (simp c.in_ok-accepted.ensures.leads (c.in_ok-otherwise.ensures.leads _)))
 
 pub counted-returns-clause-leads : goal.counted-returns-clause-leads
@@ -27,18 +27,18 @@ counted-returns-clause-leads t c = λ k.
       c.in_ok-low.ensures.leads,
     ) (simp c.in_ok-high.ensures.leads (c.in_ok-body.ensures.leads _)))
 
-pub otherwise-returns-in_err-takes-clause-leads : goal.otherwise-returns-in_err-takes-clause-leads
-otherwise-returns-in_err-takes-clause-leads t c = λ k.
+pub otherwise-returns-in_err-skips-clause-leads : goal.otherwise-returns-in_err-skips-clause-leads
+otherwise-returns-in_err-skips-clause-leads t c = λ k.
     let p = err_from_is_err_and c.from_residual.result c.from_residual.ensures.1 in
-    rw (p.1, p.2, ahead-otherwise k) (c.in_err-takes.ensures.leads (λ _. after_else k) (k nothing))
+    rw (p.1, p.2, ahead-otherwise k) (c.in_err-skips.ensures.leads (λ _. after_else k) (k nothing))
 
-pub otherwise-returns-in-Some-clause-leads : goal.otherwise-returns-in-Some-clause-leads
-otherwise-returns-in-Some-clause-leads t c = λ k.
-    simp (ahead-otherwise k, c.in_ok-takes.ensures.leads, c.in-Some.is) (c.after_else.ensures.leads k)
+pub otherwise-returns-then-branch-clause-leads : goal.otherwise-returns-then-branch-clause-leads
+otherwise-returns-then-branch-clause-leads t c = λ k.
+    simp (ahead-otherwise k, c.in_ok-skips.ensures.leads, c.if-branch.true) (c.after_else.ensures.leads k)
 
-pub otherwise-returns-in-None-clause-leads : goal.otherwise-returns-in-None-clause-leads
-otherwise-returns-in-None-clause-leads t c = λ k.
-    simp (ahead-otherwise k, c.in_ok-takes.ensures.leads, c.in-None.is, c.new.ensures.items)
+pub otherwise-returns-clause-leads : goal.otherwise-returns-clause-leads
+otherwise-returns-clause-leads t c = λ k.
+    simp (ahead-otherwise k, c.in_ok-skips.ensures.leads, c.if-branch.false, c.new.ensures.items)
 
 pub statements-loop-statements-preserved : goal.statements-loop-statements-preserved
 statements-loop-statements-preserved t c = record {

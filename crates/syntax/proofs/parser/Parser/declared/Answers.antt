@@ -1,9 +1,10 @@
+use Rattle.syntax.specs.private.Machine.{declared_as}
+use Rattle.syntax.proofs.ParserSteps.{either_way}
 use Rattle.syntax.proofs.parser.Parser.declared.Goals as goal
 
-pub returns-in-Some-clause-leads : goal.returns-in-Some-clause-leads
-returns-in-Some-clause-leads c = λ k.
-    simp (c.in_ok-takes.ensures.leads, c.in-Some.is) (c.declared_as.ensures.leads k)
-
-pub returns-in-None-clause-leads : goal.returns-in-None-clause-leads
-returns-in-None-clause-leads c = λ k.
-    simp (c.in_ok-takes.ensures.leads, c.in-None.is) (c.declared_as-in-None.ensures.leads k)
+pub returns-clause-leads : goal.returns-clause-leads
+returns-clause-leads c = λ k.
+    simp (
+      c.in_ok-mutable.ensures.leads,
+      either_way c.in_ok-mutable.mutable (λ mutable. declared_as c.args.label mutable k),
+    ) (c.declared_as.ensures.leads k)

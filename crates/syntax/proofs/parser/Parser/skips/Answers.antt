@@ -3,7 +3,7 @@ use Rattle.std.proofs.lemmas.Result.{err_from_is_err_and}
 use Rattle.syntax.specs.Lexeme.{lexeme}
 use Rattle.syntax.specs.private.Machine.{either, fits}
 use Rattle.syntax.proofs.MachineSteps.{either-step}
-use Rattle.syntax.proofs.parser.Parser.takes.Goals as goal
+use Rattle.syntax.proofs.parser.Parser.skips.Goals as goal
 
 pub returns-in_err-advance-clause-leads : goal.returns-in_err-advance-clause-leads
 returns-in_err-advance-clause-leads c = λ next other.
