@@ -120,12 +120,13 @@ fn push_place(text: &mut String, function: &Function) -> Result<(), AllocError>
 fn push_symbol(text: &mut String, function: &Function) -> Result<(), AllocError>
     ensures { OnOk result (string_bytes text.new ≡ string_bytes text.old ++ symbol_lines (parts_of function.now)) }
 {
+    let name = function.name.as_str();
     text.push_str("    .globl ")?;
-    text.push_str(function.name.as_str())?;
+    text.push_str(name)?;
     text.push_str("\n    .type ")?;
-    text.push_str(function.name.as_str())?;
+    text.push_str(name)?;
     text.push_str(", @function\n")?;
-    text.push_str(function.name.as_str())?;
+    text.push_str(name)?;
     text.push_str(":\n    .cfi_startproc\n")
 }
 
@@ -142,10 +143,11 @@ fn push_head(alloc: Global, text: &mut String, function: &Function) -> Result<()
 fn push_tail(text: &mut String, function: &Function) -> Result<(), AllocError>
     ensures { OnOk result (string_bytes text.new ≡ string_bytes text.old ++ tail_lines (parts_of function.now)) }
 {
+    let name = function.name.as_str();
     text.push_str("    .cfi_endproc\n    .size ")?;
-    text.push_str(function.name.as_str())?;
+    text.push_str(name)?;
     text.push_str(", . - ")?;
-    text.push_str(function.name.as_str())?;
+    text.push_str(name)?;
     text.push_str("\n    .option pop\n")
 }
 

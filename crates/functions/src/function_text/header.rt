@@ -223,11 +223,12 @@ fn push_prototype(text: &mut String, function: &Function) -> Result<(), AllocErr
 pub fn header_text(alloc: Global, function: &Function) -> Result<String, AllocError>
     ensures { IfOk result (λ text. string_bytes text ≡ header_text (parts_of function.now)) }
 {
+    let name = function.name.as_str();
     let mut text = String::new(alloc);
     push_comment(&mut text, function)?;
-    push_guard(&mut text, function.name.as_str())?;
+    push_guard(&mut text, name)?;
     push_includes(&mut text)?;
-    push_stack(&mut text, function.name.as_str(), room_of(&function.image))?;
+    push_stack(&mut text, name, room_of(&function.image))?;
     push_prototype(&mut text, function)?;
     Ok(text)
 }

@@ -11,6 +11,7 @@ returns c =
     (before ++ codes ", \"ax\", @progbits\n    .p2align 2\n") before c.push_str-3.ensures.bytes in
     simp append_assoc
     (simp (
+      c.as_str.ensures,
       c.in_ok-push_str-2.ensures.bytes,
       c.in_ok-push_str.ensures.bytes,
       append_assoc,

@@ -11,6 +11,7 @@ returns c =
     (before ++ codes ":\n    .cfi_startproc\n") before c.push_str-7.ensures.bytes in
     simp append_assoc
     (simp (
+      c.as_str-name.ensures,
       c.in_ok-push_str-6.ensures.bytes,
       c.in_ok-push_str-5.ensures.bytes,
       c.in_ok-push_str-4.ensures.bytes,

@@ -16,6 +16,7 @@ returns c =
       c.in_ok-push_str-4.ensures.bytes,
       c.in_ok-push_str-3.ensures.bytes,
       c.in_ok-push_str-2.ensures.bytes,
+      c.as_str.ensures,
       c.in_ok-push_result.ensures,
       c.returned.ensures.returned,
       c.in_ok-push_str.ensures.bytes,
