@@ -9,7 +9,6 @@ ghost use Rattle.syntax.specs.Tokens.{ending};
 
 mod declaration;
 mod expression;
-mod naming;
 mod operator;
 mod procedure;
 mod right_side;

@@ -8,7 +8,10 @@ ghost use Rattle.syntax.specs.private.ParserViews.{Leads};
 ghost use Rattle.syntax.specs.Below.{expr_tree, ExprTree, statement_tree, StatementTree};
 
 use super::{Fault, Parser};
-use crate::{Expr, Keyword, Kind, Label, Place, Sign, Statement, Token, TokenKind};
+use crate::{
+    ArrayDeclaration, Assignment, Declaration, ElementAssignment, Expr, Keyword, Kind, Label,
+    Place, Sign, Statement, Token, TokenKind,
+};
 
 impl<'t> Parser<'t> {
     /// The first values of an array, where they are written.
@@ -38,10 +41,19 @@ impl<'t> Parser<'t> {
             → Leads (declared_array label mutable kind words k) (λ s. k (statement_tree s)) result self.old self.new }
         ensures shorter { OnOk result (length self.new.rest.now ≤ length self.old.rest.now) }
     {
-        let name = self.expect(TokenKind::Name)?;
+        let token = self.expect(TokenKind::Name)?;
+        let name = self.name(token)?;
         let values = self.first_values()?;
         self.pass(TokenKind::Sign(Sign::Semicolon))?;
-        self.array_named(name, label, mutable, kind, words, values)
+        Ok(Statement::DeclareArray(ArrayDeclaration {
+            label,
+            mutable,
+            kind,
+            length: words,
+            place: token.place,
+            name,
+            values,
+        }))
     }
 
     /// A declaration of a word, after its type.
@@ -50,10 +62,18 @@ impl<'t> Parser<'t> {
             → Leads (declared_word label mutable kind k) (λ s. k (statement_tree s)) result self.old self.new }
         ensures shorter { OnOk result (length self.new.rest.now ≤ length self.old.rest.now) }
     {
-        let name = self.expect(TokenKind::Name)?;
+        let token = self.expect(TokenKind::Name)?;
+        let name = self.name(token)?;
         self.pass(TokenKind::Sign(Sign::Assign))?;
         let value = self.right_end()?;
-        self.word_named(name, label, mutable, kind, value)
+        Ok(Statement::Declare(Declaration {
+            label,
+            mutable,
+            kind,
+            place: token.place,
+            name,
+            value,
+        }))
     }
 
     /// A declaration, after its label and `mut`.
@@ -81,26 +101,40 @@ impl<'t> Parser<'t> {
     }
 
     /// An assignment, after its name and `=`.
-    fn assigned(&mut self, name: Token<'t>, place: Place) -> Result<Statement, Fault>
+    fn assigned(&mut self, token: Token<'t>, place: Place) -> Result<Statement, Fault>
         ensures leads { (k : StatementTree → State)
-            → Leads (assigned (lexeme name.entry) place k) (λ s. k (statement_tree s)) result self.old self.new }
+            → Leads (assigned (lexeme token.entry) place k) (λ s. k (statement_tree s)) result self.old self.new }
         ensures shorter { OnOk result (length self.new.rest.now ≤ length self.old.rest.now) }
     {
+        let name = self.name(token)?;
         let value = self.right_end()?;
-        self.assignment_named(name, place, value)
+        Ok(Statement::Assign(Assignment {
+            place,
+            target: token.place,
+            name,
+            value,
+        }))
     }
 
     /// An assignment to an element, after its name and `[`.
-    fn element_assigned(&mut self, name: Token<'t>, bracket: Place) -> Result<Statement, Fault>
+    fn element_assigned(&mut self, token: Token<'t>, bracket: Place) -> Result<Statement, Fault>
         ensures leads { (k : StatementTree → State)
-            → Leads (element_assigned (lexeme name.entry) bracket k) (λ s. k (statement_tree s))
+            → Leads (element_assigned (lexeme token.entry) bracket k) (λ s. k (statement_tree s))
             result self.old self.new }
         ensures shorter { OnOk result (length self.new.rest.now ≤ length self.old.rest.now) }
     {
+        let name = self.name(token)?;
         let index = self.expression_to(TokenKind::Sign(Sign::CloseSquare))?;
         let sign = self.expect(TokenKind::Sign(Sign::Assign))?;
         let value = self.right_end()?;
-        self.element_named(name, sign.place, bracket, index, value)
+        Ok(Statement::AssignElement(ElementAssignment {
+            place: sign.place,
+            bracket,
+            target: token.place,
+            name,
+            index,
+            value,
+        }))
     }
 
     /// A call as a statement, after its name.

@@ -124,8 +124,16 @@ impl<'t> Parser<'t> {
             → Leads (parameter_name label kind form words k) (λ p. k (parameter_tree p)) result self.old self.new }
         ensures shorter { OnOk result (length self.new.rest.now ≤ length self.old.rest.now) }
     {
-        let name = self.expect(TokenKind::Name)?;
-        self.parameter_named(name, label, kind, form, words)
+        let token = self.expect(TokenKind::Name)?;
+        let name = self.name(token)?;
+        Ok(Parameter {
+            label,
+            kind,
+            form,
+            length: words,
+            place: token.place,
+            name,
+        })
     }
 
     /// The `return` of a body, where it has one, and the closing bracket.
