@@ -19,7 +19,7 @@ use rv_code::{BranchTest, Instr, Reg};
 use std::alloc::AllocError;
 
 /// The test that a branch makes of a comparison's operands, and whether it takes them turned round.
-#[derive(Clone, Copy, Debug)]
+#[derive(Clone, Copy)]
 pub struct Comparison {
     pub test: BranchTest,
     pub is_turned: bool,

@@ -18,7 +18,7 @@ const BRANCH_HALVES: u32 = 1 << 12;
 const FAR: usize = 262_140;
 
 /// A branch's test of two registers.
-#[derive(Clone, Copy, Debug)]
+#[derive(Clone, Copy)]
 pub struct Test {
     pub test: BranchTest,
     pub left: Reg,

@@ -14,7 +14,7 @@ use rv_code::{Immediate12, ImmediateOperation, Instr, Reg, RegisterOperation};
 use std::alloc::AllocError;
 
 /// The register that a control value comes into, unless nothing reads it.
-#[derive(Clone, Copy, Debug)]
+#[derive(Clone, Copy)]
 pub struct Target {
     pub register: Reg,
     pub is_unread: bool,

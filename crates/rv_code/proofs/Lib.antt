@@ -1,4 +1,3 @@
 pub mod FieldLaws
 pub mod RowLaws
 pub mod WordLaws
-pub mod Found

@@ -8,7 +8,7 @@ use std::marker::Model;
 
 /// A signed number of 12 bits, -2048 to 2047, as the I and S formats hold it.
 /// A contract sees the field: the number's two's complement, below 4096.
-#[derive(Clone, Copy, Debug, PartialEq, Eq)]
+#[derive(Clone, Copy)]
 pub struct Immediate12 {
     field: u16,
 }

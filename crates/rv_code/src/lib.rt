@@ -17,7 +17,6 @@ pub mod laws;
 pub mod offsets;
 pub mod operations;
 pub mod registers;
-mod rows;
 mod signed;
 pub mod small_fields;
 mod text;

@@ -8,7 +8,7 @@ use std::marker::Model;
 
 /// An even number of bytes from -4096 to 4094, as the B format holds it.
 /// A contract sees the field: half of the number's two's complement in 13 bits, below 4096.
-#[derive(Clone, Copy, Debug, PartialEq, Eq)]
+#[derive(Clone, Copy)]
 pub struct BranchOffset {
     halves: u16,
 }
@@ -79,7 +79,7 @@ impl BranchOffset {
 
 /// An even number of bytes from -1048576 to 1048574, as the J format holds it.
 /// A contract sees the field: half of the number's two's complement in 21 bits, below 2^20.
-#[derive(Clone, Copy, Debug, PartialEq, Eq)]
+#[derive(Clone, Copy)]
 pub struct JumpOffset {
     halves: u32,
 }

@@ -1,7 +1,8 @@
 // The instruction table: for each operation its name in text, the fixed fields of its words, and what
 // it makes of words.
 //
-// A new instruction of a format that is here is a variant, its place in `ALL`, its row and its value.
+// A new instruction of a format that is here is a variant, its row, its place in the table by funct3 and its value. Where no
+// operation of a group has a funct3, another one stands there, whose words have another.
 // What they have to be is said in `specs/Operations.antt`.
 
 ghost use Rattle.std.specs.Prelude.{◌≡◌};
@@ -11,6 +12,10 @@ ghost use Rattle.rv_code.specs.Operations.{upper_value, holds, load_width, loade
 use crate::signed;
 use crate::upper_immediates::UpperImmediate;
 use word::Width;
+
+pub(crate) const LUI: u32 = 0b0110111;
+
+pub(crate) const AUIPC: u32 = 0b0010111;
 
 pub(crate) const OP_IMM: u32 = 0b0010011;
 
@@ -38,14 +43,14 @@ pub(crate) const ECALL: u32 = 0x00000073;
 pub(crate) const EBREAK: u32 = 0x00100073;
 
 /// What the U format computes.
-#[derive(Clone, Copy, Debug, PartialEq, Eq)]
+#[derive(Clone, Copy)]
 pub enum UpperOperation {
     Lui,
     Auipc,
 }
 
 /// What two registers have to be for a branch to be taken.
-#[derive(Clone, Copy, Debug, PartialEq, Eq)]
+#[derive(Clone, Copy)]
 pub enum BranchTest {
     Beq,
     Bne,
@@ -56,7 +61,7 @@ pub enum BranchTest {
 }
 
 /// Which bytes a load reads, and how they fill the register.
-#[derive(Clone, Copy, Debug, PartialEq, Eq)]
+#[derive(Clone, Copy)]
 pub enum LoadOperation {
     Lb,
     Lh,
@@ -66,7 +71,7 @@ pub enum LoadOperation {
 }
 
 /// Which bytes of the register a store writes.
-#[derive(Clone, Copy, Debug, PartialEq, Eq)]
+#[derive(Clone, Copy)]
 pub enum StoreOperation {
     Sb,
     Sh,
@@ -74,7 +79,7 @@ pub enum StoreOperation {
 }
 
 /// What a register and an immediate compute.
-#[derive(Clone, Copy, Debug, PartialEq, Eq)]
+#[derive(Clone, Copy)]
 pub enum ImmediateOperation {
     Addi,
     Slti,
@@ -85,7 +90,7 @@ pub enum ImmediateOperation {
 }
 
 /// How a register is shifted by an amount.
-#[derive(Clone, Copy, Debug, PartialEq, Eq)]
+#[derive(Clone, Copy)]
 pub enum ShiftOperation {
     Slli,
     Srli,
@@ -93,7 +98,7 @@ pub enum ShiftOperation {
 }
 
 /// What two registers compute.
-#[derive(Clone, Copy, Debug, PartialEq, Eq)]
+#[derive(Clone, Copy)]
 pub enum RegisterOperation {
     Add,
     Sub,
@@ -108,7 +113,7 @@ pub enum RegisterOperation {
 }
 
 /// Which half of two registers' product, with which signs.
-#[derive(Clone, Copy, Debug, PartialEq, Eq)]
+#[derive(Clone, Copy)]
 pub enum MultiplyOperation {
     Mul,
     Mulh,
@@ -117,7 +122,7 @@ pub enum MultiplyOperation {
 }
 
 /// The quotient or the remainder of two registers, with or without signs.
-#[derive(Clone, Copy, Debug, PartialEq, Eq)]
+#[derive(Clone, Copy)]
 pub enum DivideOperation {
     Div,
     Divu,
@@ -148,15 +153,13 @@ pub(crate) struct Funct7Row {
 }
 
 impl UpperOperation {
-    pub(crate) const ALL: [Self; 2] = [Self::Lui, Self::Auipc];
-
     pub(crate) fn row(self) -> OpcodeRow
         ensures mnemonic { result.mnemonic.now ≡ (upper_row self).mnemonic }
         ensures opcode { result.opcode ≡ (upper_row self).opcode }
     {
         let (mnemonic, opcode) = match self {
-            Self::Lui => ("lui", 0b0110111),
-            Self::Auipc => ("auipc", 0b0010111),
+            Self::Lui => ("lui", LUI),
+            Self::Auipc => ("auipc", AUIPC),
         };
         OpcodeRow { mnemonic, opcode }
     }
@@ -175,9 +178,11 @@ impl UpperOperation {
 }
 
 impl BranchTest {
-    pub(crate) const ALL: [Self; 6] = [
+    pub(crate) const BY_FUNCT3: [Self; 8] = [
         Self::Beq,
         Self::Bne,
+        Self::Beq,
+        Self::Beq,
         Self::Blt,
         Self::Bge,
         Self::Bltu,
@@ -216,7 +221,14 @@ impl BranchTest {
 }
 
 impl LoadOperation {
-    pub(crate) const ALL: [Self; 5] = [Self::Lb, Self::Lh, Self::Lw, Self::Lbu, Self::Lhu];
+    pub(crate) const BY_FUNCT3: [Self; 6] = [
+        Self::Lb,
+        Self::Lh,
+        Self::Lw,
+        Self::Lw,
+        Self::Lbu,
+        Self::Lhu,
+    ];
 
     pub(crate) fn row(self) -> Funct3Row
         ensures mnemonic { result.mnemonic.now ≡ (load_row self).mnemonic }
@@ -258,7 +270,7 @@ impl LoadOperation {
 }
 
 impl StoreOperation {
-    pub(crate) const ALL: [Self; 3] = [Self::Sb, Self::Sh, Self::Sw];
+    pub(crate) const BY_FUNCT3: [Self; 3] = [Self::Sb, Self::Sh, Self::Sw];
 
     pub(crate) fn row(self) -> Funct3Row
         ensures mnemonic { result.mnemonic.now ≡ (store_row self).mnemonic }
@@ -286,11 +298,13 @@ impl StoreOperation {
 }
 
 impl ImmediateOperation {
-    pub(crate) const ALL: [Self; 6] = [
+    pub(crate) const BY_FUNCT3: [Self; 8] = [
+        Self::Addi,
         Self::Addi,
         Self::Slti,
         Self::Sltiu,
         Self::Xori,
+        Self::Addi,
         Self::Ori,
         Self::Andi,
     ];
@@ -327,8 +341,6 @@ impl ImmediateOperation {
 }
 
 impl ShiftOperation {
-    pub(crate) const ALL: [Self; 3] = [Self::Slli, Self::Srli, Self::Srai];
-
     pub(crate) fn row(self) -> Funct7Row
         ensures mnemonic { result.mnemonic.now ≡ (shift_row self).mnemonic }
         ensures funct3 { result.funct3 ≡ (shift_row self).funct3 }
@@ -360,17 +372,25 @@ impl ShiftOperation {
 }
 
 impl RegisterOperation {
-    pub(crate) const ALL: [Self; 10] = [
+    pub(crate) const BY_FUNCT3: [Self; 8] = [
         Self::Add,
-        Self::Sub,
         Self::Sll,
         Self::Slt,
         Self::Sltu,
         Self::Xor,
         Self::Srl,
-        Self::Sra,
         Self::Or,
         Self::And,
+    ];
+
+    /// Those with another funct7 than 0.
+    pub(crate) const BY_FUNCT3_BESIDE: [Self; 6] = [
+        Self::Sub,
+        Self::Sll,
+        Self::Slt,
+        Self::Sltu,
+        Self::Xor,
+        Self::Sra,
     ];
 
     pub(crate) fn row(self) -> Funct7Row
@@ -418,7 +438,7 @@ impl RegisterOperation {
 }
 
 impl MultiplyOperation {
-    pub(crate) const ALL: [Self; 4] = [Self::Mul, Self::Mulh, Self::Mulhsu, Self::Mulhu];
+    pub(crate) const BY_FUNCT3: [Self; 4] = [Self::Mul, Self::Mulh, Self::Mulhsu, Self::Mulhu];
 
     pub(crate) fn row(self) -> Funct3Row
         ensures mnemonic { result.mnemonic.now ≡ (multiply_row self).mnemonic }
@@ -448,7 +468,8 @@ impl MultiplyOperation {
 }
 
 impl DivideOperation {
-    pub(crate) const ALL: [Self; 4] = [Self::Div, Self::Divu, Self::Rem, Self::Remu];
+    /// By the low two bits of funct3.
+    pub(crate) const BY_FUNCT3: [Self; 4] = [Self::Div, Self::Divu, Self::Rem, Self::Remu];
 
     pub(crate) fn row(self) -> Funct3Row
         ensures mnemonic { result.mnemonic.now ≡ (divide_row self).mnemonic }

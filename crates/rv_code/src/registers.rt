@@ -6,7 +6,7 @@ ghost use Rattle.std.specs.Option.{SomeIff};
 use std::marker::Model;
 
 /// One of the registers x0 to x31. A contract sees its number.
-#[derive(Clone, Copy, Debug, PartialEq, Eq)]
+#[derive(Clone, Copy, PartialEq, Eq)]
 pub struct Reg {
     number: u8,
 }

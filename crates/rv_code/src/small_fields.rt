@@ -6,7 +6,7 @@ ghost use Rattle.std.specs.Option.{SomeIff};
 use std::marker::Model;
 
 /// By how many bits an immediate shift moves, 0 to 31. A contract sees the number.
-#[derive(Clone, Copy, Debug, PartialEq, Eq)]
+#[derive(Clone, Copy)]
 pub struct ShiftAmount {
     bits: u8,
 }
@@ -54,7 +54,7 @@ impl ShiftAmount {
 }
 
 /// Four bits of a FENCE: its mode, or which kinds of access it orders. A contract sees the number.
-#[derive(Clone, Copy, Debug, PartialEq, Eq)]
+#[derive(Clone, Copy)]
 pub struct FenceBits {
     bits: u8,
 }

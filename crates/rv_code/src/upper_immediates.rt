@@ -7,7 +7,7 @@ use std::marker::Model;
 
 /// The upper 20 bits of a word, as the U format holds them.
 /// A contract sees the field, below 2^20.
-#[derive(Clone, Copy, Debug, PartialEq, Eq)]
+#[derive(Clone, Copy)]
 pub struct UpperImmediate {
     field: u32,
 }

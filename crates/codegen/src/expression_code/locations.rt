@@ -16,7 +16,7 @@ pub const SECOND_SPARE: Reg = Reg::X30;
 pub const THIRD_SPARE: Reg = Reg::X31;
 
 /// Where a word is: in a register, or in a slot at an offset of the frame.
-#[derive(Clone, Copy, Debug, PartialEq, Eq)]
+#[derive(Clone, Copy)]
 pub enum Location {
     InRegister(Reg),
     InSlot(u32),

@@ -15,7 +15,7 @@ use word::{Width, negate};
 
 /// What is made of the outcome of an operator's instruction: nothing more, whether it is 0, whether it is not, or its cut
 /// to the width.
-#[derive(Clone, Copy, Debug, PartialEq, Eq)]
+#[derive(Clone, Copy)]
 pub enum Finish {
     Alone,
     GivesZero,
@@ -26,7 +26,7 @@ pub enum Finish {
 /// What is made of one operand with the number that is the other: by an instruction that holds it as an immediate in two's
 /// complement or as the amount of a shift, or of which it is 0, that the operand is above; or by two shifts that leave its
 /// low bits, of which they move so many others out.
-#[derive(Clone, Copy, Debug, PartialEq, Eq)]
+#[derive(Clone, Copy)]
 pub enum NumberStep {
     WithImmediate(ImmediateOperation, Immediate12),
     ByAmount(ShiftOperation, ShiftAmount),
@@ -35,7 +35,7 @@ pub enum NumberStep {
 }
 
 /// What an operator makes of an operand and a number: a step, and what is made of its outcome.
-#[derive(Clone, Copy, Debug, PartialEq, Eq)]
+#[derive(Clone, Copy)]
 pub struct NumberRow {
     pub finish: Finish,
     pub step: NumberStep,
