@@ -1,8 +1,13 @@
-// Worked examples, for tests alone: of the machine's side (`machine`), of what no command reaches and of the
-// definitions (`sources`), and of calls of libraries (`library`). They stand here, above the crates that they call, so
-// that none of those is proved a second time for its tests.
+// Calls of the libraries that no command makes: a recorder and memories of a caller's own, streams that falter,
+// meanings within budgets, and the function of an image that no source has. They stand here, above the crates that they
+// call, so that none of those is proved a second time for its tests.
 #![tactic(auto)]
 
-pub mod library;
-pub mod machine;
-pub mod sources;
+#[cfg(test)]
+mod faltering_streams;
+#[cfg(test)]
+mod largest_frame;
+#[cfg(test)]
+mod machines;
+#[cfg(test)]
+mod meanings;

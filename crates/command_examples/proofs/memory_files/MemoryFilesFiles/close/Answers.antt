@@ -1,9 +1,0 @@
-use Rattle.std.proofs.Common.{ℕ, ◌+◌, ◌-◌, ◌^◌, None, min, ap, ◌∙◌, arith}
-use Rattle.commands.proofs.StreamCounts.{kept_times}
-use Rattle.command_examples.proofs.memory_files.MemoryFilesFiles.close.Goals as goal
-
-pub returns : goal.returns
-returns c =
-    kept_times (λ path. None) c.args.self.now.failures c.args.source.inner.failures c.saturating_add-self.result
-    (omega arith)
-    (c.saturating_add-self.ensures ∙ ap (λ (n : ℕ). min (c.args.self.now.failures + n) (2 ^ 64 - 1)) c.failures.ensures)

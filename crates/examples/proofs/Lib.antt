@@ -1,2 +1,0 @@
-pub mod machine_lemmas
-pub mod sources_lemmas

@@ -1,4 +1,0 @@
-pub mod WorkedTrees
-pub mod WorkedTyping
-pub mod WorkedRules
-pub mod WorkedMeaning

@@ -1,0 +1,76 @@
+// The function of an image whose frame has 65,536 bytes, the most that an image may have. Its body uses the first and
+// the last word of the frame. All words were worked out by hand; `tests/linked` calls them.
+
+use codegen::image_fields::{ImageFields, ResultSlot, Slot};
+use functions::function_code::{function_words, room_of};
+use language::{Form, Kind, Label, Param, Profile};
+use std::alloc::{AllocError, Global};
+use std::test::Fail;
+
+/// A number in the first word of the frame, an array of two behind most of it, and a result in the last word. The body
+/// sets the first element to the number, the first word to what that element was, and the last word to their sum.
+fn largest_image(alloc: Global) -> Result<ImageFields, AllocError> {
+    let number = Param {
+        kind: Kind::Uint32,
+        label: Label::Secret,
+        form: Form::SingleWord,
+        length: 1,
+    };
+    let pair = Param {
+        kind: Kind::Uint32,
+        label: Label::Secret,
+        form: Form::MutableArray,
+        length: 2,
+    };
+    let slots = [
+        Slot {
+            param: number,
+            offset: 0,
+        },
+        Slot {
+            param: pair,
+            offset: 65_524,
+        },
+    ];
+    let returned = Some(ResultSlot {
+        kind: Kind::Uint32,
+        label: Label::Secret,
+        offset: 65_532,
+    });
+    let slots = Vec::from_slice(alloc, &slots)?;
+    let body = Vec::from_slice(alloc, &BODY)?;
+    Ok(ImageFields::new(Profile::P1, slots, returned, 65_536, 9, body))
+}
+
+/// lw x5, 0(x2); lui x6, 16; add x6, x6, x2; lw x7, -12(x6); sw x5, -12(x6); sw x7, 0(x2); add x5, x5, x7;
+/// sw x5, -4(x6); ecall
+const BODY: [u32; 9] = [
+    0x00012283, 0x00010337, 0x00230333, 0xff432383, 0xfe532a23, 0x00712023, 0x007282b3, 0xfe532e23,
+    0x00000073,
+];
+
+#[test]
+fn has_these_words(rt: HostRuntime) -> Result<(), Fail> {
+    let image = largest_image(rt.alloc())?;
+    let words = function_words(rt.alloc(), &image)?;
+    assert_eq!(rt; room_of(&image), 65_616);
+    assert_eq!(rt; words.as_slice(), WORDS.as_slice());
+    Ok(())
+}
+
+const WORDS: [u32; 108] = [
+    0xfb010113, 0x00812023, 0x00912223, 0x01212423, 0x01312623, 0x01412823, 0x01512a23, 0x01612c23,
+    0x01712e23, 0x03812023, 0x03912223, 0x03a12423, 0x03b12623, 0x02a12823, 0x02b12a23, 0x02c12c23,
+    0x02d12e23, 0x04e12023, 0x04f12223, 0x05012423, 0x05112623, 0x000102b7, 0x00028293, 0x405102b3,
+    0xff010113, 0x00012023, 0x00012223, 0x00012423, 0x00012623, 0xfe5116e3, 0x000102b7, 0x002282b3,
+    0x0302a283, 0x00512023, 0x000102b7, 0x002282b3, 0x0342a283, 0x00010337, 0xff430313, 0x00230333,
+    0x00800393, 0x005383b3, 0x0002ae03, 0x01c32023, 0x00428293, 0x00430313, 0xfe7298e3, 0x00012283,
+    0x00010337, 0x00230333, 0xff432383, 0xfe532a23, 0x00712023, 0x007282b3, 0xfe532e23, 0x00010537,
+    0x00250533, 0xffc52503, 0x000102b7, 0x002282b3, 0x0342a283, 0x00010337, 0xff430313, 0x00230333,
+    0x00800393, 0x005383b3, 0x00032e03, 0x01c2a023, 0x00428293, 0x00430313, 0xfe7298e3, 0x000102b7,
+    0x00028293, 0x002282b3, 0x0002a403, 0x0042a483, 0x0082a903, 0x00c2a983, 0x0102aa03, 0x0142aa83,
+    0x0182ab03, 0x01c2ab83, 0x0202ac03, 0x0242ac83, 0x0282ad03, 0x02c2ad83, 0x05028293, 0x00012023,
+    0x00012223, 0x00012423, 0x00012623, 0x01010113, 0xfe5116e3, 0x00000293, 0x00000313, 0x00000393,
+    0x00000593, 0x00000613, 0x00000693, 0x00000713, 0x00000793, 0x00000813, 0x00000893, 0x00000e13,
+    0x00000e93, 0x00000f13, 0x00000f93, 0x00008067,
+];
