@@ -104,7 +104,11 @@ fn a_budget_is_a_number_of_nodes(rt: HostRuntime) -> Result<(), Fail> {
     let fives = "None [Numbers { items: [5, 5, 5, 5, 5, 5, 5, 5] }]";
     means(&rt, FILL, &[ZEROS, "5"], 43, fives)?;
     means(&rt, FILL, &[ZEROS, "5"], 42, "E2: budget")?;
-    means(&rt, NO_TURNS, &[], 10, "Some(7) []")?;
+    means(&rt, NO_TURNS, &[], 10, "Some(7) []")
+}
+
+#[test]
+fn evaluates_ten_million_nodes(rt: HostRuntime) -> Result<(), Fail> {
     means(&rt, LONG, &[], 10_004_007, "Some(1999000000) []")?;
     means(&rt, LONG, &[], 10_004_006, "E2: budget")
 }
