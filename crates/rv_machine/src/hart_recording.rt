@@ -9,7 +9,7 @@ use crate::observation::Observation;
 use std::alloc::AllocError;
 
 /// What a turn of one hart among others shows, with the hart's number.
-#[derive(Clone, Copy, Debug, PartialEq, Eq)]
+#[derive(Clone, Copy)]
 pub struct HartObservation {
     pub hart: u8,
     pub observation: Observation,

@@ -15,7 +15,7 @@ use std::alloc::{AllocError, Global};
 const PAGE_BYTES: u64 = 4096;
 
 /// Addresses from the beginning on, up to the end, which is the first one after them.
-#[derive(Clone, Copy, Debug, PartialEq, Eq)]
+#[derive(Clone, Copy)]
 pub struct AddressRange {
     pub begin: u64,
     pub end: u64,

@@ -75,7 +75,7 @@ impl Recorder for ListRecorder {
 }
 
 /// Keeps nothing, and never refuses.
-#[derive(Clone, Copy, Debug, Default)]
+#[derive(Clone, Copy)]
 pub struct NullRecorder;
 
 impl Recorder for NullRecorder {
