@@ -7,7 +7,7 @@ use std::alloc::Global;
 use std::marker::Model;
 
 /// A sink that keeps what it takes. A call fails only where memory for the bytes was refused.
-#[derive(Debug, Drop)]
+#[derive(Drop)]
 pub struct ByteSink {
     bytes: Vec<u8>,
     failures: u64,
@@ -62,7 +62,7 @@ impl Sink for ByteSink {
 }
 
 /// A source that hands out bytes that it has. No call of it fails.
-#[derive(Debug, Drop)]
+#[derive(Drop)]
 pub struct ByteSource {
     bytes: Vec<u8>,
     read: usize,
