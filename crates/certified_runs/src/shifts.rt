@@ -7,7 +7,7 @@ use rv_code::RegisterOperation;
 
 /// Whether an observer sees by how much a register is shifted. An immediate amount is part of the code, which is
 /// known anyhow.
-#[derive(Clone, Copy, Debug, PartialEq, Eq)]
+#[derive(Clone, Copy)]
 pub enum Shifts {
     /// Shifts take as long whatever their amounts are.
     Hidden,
