@@ -85,7 +85,7 @@ pub struct Mark {
 }
 
 /// Words of four bytes, one after another: where the first begins, and how many they are.
-#[derive(Clone, Copy, Debug, PartialEq, Eq)]
+#[derive(Clone, Copy)]
 pub struct Area {
     pub base: u32,
     pub words: u32,

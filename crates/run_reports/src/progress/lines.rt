@@ -27,7 +27,7 @@ fn put_line<E: Sink>(err: &mut E, turns: u64) -> Result<(), SinkFault>
 }
 
 /// How many lines a run has, and whether all went out. Where a call fails no further line is tried.
-#[derive(Clone, Copy, Debug)]
+#[derive(Clone, Copy)]
 pub struct ProgressLines {
     pub count: u64,
     pub whole: bool,

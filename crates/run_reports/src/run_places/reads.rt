@@ -18,8 +18,9 @@ fn push_register(
 ) -> Result<(), AllocError>
     ensures { OnOk result (text.new.items ≡ text.old.items ++ register_text (regs_of hart.now) register) }
 {
+    let number = register.number();
     let value = hart.reg(register);
-    let said = format!(in alloc; " {register} {value:08x}")?;
+    let said = format!(in alloc; " x{number} {value:08x}")?;
     text.extend_from_slice(said.as_bytes())
 }
 

@@ -10,7 +10,7 @@ use rv_machine::{CodeRegion, Event, Memory, Observation, Running, Stop, entry_co
 use std::alloc::Global;
 
 /// What a run shows at a place.
-#[derive(Clone, Copy, Debug, PartialEq, Eq)]
+#[derive(Clone, Copy)]
 pub enum Shown {
     /// The entry for a turn's program counter.
     ProgramCounter(u32),

@@ -45,7 +45,7 @@ pub(crate) fn turn<M: Memory>(
 }
 
 /// How many turns a run has made, and how many entries these have shown.
-#[derive(Clone, Copy, Debug, PartialEq, Eq)]
+#[derive(Clone, Copy)]
 pub struct Before {
     pub turns: u64,
     pub entries: u64,
