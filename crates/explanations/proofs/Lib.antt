@@ -1,7 +1,6 @@
 pub mod BlockTrees
 pub mod expected_tokens_lemmas
 pub mod call_places_lemmas
-pub mod statement_work_lemmas
 pub mod refusal_details_lemmas
 pub mod explained_refusals_lemmas
 mod DistinctTexts

@@ -1,3 +1,2 @@
 pub mod DetailLemmas
-pub mod ExportLemmas
 pub mod SourceNames

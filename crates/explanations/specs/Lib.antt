@@ -1,7 +1,6 @@
 pub mod source_excerpts
 pub mod expected_tokens
 pub mod call_places
-pub mod statement_work
 pub mod refusal_details
 pub mod explained_refusals
 pub mod Listed

@@ -3,20 +3,17 @@
 // It promises which lines these are: those of the refusal's own evidence, which the pass that refused has handed out
 // (`specs/refusal_details/WhyLines.antt`), and what is found in the source beside it
 // (`specs/refusal_details/Details.antt`). For that it stands on `expected_tokens` for what
-// may stand at a place and `call_places` for calls; and on `statement_work` for the part of the export that has most
-// work.
+// may stand at a place and `call_places` for calls.
 
 mod calls;
 mod characters;
 mod expectations;
-mod exports;
 mod number_lines;
 mod programs;
 mod size_lines;
 mod source_names;
 mod type_lines;
 mod why_lines;
-mod work_lines;
 
 ghost use Rattle.std.specs.Prelude.{IfOk, IfErr};
 ghost use Rattle.std.specs.String.{string_bytes};
@@ -25,7 +22,7 @@ ghost use Rattle.explanations.specs.refusal_details.Details.{Finds, FindsBeside,
 
 use crate::refusal_details::characters::character_line;
 use crate::refusal_details::expectations::expected_lines;
-use crate::refusal_details::programs::{call_lines, export_lines};
+use crate::refusal_details::programs::call_lines;
 use crate::refusal_details::why_lines::why_lines;
 use language::{Refusal, Rule, Why};
 use std::alloc::Global;
@@ -71,7 +68,6 @@ fn found_lines(alloc: Global, source: &str, rule: Rule, at: u32) -> Result<Strin
     match rule {
         Rule::UnknownCharacter => Ok(character_line(alloc, at, source.as_bytes())?),
         Rule::UnexpectedToken => expected_lines(alloc, at, source),
-        Rule::TooMuchWork => export_lines(alloc, source),
         _ => Ok(String::new(alloc)),
     }
 }

@@ -1,12 +1,17 @@
 -- The export of a program that a text is, is grammatical; so its work is a sum over the source, and so is the limit
 -- on it.
-use Rattle.std.proofs.Common.{◌≡◌, ℕ, List, [], Some, ap, nat_lt}
+use Rattle.std.proofs.Common.{◌≡◌, ℕ, List, [], Some, ap₂, nat_lt}
 use Rattle.std.specs.List.{AllByRecursion}
-use Rattle.hepurita.specs.Below.{accepted, at, exported, flattened, most_work, ProcedureTree, Profile, ProgramTree}
-use Rattle.hepurita.specs.Below.{Reads, source_work, TooMuchWork, when, work_of, work_violations}
+use Rattle.hepurita.specs.Below.{accepted, because, cost_by, exported, flattened, most_work, ProcedureTree, Profile}
+use Rattle.hepurita.specs.Below.{ProgramTree, Reads, source_work, TooMuchWork, turns_of, when, work_cost, work_of}
+use Rattle.hepurita.specs.Below.{work_violations}
+use Rattle.language.specs.Shares.{excess}
+use Rattle.language.specs.declared.cost.Cost.{Cost}
+use Rattle.language.specs.declared.why.Counted.TheVariants.{Work}
+use Rattle.language.specs.declared.why.Why.TheVariants.{TooMuch}
 use Rattle.intervals.specs.Work.{work_violations as body_violations}
 use Rattle.language.specs.Grammatical.{IsGrammatical}
-use Rattle.source_laws.proofs.source_work_lemmas.Export.{work_is_that_of_the_body}
+use Rattle.source_laws.proofs.source_work_lemmas.Export.{cost_is_that_of_the_body, work_is_that_of_the_body}
 use Rattle.syntax.proofs.GrammarLemmas.{read_text}
 use Rattle.hepurita.specs.Built.{IsSmall}
 use Rattle.hepurita.proofs.Exports.{of_export}
@@ -31,10 +36,20 @@ same_work profile program before export plain small =
     let parts = plain before export is.is_export in
     work_is_that_of_the_body profile program before export is.typed is.is_export parts.0 parts.1
 
+-- so is what is counted of it, and the part that has most
+pub same_cost : (profile : Profile) (program : ProgramTree) (before : List ProcedureTree) (export : ProcedureTree)
+    → HasGrammaticalExport program → IsSmall profile program before export
+    → work_cost before export ≡ cost_by (turns_of (flattened profile before export)) (flattened profile before export)
+same_cost profile program before export plain small =
+    let is = small.well_formed in
+    let parts = plain before export is.is_export in
+    cost_is_that_of_the_body profile program before export is.typed is.is_export parts.0 parts.1
+
 -- and one limit is passed by both
 pub same_violations : (profile : Profile) (program : ProgramTree) (before : List ProcedureTree)
     (export : ProcedureTree) → HasGrammaticalExport program → IsSmall profile program before export
     → work_violations before export ≡ body_violations (flattened profile before export)
 same_violations profile program before export plain small =
-    ap (λ (work : ℕ). at export.place (when (nat_lt most_work work) TooMuchWork))
-    (same_work profile program before export plain small)
+    ap₂ (λ (work : ℕ) (cost : Cost).
+    because (TooMuch (excess Work cost)) export.place (when (nat_lt most_work work) TooMuchWork))
+    (same_work profile program before export plain small) (same_cost profile program before export plain small)

@@ -17,7 +17,8 @@ use Rattle.hepurita.specs.Below.{numbers_taken_all, parameter_names, ParameterTr
 use Rattle.hepurita.specs.Below.{ProcedureTree, Profile, range_violations, result_violations, return_names, ReturnTree}
 use Rattle.hepurita.specs.Below.{right, right_block, RightTree, rotate, Rule, select, size_of, source_work}
 use Rattle.hepurita.specs.Below.{StatementTree, term, term_violations, terms_violations, TermTree, TooMuchWork, truth}
-use Rattle.hepurita.specs.Below.{value_given, value_of, violations_all, when, word_as, work_violations, written}
+use Rattle.hepurita.specs.Below.{value_given, value_of, violations_all, when, word_as, work_excess, work_violations}
+use Rattle.hepurita.specs.Below.{written}
 use Rattle.inline.specs.declared.flat.FlatVariable.{FlatVariable}
 use Rattle.inline.specs.Flat as flat
 use Rattle.inline.specs.Numbering as numbering
@@ -27,7 +28,7 @@ use Rattle.language.specs.declared.typing.WordType.{WordType}
 use Rattle.language.specs.Known.{first_known, with_known, known_from, nothing_known}
 use Rattle.language.specs.Operators.{divides}
 use Rattle.language.specs.declared.why.Why.{Why}
-use Rattle.language.specs.declared.why.Why.TheVariants.{Index, Divisor, Plain}
+use Rattle.language.specs.declared.why.Why.TheVariants.{Index, Divisor, TooMuch}
 use Rattle.language.specs.WellTyped.{labelled}
 
 -- what is said of two blocks one behind the other
@@ -253,4 +254,5 @@ module _ (w : Place → ℕ) where
   pub work_light : (before : List ProcedureTree) (p : ProcedureTree) → in_procedure w p ≡ 0
       → AreAtLight w (work_violations before p)
   work_light before p h =
-      at_place Plain p.place (omega arith) (when (nat_lt most_work (source_work before p)) TooMuchWork)
+      at_place (TooMuch (work_excess before p)) p.place (omega arith)
+      (when (nat_lt most_work (source_work before p)) TooMuchWork)

@@ -68,7 +68,7 @@ pub use Rattle.intervals.specs.Limits.{most_work}
 pub use Rattle.intervals.specs.Ranged.{RangedProgram}
 pub use Rattle.intervals.specs.Ranges.{bounds_after, bounds_after_all, index_violations, range_violations}
 pub use Rattle.intervals.specs.Ranges.{result_violations, term_violations, terms_violations, turns_of, violations_all}
-pub use Rattle.intervals.specs.Work.{IsRefusedByRanges, IsToldByRanges, ranged, work_of}
+pub use Rattle.intervals.specs.Work.{cost_by, IsRefusedByRanges, IsToldByRanges, ranged, work_of}
 unfoldable pub use Rattle.branch_removal.specs.Exact.{straight_of}
 pub use Rattle.branch_removal.specs.Removed.{IsRemoved}
 pub use Rattle.branch_removal.specs.Straight.{StraightProgram}
@@ -86,6 +86,6 @@ pub use Rattle.source_eval.specs.Answer.{answer, found_params, judged_answer}
 pub use Rattle.source_laws.specs.grammar_laws.Heads.{astray, in_block, in_call, in_expr, in_exprs, in_procedure}
 pub use Rattle.source_laws.specs.grammar_laws.Heads.{in_procedures, in_program, in_return, in_right, in_statement}
 pub use Rattle.source_laws.specs.grammar_laws.Heads.{in_values}
-pub use Rattle.source_laws.specs.source_work.SourceWork.{source_work, work_violations}
+pub use Rattle.source_laws.specs.source_work.SourceWork.{source_work, work_cost, work_excess, work_violations}
 unfoldable pub use Rattle.optimisation.specs.constants.Exact.{simplified_of, unrolled_of}
 pub use Rattle.image.specs.Reading.{AreBytes, Spells}

@@ -47,16 +47,16 @@ pub use Rattle.language.specs.declared.signature.Label.TheVariants.{Public, Secr
 pub use Rattle.language.specs.declared.signature.Param.{Param}
 pub use Rattle.language.specs.declared.values.Arg.{Arg}
 pub use Rattle.language.specs.declared.values.Arg.TheVariants.{Array, Word}
-pub use Rattle.inline.specs.Flat.{FlatProgram}
 pub use Rattle.inline.specs.Numbering.{flattened}
 pub use Rattle.intervals.specs.Ranged.{RangedProgram}
-pub use Rattle.intervals.specs.Work.{ranged}
+pub use Rattle.intervals.specs.Work.{cost_by, ranged}
 unfoldable pub use Rattle.branch_removal.specs.Exact.{straight_of}
 unfoldable pub use Rattle.codegen.specs.Exact.{fields_of}
 pub use Rattle.codegen.specs.Loaded.{array_in, arrays_in, code_at, loaded_at, numbers_at, params_of, results_in}
 pub use Rattle.codegen.specs.Loaded.{with_argument, with_arguments, with_numbers}
 pub use Rattle.codegen.specs.image_fields.Fields.{AreSlots, Fields, is_length, IsImage, slot_end}
 pub use Rattle.codegen.specs.declared.image_fields.slot.Slot.{Slot}
+pub use Rattle.source_laws.specs.source_work.SourceWork.{work_cost}
 pub use Rattle.hepurita.specs.Bases.{code_base, frame_base}
 pub use Rattle.hepurita.specs.Built.{accepts, IsCompilation, Judges}
 unfoldable pub use Rattle.hepurita.specs.Exact.{image_for}
@@ -69,4 +69,3 @@ pub use Rattle.hepurita.specs.declared.fault.RunFault.TheVariants.{Argument, Mem
 pub use Rattle.hepurita.specs.declared.optimised.Optimisation.TheVariants.{Off}
 pub use Rattle.listing.specs.Code.{IsLineAt}
 pub use Rattle.listing.specs.Leaked.{IsLeak}
-pub use Rattle.explanations.specs.statement_work.WorkCosts.{work_cost}

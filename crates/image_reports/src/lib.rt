@@ -1,7 +1,7 @@
 // What is said of an image, of its runs and of its source: whether all secrets show the same (`certificates`), where
 // two runs part (`pair_explanations`), pictures of runs (`image_pictures`), vectors tried (`vectors`), and costs as
 // lines (`statistics`, `image_statistics`, `source_statistics`). Each promises exactly what it says, by the image, its
-// runs or the passes. It stands on `hepurita`, `listing`, `certified_runs`, `run_reports` and `explanations`.
+// runs or the passes. It stands on `hepurita`, `listing`, `certified_runs` and `run_reports`.
 #![tactic(auto)]
 
 pub mod certificates;

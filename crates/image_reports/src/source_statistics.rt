@@ -3,20 +3,20 @@
 //
 // It promises that these are the numbers that the passes used to judge the source, and the fields of the one plain
 // image that is built of it (`specs/source_statistics/SourceText.antt`); and that a source is refused exactly as
-// `build` refuses it. It stands on `hepurita`, on `statistics`, and on `statement_work` of `explanations`.
+// `build` refuses it. It stands on `hepurita` and on `statistics`.
 
 mod sizes;
 
 ghost use Rattle.std.specs.Prelude.{◌≡◌, [], ◌++◌, IfOk, IfErr, IfSome};
 ghost use Rattle.std.specs.String.{string_bytes};
-ghost use Rattle.image_reports.specs.Below.{exported, fields_of, flattened, IsRefusalOf, IsWantOfMemory};
-ghost use Rattle.image_reports.specs.Below.{program_tree, straight_of};
+ghost use Rattle.image_reports.specs.Below.{cost_by, exported, fields_of, IsRefusalOf, IsWantOfMemory, program_tree};
+ghost use Rattle.image_reports.specs.Below.{straight_of, work_cost};
 ghost use Rattle.image_reports.specs.source_statistics.SourceText.{costs_text, export_lines, SaysCosts};
 
 use crate::source_statistics::sizes::push_sizes;
 use crate::statistics::push_fields;
 use hepurita::{Optimisation, code_of, flatten};
-use intervals::Ranged;
+use intervals::{Ranged, program_cost};
 use language::{Profile, Program, Refusal};
 use std::alloc::Global;
 use std::fmt::Write;
@@ -33,12 +33,13 @@ pub fn source_statistics(alloc: Global, source: &str, profile: Profile) -> Resul
 
 /// The lines of a body with what was counted for it, and of the program whose export it is. Only memory refuses them.
 fn costs(alloc: Global, ranged: &Ranged<'_>, program: &Program) -> Result<String, Refusal>
-    requires { IfSome (exported [] (program_tree program.now).procedures) (λ export. ranged.now.flat ≡ flattened ranged.now.flat.profile export.0 export.1) }
+    requires { IfSome (exported [] (program_tree program.now).procedures) (λ export. cost_by ranged.now.turns ranged.now.flat ≡ work_cost export.0 export.1) }
     ensures said { IfOk result (λ text. string_bytes text ≡ costs_text ranged.now (fields_of (straight_of ranged.now)) ++ export_lines (exported [] (program_tree program.now).procedures)) }
     ensures memory { IfErr result (λ refusal. IsWantOfMemory refusal.rule refusal.place) }
 {
     let mut text = body_costs(alloc, ranged)?;
-    push_sizes(alloc, &mut text, ranged, program)?;
+    let work = program_cost(ranged.turns(), ranged.flat());
+    push_sizes(alloc, &mut text, work, program)?;
     Ok(text)
 }
 

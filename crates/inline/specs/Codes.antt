@@ -3,7 +3,9 @@ use Rattle.std.proofs.Common.{◌≡◌, ℕ, List, [], ◌∷◌, Option, refl,
 use Rattle.std.specs.Coded.{Coded, code_by, coded×, coded_ℕ, coded_bool, coded_list, coded_option}
 use base.Stored.{Gv, gnil, gnum, gcons}
 use Rattle.inline.specs.contracts.flat.FlatVariable as flat_variable
+use Rattle.inline.specs.contracts.flat.Stretch as stretch
 use Rattle.inline.specs.declared.flat.FlatVariable.{FlatVariable}
+use Rattle.inline.specs.declared.flat.Stretch.{Stretch}
 use Rattle.inline.specs.Flat.{TermTree, number, truth, variable, prefix, binary, rotate, convert, select, element}
 use Rattle.inline.specs.Flat.{FlatTree, declare, array, assign, put, hold, skip, branch, loop, FlatBlock, nothing}
 use Rattle.inline.specs.Flat.{first, FlatProgram}
@@ -130,12 +132,32 @@ coded_block = record { code = block_code; inj = block_inj }
 abbrev pub coded_program : Coded FlatProgram
 coded_program =
     code_by (Profile
-    × (Place × (List Param × (Option WordType × (ℕ × (List FlatVariable × (FlatBlock × Option TermTree)))))))
+    × (Place × (List Param × (Option WordType × (ℕ × (List FlatVariable
+    × (FlatBlock × (List Stretch × (Option TermTree × Option Place)))))))))
     (coded× profile.the_row.coded (coded× place.the_row.coded
     (coded× (coded_list param.the_row.coded) (coded× (coded_option word.the_row.coded)
     (coded× coded_ℕ (coded× (coded_list flat_variable.the_row.coded)
-    (coded× coded_block (coded_option coded_term))))))))
-    (λ p. (p.profile, (p.place, (p.parameters, (p.returned, (p.nodes, (p.declared, (p.body, p.value))))))))
+    (coded× coded_block (coded× (coded_list stretch.the_row.coded)
+    (coded× (coded_option coded_term) (coded_option place.the_row.coded))))))))))
+    (λ p. (
+      p.profile,
+      (
+        p.place,
+        (
+          p.parameters,
+          (
+            p.returned,
+            (
+              p.nodes,
+              (
+                p.declared,
+                (p.body, (p.stretches, (p.value, p.return_place))),
+              ),
+            ),
+          ),
+        ),
+      ),
+    ))
     (λ t. record {
       profile = t.0;
       place = t.1.0;
@@ -144,6 +166,8 @@ coded_program =
       nodes = t.1.1.1.1.0;
       declared = t.1.1.1.1.1.0;
       body = t.1.1.1.1.1.1.0;
-      value = t.1.1.1.1.1.1.1;
+      stretches = t.1.1.1.1.1.1.1.0;
+      value = t.1.1.1.1.1.1.1.1.0;
+      return_place = t.1.1.1.1.1.1.1.1.1;
     })
     (λ _. refl)

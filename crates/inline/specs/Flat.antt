@@ -1,11 +1,12 @@
 -- One body with numbered variables, as values, without where it lies in memory.
-use Rattle.std.specs.Prelude.{ℕ, Bool, List, [], ◌∷◌, map, Option, None, Some}
+use Rattle.std.specs.Prelude.{ℕ, ◌+◌, Bool, List, [], ◌∷◌, map, Option, None, Some}
 use Rattle.inline.specs.declared.flat.FlatVariable.{FlatVariable}
 use Rattle.inline.specs.declared.flat.Term.{Term, Number, Truth, Variable, Prefix', Binary', Rotate', Convert'}
 use Rattle.inline.specs.declared.flat.Term.{Select', Element'}
 use Rattle.inline.specs.declared.flat.FlatStatement.{FlatStatement, Declare, DeclareArray, Assign, AssignElement}
 use Rattle.inline.specs.declared.flat.FlatStatement.{Hold, Skip, Branch', Loop', Row_of-FlatStatement}
 use Rattle.inline.specs.declared.flat.FlatStatement.{end_of-FlatStatement, more_of-FlatStatement}
+use Rattle.inline.specs.declared.flat.Stretch.{Stretch}
 use Rattle.inline.specs.Below.{BinaryOperator, FixedArray, Form, is_mutable, Kind, Label, MutableArray, Param, Place}
 use Rattle.inline.specs.Below.{PrefixOperator, Profile, Public, SingleWord, Uint32, Width, WordType}
 
@@ -48,6 +49,11 @@ mutual
 abbrev pub chain : FlatBlock → FlatBlock → FlatBlock
 chain nothing next = next
 chain (first statement rest) next = first statement (chain rest next)
+
+-- how many statements a block has
+abbrev pub length_of : FlatBlock → ℕ
+length_of nothing = 0
+length_of (first statement rest) = 1 + length_of rest
 
 -- one word, declared
 abbrev pub word_as : WordType → Bool → FlatVariable
@@ -95,8 +101,12 @@ pub record FlatProgram : Type 0 where
   -- the text
   pub declared : List FlatVariable
   pub body : FlatBlock
+  -- which of its statements each statement of the source became, those inside others aside
+  pub stretches : List Stretch
   -- the result, where there is one
   pub value : Option TermTree
+  -- where its `return` stands
+  pub return_place : Option Place
 
 abbrev pub term_tree : Term → TermTree
 term_tree (Number value kind) = number value kind

@@ -7,13 +7,15 @@ use Rattle.std.specs.Option.{option_map}
 use Rattle.inline.specs.Below.{array, assignment, binary, BlockTree, Boolean, call, called, computed, conditional}
 use Rattle.inline.specs.Below.{convert, declaration, element, element_assignment, ExprTree, extents_of, first, found}
 use Rattle.inline.specs.Below.{is_word, joined, Kind, Known, known_of, Label, labelled, loop, name, nodes_of, nothing}
-use Rattle.inline.specs.Below.{number, operation_kind, operation_of, ParameterTree, Place, prefix, ProcedureTree}
+use Rattle.inline.specs.Below.{number, operation_kind, operation_of, ParameterTree, Place, place_of, prefix}
+use Rattle.inline.specs.Below.{ProcedureTree}
 use Rattle.inline.specs.Below.{Profile, Public, ReturnTree, RightTree, rotate, select, StatementTree, truth, width_of}
 use Rattle.inline.specs.Below.{WordType, written}
 use Rattle.language.specs.names.Scope.{declared}
 use Rattle.inline.specs.declared.flat.FlatVariable.{FlatVariable}
+use Rattle.inline.specs.declared.flat.Stretch.{Stretch}
 use Rattle.inline.specs.Flat.{TermTree, FlatTree, FlatBlock, FlatProgram, chain, word_as, array_as, declaration_of}
-use Rattle.inline.specs.Flat.{numbers_in, counter_type}
+use Rattle.inline.specs.Flat.{numbers_in, counter_type, length_of}
 use Rattle.inline.specs.Flat as flat
 use Rattle.inline.specs.declared.numbering.Numbered.{Numbered}
 pub use Rattle.language.specs.Signature.{param_of}
@@ -279,6 +281,13 @@ abbrev mutual
   block known names n (first s rest) = chain (statement known names n s)
       (block known (names_after known names n s) (n + numbers_taken known s) rest)
 
+-- how many statements each statement of a body becomes, those inside others aside
+abbrev pub stretches : Callables → Numbers → ℕ → BlockTree → List Stretch
+stretches known names n nothing = []
+stretches known names n (first s rest) =
+    record { place = place_of s; statements = length_of (statement known names n s) }
+    ∷ stretches known (names_after known names n s) (n + numbers_taken known s) rest
+
 -- the names after some statements
 abbrev pub names_after_all : Callables → Numbers → ℕ → BlockTree → Numbers
 names_after_all known names n nothing = names
@@ -290,6 +299,10 @@ names_after_all known names n (first s rest) =
 -- a result in the names where `return` stands
 abbrev pub value_of : Numbers → Option ReturnTree → Option TermTree
 value_of names returned = option_map (λ (r : ReturnTree). term names r.value) returned
+
+-- where a result stands
+abbrev pub return_place : Option ReturnTree → Option Place
+return_place returned = option_map (λ (r : ReturnTree). r.place) returned
 
 -- a procedure that may be called, and calls the earlier ones itself
 abbrev pub callable : Callables → ProcedureTree → Callable
@@ -328,5 +341,7 @@ flattened profile before p = record {
   nodes = nodes_of (extents_of before) p;
   declared = map declaration_of (map param_of p.parameters) ++ declared_in_all (callables before) p.body;
   body = block (callables before) (parameter_names p) (length p.parameters) p.body;
+  stretches = stretches (callables before) (parameter_names p) (length p.parameters) p.body;
   value = value_of (return_names (callables before) p) p.returned;
+  return_place = return_place p.returned;
 }

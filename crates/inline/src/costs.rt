@@ -159,7 +159,7 @@ fn larger_statement(most: Largest, place: Place, size: Size) -> Largest
 }
 
 /// The part that has most nodes of those before and of a `return`.
-pub fn larger_return(most: Option<Share>, returned: Option<&Return>) -> Option<Share>
+fn larger_return(most: Option<Share>, returned: Option<&Return>) -> Option<Share>
     ensures { result ≡ fold larger most (map counted_share (return_shares (option_map (λ r. return_tree r.now) returned.entry))) }
 {
     match returned {

@@ -65,6 +65,14 @@ impl FlatVariable {
     }
 }
 
+/// The statements of the body, one behind another, that a statement of the source became: where it stands there, and how
+/// many they are.
+#[derive(Clone, Copy, Debug)]
+pub struct Stretch {
+    pub place: Place,
+    pub statements: usize,
+}
+
 /// An expression over numbered variables. Where the width of an operand decides what a node means, the
 /// node has it: the left operand's. A node that may meet a fault has its place.
 #[derive(Drop)]

@@ -1,17 +1,29 @@
 // The export of a program as one body, where it passes no limit on its size.
 
 ghost use Rattle.std.specs.Prelude.{◌≡◌, [], List, Some, length, map, IfOk, IfErr};
+ghost use Rattle.std.specs.Option.{option_map};
 ghost use Rattle.inline.specs.Kept.{IsFlat};
+ghost use Rattle.inline.specs.Numbering as numbered;
 ghost use Rattle.inline.specs.Numbering.{flattened};
 ghost use Rattle.inline.specs.Below.{exported, extents_of, IsRefusedFor, IsToldOf, IsWantOfMemory, nodes_of};
-ghost use Rattle.inline.specs.Below.{procedure_tree, ProcedureTree, program_tree, size_violations};
+ghost use Rattle.inline.specs.Below.{procedure_tree, ProcedureTree, program_tree, return_tree, size_violations};
 
 use crate::Flat;
 use crate::numbering::Numbering;
 use crate::size_limits::measure;
 use labels::Checked;
-use language::{Procedure, Profile, Refusal};
+use language::{Place, Procedure, Profile, Refusal, Return};
 use std::alloc::{AllocError, Global};
+
+/// Where a result stands.
+fn return_place(returned: &Option<Return>) -> Option<Place>
+    ensures { result ≡ numbered.return_place (option_map return_tree returned.now) }
+{
+    match returned {
+        Some(returned) => Some(returned.place),
+        None => None,
+    }
+}
 
 /// The export behind the procedures that it may call, as one body of so many nodes for an observer.
 fn flat_with(
@@ -29,7 +41,9 @@ fn flat_with(
     let mut declared = Vec::new(alloc);
     let parameters = numbering.parameters(&export.parameters, &mut declared)?;
     let mut body = Vec::new(alloc);
-    let value = numbering.inside(earlier, export, &mut declared, &mut body)?;
+    let stretches = numbering.stretches(earlier, &export.body, &mut declared, &mut body)?;
+    let value = numbering.value(&export.returned)?;
+    let return_place = return_place(&export.returned);
     Ok(Flat::new(
         profile,
         export.place,
@@ -38,7 +52,9 @@ fn flat_with(
         nodes,
         declared,
         body,
+        stretches,
         value,
+        return_place,
     ))
 }
 

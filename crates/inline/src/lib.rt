@@ -15,10 +15,11 @@ mod program;
 mod size_limits;
 mod sizes;
 mod statements;
+mod stretches;
 mod typed;
 
-pub use costs::{SizeCosts, larger_return, size_costs};
-pub use flat::{FlatStatement, FlatVariable, Term};
+pub use costs::{SizeCosts, size_costs};
+pub use flat::{FlatStatement, FlatVariable, Stretch, Term};
 pub use inlining::inline;
 pub use laws::{
     flat_is_sized, flat_is_typed, flat_keeps_meaning, flat_values_fit, typed_values_fit,

@@ -3,7 +3,7 @@ ghost use Rattle.std.specs.Option.{option_map};
 ghost use Rattle.inline.specs.Flat.{FlatProgram, term_tree, flat_block};
 ghost use Rattle.inline.specs.Kept.{IsFlat};
 
-use crate::{FlatStatement, FlatVariable, Term};
+use crate::{FlatStatement, FlatVariable, Stretch, Term};
 use language::{Param, Place, Profile, WordType};
 use std::marker::Model;
 
@@ -18,7 +18,9 @@ pub struct Flat {
     nodes: u32,
     declared: Vec<FlatVariable>,
     body: Vec<FlatStatement>,
+    stretches: Vec<Stretch>,
     value: Option<Term>,
+    return_place: Option<Place>,
 }
 
 impl Model for Flat {
@@ -31,9 +33,9 @@ impl Model for Flat {
 
     ghost coded = { coded_program };
 
-    ghost view = { λ f. record { profile = f.profile; place = f.place; parameters = f.parameters.items; returned = f.returned; nodes = f.nodes; declared = f.declared.items; body = flat_block f.body.items; value = option_map term_tree f.value } };
+    ghost view = { λ f. record { profile = f.profile; place = f.place; parameters = f.parameters.items; returned = f.returned; nodes = f.nodes; declared = f.declared.items; body = flat_block f.body.items; stretches = f.stretches.items; value = option_map term_tree f.value; return_place = f.return_place } };
 
-    ghost invariant = { λ f. IsFlat (record { profile = f.profile; place = f.place; parameters = f.parameters.items; returned = f.returned; nodes = f.nodes; declared = f.declared.items; body = flat_block f.body.items; value = option_map term_tree f.value }) };
+    ghost invariant = { λ f. IsFlat (record { profile = f.profile; place = f.place; parameters = f.parameters.items; returned = f.returned; nodes = f.nodes; declared = f.declared.items; body = flat_block f.body.items; stretches = f.stretches.items; value = option_map term_tree f.value; return_place = f.return_place }) };
 }
 
 impl Flat {
@@ -46,10 +48,12 @@ impl Flat {
         nodes: u32,
         declared: Vec<FlatVariable>,
         body: Vec<FlatStatement>,
+        stretches: Vec<Stretch>,
         value: Option<Term>,
+        return_place: Option<Place>,
     ) -> Self
-        requires { IsFlat (record { profile = profile; place = place; parameters = parameters.items; returned = returned; nodes = nodes; declared = declared.items; body = flat_block body.items; value = option_map term_tree value }) }
-        ensures { result ≡ record { profile = profile; place = place; parameters = parameters.items; returned = returned; nodes = nodes; declared = declared.items; body = flat_block body.items; value = option_map term_tree value } }
+        requires { IsFlat (record { profile = profile; place = place; parameters = parameters.items; returned = returned; nodes = nodes; declared = declared.items; body = flat_block body.items; stretches = stretches.items; value = option_map term_tree value; return_place = return_place }) }
+        ensures { result ≡ record { profile = profile; place = place; parameters = parameters.items; returned = returned; nodes = nodes; declared = declared.items; body = flat_block body.items; stretches = stretches.items; value = option_map term_tree value; return_place = return_place } }
     {
         Flat {
             profile,
@@ -59,7 +63,9 @@ impl Flat {
             nodes,
             declared,
             body,
+            stretches,
             value,
+            return_place,
         }
     }
 
@@ -113,10 +119,24 @@ impl Flat {
         self.body.as_slice()
     }
 
+    /// Which of them each statement of the source became, those inside others aside.
+    pub fn stretches(&self) -> &[Stretch]
+        ensures { result.now ≡ self.now.stretches }
+    {
+        self.stretches.as_slice()
+    }
+
     /// The result, where there is one.
     pub fn value(&self) -> Option<&Term>
         ensures { option_map (λ term. term_tree term.now) result ≡ self.now.value }
     {
         self.value.as_ref()
+    }
+
+    /// Where the source's `return` stands, where there is one.
+    pub fn return_place(&self) -> Option<Place>
+        ensures { result ≡ self.now.return_place }
+    {
+        self.return_place
     }
 }

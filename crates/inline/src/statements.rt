@@ -70,7 +70,7 @@ impl<'a> Numbering<'a> {
 
     /// The body of a procedure that stands in its own names, and its result.
     #[cycle(numbering)]
-    pub fn inside(
+    fn inside(
         &mut self,
         earlier: &[Procedure],
         procedure: &'a Procedure,
@@ -302,7 +302,7 @@ impl<'a> Numbering<'a> {
 
     /// A statement with numbers in place of names.
     #[cycle(numbering)]
-    fn statement(
+    pub(crate) fn statement(
         &mut self,
         earlier: &[Procedure],
         statement: &'a Statement,

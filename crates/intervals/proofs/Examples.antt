@@ -150,7 +150,9 @@ long n = record {
   nodes = 3;
   declared = word_as (labelled Uint32 Public) false ∷ [];
   body = first (loop 0 (number 0 Uint32) (number n Uint32) nothing) nothing;
+  stretches = [];
   value = None;
+  return_place = None;
 }
 
 counted : turns_of (long 4294967293) ≡ 4294967293 ∷ []
@@ -178,7 +180,9 @@ reads low high = record {
   body =
       first (loop 1 (number low Uint32) (number high Uint32)
       (first (declare 2 (labelled Uint8 Public) false (element origin 0 4 (variable 1))) nothing)) nothing;
+  stretches = [];
   value = None;
+  return_place = None;
 }
 
 inside : length (range_violations (reads 0 4)) ≡ 0
@@ -209,7 +213,9 @@ with_calls body = record {
       ∷ word_as (labelled Uint32 Public) false
       ∷ word_as (labelled Uint8 Public) false ∷ [];
   body = body;
+  stretches = [];
   value = None;
+  return_place = None;
 }
 
 -- a called body reads an element at its parameter, which is the counter of a loop around the call

@@ -2,6 +2,7 @@ mod Below
 pub mod UndoingLemmas
 pub mod WalkLemmas
 pub mod WorkLemmas
+mod CostLemmas
 pub mod BoundLemmas
 pub mod RefusalLemmas
 pub mod StrictRuns

@@ -3,17 +3,18 @@ use Rattle.std.proofs.Common.{◌≡◌, ℕ, ◌<◌, ◌≤◌, inr, Bool, tru
 use Rattle.std.proofs.Common.{Ok, Err, OnOk, IfErr}
 use Rattle.std.proofs.lemmas.Bool.Decides.{nat_tests}
 use Rattle.std.proofs.lemmas.List.Elements.{All-cons, All-nil}
-use Rattle.intervals.specs.Below.{at, FlatProgram, IsFirst, IsNamed, IsNoLaterThan, Place, Plain, TooMuchWork}
+use Rattle.intervals.specs.Below.{because, FlatProgram, IsFirst, IsNamed, IsNoLaterThan, TooMuch, TooMuchWork}
 use Rattle.intervals.specs.Below.{Violation, when}
 use Rattle.intervals.specs.Limits.{most_work}
-use Rattle.intervals.specs.Work.{work_of, work_violations}
+use Rattle.intervals.specs.Work.{work_excess, work_of, work_violations}
 
-abbrev pub too_much : Place → Violation
-too_much place = record { place = place; rule = TooMuchWork; why = Plain }
+abbrev pub too_much : FlatProgram → Violation
+too_much p = record { place = p.place; rule = TooMuchWork; why = TooMuch (work_excess p) }
 
-alone : (place : Place) → IsFirst (at place (when true TooMuchWork)) (too_much place)
-alone place =
-    let named : Violation = too_much place in
+alone : (p : FlatProgram)
+    → IsFirst (because (TooMuch (work_excess p)) p.place (when true TooMuchWork)) (too_much p)
+alone p =
+    let named : Violation = too_much p in
     record {
       there = (0, omega arith, refl);
       least =
@@ -24,14 +25,14 @@ above : (a b : ℕ) → a < b → nat_lt a b ≡ true
 above a b h = grind (arith, nat_tests)
 
 pub above_limit : (p : FlatProgram) → (work_of p ≤ most_work → ⊥)
-    → IsFirst (work_violations p) (too_much p.place)
+    → IsFirst (work_violations p) (too_much p)
 above_limit p many =
-    subst (λ (b : Bool). IsFirst (at p.place (when b TooMuchWork)) (too_much p.place))
-    (sym (above most_work (work_of p) (grind (arith, many)))) (alone p.place)
+    subst (λ (b : Bool). IsFirst (because (TooMuch (work_excess p)) p.place (when b TooMuchWork)) (too_much p))
+    (sym (above most_work (work_of p) (grind (arith, many)))) (alone p)
 
-pub named_above_limit : (p : FlatProgram) → (work_of p ≤ most_work → ⊥) → IsNamed (work_violations p) (too_much p.place)
+pub named_above_limit : (p : FlatProgram) → (work_of p ≤ most_work → ⊥) → IsNamed (work_violations p) (too_much p)
 named_above_limit p many =
-    subst (λ (b : Bool). IsNamed (at p.place (when b TooMuchWork)) (too_much p.place))
+    subst (λ (b : Bool). IsNamed (because (TooMuch (work_excess p)) p.place (when b TooMuchWork)) (too_much p))
     (sym (above most_work (work_of p) (grind (arith, many)))) refl
 
 -- what holds anyway holds on success

@@ -8,9 +8,9 @@ pub use Rattle.word.specs.declared.width.Width.TheVariants.{W16, W32, W8}
 pub use Rattle.language.specs.FirstViolation.{IsFirst, IsNamed, IsNoLaterThan, IsRefusedFor, IsToldOf, TellsOf}
 pub use Rattle.language.specs.Meaning.{gives}
 pub use Rattle.language.specs.Operators.{divides, multiplies, operated, operation_of, prefix_value, truth_of, width_of}
-pub use Rattle.language.specs.Shares.{counted, most_counted}
+pub use Rattle.language.specs.Shares.{cost_of, counted, counted_share, excess, larger, largest, most_counted}
 pub use Rattle.language.specs.Sooner.{sooner}
-pub use Rattle.language.specs.Types.{at, because, bits_of, is_secret, joined, when}
+pub use Rattle.language.specs.Types.{because, bits_of, is_secret, joined, when}
 pub use Rattle.language.specs.WellTyped.{arithmetic, division, equality, labelled, logic, Makes, multiplication, order}
 pub use Rattle.language.specs.WellTyped.{shift}
 pub use Rattle.language.specs.arguments.Within.{AreWithin}
@@ -33,7 +33,8 @@ pub use Rattle.language.specs.declared.signature.Param.{Param}
 pub use Rattle.language.specs.declared.typing.Violation.{Violation}
 pub use Rattle.language.specs.declared.typing.WordType.{WordType}
 pub use Rattle.language.specs.declared.values.Arg.{Arg}
-pub use Rattle.language.specs.declared.why.Why.TheVariants.{Divisor, Index, Plain}
+pub use Rattle.language.specs.declared.why.Share.{Share}
+pub use Rattle.language.specs.declared.why.Why.TheVariants.{Divisor, Index, TooMuch}
 pub use Rattle.inline.specs.Fitting.{Fits, IsHeld, IsWithinKind}
 pub use Rattle.inline.specs.Flat.{array, array_as, assign, binary, branch, convert, declaration_of, declare, element}
 pub use Rattle.inline.specs.Flat.{elements_by, first, flat_block, flat_tree, FlatBlock, FlatProgram, FlatTree, hold}
@@ -52,4 +53,5 @@ pub use Rattle.inline.specs.Path.{AreFine, bounded, decided, divided, either, fa
 pub use Rattle.inline.specs.Path.{Mark, multiplied, Path}
 pub use Rattle.inline.specs.declared.flat.FlatStatement.{Branch, FlatStatement, Loop}
 pub use Rattle.inline.specs.declared.flat.FlatVariable.{FlatVariable}
+pub use Rattle.inline.specs.declared.flat.Stretch.{Stretch}
 pub use Rattle.inline.specs.declared.flat.Term.{Term}

@@ -1,8 +1,13 @@
 -- Work: how many nodes a run evaluates at most, and the limit on it.
-use Rattle.std.specs.Prelude.{◌≡◌, ◌⊎◌, ℕ, ◌+◌, ◌*◌, nat_lt, List, length, Option, slice_index}
-use Rattle.intervals.specs.Below.{array, assign, at, branch, declare, first, FlatBlock, FlatProgram, FlatTree, hold}
-use Rattle.intervals.specs.Below.{IsRefusedFor, IsToldOf, loop, nothing, Place, put, skip, term_nodes, terms_nodes}
-use Rattle.intervals.specs.Below.{TooMuchWork, value_nodes, Violation, when}
+use Rattle.std.specs.Prelude.{◌≡◌, ◌⊎◌, ℕ, zero, suc, ◌+◌, ◌*◌, nat_lt, List, [], ◌∷◌, ◌++◌, length, Option, None, Some}
+use Rattle.std.specs.Prelude.{slice_index}
+use Rattle.intervals.specs.Below.{array, assign, because, branch, cost_of, declare, excess, first, FlatBlock}
+use Rattle.intervals.specs.Below.{FlatProgram, FlatTree, hold, IsRefusedFor, IsToldOf, loop, nothing, Place, put}
+use Rattle.intervals.specs.Below.{Share, skip, Stretch, term_nodes, terms_nodes, TermTree, TooMuch, TooMuchWork}
+use Rattle.intervals.specs.Below.{value_nodes, Violation, when}
+use Rattle.language.specs.declared.cost.Cost.{Cost}
+use Rattle.language.specs.declared.why.Counted.TheVariants as counted
+use Rattle.language.specs.declared.why.Excess.{Excess}
 use Rattle.intervals.specs.Ranged.{RangedProgram}
 use Rattle.intervals.specs.Ranges.{range_violations, turns_of}
 use Rattle.language.specs.declared.refusal.Refusal.{Refusal}
@@ -31,9 +36,44 @@ abbrev mutual
 abbrev pub work_of : FlatProgram → ℕ
 work_of p = body_work (turns_of p) p.body + value_nodes p.value
 
--- the limit on work, at the name of the export
+-- the first statements of a body, so many, and those behind them
+abbrev pub first_of : ℕ → FlatBlock → FlatBlock
+first_of zero body = nothing
+first_of (suc n) nothing = nothing
+first_of (suc n) (first statement rest) = first statement (first_of n rest)
+
+abbrev pub behind : ℕ → FlatBlock → FlatBlock
+behind zero body = body
+behind (suc n) nothing = nothing
+behind (suc n) (first statement rest) = behind n rest
+
+-- The parts of a source, each with its work: its statements, those inside others aside, with what they became, and
+-- its `return`.
+
+abbrev pub stretch_shares : List ℕ → List Stretch → FlatBlock → List Share
+stretch_shares turns [] body = []
+stretch_shares turns (s ∷ later) body =
+    record { place = s.place; count = body_work turns (first_of s.statements body) }
+    ∷ stretch_shares turns later (behind s.statements body)
+
+abbrev pub value_shares : Option Place → Option TermTree → List Share
+value_shares None value = []
+value_shares (Some place) value = record { place = place; count = value_nodes value } ∷ []
+
+abbrev pub shares_by : List ℕ → FlatProgram → List Share
+shares_by turns p = stretch_shares turns p.stretches p.body ++ value_shares p.return_place p.value
+
+-- what is counted of the work for these turns, and the part that has most of it
+abbrev pub cost_by : List ℕ → FlatProgram → Cost
+cost_by turns p = cost_of (body_work turns p.body + value_nodes p.value) (shares_by turns p)
+
+-- what there is too much of where the work is too much
+abbrev pub work_excess : FlatProgram → Excess
+work_excess p = excess counted.Work (cost_by (turns_of p) p)
+
+-- the limit on work, at the name of the export, with what there is too much of
 abbrev pub work_violations : FlatProgram → List Violation
-work_violations p = at p.place (when (nat_lt most_work (work_of p)) TooMuchWork)
+work_violations p = because (TooMuch (work_excess p)) p.place (when (nat_lt most_work (work_of p)) TooMuchWork)
 
 -- the refusal is for a range, or else, where all ranges are kept, for the work
 abbrev pub IsRefusedByRanges : FlatProgram → Rule → Option Place → Type 0

@@ -1,9 +1,10 @@
 ghost use Rattle.std.specs.Prelude.{◌≡◌, None, Some, fold, length, map, replicate, IfErr, IfOk, OnOk};
 ghost use Rattle.intervals.specs.Loose.{IsSafe};
 ghost use Rattle.intervals.specs.Ranges.{bound_by, bound_of, first_bounds, range_violations, result_violations, turns_of};
-ghost use Rattle.intervals.specs.Work.{IsRefusedByRanges, IsToldByRanges, ranged, work_violations};
-ghost use Rattle.intervals.specs.Below.{IsFirst, IsNamed, sooner, TellsOf, Violation};
+ghost use Rattle.intervals.specs.Work.{IsRefusedByRanges, IsToldByRanges, ranged, work_excess, work_violations};
+ghost use Rattle.intervals.specs.Below.{IsFirst, IsNamed, sooner, TellsOf};
 
+use crate::costs::program_cost;
 use crate::known::Known;
 use crate::operators::full_of;
 use crate::terms::note_term;
@@ -11,7 +12,7 @@ use crate::walk::{Walk, statements};
 use crate::work::program_work;
 use crate::{Interval, MOST_WORK, Ranged};
 use inline::Flat;
-use language::{First, Form, Label, Param, Refusal, Rule};
+use language::{Counted, First, Form, Label, Param, Refusal, Rule, Violation, Why};
 use std::alloc::{AllocError, Global};
 
 /// What is known of a parameter: a public word is something of its kind.
@@ -79,6 +80,21 @@ fn walked(alloc: Global, flat: &Flat) -> Result<Walk, AllocError>
     Ok(walk)
 }
 
+/// What a body violates whose work is too much.
+fn too_much_work(turns: &[u32], flat: &Flat) -> Violation
+    requires { turns.now ≡ turns_of flat.now }
+    ensures rule { result.rule ≡ Rule.TooMuchWork }
+    ensures place { result.place ≡ flat.now.place }
+    ensures why { result.why ≡ Why.TooMuch (work_excess flat.now) }
+{
+    let excess = program_cost(turns, flat).excess(Counted::Work);
+    Violation {
+        place: flat.place(),
+        rule: Rule::TooMuchWork,
+        why: Why::TooMuch(excess),
+    }
+}
+
 /// The body with these turns and its work, where that is within the limit. It asks for no memory.
 fn with_work<'f>(flat: &'f Flat, turns: Vec<u32>) -> Result<Ranged<'f>, Refusal>
     requires turns { turns.items ≡ turns_of flat.now }
@@ -89,7 +105,7 @@ fn with_work<'f>(flat: &'f Flat, turns: Vec<u32>) -> Result<Ranged<'f>, Refusal>
 {
     let work = program_work(turns.as_slice(), flat);
     if work > MOST_WORK {
-        return Err(Refusal::at(Rule::TooMuchWork, flat.place()));
+        return Err(Refusal::of(too_much_work(turns.as_slice(), flat)));
     }
     Ok(Ranged::new(flat, turns, work))
 }
@@ -108,13 +124,4 @@ pub fn check_ranges<'f>(alloc: Global, flat: &'f Flat) -> Result<Ranged<'f>, Ref
         Some(first) => Err(Refusal::of(first)),
         None => with_work(flat, walk.turns),
     }
-}
-
-/// How many turns the loop of each counter of a body makes at most, at the counter's number; 0 at all other numbers. They
-/// are the turns by which `check_ranges` judges the work, also where it refuses.
-pub fn turns(alloc: Global, flat: &Flat) -> Result<Vec<u32>, AllocError>
-    ensures { IfOk result (λ turns. turns.items ≡ turns_of flat.now) }
-{
-    let walk = walked(alloc, flat)?;
-    Ok(walk.turns)
 }

@@ -97,7 +97,7 @@ pub fn work_of_all(turns: &[u32], body: &[FlatStatement]) -> u64
 }
 
 /// The work of a result, where there is one.
-fn work_of_value(value: Option<&Term>) -> u64
+pub fn work_of_value(value: Option<&Term>) -> u64
     ensures { result ≡ counted (value_nodes (option_map (λ term. term_tree term.now) value.entry)) }
 {
     match value {

@@ -1,4 +1,5 @@
 pub mod Below
 pub mod Walked
 pub mod Sums
+pub mod Parts
 pub mod Export

@@ -11,13 +11,14 @@ pub use Rattle.language.specs.Known.{first_known, Known, known_from, known_of, n
 pub use Rattle.language.specs.Limits.{most_bodies}
 pub use Rattle.language.specs.Meaning.{counting, exported, faults, Gives, gives, holding, is_word, word_arguments}
 pub use Rattle.language.specs.Size.{bodies_of, extents_of, nodes_in, nodes_in_all, nodes_passed, return_nodes}
-pub use Rattle.language.specs.Size.{size_violations}
+pub use Rattle.language.specs.Shares.{cost_of, excess, sum_of}
+pub use Rattle.language.specs.Size.{return_shares, size_violations}
 pub use Rattle.language.specs.State.{single, State}
 pub use Rattle.language.specs.Tree.{array, assignment, binary, BlockTree, call, called, CallTree, computed, conditional}
 pub use Rattle.language.specs.Tree.{convert, declaration, element, element_assignment, ExprTree, first, loop, name}
-pub use Rattle.language.specs.Tree.{nothing, number, ParameterTree, prefix, ProcedureTree, ProgramTree, ReturnTree}
-pub use Rattle.language.specs.Tree.{RightTree, rotate, select, StatementTree, truth, written}
-pub use Rattle.language.specs.Types.{asked_of_one, asked_of_three, asked_of_two, at, because, because_of, callee}
+pub use Rattle.language.specs.Tree.{nothing, number, ParameterTree, place_of, prefix, ProcedureTree, ProgramTree}
+pub use Rattle.language.specs.Tree.{ReturnTree, RightTree, rotate, select, StatementTree, truth, written}
+pub use Rattle.language.specs.Types.{asked_of_one, asked_of_three, asked_of_two, because, because_of, callee}
 pub use Rattle.language.specs.Types.{declared, declared_at, empty, found, kind_of, label_of, label_under, of_one}
 pub use Rattle.language.specs.Types.{of_two, Scope, variable, when}
 pub use Rattle.language.specs.Typing.{arguments_violations, array_violations, assignment_violations, block_violations}
@@ -42,8 +43,11 @@ pub use Rattle.language.specs.declared.typing.ValueType.TheVariants.{Word}
 pub use Rattle.language.specs.declared.typing.Violation.{Violation}
 pub use Rattle.language.specs.declared.typing.WordType.{WordType}
 pub use Rattle.language.specs.declared.values.Arg.{Arg}
+pub use Rattle.language.specs.declared.why.Counted.TheVariants.{Work}
+pub use Rattle.language.specs.declared.why.Share.{Share}
+pub use Rattle.language.specs.declared.why.Why.TheVariants.{TooMuch}
 pub use Rattle.inline.specs.Flat.{assign, branch, chain, counter_type, declaration_of, declare, FlatBlock, FlatTree}
-pub use Rattle.inline.specs.Flat.{hold, put, skip, TermTree, word_as}
+pub use Rattle.inline.specs.Flat.{hold, length_of, put, skip, TermTree, word_as}
 pub use Rattle.inline.specs.FlatMeaning.{after, after_all, given, outcome_of, value_in, Values}
 pub use Rattle.inline.specs.FlatSize.{term_nodes, terms_nodes, value_nodes}
 pub use Rattle.inline.specs.FlatTyping.{IsTypedProgram, parameter_types, Types, types_after_all}
@@ -52,7 +56,7 @@ pub use Rattle.inline.specs.Numbering.{call_variables, Callable, callable, Calla
 pub use Rattle.inline.specs.Numbering.{dropped_block, flattened, label_in, names_after, names_after_all, naming}
 pub use Rattle.inline.specs.Numbering.{Numbers, numbers_taken, numbers_taken_all, param_of, parameter_names, passed}
 pub use Rattle.inline.specs.Numbering.{passed_variables, return_names, right, right_block, statement, term, value_given}
-pub use Rattle.inline.specs.Numbering.{value_of}
+pub use Rattle.inline.specs.Numbering.{return_place, stretches, value_of}
 pub use Rattle.inline.specs.declared.flat.FlatVariable.{FlatVariable}
 pub use Rattle.intervals.specs.Evaluated.{evaluated_all, evaluated_by, evaluated_in_turns}
 pub use Rattle.intervals.specs.Intervals.{Bounds, interval, with_bound}
@@ -60,7 +64,8 @@ pub use Rattle.intervals.specs.Limits.{most_work}
 pub use Rattle.intervals.specs.Narrowing.{where_false, where_true}
 pub use Rattle.intervals.specs.Ranges.{bound_of, bounds_after, bounds_after_all, first_bounds, in_loop, most_turns}
 pub use Rattle.intervals.specs.Ranges.{range_violations, turns_of}
-pub use Rattle.intervals.specs.Work.{body_work, tree_work, work_of}
+pub use Rattle.intervals.specs.Work.{body_work, cost_by, first_of, shares_by, stretch_shares, tree_work, value_shares}
+pub use Rattle.intervals.specs.Work.{work_of}
 pub use Rattle.syntax.specs.Beginning.{a_phrase, a_token, AreByCases, Begins, BeginsParts, by_case, in_case, in_phrase}
 pub use Rattle.syntax.specs.Beginning.{no_part, no_token, past_phrase, Whole, WholeParts}
 pub use Rattle.syntax.specs.Cases.{all, any_amount, any_conversion, any_label, any_length, any_number, any_prefix}

@@ -3,14 +3,11 @@ use Rattle.std.specs.Prelude.{◌≡◌, ℕ, nat_eq, Bool, if◌then◌else◌,
 use Rattle.std.specs.Prelude.{nat_lt, codes, Option, None, Some}
 use Rattle.std.specs.List.{starts_with}
 use Rattle.explanations.specs.refusal_details.ExpectedLines.{SaysExpected}
-use Rattle.explanations.specs.refusal_details.Found.{IsExportOf}
-use Rattle.explanations.specs.refusal_details.SizeLines.{excess_line}
-use Rattle.explanations.specs.Below.{accepted, excess, Place, place_text, ProcedureTree, ProgramTree, Reads, Refusal}
-use Rattle.explanations.specs.Below.{refused, Rule, TooMuchWork, UnexpectedToken, UnknownCharacter, Why, Work}
+use Rattle.explanations.specs.Below.{accepted, Place, place_text, ProcedureTree, ProgramTree, Reads, Refusal}
+use Rattle.explanations.specs.Below.{refused, Rule, UnexpectedToken, UnknownCharacter, Why}
 use Rattle.explanations.specs.refusal_details.WhyLines.{why_lines}
 use Rattle.explanations.specs.call_places.CallPlaces.{call_places, procedure_at}
 use Rattle.language.specs.declared.why.Why.TheVariants as why
-use Rattle.explanations.specs.statement_work.WorkCosts.{work_cost}
 
 -- X1: a byte order mark is named, as EF BB BF
 abbrev pub begins_with_mark : List ℕ → Bool
@@ -46,16 +43,6 @@ procedure_line procedures (Some p) = called_line p.name (call_places p.name proc
 abbrev pub calls_line : ℕ → List ProcedureTree → List ℕ
 calls_line at procedures = procedure_line procedures (procedure_at at procedures)
 
--- S3: how much work the export has, how much is allowed, and the part that has most
-abbrev pub export_work : Option (List ProcedureTree × ProcedureTree) → List ℕ
-export_work None = []
-export_work (Some export) = excess_line (excess Work (work_cost export.0 export.1))
-
-pub record SaysWork (program : ProgramTree) (lines : List ℕ) : Type 0 where
-  pub export : Option (List ProcedureTree × ProcedureTree)
-  pub is : IsExportOf program export
-  pub printed : lines ≡ export_work export
-
 -- the program that a source is, if it is one
 pub data IsProgramOf (source : List ℕ) : Option ProgramTree → Type 0 where
   read : {program : ProgramTree} → Reads source (accepted program) → IsProgramOf source (Some program)
@@ -77,7 +64,6 @@ SaysOfCalls source at lines = SaysOfProgram source (λ program line. line ≡ ca
 abbrev pub Finds : List ℕ → Rule → ℕ → List ℕ → Type 0
 Finds source UnknownCharacter at lines = lines ≡ character_line (drop at source)
 Finds source UnexpectedToken at lines = SaysExpected source at lines
-Finds source TooMuchWork at lines = SaysOfProgram source SaysWork lines
 Finds source rule at lines = lines ≡ []
 
 -- and what is found beside the evidence of a violation

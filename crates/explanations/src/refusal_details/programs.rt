@@ -4,24 +4,12 @@ ghost use Rattle.std.specs.Prelude.{IfOk, IfErr};
 ghost use Rattle.std.specs.Option.{option_map};
 ghost use Rattle.std.specs.String.{string_bytes};
 ghost use Rattle.explanations.specs.Below.{IsWantOfMemory, program_tree};
-ghost use Rattle.explanations.specs.refusal_details.Details.{IsProgramOf, SaysOfCalls, SaysOfProgram, SaysWork};
+ghost use Rattle.explanations.specs.refusal_details.Details.{IsProgramOf, SaysOfCalls};
 
 use crate::refusal_details::calls::calls_line;
-use crate::refusal_details::work_lines::work_lines;
 use language::{Program, Refusal};
 use std::alloc::Global;
 use syntax::parse;
-
-/// What is said of an export with too much work; nothing where the source is no program.
-pub fn export_lines(alloc: Global, source: &str) -> Result<String, Refusal>
-    ensures said { IfOk result (λ lines. SaysOfProgram source.now SaysWork (string_bytes lines)) }
-    ensures memory { IfErr result (λ fault. IsWantOfMemory fault.rule fault.place) }
-{
-    match program_in(alloc, source)? {
-        Some(program) => work_lines(alloc, &program),
-        None => Ok(String::new(alloc)),
-    }
-}
 
 /// Where the procedure is called that the place behind so many bytes is in; nothing where the source is no program.
 pub fn call_lines(alloc: Global, source: &str, at: u32) -> Result<String, Refusal>

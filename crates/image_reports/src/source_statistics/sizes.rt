@@ -1,31 +1,29 @@
 // The sizes of an export, and which parts of it have most.
 
-ghost use Rattle.std.specs.Prelude.{◌≡◌, [], ◌++◌, map, OnOk, IfOk, IfSome};
+ghost use Rattle.std.specs.Prelude.{◌≡◌, [], ◌++◌, map, OnOk, IfSome};
 ghost use Rattle.std.specs.String.{string_bytes};
-ghost use Rattle.image_reports.specs.Below.{exported, flattened, procedure_tree, program_tree, work_cost};
+ghost use Rattle.image_reports.specs.Below.{exported, procedure_tree, program_tree, work_cost};
 ghost use Rattle.image_reports.specs.source_statistics.SourceText.{export_lines, most_line, size_lines, size_text};
 
-use explanations::statement_work::measured_work;
 use inline::{SizeCosts, size_costs};
-use intervals::Ranged;
 use language::{Cost, Procedure, Program, Share};
 use std::alloc::{AllocError, Global};
 use std::fmt::Write;
 
-/// Puts lines at the end of a text for the export of a program, of which this is the one body: how many bodies are open at
-/// once and how many bytes are declared, and the first of the parts that have most nodes, of those that declare most, and of
+/// Puts lines at the end of a text for the export of a program, whose work costs so much: how many bodies are open at once
+/// and how many bytes are declared, and the first of the parts that have most nodes, of those that declare most, and of
 /// those that have most work.
 pub fn push_sizes(
     alloc: Global,
     text: &mut String,
-    ranged: &Ranged<'_>,
+    work: Cost,
     program: &Program,
 ) -> Result<(), AllocError>
-    requires { IfSome (exported [] (program_tree program.now).procedures) (λ export. ranged.now.flat ≡ flattened ranged.now.flat.profile export.0 export.1) }
+    requires { IfSome (exported [] (program_tree program.now).procedures) (λ export. work ≡ work_cost export.0 export.1) }
     ensures { OnOk result (string_bytes text.new ≡ string_bytes text.old ++ export_lines (exported [] (program_tree program.now).procedures)) }
 {
     match program.exported() {
-        Some((earlier, export)) => push_export(alloc, earlier, export, ranged, text),
+        Some((earlier, export)) => push_export(alloc, earlier, export, work, text),
         None => Ok(()),
     }
 }
@@ -35,28 +33,14 @@ fn push_export(
     alloc: Global,
     earlier: &[Procedure],
     export: &Procedure,
-    ranged: &Ranged<'_>,
+    work: Cost,
     text: &mut String,
 ) -> Result<(), AllocError>
-    requires { ranged.now.flat ≡ flattened ranged.now.flat.profile (map procedure_tree earlier.now) (procedure_tree export.now) }
+    requires { work ≡ work_cost (map procedure_tree earlier.now) (procedure_tree export.now) }
     ensures { OnOk result (string_bytes text.new ≡ string_bytes text.old ++ size_lines (map procedure_tree earlier.now) (procedure_tree export.now)) }
 {
     let sizes = size_costs(alloc, earlier, export)?;
-    let work = work_of(alloc, earlier, export, ranged)?;
     push_costs(text, sizes, work)
-}
-
-/// What it costs of the limit on work.
-fn work_of(
-    alloc: Global,
-    earlier: &[Procedure],
-    export: &Procedure,
-    ranged: &Ranged<'_>,
-) -> Result<Cost, AllocError>
-    requires { ranged.now.flat ≡ flattened ranged.now.flat.profile (map procedure_tree earlier.now) (procedure_tree export.now) }
-    ensures { IfOk result (λ cost. cost ≡ work_cost (map procedure_tree earlier.now) (procedure_tree export.now)) }
-{
-    measured_work(alloc, earlier, export, ranged.turns(), ranged.flat())
 }
 
 /// Puts the lines of what was counted at the end.

@@ -1,22 +1,28 @@
--- The law: the work of the export's source is that of its one body with numbered variables.
+-- The laws: the work of the export's source, and of its parts, is that of its one body with numbered variables.
 use Rattle.std.proofs.Common.{◌≡◌, ◌-◌, List, [], ◌++◌, length, map, replicate, None, Some, refl, sym, ap, ap₂, arith}
+use Rattle.std.proofs.Common.{subst, ◌∙◌}
 use Rattle.std.proofs.Common.{length-append}
 use Rattle.std.proofs.lemmas.List.{length-map, length-replicate}
 use Rattle.std.specs.List.{AllByRecursion}
 use Rattle.source_laws.specs.Below.{block, bound_of, Callables, callables, declared_in_all, exported, first_bounds}
 use Rattle.source_laws.specs.Below.{flattened, IsGrammatical, parameter_types, ProcedureTree, Profile, ProgramTree}
-use Rattle.source_laws.specs.Below.{return_names, turns_of, violations, work_of}
+use Rattle.source_laws.specs.Below.{Bounds, cost_by, cost_of, return_names, shares_by, stretch_shares, stretches}
+use Rattle.source_laws.specs.Below.{turns_of, violations, with_procedure, work_of}
+use Rattle.source_laws.proofs.source_work_lemmas.Below.{AllCounted, callable_parameters, earlier_within, IsAt}
 use Rattle.source_laws.proofs.source_work_lemmas.Below.{same_result, flat_is_typed, own_typing, enough_all}
 use Rattle.language.specs.declared.signature.Label.TheVariants.{Public}
-use Rattle.source_laws.specs.source_work.SourceWork.{export_start, export_variables, source_work}
+use Rattle.source_laws.specs.source_work.SourceWork.{export_start, export_variables, source_work, work_cost}
+use Rattle.source_laws.specs.source_work.SourceWork.{work_shares}
+use Rattle.source_laws.proofs.source_work_lemmas.Parts.{parts_summed, value_shared}
 use Rattle.source_laws.proofs.source_work_lemmas.Sums.{Summed, numbered_alike, summed_one}
 use Rattle.source_laws.proofs.source_work_lemmas.Walked.{body_walked, walked_all}
 
-pub work_is_that_of_the_body : (profile : Profile) (program : ProgramTree) (before : List ProcedureTree)
+export_summed : (profile : Profile) (program : ProgramTree) (before : List ProcedureTree)
     (p : ProcedureTree) → length (violations profile program) ≡ 0
     → exported [] program.procedures ≡ Some (before, p) → AllByRecursion IsGrammatical before → IsGrammatical p
-    → source_work before p ≡ work_of (flattened profile before p)
-work_is_that_of_the_body profile program before p h is earlier plain =
+    → (source_work before p ≡ work_of (flattened profile before p))
+    × (work_shares before p ≡ shares_by (turns_of (flattened profile before p)) (flattened profile before p))
+export_summed profile program before p h is earlier plain =
     let whole = flattened profile before p in
     let declared = export_variables before p in
     let e = own_typing (Summed declared) IsGrammatical
@@ -37,4 +43,32 @@ work_is_that_of_the_body profile program before p h is earlier plain =
     bounds (sym (numbered_alike declared before)) in
     let summed = body.work start in
     let value = same_result (return_names (callables before) p) p.returned in
-    omega (arith, one, alike, summed, value)
+    let inside = callable_parameters before (IsAt e.scope) p.parameters (with_procedure e.scope (length before) p)
+    (earlier_within (Summed declared) before e.scope e.stand p e.typed.is_new) in
+    let counted_there = subst (λ (known : Callables).
+    AllCounted declared (turns_of whole) start.bounds (block known start.names start.next p.body))
+    (sym (numbered_alike declared before))
+    (subst (λ (b : Bounds). AllCounted declared (turns_of whole) b whole.body) bounds counted) in
+    let parts = parts_summed declared (turns_of whole) before e.scope e.stand e.typed.body inside start
+    counted_there
+    ∙ ap (λ (known : Callables). stretch_shares (turns_of whole) (stretches known start.names start.next p.body)
+    (block known start.names start.next p.body)) (numbered_alike declared before) in (
+      omega (arith, one, alike, summed, value),
+      ap₂ ◌++◌ parts (value_shared (return_names (callables before) p) p.returned),
+    )
+
+pub work_is_that_of_the_body : (profile : Profile) (program : ProgramTree) (before : List ProcedureTree)
+    (p : ProcedureTree) → length (violations profile program) ≡ 0
+    → exported [] program.procedures ≡ Some (before, p) → AllByRecursion IsGrammatical before → IsGrammatical p
+    → source_work before p ≡ work_of (flattened profile before p)
+work_is_that_of_the_body profile program before p h is earlier plain =
+    (export_summed profile program before p h is earlier plain).0
+
+-- what is counted of it, and the part that has most
+pub cost_is_that_of_the_body : (profile : Profile) (program : ProgramTree) (before : List ProcedureTree)
+    (p : ProcedureTree) → length (violations profile program) ≡ 0
+    → exported [] program.procedures ≡ Some (before, p) → AllByRecursion IsGrammatical before → IsGrammatical p
+    → work_cost before p ≡ cost_by (turns_of (flattened profile before p)) (flattened profile before p)
+cost_is_that_of_the_body profile program before p h is earlier plain =
+    let both = export_summed profile program before p h is earlier plain in
+    ap₂ cost_of both.0 both.1

@@ -1,17 +1,21 @@
 -- Work, as a sum over the source: how many nodes a run evaluates at most. Each node counts 1 and its parts, but a
 -- loop counts its body once for each turn that the intervals of its bounds allow, and once more; an array counts its
 -- elements too; and a call counts the words that it passes and the called body, there where it stands.
-use Rattle.std.specs.Prelude.{ℕ, ◌+◌, ◌*◌, false, nat_lt, List, ◌++◌, length, map, replicate, Option, None, Some}
+use Rattle.std.specs.Prelude.{ℕ, ◌+◌, ◌*◌, false, nat_lt, List, [], ◌∷◌, ◌++◌, length, map, replicate, Option, None}
+use Rattle.std.specs.Prelude.{Some}
 use Rattle.std.specs.Option.{option_map}
-use Rattle.source_laws.specs.Below.{array, assignment, at, BlockTree, bound_of, Bounds, bounds_after_all, call}
-use Rattle.source_laws.specs.Below.{call_names, call_start, Callable, callable, Callables, callables, called, CallTree}
-use Rattle.source_laws.specs.Below.{computed, conditional, counter_type, declaration, declaration_of, declared_in_all}
-use Rattle.source_laws.specs.Below.{element_assignment, ExprTree, first, FlatVariable, in_loop, interval, Known}
-use Rattle.source_laws.specs.Below.{known_of, label_in, loop, most_turns, most_work, names_after, naming, nodes_in}
-use Rattle.source_laws.specs.Below.{nodes_in_all, nodes_passed, nothing, Numbers, numbers_taken, numbers_taken_all}
-use Rattle.source_laws.specs.Below.{param_of, parameter_names, passed, ProcedureTree, return_nodes, RightTree}
-use Rattle.source_laws.specs.Below.{statement, StatementTree, term, TooMuchWork, Violation, when, where_false}
-use Rattle.source_laws.specs.Below.{where_true, with_bound, word_arguments, word_as, written}
+use Rattle.source_laws.specs.Below.{array, assignment, because, BlockTree, bound_of, Bounds, bounds_after_all, call}
+use Rattle.source_laws.specs.Below.{call_names, call_start, Callable, callable, Callables, callables, called}
+use Rattle.source_laws.specs.Below.{CallTree, computed, conditional, cost_of, counter_type, declaration}
+use Rattle.source_laws.specs.Below.{declaration_of, declared_in_all, element_assignment, excess, ExprTree, first}
+use Rattle.source_laws.specs.Below.{FlatVariable, in_loop, interval, Known, known_of, label_in, loop, most_turns}
+use Rattle.source_laws.specs.Below.{most_work, names_after, naming, nodes_in, nodes_in_all, nodes_passed, nothing}
+use Rattle.source_laws.specs.Below.{Numbers, numbers_taken, numbers_taken_all, param_of, parameter_names, passed}
+use Rattle.source_laws.specs.Below.{place_of, ProcedureTree, return_nodes, return_shares, RightTree, Share, statement}
+use Rattle.source_laws.specs.Below.{StatementTree, term, TooMuch, TooMuchWork, Violation, when, where_false}
+use Rattle.source_laws.specs.Below.{where_true, with_bound, word_arguments, word_as, Work, written}
+use Rattle.language.specs.declared.cost.Cost.{Cost}
+use Rattle.language.specs.declared.why.Excess.{Excess}
 
 -- Where a statement stands: what number each name in scope has, which is the next number, and between which numbers
 -- the variables lie there.
@@ -106,6 +110,13 @@ module _ (declared : List FlatVariable) where
     block_work works at nothing = 0
     block_work works at (first s rest) = statement_work works at s + block_work works (behind works at s) rest
 
+  -- the statements of a body, those inside others aside, each with its work
+  abbrev pub statement_shares : Works → Here → BlockTree → List Share
+  statement_shares works at nothing = []
+  statement_shares works at (first s rest) =
+      record { place = place_of s; count = statement_work works at s }
+      ∷ statement_shares works (behind works at s) rest
+
   -- the work of a procedure's body and of its `return`
   abbrev pub work_in : Works → Here → ProcedureTree → ℕ
   work_in works at p = block_work works at p.body + return_nodes p.returned
@@ -133,6 +144,23 @@ abbrev pub source_work : List ProcedureTree → ProcedureTree → ℕ
 source_work before p = work_in (export_variables before p) (works_of (export_variables before p) before)
     (export_start before p) p
 
--- the limit on work, at the name of the export
+-- its parts, each with its work: its statements, with the bodies that they call and the turns of their loops, and its
+-- `return`
+abbrev pub work_shares : List ProcedureTree → ProcedureTree → List Share
+work_shares before p =
+    statement_shares (export_variables before p) (works_of (export_variables before p) before)
+    (export_start before p) p.body
+    ++ return_shares p.returned
+
+-- what is counted of its work, and the part that has most of it
+abbrev pub work_cost : List ProcedureTree → ProcedureTree → Cost
+work_cost before p = cost_of (source_work before p) (work_shares before p)
+
+-- what there is too much of where the work is too much
+abbrev pub work_excess : List ProcedureTree → ProcedureTree → Excess
+work_excess before p = excess Work (work_cost before p)
+
+-- the limit on work, at the name of the export, with what there is too much of
 abbrev pub work_violations : List ProcedureTree → ProcedureTree → List Violation
-work_violations before p = at p.place (when (nat_lt most_work (source_work before p)) TooMuchWork)
+work_violations before p =
+    because (TooMuch (work_excess before p)) p.place (when (nat_lt most_work (source_work before p)) TooMuchWork)

@@ -1,9 +1,10 @@
 use Rattle.std.proofs.Common.{ap, subst, ◌∙◌, ◌≡◌, List, [], ◌++◌, inl, IfOk, IfSome, Option, sym}
 use Rattle.std.proofs.lemmas.Result.{IfOk-weaker, IfErr-weaker}
 use Rattle.std.specs.String.{string_bytes}
-use Rattle.image_reports.specs.Below.{exported, fields_of, FlatProgram, flattened, image_for, ProcedureTree, Profile}
-use Rattle.image_reports.specs.Below.{program_tree, ranged, RangedProgram, straight_of}
+use Rattle.image_reports.specs.Below.{cost_by, exported, fields_of, flattened, image_for, ProcedureTree}
+use Rattle.image_reports.specs.Below.{program_tree, ranged, RangedProgram, straight_of, work_cost}
 use Rattle.language.proofs.Handed.{handed_on}
+use Rattle.image_reports.proofs.source_statistics_lemmas.Below.{grammatical_export, same_cost}
 use Rattle.image_reports.specs.source_statistics.SourceText.{costs_text, export_lines}
 use Rattle.image_reports.proofs.source_statistics.source_statistics.Goals as goal
 
@@ -42,10 +43,11 @@ pub costs-requires : goal.costs-requires
 costs-requires c =
     let is = c.in_ok-flattened.ensures.accepted in
     let counted = c.in_ok-ranged.ensures.accepted c.args.profile c.args.source.now is in
-    let same = ap (λ (r : RangedProgram). r.flat) counted.0 in
+    let program = program_tree c.in_ok-flattened.flattened.program in
+    let plain = grammatical_export c.args.source.now program is.read in
+    let same = ap (λ (r : RangedProgram). cost_by r.turns r.flat) counted.0 in
     subst (λ (o : Option (List ProcedureTree × ProcedureTree)).
-    IfSome o (λ export. c.in_ok-ranged.ranged.flat
-    ≡ flattened c.in_ok-ranged.ranged.flat.profile export.0 export.1))
+    IfSome o (λ export. cost_by c.in_ok-ranged.ranged.turns c.in_ok-ranged.ranged.flat
+    ≡ work_cost export.0 export.1))
     (sym is.small.well_formed.is_export)
-    (same ∙ ap (λ (profile : Profile). flattened profile is.before is.export)
-    (sym (ap (λ (f : FlatProgram). f.profile) same)))
+    (same ∙ sym (same_cost c.args.profile program is.before is.export plain is.small))

@@ -25,12 +25,12 @@ returns-then-work-gt-MOST_WORK-clause-refused c =
     let p = c.args.flat.now in
     let same = ap (λ ts. body_work ts p.body + value_nodes p.value) (c.as_slice.ensures.value ∙ c.requires.turns) in
     let many : work_of p ≤ most_work → ⊥ = λ few. omega (arith, same, few, c.if-work-gt-MOST_WORK.true, c.program_work-work.ensures) in (
-      too_much p.place,
+      too_much p,
       above_limit p many,
       named_above_limit p many,
       record {
-        rule = c.at.ensures.rule;
-        place = c.at.ensures.place ∙ ap Some c.place.ensures;
-        why = c.at.ensures.why;
+        rule = c.of.ensures.rule ∙ c.too_much_work.ensures.rule;
+        place = c.of.ensures.place ∙ ap Some c.too_much_work.ensures.place;
+        why = c.of.ensures.why ∙ c.too_much_work.ensures.why;
       },
     )

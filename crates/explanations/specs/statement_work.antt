@@ -1,4 +1,0 @@
-pub mod Inlined
-pub mod Lengths
-pub mod Pieces
-pub mod WorkCosts
