@@ -1,8 +1,4 @@
 -- What these proofs take from the proofs of the crates below, in one place.
-pub use Rattle.source_laws.proofs.grammar_laws_lemmas.Existence.{answer_to}
-pub use Rattle.source_laws.proofs.grammar_laws_lemmas.HeadPlaces.{heads_in_place, one_place}
-pub use Rattle.source_laws.proofs.grammar_laws_lemmas.Light.{both, light_of, more, none}
-pub use Rattle.source_laws.proofs.grammar_laws_lemmas.ViolationPlaces.{AreAtLight, sizes_light, violations_light}
 pub use Rattle.inline.proofs.Face.{flat_is_typed, flat_keeps_meaning}
 pub use Rattle.intervals.proofs.Safe.{accepted_is_safe, safe_runs_meet_no_fault}
 pub use Rattle.labels.proofs.ExportLemmas.{Export, export_at, has_export}

@@ -3,7 +3,8 @@ use Rattle.std.proofs.Common.{◌≡◌, ℕ, ◌+◌, ◌*◌, ◌≤◌, List,
 use Rattle.hepurita.specs.Below.{Agree, AgreeInPublic, AreBases, AreWithin, Arg, Code, Fields, flattened, gives}
 use Rattle.hepurita.specs.Below.{IsGenerated, IsLoaded, IsPlaced, IsRemoved, outcome_of as outcome_of_flat, Param}
 use Rattle.hepurita.specs.Below.{param_of, params_of, ProcedureTree, Profile, ProgramTree, ranged, Results, results_in}
-use Rattle.hepurita.specs.Below.{RunsAs, source_work, State, StraightProgram, work_of}
+use Rattle.hepurita.specs.Below.{RunsAs, State, StraightProgram, work_of}
+use Rattle.hepurita.specs.source_work.SourceWork.{source_work}
 use Rattle.branch_removal.specs.StraightMeaning.{outcome_of, path_of}
 use Rattle.inline.specs.Path.{Path, seen as seen_of}
 use Rattle.hepurita.proofs.Below.{Halts-determined}

@@ -2,10 +2,10 @@
 use Rattle.std.proofs.Common.{◌≡◌, ℕ, ◌≤◌, List, map, None, Ok, ap, subst, ◌∙◌}
 use Rattle.hepurita.specs.Below.{answer, AreWithin, Arg, extents_of, fault_of, flattened, found_params, judged_answer}
 use Rattle.hepurita.specs.Below.{most_work, outcome_of, Param, param_of, ProcedureTree, Profile, ProgramTree, Results}
-use Rattle.hepurita.specs.Below.{source_work}
+use Rattle.hepurita.specs.source_work.SourceWork.{source_work}
 use Rattle.hepurita.proofs.Below.{accepted_is_safe, few_of}
 use Rattle.language.specs.Evaluation.{program_run}
-use Rattle.source_laws.proofs.run_bounds_lemmas.Answered.{answered}
+use Rattle.hepurita.proofs.run_bounds_lemmas.Answered.{answered}
 use Rattle.source_eval.specs.Answer.{params_of}
 use Rattle.hepurita.specs.Built.{Judges, accepts, readable, fine}
 use Rattle.hepurita.specs.Compiled.{Means}

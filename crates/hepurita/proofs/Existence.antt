@@ -1,8 +1,10 @@
 -- Each text has a judgement.
 use Rattle.std.proofs.Common.{◌≡◌, ℕ, List, [], length, None, Some, ⊎_elim, refl}
-use Rattle.hepurita.proofs.Below.{answer_to, Export, has_export, first_of}
+use Rattle.hepurita.proofs.Below.{Export, has_export, first_of}
+use Rattle.hepurita.proofs.grammar_laws_lemmas.Existence.{answer_to}
 use Rattle.hepurita.specs.Below.{accepted, Answer, exported, flattened, ProcedureTree, Profile, ProgramTree}
-use Rattle.hepurita.specs.Below.{range_violations, Reads, refused, size_violations, violations, work_violations}
+use Rattle.hepurita.specs.Below.{range_violations, Reads, refused, size_violations, violations}
+use Rattle.hepurita.specs.source_work.SourceWork.{work_violations}
 use Rattle.hepurita.specs.Built.{Judgement, IsWellFormed, IsSmall, Judges, JudgesProgram, accepts, refuses, ill_typed}
 use Rattle.hepurita.specs.Built.{too_large, out_of_range, too_much_work, fine, unreadable, readable}
 

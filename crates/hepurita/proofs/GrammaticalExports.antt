@@ -3,15 +3,16 @@
 use Rattle.std.proofs.Common.{◌≡◌, ℕ, List, [], Some, ap₂, nat_lt}
 use Rattle.std.specs.List.{AllByRecursion}
 use Rattle.hepurita.specs.Below.{accepted, because, cost_by, exported, flattened, most_work, ProcedureTree, Profile}
-use Rattle.hepurita.specs.Below.{ProgramTree, Reads, source_work, TooMuchWork, turns_of, when, work_cost, work_of}
-use Rattle.hepurita.specs.Below.{work_violations}
+use Rattle.hepurita.specs.Below.{ProgramTree, Reads, TooMuchWork, turns_of, when, work_cost, work_of}
+use Rattle.hepurita.specs.source_work.SourceWork.{source_work}
+use Rattle.hepurita.specs.source_work.SourceWork.{work_violations}
 use Rattle.language.specs.Shares.{excess}
 use Rattle.language.specs.declared.cost.Cost.{Cost}
 use Rattle.language.specs.declared.why.Counted.TheVariants.{Work}
 use Rattle.language.specs.declared.why.Why.TheVariants.{TooMuch}
 use Rattle.intervals.specs.Work.{work_violations as body_violations}
 use Rattle.language.specs.Grammatical.{IsGrammatical}
-use Rattle.source_laws.proofs.source_work_lemmas.Export.{cost_is_that_of_the_body, work_is_that_of_the_body}
+use Rattle.hepurita.proofs.source_work_lemmas.Export.{cost_is_that_of_the_body, work_is_that_of_the_body}
 use Rattle.syntax.proofs.GrammarLemmas.{read_text}
 use Rattle.hepurita.specs.Built.{IsSmall}
 use Rattle.hepurita.proofs.Exports.{of_export}

@@ -4,7 +4,7 @@ use Rattle.std.proofs.Common.{refl, ap, sym, subst, ◌∙◌, arith}
 use Rattle.std.specs.List.{AllByRecursion}
 use Rattle.hepurita.specs.Below.{accepted, exported, flattened, IsFirst, OneAnswer, Place, ProcedureTree, Profile}
 use Rattle.hepurita.specs.Below.{ProgramTree, range_violations, refused, Rule, size_violations, Violation, violations}
-use Rattle.hepurita.specs.Below.{work_violations}
+use Rattle.hepurita.specs.source_work.SourceWork.{work_violations}
 use Rattle.hepurita.specs.Built.{IsSmall, Judges, JudgesProgram, accepts, refuses, ill_typed, too_large, out_of_range}
 use Rattle.hepurita.specs.Built.{too_much_work, fine, unreadable, readable}
 use Rattle.hepurita.proofs.Exports.{Export, export_or, front_or}

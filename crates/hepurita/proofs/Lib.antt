@@ -26,3 +26,6 @@ pub mod RangePlaces
 pub mod EvalLemmas
 pub mod CallLemmas
 pub mod CutOffLemmas
+pub mod grammar_laws_lemmas
+pub mod source_work_lemmas
+pub mod run_bounds_lemmas

@@ -2,9 +2,12 @@
 use Rattle.std.proofs.Common.{◌≡◌, ℕ, Bool, true, false, List, [], ◌∷◌, ◌++◌, is_some, cond, Some, refl, ap, subst}
 use Rattle.std.proofs.Common.{arith}
 use Rattle.word.specs.Places.{origin}
-use Rattle.hepurita.specs.Below.{accepted, astray, exported, in_procedure, in_procedures, in_program, Place}
+use Rattle.hepurita.specs.Below.{accepted, exported, Place}
+use Rattle.hepurita.specs.grammar_laws.Heads.{astray, in_procedure, in_procedures, in_program}
 use Rattle.hepurita.specs.Below.{ProcedureTree, Profile, ProgramTree, Reads, Rule}
-use Rattle.hepurita.proofs.Below.{heads_in_place, light_of, sizes_light, violations_light}
+use Rattle.hepurita.proofs.grammar_laws_lemmas.HeadPlaces.{heads_in_place}
+use Rattle.hepurita.proofs.grammar_laws_lemmas.Light.{light_of}
+use Rattle.hepurita.proofs.grammar_laws_lemmas.ViolationPlaces.{sizes_light, violations_light}
 use Rattle.hepurita.specs.Built.{IsWellFormed, JudgesProgram, refuses, ill_typed, too_large, out_of_range}
 use Rattle.hepurita.specs.Built.{too_much_work}
 use Rattle.hepurita.proofs.Exports.{Export, export_or, front_or}

@@ -4,20 +4,25 @@ use Rattle.std.proofs.Common.{◌≡◌, ℕ, ◌+◌, ◌==◌, ◌&&◌, nat_l
 use Rattle.std.proofs.Common.{◌++◌, map, length, Option, None, Some, refl, append_assoc, arith}
 use Rattle.std.specs.Str.{bytes_eq}
 use Rattle.std.proofs.lemmas.Bool.{cond_both}
-use Rattle.hepurita.proofs.Below.{none, more, both, AreAtLight}
+use Rattle.hepurita.proofs.grammar_laws_lemmas.Light.{none, more, both}
+use Rattle.hepurita.proofs.grammar_laws_lemmas.ViolationPlaces.{AreAtLight}
 use Rattle.hepurita.specs.Below.{array, assignment, because, binary, BlockTree, bounds_after, bounds_after_all, call}
 use Rattle.hepurita.specs.Below.{call_block, call_names, call_result, call_start, call_value, call_variables, Callable}
 use Rattle.hepurita.specs.Below.{callable, Callables, callables, called, CallTree, chain, computed, conditional}
 use Rattle.hepurita.specs.Below.{convert, counter_type, declaration, DivisorMayBeZero, dropped_block, element}
-use Rattle.hepurita.specs.Below.{element_assignment, element_block, ExprTree, first, FlatBlock, flattened, in_block}
-use Rattle.hepurita.specs.Below.{in_call, in_expr, in_exprs, in_procedure, in_procedures, in_return, in_right}
-use Rattle.hepurita.specs.Below.{in_statement, in_values, index_violations, IndexOutOfRange, is_word, loop, most_work}
+use Rattle.hepurita.specs.Below.{element_assignment, element_block, ExprTree, first, FlatBlock, flattened}
+use Rattle.hepurita.specs.grammar_laws.Heads.{in_block}
+use Rattle.hepurita.specs.grammar_laws.Heads.{in_call, in_expr, in_exprs, in_procedure, in_procedures, in_return, in_right}
+use Rattle.hepurita.specs.Below.{index_violations, IndexOutOfRange, is_word, loop, most_work}
+use Rattle.hepurita.specs.grammar_laws.Heads.{in_statement, in_values}
 use Rattle.hepurita.specs.Below.{name, names_after, names_after_all, naming, nothing, number, Numbers, numbers_taken}
 use Rattle.hepurita.specs.Below.{numbers_taken_all, parameter_names, ParameterTree, passed, Place, prefix}
 use Rattle.hepurita.specs.Below.{ProcedureTree, Profile, range_violations, result_violations, return_names, ReturnTree}
-use Rattle.hepurita.specs.Below.{right, right_block, RightTree, rotate, Rule, select, size_of, source_work}
+use Rattle.hepurita.specs.Below.{right, right_block, RightTree, rotate, Rule, select, size_of}
+use Rattle.hepurita.specs.source_work.SourceWork.{source_work}
 use Rattle.hepurita.specs.Below.{StatementTree, term, term_violations, terms_violations, TermTree, TooMuchWork, truth}
-use Rattle.hepurita.specs.Below.{value_given, value_of, violations_all, when, word_as, work_excess, work_violations}
+use Rattle.hepurita.specs.Below.{value_given, value_of, violations_all, when, word_as, work_excess}
+use Rattle.hepurita.specs.source_work.SourceWork.{work_violations}
 use Rattle.hepurita.specs.Below.{written}
 use Rattle.inline.specs.declared.flat.FlatVariable.{FlatVariable}
 use Rattle.inline.specs.Flat as flat

@@ -11,7 +11,7 @@ use Rattle.hepurita.specs.Below.{SecretDivisionOperand, SecretIndex, SecretMulti
 use Rattle.hepurita.specs.Below.{TextTooLong, TooMuchWork, UndeclaredName, UnexpectedToken, UnknownCharacter, Violation}
 use Rattle.hepurita.specs.Below.{WidthsDiffer, WrongKind}
 use Rattle.hepurita.specs.Built.{Judges, JudgesProgram, refuses, unreadable, readable}
-use Rattle.hepurita.proofs.Below.{one_place}
+use Rattle.hepurita.proofs.grammar_laws_lemmas.HeadPlaces.{one_place}
 use Rattle.hepurita.proofs.PlaceLemmas.{refused_in_place}
 use Rattle.hepurita.proofs.JudgementLemmas.{IsNamed, here, behind, all_asked, named}
 

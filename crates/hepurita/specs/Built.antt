@@ -3,7 +3,7 @@ use Rattle.std.specs.Prelude.{◌≡◌, ◌⊎◌, ℕ, ◌+◌, ◌*◌, ◌<�
 use Rattle.hepurita.specs.Below.{accepted, AreBases, AreBytes, exported, Fields, flattened, IsFirst, IsImage}
 use Rattle.hepurita.specs.Below.{IsWantOfMemory, Place, ProcedureTree, Profile, ProgramTree, range_violations, Reads}
 use Rattle.hepurita.specs.Below.{Refusal, refused, Rule, size_violations, Spells, Violation, violations}
-use Rattle.hepurita.specs.Below.{work_violations}
+use Rattle.hepurita.specs.source_work.SourceWork.{work_violations}
 use Rattle.hepurita.specs.Bases.{code_base, frame_base, most_images, code_distance, frame_distance}
 use Rattle.hepurita.specs.Compiled.{IsCompiled}
 use Rattle.hepurita.specs.Exact.{image_for}

@@ -3,7 +3,8 @@ use Rattle.std.specs.Prelude.{◌≡◌, ℕ, ◌+◌, ◌*◌, ◌≤◌, List,
 use Rattle.std.specs.Option.{option_map}
 use Rattle.hepurita.specs.Below.{Agree, AgreeInPublic, AreBases, AreWithin, Arg, Code, code_at, Ecall, extents_of}
 use Rattle.hepurita.specs.Below.{Fields, Halts, IsInside, IsPlaced, loaded_at, most_frame_bytes, nodes_of, Observation}
-use Rattle.hepurita.specs.Below.{param_of, params_of, ProcedureTree, ProgramTree, results_in, source_work, State}
+use Rattle.hepurita.specs.Below.{param_of, params_of, ProcedureTree, ProgramTree, results_in, State}
+use Rattle.hepurita.specs.source_work.SourceWork.{source_work}
 use Rattle.hepurita.specs.Below.{type_in}
 use Rattle.hepurita.specs.Linked.{IsLinked}
 pub use Rattle.hepurita.specs.Meant.{Means}

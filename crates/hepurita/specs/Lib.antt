@@ -15,3 +15,5 @@ pub mod Text
 pub mod CutOff
 pub mod Uncut
 pub mod Below
+pub mod grammar_laws
+pub mod source_work

@@ -4,7 +4,7 @@ use Rattle.std.specs.Prelude.{◌≡◌, ◌⊎◌, ℕ, List, length, Some}
 use Rattle.hepurita.specs.Built.{IsSmall, IsWellFormed, Judges, refuses}
 use Rattle.hepurita.specs.Below.{accepted, flattened, IsRefusedAs, IsToldOf, IsWantOfMemory, Place, ProcedureTree}
 use Rattle.hepurita.specs.Below.{Profile, ProgramTree, range_violations, Reads, Refusal, size_violations, violations}
-use Rattle.hepurita.specs.Below.{work_violations}
+use Rattle.hepurita.specs.source_work.SourceWork.{work_violations}
 
 pub data IsToldOfProgram (profile : Profile) (program : ProgramTree) (refusal : Refusal) : Type 0 where
   -- a rule on names, types and labels

@@ -11,6 +11,7 @@ mod elements;
 mod executing;
 mod fault;
 mod flattening;
+pub mod grammar_laws;
 mod judging;
 mod laws;
 mod loading;
@@ -18,6 +19,8 @@ mod optimised;
 mod optimising;
 mod reading;
 mod results;
+pub mod run_bounds;
+pub mod source_work;
 
 pub use building::{
     accepted_or_refused, build, build_as, build_with, each_text_is_judged, one_refusal,

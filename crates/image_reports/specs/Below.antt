@@ -56,7 +56,7 @@ pub use Rattle.codegen.specs.Loaded.{array_in, arrays_in, code_at, loaded_at, nu
 pub use Rattle.codegen.specs.Loaded.{with_argument, with_arguments, with_numbers}
 pub use Rattle.codegen.specs.image_fields.Fields.{AreSlots, Fields, is_length, IsImage, slot_end}
 pub use Rattle.codegen.specs.declared.image_fields.slot.Slot.{Slot}
-pub use Rattle.source_laws.specs.source_work.SourceWork.{work_cost}
+pub use Rattle.hepurita.specs.source_work.SourceWork.{work_cost}
 pub use Rattle.hepurita.specs.Bases.{code_base, frame_base}
 pub use Rattle.hepurita.specs.Built.{accepts, IsCompilation, Judges}
 unfoldable pub use Rattle.hepurita.specs.Exact.{image_for}

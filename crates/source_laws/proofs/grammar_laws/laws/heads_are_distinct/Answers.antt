@@ -1,5 +1,0 @@
-use Rattle.source_laws.proofs.grammar_laws_lemmas.TreeHeads.{one_head}
-use Rattle.source_laws.proofs.grammar_laws.laws.heads_are_distinct.Goals as goal
-
-pub returns : goal.returns
-returns c = one_head

@@ -1,5 +1,0 @@
-use Rattle.source_laws.proofs.grammar_laws_lemmas.TokenPlaces.{placed}
-use Rattle.source_laws.proofs.grammar_laws.laws.offsets_decide_places.Goals as goal
-
-pub returns : goal.returns
-returns c = placed
