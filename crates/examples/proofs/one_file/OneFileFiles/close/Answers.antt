@@ -1,0 +1,12 @@
+use Rattle.std.proofs.Common.{◌-◌, ◌^◌, Some, None, if◌then◌else◌, arith}
+use Rattle.std.specs.Str.{bytes_eq}
+use Rattle.std.specs.String.{string_bytes}
+use Rattle.commands.proofs.StreamCounts.{kept_times}
+use Rattle.examples.proofs.one_file.OneFileFiles.close.Goals as goal
+
+pub returns : goal.returns
+returns c =
+    kept_times
+    (λ path. if bytes_eq path (string_bytes c.args.self.now.path) then Some c.args.self.now.file.bytes else None)
+    c.args.self.now.failures c.args.source.failures c.saturating_add-self.result (omega arith)
+    c.saturating_add-self.ensures

@@ -1,0 +1,22 @@
+use Rattle.std.proofs.Common.{◌-◌, ◌^◌, Some, None, if◌then◌else◌, ap, arith}
+use Rattle.std.specs.Str.{bytes_eq}
+use Rattle.std.specs.String.{string_bytes}
+use Rattle.commands.proofs.StreamCounts.{kept_times}
+use Rattle.commands.specs.Contents.{Store}
+use Rattle.examples.proofs.one_file.OneFileFiles.finish.Goals as goal
+
+pub returns-then-eq-clause-counts : goal.returns-then-eq-clause-counts
+returns-then-eq-clause-counts c =
+    ap (λ (s : Store). s.failures)
+    (kept_times
+    (λ path. if bytes_eq path (string_bytes c.args.self.now.path) then Some c.args.self.now.file.bytes else None)
+    c.args.self.now.failures c.args.sink.failures c.saturating_add-self.result (omega arith)
+    c.saturating_add-self.ensures)
+
+pub returns-else-eq-clause-counts : goal.returns-else-eq-clause-counts
+returns-else-eq-clause-counts c =
+    ap (λ (s : Store). s.failures)
+    (kept_times
+    (λ path. if bytes_eq path (string_bytes c.args.self.now.path) then Some c.args.self.now.file.bytes else None)
+    c.args.self.now.failures c.args.sink.failures c.saturating_add-self.result (omega arith)
+    c.saturating_add-self.ensures)
