@@ -3,7 +3,7 @@ use Rattle.std.proofs.Common.{Result, Ok, Err, IfErr, OnErr}
 use Rattle.std.proofs.Common.{◌≡◌, ◌≢◌, ℕ, Bool, true, false, List, refl, sym, ap, ◌∙◌, inl, inr, ◌⊎◌, subst}
 use Rattle.commands.specs.Contents.{Store, failed, failed_times}
 use Rattle.commands.specs.FaultText.{fault_status}
-use Rattle.commands.specs.Failures.{IsReadBy, failures_by, Counts, of_files, of_output}
+use Rattle.commands.specs.Failures.{IsReadBy, IsReadOrPrinted, failures_by, Counts, of_files, of_output}
 use Rattle.commands.specs.Judged.{Tells, IsExplained}
 use Rattle.commands.specs.Leaks.{IsOutputFault}
 use Rattle.commands.specs.Requests.{Ends, calm, files_failed, output_failed}
@@ -86,6 +86,13 @@ kept_by (Name place) before after read = ap (λ (s : Store). s.contents) read
 kept_by (File (CannotRead path)) before after read = ap (λ (s : Store). s.contents) read
 kept_by (File (CannotWrite path)) before after read = absurd read
 kept_by (File (NotUtf8 path)) before after read = ap (λ (s : Store). s.contents) read
+
+-- which calls failed, where files were read, or standard output failed
+pub either_counts : (fault : Fault) {before after : Store} {printed printed' : ℕ}
+    → IsReadOrPrinted fault before after printed printed'
+    → Counts before.failures after.failures printed printed' fault
+either_counts fault {before} {after} (inl (read, same)) = of_files (counted_by fault before after read) same
+either_counts fault (inr (output, same, failed)) = of_output output (ap (λ (s : Store). s.failures) same) failed
 
 -- a stream of which no call failed, and one of which one did
 pub no_more : {times : ℕ} {before after : Store} → after ≡ failed_times times before → times ≡ 0 → after ≡ before

@@ -1,14 +1,23 @@
 -- Harts that were loaded one after another, and files that were read to their end.
 use Rattle.std.proofs.Common.{◌≡◌, ℕ, ◌+◌, ◌<◌, ◌≤◌, true, List, [], ◌∷◌, ◌++◌, ◌⊎◌, inl, inr, length, map, take, drop, get_or}
-use Rattle.std.proofs.Common.{Result, Ok, Err, append_assoc, refl, sym, ap, ◌∙◌, subst, arith}
+use Rattle.std.proofs.Common.{Bor, Global, Result, Ok, Err, Some, String, append_assoc, refl, sym, ap, ◌∙◌, subst, arith}
 use Rattle.std.specs.List.{AllZip}
+use Rattle.std.specs.Result.{IfOk, IfErr}
+use Rattle.std.specs.String.{string_bytes}
+use Rattle.std.proofs.lemmas.Str.{IsUtf8-string_bytes}
 use Rattle.std.proofs.lemmas.List.{take_more, take-append-drop, map-append, length-take, take_all}
 use Rattle.commands.specs.Below.{Arg, cut_short, fault_of_texts, Fields, hart_of, HartEnd, HartObservation, HartsFault}
 use Rattle.commands.specs.Below.{HartsRule, IsFault, IsPlan, job_of, out_of_memory, Param, params_of, PlanFault}
 use Rattle.commands.specs.Below.{PlannedHart, ran, refused, Refuses, RunFault, RunsHarts}
+use Rattle.commands.specs.Answered.{answered, Gives, not_answered}
 use Rattle.commands.specs.Contents.{Contents}
+use Rattle.commands.specs.declared.answer.Answer.{Answer}
+use Rattle.commands.specs.declared.command_line.words.Request.TheVariants as requests
 use Rattle.commands.specs.Harts.{IsJobOf, SaysPlan, RefusesHart, RefusesJobs, by_hart, RefusesPlan, by_line, by_run}
+use Rattle.commands.specs.Harts.{by_plan, jobs_want_memory, no_arguments, no_image}
 use Rattle.commands.specs.Harts.{plan_wants_memory}
+use Rattle.commands.specs.ImageRefusals as refusals
+use Rattle.commands.specs.ImageArguments.{LacksArguments}
 use Rattle.commands.specs.HartsText.{harts_text, status_of_ends}
 use Rattle.commands.specs.Images.{HoldsImage}
 use Rattle.commands.specs.Words.{AreSpelled, IsFaultOfWords}
@@ -98,7 +107,7 @@ split_at {A} xs i x low is =
     ∙ append_assoc (take i xs) (x ∷ []) (drop (i + 1) xs)
 
 -- why a job among those named is not had, where those before it were loaded
-pub refused_at : (files : Contents) (named : List Job) (i : ℕ) (job : Job) (loaded : List (Fields × List Arg))
+refused_at : (files : Contents) (named : List Job) (i : ℕ) (job : Job) (loaded : List (Fields × List Arg))
     (fault : Fault) → i < length named → job ≡ get_or named i job
     → AllZip (IsJobOf files) (map hart_of (take i named)) (map job_of loaded)
     → RefusesHart files (hart_of job) fault → RefusesJobs files (map hart_of named) fault
@@ -109,12 +118,27 @@ refused_at files named i job loaded fault low is all why =
     by_hart _ _ (hart_of job) _ names all why
 
 -- why words spell no arguments, from words in another form
-pub fault_from : {A : Type 0} {params others : List Param} (why : RunFault) (texts items : List A) (bytes : A
+fault_from : {A : Type 0} {params others : List Param} (why : RunFault) (texts items : List A) (bytes : A
     → List ℕ) → params ≡ others → texts ≡ items → IsFaultOfWords (fault_of_texts params (map bytes texts)) why
     → IsFaultOfWords (fault_of_texts others (map bytes items)) why
 fault_from {A} {params} {others} why texts items bytes same is fault =
     subst (λ (words : List A). IsFaultOfWords (fault_of_texts others (map bytes words)) why) is
     (subst (λ (ps : List Param). IsFaultOfWords (fault_of_texts ps (map bytes texts)) why) same fault)
+
+-- why the job is not had of an image and arguments that are not had
+pub job_refused : (files : Contents) (named : List Job) (i : ℕ) (job : Job) (loaded : List (Fields × List Arg))
+    (texts : List (Bor (List ℕ))) (fault : Fault) → i < length named → job ≡ get_or named i job
+    → AllZip (IsJobOf files) (map hart_of (take i named)) (map job_of loaded) → texts ≡ job.arguments.items
+    → LacksArguments files job.path.now (map (λ text. text.now) texts) fault
+    → RefusesJobs files (map hart_of named) fault
+job_refused files named i job loaded texts fault low is all same (refusals.no_image why) =
+    refused_at files named i job loaded fault low is all (no_image why)
+job_refused files named i job loaded texts fault low is all same (refusals.no_arguments {fault = why} held spelled) =
+    refused_at files named i job loaded fault low is all (no_arguments held
+    (fault_from why texts job.arguments.items (λ text. text.now) refl same spelled))
+job_refused files named i job loaded texts fault low is all same (refusals.no_answer held never) = absurd never
+job_refused files named i job loaded texts fault low is all same (refusals.out_of_memory memory) =
+    jobs_want_memory memory
 
 -- a text that gives no plan
 pub plan_refused : {A : Type 0} (files : Contents) (plan : List ℕ) (why : PlanFault) (answer : Result A PlanFault)
@@ -132,7 +156,7 @@ run_answers jobs schedule before after answer why (refused {fault = fault} refus
     let same : fault ≡ why = cc in inl (subst (λ (f : HartsFault). Refuses jobs schedule f) same refuses)
 run_answers jobs schedule before after answer why (out_of_memory allowed) is = inr (cc)
 run_answers jobs schedule before after answer why (cut_short allowed cut) is = inr (cc)
-run_answers jobs schedule before after answer why (ran allowed followed answered) is = cc
+run_answers jobs schedule before after answer why (ran allowed followed last) is = cc
 
 -- harts that are not run
 pub run_refused : (files : Contents) (plan : List ℕ) (harts : List PlannedHart) (schedule schedule' : List ℕ)
@@ -149,3 +173,22 @@ run_refused files plan harts schedule schedule' jobs jobs' before after why plan
         (subst (λ (turns : List ℕ). Refuses jobs turns why) same_schedule
         (subst (λ (js : List side_by_side.Job). Refuses js schedule' why) same_jobs refuses))
     by (inr memory) = plan_wants_memory memory
+
+-- what is said of a plan that is a file's text is said of the file
+pub finds_harts : {files : Contents} (file : Bor (List ℕ)) (plan : String Global) (as_str : List ℕ)
+    (answer : Result Answer Fault) → files file.now ≡ Some (string_bytes plan) → as_str ≡ string_bytes plan
+    → IfOk answer (λ said. SaysPlan files as_str said.text.items said.status)
+    → IfErr answer (RefusesPlan files as_str) → Gives (requests.Harts file) files files answer
+finds_harts {files} file plan as_str (Ok said) held same so why =
+    answered (record {
+      plan = string_bytes plan;
+      held = held;
+      is_text = IsUtf8-string_bytes plan;
+      said = subst (λ (text : List ℕ). SaysPlan files text said.text.items said.status) same so;
+    }) refl
+finds_harts {files} file plan as_str (Err fault) held same so why =
+    not_answered (
+      by_plan held (IsUtf8-string_bytes plan)
+          (subst (λ (text : List ℕ). RefusesPlan files text fault) same why),
+      refl,
+    )

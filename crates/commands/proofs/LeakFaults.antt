@@ -1,54 +1,18 @@
 -- A listing that was not written failed at standard output, or nothing was written.
-use Rattle.std.proofs.Common.{◌≡◌, ◌≢◌, inl, inr, ℕ, List, Result, Ok, refl, sym, subst, ◌∙◌}
-use Rattle.commands.specs.Below.{Arg, Fields, IsLeak, LeakFault, Leaks, one_more, params_of, Stop, Write, Writes}
-use Rattle.commands.specs.Below.{WritesPart}
+use Rattle.std.proofs.Common.{◌≡◌, ◌≢◌, inl, inr, ℕ, List, Bor, map, refl, sym, ap, subst, ◌∙◌}
+use Rattle.commands.specs.Below.{Arg, collected, Collected, Fields, IsLeak, LeakFault, one_more, params_of, Stop}
+use Rattle.commands.specs.Below.{Write, Writes, WritesPart}
 use Rattle.commands.specs.Contents.{Contents, Store}
 use Rattle.commands.specs.Failures.{IsReadBy, IsReadOrPrinted}
-use Rattle.commands.specs.Images.{HoldsImage, NoImage, not_read, not_spelled}
-use Rattle.commands.specs.Leaks.{SaysLeak, IsOutputFault, IsFaultOfLeak, standard_output}
+use Rattle.commands.specs.Images.{HoldsImage}
+use Rattle.commands.specs.Leaks.{SaysLeak, RefusesLeak, IsOutputFault, IsFaultOfLeak}
+use Rattle.commands.specs.Requests.{Fails, IsDone, refused, unprinted}
 use Rattle.commands.specs.Stops.{status_of}
-use Rattle.commands.specs.Unread as unread_specs
-use Rattle.commands.specs.Unread.{IsOutOfMemory, IsUnread, IsUnwritten, NotRead, unread}
 use Rattle.commands.specs.Words.{AreSpelled}
+use Rattle.commands.specs.declared.command_line.words.Request.TheVariants as requests
 use Rattle.commands.specs.declared.fault.Fault.{Fault}
-use Rattle.commands.specs.declared.fault.Fault.TheVariants.{Text, Explained, Image, Run, Eval, Plan, Harts, Vectors}
-use Rattle.commands.specs.declared.fault.Fault.TheVariants.{Code, Name, File}
-use Rattle.commands.specs.declared.fault.FileFault.{FileFault}
-use Rattle.commands.specs.declared.fault.FileFault.TheVariants.{CannotRead, CannotWrite, NotUtf8}
-use Rattle.listing.specs.Leaked as leaked_specs
-use Rattle.listing.specs.Leaked.{ran}
-use Rattle.listing.specs.Listings.{listing}
+use Rattle.commands.proofs.Counting.{counted_by, kept_by, not_output}
 use Rattle.listing.specs.declared.fault.LeakFault.TheVariants.{Argument, Memory}
-
-not_memory : (fault : Fault) → IsOutOfMemory fault → IsOutputFault fault → ⊥
-not_memory (Text refusal) memory output = let is = output.2 in cc
-not_memory (Explained refusal lines) memory output = memory
-not_memory (Image why) memory output = let is = output.2 in cc
-not_memory (Run why) memory output = let is = output.2 in cc
-not_memory (Eval why) memory output = let is = output.2 in cc
-not_memory (Plan why) memory output = let is = output.2 in cc
-not_memory (Harts why) memory output = let is = output.2 in cc
-not_memory (Vectors why) memory output = let is = output.2 in cc
-not_memory (Code rule) memory output = memory
-not_memory (Name place) memory output = memory
-not_memory (File file) memory output = memory
-
-not_both : (path : List ℕ) (one other : FileFault) → IsUnread path one → IsUnwritten standard_output other
-    → File one ≡ File other → ⊥
-not_both path (CannotRead named) (CannotRead other) read written is = written
-not_both path (CannotRead named) (CannotWrite other) read written is = cc
-not_both path (CannotRead named) (NotUtf8 other) read written is = written
-not_both path (CannotWrite named) other read written is = read
-not_both path (NotUtf8 named) other read written is = read
-
-not_reading : (path : List ℕ) (fault : Fault) → NotRead path fault → IsOutputFault fault → ⊥
-not_reading path fault (unread {fault = file} is) output = not_both path file output.0 is output.1 output.2
-not_reading path fault (unread_specs.out_of_memory memory) output = not_memory fault memory output
-
-pub not_imageless : (files : Contents) (path : List ℕ) (fault : Fault) → NoImage files path fault
-    → IsOutputFault fault → ⊥
-not_imageless files path fault (not_read why) output = not_reading path fault why output
-not_imageless files path fault (not_spelled held first) output = let is = output.2 in cc
 
 -- only a sink that failed is standard output that failed
 is_write : (why : LeakFault) (fault : Fault) → IsFaultOfLeak why fault → IsOutputFault fault → why ≡ Write
@@ -66,15 +30,9 @@ leak_counts Memory fault {before} {after} is same calm counts =
     inl (subst (λ (f : Fault). IsReadBy f before after) (sym is) same, calm (λ h. cc))
 leak_counts Write fault is same calm counts = inr (is, same, counts refl)
 
--- a run that was made has a listing
-listed_by : (image : Fields) (args : List Arg) (answer : Result Stop LeakFault) (stop : Stop)
-    → Leaks image args answer → answer ≡ Ok stop → (text : List ℕ) × IsLeak image args stop text
-listed_by image args answer stop (leaked_specs.refused first) is = cc
-listed_by image args answer stop (leaked_specs.out_of_memory none) is = cc
-listed_by image args answer stop (leaked_specs.cut_off none) is = cc
-listed_by image args answer stop (ran {seen = seen} {stop = ended} none ends) is =
-    let same : ended ≡ stop = cc in
-    subst (λ (s : Stop). (text : List ℕ) × IsLeak image args s text) same (listing seen ended, (seen, ends, refl))
+-- another fault is not that
+pub not_write : (why : LeakFault) (fault : Fault) → IsFaultOfLeak why fault → (IsOutputFault fault → ⊥) → why ≢ Write
+not_write why fault is other write = other (subst (λ (l : LeakFault). IsFaultOfLeak l fault) write is)
 
 module _ {files : Contents} {path : List ℕ} {words : List (List ℕ)} {image : Fields} {args : List Arg}
     (held : HoldsImage files path image) (spelled : AreSpelled (params_of image) words args) where
@@ -91,19 +49,6 @@ module _ {files : Contents} {path : List ℕ} {words : List (List ℕ)} {image :
         ended = ended;
       }
 
-  -- where the run was made
-  pub said_leak : (stop : Stop) (status : ℕ) → status ≡ status_of stop → Leaks image args (Ok stop)
-      → (text : List ℕ) × SaysLeak files path words status text
-  said_leak stop status ended leaks =
-      let l = listed_by image args (Ok stop) stop leaks refl in
-      (l.0, says_leak stop status l.0 ended l.1)
-
-  pub wrote_leak : (stop : Stop) (status : ℕ) (before after : List ℕ) → status ≡ status_of stop
-      → Writes (IsLeak image args stop) before after
-      → Writes (SaysLeak files path words status) before after
-  wrote_leak stop status before after ended w =
-      record { bytes = w.bytes; such = says_leak stop status w.bytes ended w.such; added = w.added }
-
   -- where the sink failed
   pub cut_leak : (before after : List ℕ)
       → WritesPart (λ bytes. (stop : Stop) × IsLeak image args stop bytes) before after
@@ -119,3 +64,35 @@ module _ {files : Contents} {path : List ℕ} {words : List (List ℕ)} {image :
       → (why ≡ Write → WritesPart (λ bytes. (stop : Stop) × IsLeak image args stop bytes) before after)
       → WritesPart (λ text. (status : ℕ) × SaysLeak files path words status text) before after
   cut_at_output why fault before after is output part = cut_leak before after (part (is_write why fault is output))
+
+-- a listing that is written to its end
+pub lists : (path : Bor (List ℕ)) (arguments : Bor (List (Bor (List ℕ)))) {image : Fields} {args : List Arg}
+    {before after : Store} {taken taken' : List ℕ} {failures failures' : ℕ} → HoldsImage before.contents path.now image
+    → AreSpelled (params_of image) (map (λ word. word.now) arguments.now) args → (stop : Stop) (status : ℕ)
+    → status ≡ status_of stop → Writes (IsLeak image args stop) taken taken' → failures' ≡ failures → after ≡ before
+    → IsDone (requests.Leak path arguments) before after (collected taken failures) (collected taken' failures') status
+lists path arguments held spelled stop status ended w calm same = record {
+  text = w.bytes;
+  answered = says_leak held spelled stop status w.bytes ended w.such;
+  left = ap (λ (s : Store). s.contents) same;
+  calm = ap (λ (s : Store). s.failures) same;
+  printed = (w.added, calm);
+}
+
+-- one that is not: standard output failed, or it is as it was
+pub fails_to_list : {S : Type 0} (view : S → Collected) (path : Bor (List ℕ)) (arguments : Bor (List (Bor (List ℕ))))
+    (before after : Store) (s s' : S) (fault : Fault)
+    → RefusesLeak before.contents path.now (map (λ word. word.now) arguments.now) fault
+    → (IsOutputFault fault → WritesPart (λ text. (status : ℕ)
+    × SaysLeak before.contents path.now (map (λ word. word.now) arguments.now) status text) (view s).bytes
+    (view s').bytes)
+    → ((IsOutputFault fault → ⊥) → s' ≡ s)
+    → IsReadOrPrinted fault before after (view s).failures (view s').failures
+    → Fails (requests.Leak path arguments) before after (view s) (view s') fault
+fails_to_list view path arguments before after s s' fault why part kept (inl (read, printed)) =
+    refused (why, kept_by fault before after read) (counted_by fault before after read)
+    (ap view (kept (not_output fault before after read)))
+fails_to_list view path arguments before after s s' fault why part kept (inr (output, left, failed)) =
+    let some = part output in
+    unprinted some.such.0 some.such.1 (ap (λ (f : Store). f.contents) left) (ap (λ (f : Store). f.failures) left)
+    (some.part, failed) output

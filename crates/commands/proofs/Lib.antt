@@ -11,6 +11,7 @@ mod MeasuringLemmas
 mod PictureLemmas
 mod ProgressLemmas
 mod RequestLemmas
+mod AnswerLemmas
 mod MeaningLemmas
 mod HartLemmas
 mod VectorLemmas

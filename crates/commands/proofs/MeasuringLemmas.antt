@@ -1,7 +1,6 @@
 -- What the first bytes of a file say of all of it, where its costs are asked for.
-use Rattle.std.proofs.Common.{◌≡◌, ◌+◌, ℕ, List, Result, Ok, Err, take, refl, ap, ◌∙◌, arith}
+use Rattle.std.proofs.Common.{◌≡◌, ◌+◌, ℕ, List, Err, take, refl, ap, ◌∙◌, arith}
 use Rattle.std.proofs.lemmas.List.{take-take}
-use Rattle.std.specs.Result.{IfOk, IfErr}
 use Rattle.commands.specs.Contents.{Contents, Begins}
 use Rattle.commands.specs.Costs.{HoldsOther, SaysCosts, RefusesCosts, of_image, not_read, not_spelled}
 use Rattle.commands.specs.Unread.{out_of_memory}
@@ -37,14 +36,3 @@ pub image_faulty : (profile : Profile) (files : Contents) (path bytes : List ℕ
 image_faulty profile files path bytes (Field rule offset) begun why =
     not_spelled begun.held (all_read files path bytes begun (Err (Field rule offset)) why.1) why.0
 image_faulty profile files path bytes Memory begun why = not_read (out_of_memory refl)
-
--- what holds of an answer for another reason
-pub if_ok_so : {A E : Type 0} {P Q : A → Type 0} (answer : Result A E) → ((a : A) → P a → Q a) → IfOk answer P
-    → IfOk answer Q
-if_ok_so (Ok a) so is = so a is
-if_ok_so (Err e) so is = tt
-
-pub if_err_so : {A E : Type 0} {P Q : E → Type 0} (answer : Result A E) → ((e : E) → P e → Q e) → IfErr answer P
-    → IfErr answer Q
-if_err_so (Ok a) so is = tt
-if_err_so (Err e) so is = so e is

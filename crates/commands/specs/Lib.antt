@@ -7,6 +7,7 @@ pub mod Images
 pub mod Words
 pub mod Stops
 pub mod ImageRefusals
+pub mod ImageArguments
 pub mod Runs
 pub mod Leaks
 pub mod Pairs
@@ -26,5 +27,6 @@ pub mod Failures
 pub mod Vectors
 pub mod Progress
 pub mod Requests
+pub mod Answered
 pub mod Commanded
 pub mod Below

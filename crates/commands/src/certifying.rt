@@ -1,18 +1,18 @@
 // One run of an image for all values of the arguments that are not given.
 
-ghost use Rattle.std.specs.Prelude.{◌≡◌, ◌≢◌, ◌≤◌, ◌++◌, ◌⊎◌, ℕ, List, Some, None, map, codes, IsTrue, IfOk, IfErr, OnOk, OnErr};
+ghost use Rattle.std.specs.Prelude.{◌≡◌, ◌≢◌, ◌≤◌, ◌++◌, ◌⊎◌, ℕ, List, Some, None, map, codes, IsTrue, IfOk, OnOk, OnErr};
 ghost use Rattle.std.specs.Fmt.{decimal};
+ghost use Rattle.commands.specs.Answered.{Finds, IsRead};
 ghost use Rattle.commands.specs.Below.{code_at, code_base, collected, HasLines, IsLineAt, Reaches, stop_line, word_at};
-ghost use Rattle.commands.specs.Certificates.{StandsInCode, PrintsCertificate, certificate_status, shifts_seen, SaysCertificate, RefusesCertificate};
-ghost use Rattle.commands.specs.Failures.{IsReadBy};
+ghost use Rattle.commands.specs.Certificates.{StandsInCode, PrintsCertificate, certificate_status, shifts_seen};
 ghost use Rattle.commands.specs.Progress.{FileCertificateTells};
 
+use crate::answer::{Answer, MAY_DIFFER};
+use crate::command_line::Request;
 use crate::fault::Fault;
 use crate::files::Files;
-use crate::images::{image_of, status_of};
-use crate::performing::MAY_DIFFER;
+use crate::images::{image_with_params, status_of};
 use crate::telling::certificate_of;
-use hepurita::params;
 use image::Image;
 use image_reports::certificates::{Certificate, Shifts, read_given};
 use listing::{line_at, stop_line};
@@ -26,13 +26,14 @@ use streams::Sink;
 pub fn certify_image<'a, F: Files, E: Sink>(
     alloc: Global,
     path: &'a str,
-    arguments: &[&str],
+    arguments: &'a [&'a str],
     shifts: bool,
     progress: bool,
     files: &mut F,
     err: &mut E,
-) -> Result<(Vec<u8>, u8), Fault<'a>>
-    ensures known { IfOk result (λ said. said.1 ≤ 5) }
+) -> Result<Answer, Fault<'a>>
+    ensures finds { IsTrue F.TELLS
+        → Finds (Request.Certify path.entry arguments.entry shifts progress) (F.store files.old).contents result }
     ensures told { IsTrue F.TELLS → IsTrue E.TELLS
         → OnOk result (FileCertificateTells HasLines progress shifts (F.store files.old).contents path.now
         (map (λ word. word.now) arguments.now) (collected (E.taken err.old) (E.failures err.old))
@@ -41,17 +42,9 @@ pub fn certify_image<'a, F: Files, E: Sink>(
         ⊎ FileCertificateTells Reaches progress shifts (F.store files.old).contents path.now
         (map (λ word. word.now) arguments.now) (collected (E.taken err.old) (E.failures err.old))
         (collected (E.taken err.new) (E.failures err.new))) }
-    ensures said { IsTrue F.TELLS
-        → IfOk result (λ said. SaysCertificate (shifts_seen shifts) (F.store files.old).contents path.now
-        (map (λ word. word.now) arguments.now) said.0.items said.1) }
-    ensures refused { IsTrue F.TELLS
-        → IfErr result (RefusesCertificate (shifts_seen shifts) (F.store files.old).contents path.now
-        (map (λ word. word.now) arguments.now)) }
-    ensures calm { OnOk result (F.store files.new ≡ F.store files.old) }
-    ensures counted { IfErr result (λ fault. IsReadBy fault (F.store files.old) (F.store files.new)) }
+    ensures read { IsRead result (F.store files.old) (F.store files.new) }
 {
-    let image = image_of(alloc, path, files)?;
-    let params = params(alloc, &image)?;
+    let (image, params) = image_with_params(alloc, path, files)?;
     let given = read_given(alloc, params.as_slice(), arguments)?;
     let certificate = certificate_of(
         alloc,
@@ -62,7 +55,8 @@ pub fn certify_image<'a, F: Files, E: Sink>(
         err,
     )?;
     let text = text_of(alloc, &image, certificate)?;
-    Ok((text, status_of_certificate(certificate)))
+    let status = status_of_certificate(certificate);
+    Ok(Answer { text, status })
 }
 
 /// Whether the observer sees amounts of shifts.

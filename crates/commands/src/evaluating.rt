@@ -1,10 +1,11 @@
 // What is done with a text and arguments: it is worked out what the text means on them.
 
-ghost use Rattle.std.specs.Prelude.{◌≡◌, map, IsTrue, IfOk, IfErr, OnOk};
-ghost use Rattle.std.specs.String.{string_bytes};
-ghost use Rattle.commands.specs.Failures.{IsReadBy};
-ghost use Rattle.commands.specs.Meanings.{evaluation_budget, SaysMeaning, RefusesMeaning};
+ghost use Rattle.std.specs.Prelude.{◌≡◌, IsTrue};
+ghost use Rattle.commands.specs.Answered.{Finds, IsRead};
+ghost use Rattle.commands.specs.Meanings.{evaluation_budget};
 
+use crate::answer::Answer;
+use crate::command_line::Request;
 use crate::fault::Fault;
 use crate::files::Files;
 use crate::outcome;
@@ -26,18 +27,13 @@ pub fn budget_is_as_stated()
 pub fn evaluate_text<'a, F: Files>(
     alloc: Global,
     file: &'a str,
-    arguments: &[&str],
+    arguments: &'a [&'a str],
     explain: bool,
     files: &mut F,
-) -> Result<String, Fault<'a>>
-    ensures said { IsTrue F.TELLS
-        → IfOk result (λ text. SaysMeaning (F.store files.old).contents file.now (map (λ word. word.now) arguments.now)
-        (string_bytes text)) }
-    ensures refused { IsTrue F.TELLS
-        → IfErr result (RefusesMeaning explain (F.store files.old).contents file.now
-        (map (λ word. word.now) arguments.now)) }
-    ensures calm { OnOk result (F.store files.new ≡ F.store files.old) }
-    ensures counted { IfErr result (λ fault. IsReadBy fault (F.store files.old) (F.store files.new)) }
+) -> Result<Answer, Fault<'a>>
+    ensures finds { IsTrue F.TELLS
+        → Finds (Request.Eval file.entry arguments.entry explain) (F.store files.old).contents result }
+    ensures read { IsRead result (F.store files.old) (F.store files.new) }
 {
     accepted_texts_are_evaluated();
     let text = text_of_file(alloc, file, files)?;
@@ -49,5 +45,5 @@ pub fn evaluate_text<'a, F: Files>(
     let args = read_args(alloc, params, arguments)?;
     let outcome = eval(alloc, &accepted.program, &args, EVALUATION_BUDGET)?;
     let lines = outcome::text_of(alloc, params, &outcome)?;
-    Ok(lines)
+    Ok(Answer::of_text(lines))
 }

@@ -1,24 +1,26 @@
 // What is done with an image: it is run, its run is listed, two of its runs are compared, its words are listed.
 
-ghost use Rattle.std.specs.Prelude.{◌≡◌, ◌≤◌, ◌⊎◌, None, List, ℕ, length, map, Ok, IsTrue, IfOk, IfErr, OnOk, OnErr};
+ghost use Rattle.std.specs.Prelude.{◌≡◌, ◌≤◌, ◌⊎◌, None, length, map, Ok, IsTrue, IfOk, IfErr, OnOk, OnErr};
 ghost use Rattle.std.specs.String.{string_bytes};
 ghost use Rattle.std.specs.Option.{option_map};
-ghost use Rattle.commands.specs.Below.{AreWithin, collected, fault_of_texts, HasLines, most_parameters, Paired};
-ghost use Rattle.commands.specs.Below.{params_of, Reaches, shifted, Writes, WritesPart};
-ghost use Rattle.commands.specs.Failures.{IsReadBy, IsReadOrPrinted};
+ghost use Rattle.commands.specs.Answered.{Does, Finds, IsEnded, IsRead};
+ghost use Rattle.commands.specs.Below.{AreWithin, collected, fault_of_texts, HasLines, IsImage, most_parameters};
+ghost use Rattle.commands.specs.Below.{Paired, params_of, Reaches, shifted};
+ghost use Rattle.commands.specs.Failures.{IsReadBy};
+ghost use Rattle.commands.specs.ImageArguments.{LacksArguments};
 ghost use Rattle.commands.specs.Images.{HoldsImage, NoImage};
-ghost use Rattle.commands.specs.Leaks.{SaysLeak, RefusesLeak, IsFaultOfLeak, IsOutputFault};
-ghost use Rattle.commands.specs.Pairs.{SaysPair, RefusesPair, SaysList, PrintsPairing, pairing_text};
+ghost use Rattle.commands.specs.Leaks.{IsFaultOfLeak};
+ghost use Rattle.commands.specs.Pairs.{PrintsPairing, pairing_text};
 ghost use Rattle.commands.specs.Progress.{FileRunTells, FilePairTells};
-ghost use Rattle.commands.specs.Runs.{SaysRun, RefusesRun};
 ghost use Rattle.commands.specs.Stops.{status_of};
 ghost use Rattle.commands.specs.Words.{AreSpelled, AreBothSpelled, IsFaultOfWords, fault_of_both};
 
-use crate::command_line::PairOptions;
+use crate::answer::{Answer, DONE, STOPPED};
+use crate::command_line::{PairOptions, Request};
 use crate::fault::{Fault, FileFault};
 use crate::files::Files;
 use crate::outcome;
-use crate::performing::{DONE, STANDARD_OUTPUT, STOPPED};
+use crate::performing::STANDARD_OUTPUT;
 use crate::reading::bytes_of;
 use crate::telling::{outcome_of, pairing_of};
 use hepurita::{RunFault, params, read_args};
@@ -47,15 +49,54 @@ pub fn image_of<'a, F: Files>(
     Ok(image)
 }
 
+/// The image of a file, and its parameters.
+pub fn image_with_params<'a, F: Files>(
+    alloc: Global,
+    path: &'a str,
+    files: &mut F,
+) -> Result<(Image, Vec<Param>), Fault<'a>>
+    ensures said { IsTrue F.TELLS → IfOk result (λ found. HoldsImage (F.store files.old).contents path.now found.0) }
+    ensures params { IfOk result (λ found. found.1.items ≡ params_of found.0) }
+    ensures few { IfOk result (λ found. length found.1.items ≤ most_parameters) }
+    ensures allowed { IfOk result (λ found. IsImage found.0) }
+    ensures refused { IsTrue F.TELLS → IfErr result (NoImage (F.store files.old).contents path.now) }
+    ensures read { IsRead result (F.store files.old) (F.store files.new) }
+{
+    let image = image_of(alloc, path, files)?;
+    let params = params(alloc, &image)?;
+    Ok((image, params))
+}
+
+/// The image of a file, its parameters, and the arguments that words spell for them.
+pub fn image_with_args<'a, F: Files>(
+    alloc: Global,
+    path: &'a str,
+    words: &[&str],
+    files: &mut F,
+) -> Result<(Image, Vec<Param>, Args), Fault<'a>>
+    ensures said { IsTrue F.TELLS → IfOk result (λ found. HoldsImage (F.store files.old).contents path.now found.0) }
+    ensures params { IfOk result (λ found. found.1.items ≡ params_of found.0) }
+    ensures spelled { IfOk result (λ found. AreSpelled (params_of found.0) (map (λ word. word.now) words.now) found.2) }
+    ensures refused { IsTrue F.TELLS
+        → IfErr result (LacksArguments (F.store files.old).contents path.now (map (λ word. word.now) words.now)) }
+    ensures read { IsRead result (F.store files.old) (F.store files.new) }
+{
+    let (image, params) = image_with_params(alloc, path, files)?;
+    let args = read_args(alloc, params.as_slice(), words)?;
+    Ok((image, params, args))
+}
+
 /// What an image gives on arguments, as lines. How many steps its run has made goes to `err`, where that is asked for.
 pub fn run_image<'a, F: Files, E: Sink>(
     alloc: Global,
     path: &'a str,
-    arguments: &[&str],
+    arguments: &'a [&'a str],
     progress: bool,
     files: &mut F,
     err: &mut E,
-) -> Result<String, Fault<'a>>
+) -> Result<Answer, Fault<'a>>
+    ensures finds { IsTrue F.TELLS
+        → Finds (Request.Run path.entry arguments.entry progress) (F.store files.old).contents result }
     ensures told { IsTrue F.TELLS → IsTrue E.TELLS
         → OnOk result (FileRunTells HasLines progress (F.store files.old).contents path.now
         (map (λ word. word.now) arguments.now) (collected (E.taken err.old) (E.failures err.old))
@@ -63,20 +104,12 @@ pub fn run_image<'a, F: Files, E: Sink>(
     ensures part { IsTrue F.TELLS → IsTrue E.TELLS → OnErr result ((err.new ≡ err.old)
         ⊎ FileRunTells Reaches progress (F.store files.old).contents path.now (map (λ word. word.now) arguments.now)
         (collected (E.taken err.old) (E.failures err.old)) (collected (E.taken err.new) (E.failures err.new))) }
-    ensures said { IsTrue F.TELLS
-        → IfOk result (λ text. SaysRun (F.store files.old).contents path.now (map (λ word. word.now) arguments.now)
-        (string_bytes text)) }
-    ensures refused { IsTrue F.TELLS
-        → IfErr result (RefusesRun (F.store files.old).contents path.now (map (λ word. word.now) arguments.now)) }
-    ensures calm { OnOk result (F.store files.new ≡ F.store files.old) }
-    ensures counted { IfErr result (λ fault. IsReadBy fault (F.store files.old) (F.store files.new)) }
+    ensures read { IsRead result (F.store files.old) (F.store files.new) }
 {
-    let image = image_of(alloc, path, files)?;
-    let params = params(alloc, &image)?;
-    let args = read_args(alloc, params.as_slice(), arguments)?;
+    let (image, params, args) = image_with_args(alloc, path, arguments, files)?;
     let outcome = outcome_of(alloc, &image, &args, progress, err)?;
     let text = outcome::text_of(alloc, params.as_slice(), &outcome)?;
-    Ok(text)
+    Ok(Answer::of_text(text))
 }
 
 /// Prints what an observer sees of an image's run on arguments, and how the run stops. Answers the
@@ -84,32 +117,17 @@ pub fn run_image<'a, F: Files, E: Sink>(
 pub fn leak_image<'a, F: Files, O: Sink>(
     alloc: Global,
     path: &'a str,
-    arguments: &[&str],
+    arguments: &'a [&'a str],
     files: &mut F,
     out: &mut O,
 ) -> Result<u8, Fault<'a>>
-    ensures known { IfOk result (λ status. status ≤ 5) }
-    ensures calm { OnOk result ((F.store files.new ≡ F.store files.old) × (O.failures out.new ≡ O.failures out.old)) }
-    ensures counted { IfErr result (λ fault. IsReadOrPrinted fault (F.store files.old) (F.store files.new)
-        (O.failures out.old) (O.failures out.new)) }
-    ensures said { IsTrue F.TELLS
-        → IfOk result (λ status. (text : List ℕ)
-        × SaysLeak (F.store files.old).contents path.now (map (λ word. word.now) arguments.now) status text) }
-    ensures written { IsTrue F.TELLS → IsTrue O.TELLS → IfOk result (λ status.
-        Writes (SaysLeak (F.store files.old).contents path.now (map (λ word. word.now) arguments.now) status)
-        (O.taken out.old) (O.taken out.new)) }
-    ensures refused { IsTrue F.TELLS
-        → IfErr result (RefusesLeak (F.store files.old).contents path.now (map (λ word. word.now) arguments.now)) }
-    ensures beginning { IsTrue F.TELLS → IsTrue O.TELLS → IfErr result (λ fault. IsOutputFault fault
-        → WritesPart
-        (λ text. (status : ℕ)
-        × SaysLeak (F.store files.old).contents path.now (map (λ word. word.now) arguments.now) status text)
-        (O.taken out.old) (O.taken out.new)) }
-    ensures untouched { IfErr result (λ fault. (IsOutputFault fault → ⊥) → out.new ≡ out.old) }
+    ensures does { IsTrue F.TELLS → IsTrue O.TELLS
+        → Does (Request.Leak path.entry arguments.entry) (F.store files.old) (F.store files.new)
+        (collected (O.taken out.old) (O.failures out.old)) (collected (O.taken out.new) (O.failures out.new)) result }
+    ensures ended { IsEnded result (F.store files.old).failures (F.store files.new).failures
+        (O.failures out.old) (O.failures out.new) }
 {
-    let image = image_of(alloc, path, files)?;
-    let params = params(alloc, &image)?;
-    let args = read_args(alloc, params.as_slice(), arguments)?;
+    let (image, _, args) = image_with_args(alloc, path, arguments, files)?;
     match leak(alloc, &image, &args, out) {
         Ok(stop) => Ok(status_of(stop)),
         Err(fault) => Err(leak_fault(fault)),
@@ -148,15 +166,13 @@ pub fn list_image<'a, F: Files>(
     alloc: Global,
     path: &'a str,
     files: &mut F,
-) -> Result<Vec<u8>, Fault<'a>>
-    ensures said { IsTrue F.TELLS → IfOk result (λ lines. SaysList (F.store files.old).contents path.now lines.items) }
-    ensures refused { IsTrue F.TELLS → IfErr result (NoImage (F.store files.old).contents path.now) }
-    ensures calm { OnOk result (F.store files.new ≡ F.store files.old) }
-    ensures counted { IfErr result (λ fault. IsReadBy fault (F.store files.old) (F.store files.new)) }
+) -> Result<Answer, Fault<'a>>
+    ensures finds { IsTrue F.TELLS → Finds (Request.List path.entry) (F.store files.old).contents result }
+    ensures read { IsRead result (F.store files.old) (F.store files.new) }
 {
     let image = image_of(alloc, path, files)?;
     let lines = list(alloc, &image)?;
-    Ok(lines)
+    Ok(Answer::of_bytes(lines))
 }
 
 /// Whether an observer sees the same of an image on two lists of arguments, as a line; where that is to be explained, the lines
@@ -164,11 +180,13 @@ pub fn list_image<'a, F: Files>(
 pub fn pair_image<'a, F: Files, E: Sink>(
     alloc: Global,
     path: &'a str,
-    arguments: &[&str],
+    arguments: &'a [&'a str],
     options: PairOptions,
     files: &mut F,
     err: &mut E,
-) -> Result<Vec<u8>, Fault<'a>>
+) -> Result<Answer, Fault<'a>>
+    ensures finds { IsTrue F.TELLS
+        → Finds (Request.Pair path.entry arguments.entry options) (F.store files.old).contents result }
     ensures told { IsTrue F.TELLS → IsTrue E.TELLS
         → OnOk result (FilePairTells HasLines options.progress (F.store files.old).contents path.now
         (map (λ word. word.now) arguments.now) (collected (E.taken err.old) (E.failures err.old))
@@ -177,20 +195,13 @@ pub fn pair_image<'a, F: Files, E: Sink>(
         ⊎ FilePairTells Reaches options.progress (F.store files.old).contents path.now
         (map (λ word. word.now) arguments.now) (collected (E.taken err.old) (E.failures err.old))
         (collected (E.taken err.new) (E.failures err.new))) }
-    ensures said { IsTrue F.TELLS
-        → IfOk result (λ text. SaysPair options.explain (F.store files.old).contents path.now
-        (map (λ word. word.now) arguments.now) text.items) }
-    ensures refused { IsTrue F.TELLS
-        → IfErr result (RefusesPair (F.store files.old).contents path.now (map (λ word. word.now) arguments.now)) }
-    ensures calm { OnOk result (F.store files.new ≡ F.store files.old) }
-    ensures counted { IfErr result (λ fault. IsReadBy fault (F.store files.old) (F.store files.new)) }
+    ensures read { IsRead result (F.store files.old) (F.store files.new) }
 {
-    let image = image_of(alloc, path, files)?;
-    let params = params(alloc, &image)?;
+    let (image, params) = image_with_params(alloc, path, files)?;
     let (first, second) = both_args(alloc, params.as_slice(), arguments)?;
     let pairing = pairing_of(alloc, &image, &first, &second, options.progress, err)?;
     let text = pairing_lines(alloc, &image, &first, &second, pairing, options.explain)?;
-    Ok(text)
+    Ok(Answer::of_bytes(text))
 }
 
 /// A comparison of an image's runs on these arguments as lines: its line, and why it differs, where that is to be explained.

@@ -4,6 +4,7 @@
 // output failed. The work is done by the calls of the libraries; the words are read by the module `command_line`.
 #![tactic(auto)]
 
+mod answer;
 mod certifying;
 pub mod command_line;
 mod evaluating;

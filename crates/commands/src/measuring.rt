@@ -1,13 +1,12 @@
 // What the source or the image of a file costs.
 
-ghost use Rattle.std.specs.Prelude.{◌≡◌, ◌+◌, ℕ, List, Some, take, IsTrue, IfOk, IfErr, OnOk};
-ghost use Rattle.std.specs.String.{string_bytes};
-ghost use Rattle.commands.specs.Contents.{Contents, Store};
-ghost use Rattle.commands.specs.Costs.{SaysCosts, RefusesCosts};
-ghost use Rattle.commands.specs.Failures.{IsReadBy};
-ghost use Rattle.commands.specs.Judged.{IsRefused, SaysStatistics};
-ghost use Rattle.commands.specs.Below.{longest_image};
+ghost use Rattle.std.specs.Prelude.{◌≡◌, ◌+◌, IsTrue};
+ghost use Rattle.commands.specs.Answered.{Finds, IsRead};
+ghost use Rattle.commands.specs.Below.{BeginsOtherwise, longest_image};
+ghost use Rattle.commands.specs.Contents.{Begins, Contents, Store};
 
+use crate::answer::Answer;
+use crate::command_line::Request;
 use crate::fault::Fault;
 use crate::files::Files;
 use crate::reading::bytes_of;
@@ -27,14 +26,10 @@ fn source_costs<'a>(
     file: &'a str,
     mut bytes: Vec<u8>,
     profile: Profile,
-) -> Result<String, Fault<'a>>
-    ensures said { (files : Contents) (whole : List ℕ) → files file.now ≡ Some whole
-        → bytes.items ≡ take (longest_image + 1) whole
-        → IfOk result (λ text. SaysStatistics profile files file.now (string_bytes text)) }
-    ensures refused { (files : Contents) (whole : List ℕ) → files file.now ≡ Some whole
-        → bytes.items ≡ take (longest_image + 1) whole
-        → IfErr result (IsRefused profile files file.now) }
-    ensures calm { (files : Store) → IfErr result (λ fault. IsReadBy fault files files) }
+) -> Result<Answer, Fault<'a>>
+    ensures finds { (files : Contents) → Begins files file.now (longest_image + 1) bytes.items
+        → BeginsOtherwise bytes.items → Finds (Request.Stat file.entry profile) files result }
+    ensures read { (files : Store) → IsRead result files files }
 {
     bytes.truncate(TEXT_LIMIT + 1);
     let text = match text_of(bytes) {
@@ -42,7 +37,7 @@ fn source_costs<'a>(
         Err(fault) => return Err(text_fault(file, fault)),
     };
     let lines = source_statistics(alloc, text.as_str(), profile)?;
-    Ok(lines)
+    Ok(Answer::of_text(lines))
 }
 
 /// What a file costs, as lines: the fields of its image, where it begins as an image does, and else its source, for an
@@ -52,16 +47,13 @@ pub fn measure_file<'a, F: Files>(
     file: &'a str,
     profile: Profile,
     files: &mut F,
-) -> Result<String, Fault<'a>>
-    ensures said { IsTrue F.TELLS
-        → IfOk result (λ text. SaysCosts profile (F.store files.old).contents file.now (string_bytes text)) }
-    ensures refused { IsTrue F.TELLS → IfErr result (RefusesCosts profile (F.store files.old).contents file.now) }
-    ensures calm { OnOk result (F.store files.new ≡ F.store files.old) }
-    ensures counted { IfErr result (λ fault. IsReadBy fault (F.store files.old) (F.store files.new)) }
+) -> Result<Answer, Fault<'a>>
+    ensures finds { IsTrue F.TELLS → Finds (Request.Stat file.entry profile) (F.store files.old).contents result }
+    ensures read { IsRead result (F.store files.old) (F.store files.new) }
 {
     let bytes = bytes_of(alloc, file, LONGEST_IMAGE + 1, files)?;
     match image_statistics(alloc, bytes.as_slice())? {
-        Some(lines) => Ok(lines),
+        Some(lines) => Ok(Answer::of_text(lines)),
         None => source_costs(alloc, file, bytes, profile),
     }
 }

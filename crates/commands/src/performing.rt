@@ -1,14 +1,15 @@
 // A request, done.
 
-ghost use Rattle.std.specs.Prelude.{◌≡◌, ◌≤◌, ◌++◌, ◌⊎◌, ℕ, map, IsTrue, IfOk, IfErr, OnOk, OnErr};
+ghost use Rattle.std.specs.Prelude.{◌≡◌, ◌≤◌, ◌⊎◌, ℕ, map, IsTrue, OnOk, OnErr};
+ghost use Rattle.commands.specs.Answered.{Does, Finds, IsEnded, IsRead, Prints};
 ghost use Rattle.commands.specs.Commanded.{Commands, Says};
-ghost use Rattle.commands.specs.Failures.{Counts};
+ghost use Rattle.commands.specs.Contents.{Contents, Store};
 ghost use Rattle.commands.specs.FaultText.{fault_status};
-ghost use Rattle.commands.specs.Leaks.{IsOutputFault};
 ghost use Rattle.commands.specs.Progress.{RequestTells};
-ghost use Rattle.commands.specs.Requests.{IsDone, Fails, Reports, Performs, Ends};
-ghost use Rattle.commands.specs.Below.{collected, HasLines, IsPutInPart, IsPutWhole, one_more, Reaches};
+ghost use Rattle.commands.specs.Requests.{Reports, Performs, Ends};
+ghost use Rattle.commands.specs.Below.{collected, HasLines, one_more, Reaches};
 
+use crate::answer::{Answer, DONE};
 use crate::certifying::certify_image;
 use crate::command_line::{NoRequest, Request, parse};
 use crate::evaluating::evaluate_text;
@@ -19,9 +20,10 @@ use crate::function_files::write_function;
 use crate::images::{leak_image, list_image, pair_image, run_image};
 use crate::measuring::measure_file;
 use crate::picturing::picture_image;
-use crate::side_by_side::{run_side_by_side, whole_text};
+use crate::side_by_side::run_file;
 use crate::texts::{build_image, check_text};
 use crate::trying::try_file;
+use explanations::Explanation;
 use input_files::wrapping::Asked;
 use language::Refusal;
 use std::alloc::Global;
@@ -29,14 +31,6 @@ use streams::{Sink, put_all};
 
 /// The path that stands for standard output.
 pub const STANDARD_OUTPUT: &str = "-";
-
-/// The exit status of what is done, that of a run that may show a secret, and that of a run that stops otherwise than
-/// by ECALL.
-pub const DONE: u8 = 0;
-
-pub const MAY_DIFFER: u8 = 1;
-
-pub const STOPPED: u8 = 5;
 
 const OUT_OF_MEMORY: &str = "refused: M1: memory\n";
 
@@ -126,7 +120,7 @@ fn explain<O: Sink, E: Sink>(alloc: Global, said: NoRequest, out: &mut O, err: &
             let _ = put_all(err, text.as_bytes());
             2
         }
-        NoRequest::Help(text) => match print(out, text.as_bytes(), DONE) {
+        NoRequest::Help(text) => match print(out, Ok(Answer::of_text(text))) {
             Ok(status) => status,
             Err(fault) => report(alloc, &fault, err),
         },
@@ -143,33 +137,24 @@ fn answer<'a, F: Files, O: Sink, E: Sink>(
     out: &mut O,
     err: &mut E,
 ) -> Result<u8, Fault<'a>>
-    ensures done { IsTrue F.TELLS → IsTrue O.TELLS
-        → IfOk result (IsDone request.entry (F.store files.old) (F.store files.new)
-        (collected (O.taken out.old) (O.failures out.old)) (collected (O.taken out.new) (O.failures out.new))) }
-    ensures failed { IsTrue F.TELLS → IsTrue O.TELLS
-        → IfErr result (Fails request.entry (F.store files.old) (F.store files.new)
-        (collected (O.taken out.old) (O.failures out.old)) (collected (O.taken out.new) (O.failures out.new))) }
+    ensures does { IsTrue F.TELLS → IsTrue O.TELLS
+        → Does request.entry (F.store files.old) (F.store files.new)
+        (collected (O.taken out.old) (O.failures out.old)) (collected (O.taken out.new) (O.failures out.new)) result }
     ensures told { IsTrue F.TELLS → IsTrue E.TELLS
         → OnOk result (RequestTells HasLines request.entry (F.store files.old).contents
         (collected (E.taken err.old) (E.failures err.old)) (collected (E.taken err.new) (E.failures err.new))) }
     ensures part { IsTrue F.TELLS → IsTrue E.TELLS → OnErr result ((err.new ≡ err.old)
         ⊎ RequestTells Reaches request.entry (F.store files.old).contents
         (collected (E.taken err.old) (E.failures err.old)) (collected (E.taken err.new) (E.failures err.new))) }
-    ensures known { IfOk result (λ status. status ≤ 5) }
-    ensures calm { OnOk result (((F.store files.new).failures ≡ (F.store files.old).failures)
-        × (O.failures out.new ≡ O.failures out.old)) }
-    ensures counted { IfErr result (Counts (F.store files.old).failures (F.store files.new).failures
-        (O.failures out.old) (O.failures out.new)) }
+    ensures ended { IsEnded result (F.store files.old).failures (F.store files.new).failures
+        (O.failures out.old) (O.failures out.new) }
 {
     match request {
         Request::Check {
             file,
             profile,
             explain,
-        } => {
-            check_text(alloc, file, profile, explain, files)?;
-            print(out, b"accepted\n", DONE)
-        }
+        } => print(out, check_text(alloc, file, profile, explain, files)),
         Request::Build {
             file,
             image,
@@ -178,10 +163,7 @@ fn answer<'a, F: Files, O: Sink, E: Sink>(
             build_image(alloc, file, image, options, files)?;
             Ok(DONE)
         }
-        Request::Stat { file, profile } => {
-            let text = measure_file(alloc, file, profile, files)?;
-            print(out, text.as_bytes(), DONE)
-        }
+        Request::Stat { file, profile } => print(out, measure_file(alloc, file, profile, files)),
         Request::Function {
             file,
             assembler,
@@ -195,46 +177,37 @@ fn answer<'a, F: Files, O: Sink, E: Sink>(
             file,
             arguments,
             explain,
-        } => {
-            let text = evaluate_text(alloc, file, arguments, explain, files)?;
-            print(out, text.as_bytes(), DONE)
-        }
+        } => print(out, evaluate_text(alloc, file, arguments, explain, files)),
         Request::Run {
             image,
             arguments,
             progress,
-        } => {
-            let text = run_image(alloc, image, arguments, progress, files, err)?;
-            print(out, text.as_bytes(), DONE)
-        }
+        } => print(
+            out,
+            run_image(alloc, image, arguments, progress, files, err),
+        ),
         Request::Leak { image, arguments } => leak_image(alloc, image, arguments, files, out),
         Request::Pair {
             image,
             arguments,
             options,
-        } => {
-            let text = pair_image(alloc, image, arguments, options, files, err)?;
-            print(out, text.as_slice(), DONE)
-        }
+        } => print(
+            out,
+            pair_image(alloc, image, arguments, options, files, err),
+        ),
         Request::Certify {
             image,
             arguments,
             shifts,
             progress,
-        } => {
-            let (text, status) = certify_image(
-                alloc, image, arguments, shifts, progress, files, err,
-            )?;
-            print(out, text.as_slice(), status)
-        }
+        } => print(
+            out,
+            certify_image(alloc, image, arguments, shifts, progress, files, err),
+        ),
         Request::Picture { image, arguments } => {
-            let page = picture_image(alloc, image, arguments, files)?;
-            print(out, page.as_slice(), DONE)
+            print(out, picture_image(alloc, image, arguments, files))
         }
-        Request::List { image } => {
-            let lines = list_image(alloc, image, files)?;
-            print(out, lines.as_slice(), DONE)
-        }
+        Request::List { image } => print(out, list_image(alloc, image, files)),
         Request::Wrap {
             file,
             code,
@@ -251,62 +224,33 @@ fn answer<'a, F: Files, O: Sink, E: Sink>(
             wrap_code(alloc, file, code, image, asked, files)?;
             Ok(DONE)
         }
-        Request::Harts { file } => answer_harts(alloc, file, files, text, out),
+        Request::Harts { file } => print(out, run_file(alloc, file, text, files)),
         Request::Vectors {
             file,
             vectors,
             profile,
-        } => {
-            let (text, status) = try_file(alloc, file, vectors, profile, files)?;
-            print(out, text.as_bytes(), status)
-        }
-        Request::Explain { explanation } => {
-            let lines = format!(in alloc; "{explanation}\n")?;
-            print(out, lines.as_bytes(), DONE)
-        }
+        } => print(out, try_file(alloc, file, vectors, profile, files)),
+        Request::Explain { explanation } => print(out, lines_of(alloc, explanation)),
     }
 }
 
-/// Runs the harts that a file says, prints what is seen of them and how each ended, and answers the exit status. The file is
-/// read into `text`.
-fn answer_harts<'a, F: Files, O: Sink>(
-    alloc: Global,
-    file: &'a str,
-    files: &mut F,
-    text: &'a mut String,
-    out: &mut O,
-) -> Result<u8, Fault<'a>>
-    ensures known { IfOk result (λ status. status ≤ 5) }
-    ensures calm { OnOk result ((F.store files.new ≡ F.store files.old) × (O.failures out.new ≡ O.failures out.old)) }
-    ensures counted { IfErr result (Counts (F.store files.old).failures (F.store files.new).failures
-        (O.failures out.old) (O.failures out.new)) }
-    ensures done { IsTrue F.TELLS → IsTrue O.TELLS
-        → IfOk result (IsDone (Request.Harts file.entry) (F.store files.old) (F.store files.new)
-        (collected (O.taken out.old) (O.failures out.old)) (collected (O.taken out.new) (O.failures out.new))) }
-    ensures failed { IsTrue F.TELLS → IsTrue O.TELLS
-        → IfErr result (Fails (Request.Harts file.entry) (F.store files.old) (F.store files.new)
-        (collected (O.taken out.old) (O.failures out.old)) (collected (O.taken out.new) (O.failures out.new))) }
+/// The lines of an explanation.
+fn lines_of<'a>(alloc: Global, explanation: Explanation) -> Result<Answer, Fault<'a>>
+    ensures finds { (files : Contents) → Finds (Request.Explain explanation) files result }
+    ensures read { (files : Store) → IsRead result files files }
 {
-    *text = whole_text(alloc, file, files)?;
-    let (lines, status) = run_side_by_side(alloc, text.as_str(), files)?;
-    print(out, lines.as_slice(), status)
+    let lines = format!(in alloc; "{explanation}\n")?;
+    Ok(Answer::of_text(lines))
 }
 
-/// Prints bytes to standard output, and answers this exit status.
-fn print<'a, O: Sink>(out: &mut O, bytes: &[u8], status: u8) -> Result<u8, Fault<'a>>
-    ensures answer { IfOk result (λ given. given ≡ status) }
-    ensures whole { IsTrue O.TELLS
-        → OnOk result (IsPutWhole bytes.now (collected (O.taken out.old) (O.failures out.old))
-        (collected (O.taken out.new) (O.failures out.new))) }
-    ensures calm { OnOk result (O.failures out.new ≡ O.failures out.old) }
-    ensures beginning { IsTrue O.TELLS
-        → OnErr result (IsPutInPart bytes.now (collected (O.taken out.old) (O.failures out.old))
-        (collected (O.taken out.new) (O.failures out.new))) }
-    ensures counts { OnErr result (O.failures out.new ≡ one_more (O.failures out.old)) }
-    ensures fault { IfErr result IsOutputFault }
+/// Prints an answer to standard output, where there is one, and answers its exit status.
+fn print<'a, O: Sink>(out: &mut O, given: Result<Answer, Fault<'a>>) -> Result<u8, Fault<'a>>
+    ensures { Prints (IsTrue O.TELLS) (O.taken out.old) (O.taken out.new) (O.failures out.old) (O.failures out.new)
+        given.entry result }
 {
-    match put_all(out, bytes) {
-        Ok(()) => Ok(status),
+    let answer = given?;
+    match put_all(out, answer.text.as_slice()) {
+        Ok(()) => Ok(answer.status),
         Err(_) => Err(Fault::File(FileFault::CannotWrite(STANDARD_OUTPUT))),
     }
 }

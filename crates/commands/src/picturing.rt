@@ -1,15 +1,17 @@
 // The picture of an image's runs.
 
-ghost use Rattle.std.specs.Prelude.{◌≡◌, map, IsTrue, IfOk, IfErr, OnOk};
+ghost use Rattle.std.specs.Prelude.{◌≡◌, map, IsTrue, IfOk, IfErr};
+ghost use Rattle.commands.specs.Answered.{Finds, IsRead};
 ghost use Rattle.commands.specs.Below.{IsImage, params_of};
-ghost use Rattle.commands.specs.Failures.{IsReadBy};
-ghost use Rattle.commands.specs.Pictures.{PicturesOne, PicturesTwo, PicturesImage, RefusesOne, RefusesTwo, RefusesLists, SaysPicture, RefusesPicture};
+ghost use Rattle.commands.specs.Pictures.{PicturesOne, PicturesTwo, PicturesImage, RefusesOne, RefusesTwo, RefusesLists};
 
+use crate::answer::Answer;
 use crate::certifying::text_of;
+use crate::command_line::Request;
 use crate::fault::Fault;
 use crate::files::Files;
-use crate::images::{both_args, image_of, pairing_line};
-use hepurita::{RunFault, pair, params};
+use crate::images::{both_args, image_with_params, pairing_line};
+use hepurita::{RunFault, pair};
 use image::Image;
 use image_reports::certificates::{Shifts, certify, read_given};
 use image_reports::image_pictures::{picture_of_given, picture_of_pair};
@@ -28,21 +30,16 @@ const BEFORE_PAIRING: &[u8] = b"Two runs, one over the other. pair says:\n";
 pub fn picture_image<'a, F: Files>(
     alloc: Global,
     path: &'a str,
-    arguments: &[&str],
+    arguments: &'a [&'a str],
     files: &mut F,
-) -> Result<Vec<u8>, Fault<'a>>
-    ensures said { IsTrue F.TELLS
-        → IfOk result (λ page. SaysPicture (F.store files.old).contents path.now
-        (map (λ word. word.now) arguments.now) page.items) }
-    ensures refused { IsTrue F.TELLS
-        → IfErr result (RefusesPicture (F.store files.old).contents path.now (map (λ word. word.now) arguments.now)) }
-    ensures calm { OnOk result (F.store files.new ≡ F.store files.old) }
-    ensures counted { IfErr result (λ fault. IsReadBy fault (F.store files.old) (F.store files.new)) }
+) -> Result<Answer, Fault<'a>>
+    ensures finds { IsTrue F.TELLS
+        → Finds (Request.Picture path.entry arguments.entry) (F.store files.old).contents result }
+    ensures read { IsRead result (F.store files.old) (F.store files.new) }
 {
-    let image = image_of(alloc, path, files)?;
-    let params = params(alloc, &image)?;
+    let (image, params) = image_with_params(alloc, path, files)?;
     let page = picture_of_lists(alloc, &image, params.as_slice(), arguments)?;
-    Ok(page)
+    Ok(Answer::of_bytes(page))
 }
 
 /// The page of one list of arguments, or of two.

@@ -3,6 +3,7 @@
 ghost use Rattle.std.specs.Prelude.{◌≡◌, ◌≤◌, ◌++◌, Some, length, map, vec_len, IsTrue, IfOk, IfErr, OnOk};
 ghost use Rattle.std.specs.List.{AllZip};
 ghost use Rattle.std.specs.String.{string_bytes};
+ghost use Rattle.commands.specs.Answered.{Finds, IsRead};
 ghost use Rattle.commands.specs.Below.{hart_of, job_of, most_images, params_of};
 ghost use Rattle.commands.specs.Failures.{IsReadBy};
 ghost use Rattle.commands.specs.FileTexts.{NoWholeText};
@@ -10,14 +11,14 @@ ghost use Rattle.commands.specs.Harts.{IsJobOf, SaysPlan, RefusesJobs, RefusesPl
 ghost use Rattle.commands.specs.HartsText.{behind, turns_text, ended_line, ended_text, ends_text, harts_text, is_well, status_of_ends};
 ghost use Rattle.commands.specs.OutcomeText.{outcome_text};
 
+use crate::answer::{Answer, DONE, STOPPED};
+use crate::command_line::Request;
 use crate::fault::{Fault, FileFault};
 use crate::files::Files;
-use crate::images::image_of;
+use crate::images::image_with_args;
 use crate::outcome;
-use crate::performing::{DONE, STOPPED};
 use crate::reading::bytes_of;
 use harts::{HartEnd, run_harts};
-use hepurita::read_args;
 use image::Image;
 use input_files::harts_file::{Job, read};
 use language::{Args, Outcome};
@@ -44,20 +45,33 @@ pub fn whole_text<'a, F: Files>(
     }
 }
 
+/// Runs the harts that a file says: what an observer sees of them and how each ended, as lines, and the exit status. The file
+/// is read into `text`.
+pub fn run_file<'a, F: Files>(
+    alloc: Global,
+    file: &'a str,
+    text: &'a mut String,
+    files: &mut F,
+) -> Result<Answer, Fault<'a>>
+    ensures finds { IsTrue F.TELLS → Finds (Request.Harts file.entry) (F.store files.old).contents result }
+    ensures read { IsRead result (F.store files.old) (F.store files.new) }
+{
+    *text = whole_text(alloc, file, files)?;
+    run_side_by_side(alloc, text.as_str(), files)
+}
+
 /// Runs the harts of a file with this text: what an observer sees of each turn and how each hart ended, as lines, and the
 /// exit status. They are refused by the first faulty line, by the first hart whose image or arguments are faulty, or by
 /// what `run_harts` refuses.
-pub fn run_side_by_side<'a, F: Files>(
+fn run_side_by_side<'a, F: Files>(
     alloc: Global,
     text: &'a str,
     files: &mut F,
-) -> Result<(Vec<u8>, u8), Fault<'a>>
+) -> Result<Answer, Fault<'a>>
     ensures said { IsTrue F.TELLS
-        → IfOk result (λ said. SaysPlan (F.store files.old).contents text.now said.0.items said.1) }
+        → IfOk result (λ said. SaysPlan (F.store files.old).contents text.now said.text.items said.status) }
     ensures refused { IsTrue F.TELLS → IfErr result (RefusesPlan (F.store files.old).contents text.now) }
-    ensures known { IfOk result (λ said. said.1 ≤ 5) }
-    ensures calm { OnOk result (F.store files.new ≡ F.store files.old) }
-    ensures counted { IfErr result (λ fault. IsReadBy fault (F.store files.old) (F.store files.new)) }
+    ensures read { IsRead result (F.store files.old) (F.store files.new) }
 {
     let plan = read(alloc, text)?;
     let jobs = load_jobs(alloc, plan.jobs.as_slice(), files)?;
@@ -68,8 +82,9 @@ pub fn run_side_by_side<'a, F: Files>(
         plan.schedule.as_slice(),
         &mut recorder,
     )?;
-    let lines = list_harts(alloc, jobs.as_slice(), recorder.list(), ends.as_slice())?;
-    Ok((lines, status_of(ends.as_slice())))
+    let text = list_harts(alloc, jobs.as_slice(), recorder.list(), ends.as_slice())?;
+    let status = status_of(ends.as_slice());
+    Ok(Answer { text, status })
 }
 
 /// The images of harts and their arguments, hart by hart, or the fault of the first hart that has one.
@@ -83,14 +98,11 @@ fn load_jobs<'a, F: Files>(
         → IfOk result (λ loaded. AllZip (IsJobOf (F.store files.old).contents) (map hart_of jobs.now)
         (map job_of loaded.items)) }
     ensures refused { IsTrue F.TELLS → IfErr result (RefusesJobs (F.store files.old).contents (map hart_of jobs.now)) }
-    ensures calm { OnOk result (F.store files.new ≡ F.store files.old) }
-    ensures counted { IfErr result (λ fault. IsReadBy fault (F.store files.old) (F.store files.new)) }
+    ensures read { IsRead result (F.store files.old) (F.store files.new) }
 {
     let mut loaded = Vec::new(alloc);
     for job in jobs {
-        let image = image_of(alloc, job.path, files)?;
-        let params = hepurita::params(alloc, &image)?;
-        let args = read_args(alloc, params.as_slice(), job.arguments.as_slice())?;
+        let (image, _, args) = image_with_args(alloc, job.path, job.arguments.as_slice(), files)?;
         loaded.push((image, args))?;
     }
     Ok(loaded)

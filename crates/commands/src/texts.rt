@@ -2,15 +2,17 @@
 
 ghost use Rattle.std.specs.Prelude.{◌≡◌, ◌≢◌, ℕ, List, Some, IsTrue, IfOk, IfErr, OnOk, OnErr};
 ghost use Rattle.std.specs.String.{string_bytes};
+ghost use Rattle.commands.specs.Answered.{Finds, IsRead};
 ghost use Rattle.commands.specs.Contents.{Contents, Store, failed, IsWritten, IsCutOff};
 ghost use Rattle.commands.specs.Failures.{IsReadBy, failures_by};
 ghost use Rattle.commands.specs.FileTexts.{HoldsText, NoText};
-ghost use Rattle.commands.specs.Judged.{Tells, IsAccepted, IsRefusedSo, IsImageOf};
+ghost use Rattle.commands.specs.Judged.{Tells, IsRefusedSo, IsImageOf};
 ghost use Rattle.commands.specs.Written.{IsWriteFault, WritesFile, FailsToWrite};
 ghost use Rattle.input_files.specs.stream_build.Faults as texts;
 ghost use Rattle.commands.specs.Below.{one_more};
 
-use crate::command_line::CompileOptions;
+use crate::answer::Answer;
+use crate::command_line::{CompileOptions, Request};
 use crate::fault::{Fault, FileFault};
 use crate::files::Files;
 use explanations::explained_refusals::explain_refusal;
@@ -100,16 +102,17 @@ pub fn check_text<'a, F: Files>(
     profile: Profile,
     explain: bool,
     files: &mut F,
-) -> Result<(), Fault<'a>>
-    ensures said { IsTrue F.TELLS → OnOk result (IsAccepted profile (F.store files.old).contents file.now) }
-    ensures refused { IsTrue F.TELLS
-        → IfErr result (IsRefusedSo explain profile (F.store files.old).contents file.now) }
-    ensures calm { OnOk result (F.store files.new ≡ F.store files.old) }
-    ensures counted { IfErr result (λ fault. IsReadBy fault (F.store files.old) (F.store files.new)) }
+) -> Result<Answer, Fault<'a>>
+    ensures finds { IsTrue F.TELLS
+        → Finds (Request.Check file.entry profile explain) (F.store files.old).contents result }
+    ensures read { IsRead result (F.store files.old) (F.store files.new) }
 {
     let text = text_of_file(alloc, file, files)?;
     match judge_as(alloc, text.as_str(), profile) {
-        Ok(_accepted) => Ok(()),
+        Ok(_accepted) => {
+            let line = String::from_str(alloc, "accepted\n")?;
+            Ok(Answer::of_text(line))
+        }
         Err(refusal) => Err(refused(alloc, text.as_str(), refusal, explain)),
     }
 }

@@ -1,13 +1,13 @@
 // What is done with vectors: those of one file are tried on the source of another.
 
-ghost use Rattle.std.specs.Prelude.{◌≡◌, ◌≤◌, IsTrue, IfOk, IfErr, OnOk};
-ghost use Rattle.std.specs.String.{string_bytes};
-ghost use Rattle.commands.specs.Failures.{IsReadBy};
-ghost use Rattle.commands.specs.Vectors.{status_of_failures, SaysVectors, RefusesVectors};
+ghost use Rattle.std.specs.Prelude.{◌≡◌, ◌≤◌, IsTrue};
+ghost use Rattle.commands.specs.Answered.{Finds, IsRead};
+ghost use Rattle.commands.specs.Vectors.{status_of_failures};
 
+use crate::answer::{Answer, DONE};
+use crate::command_line::Request;
 use crate::fault::Fault;
 use crate::files::Files;
-use crate::performing::DONE;
 use crate::side_by_side::whole_text;
 use crate::texts::text_of_file;
 use image_reports::vectors::{read, try_vectors};
@@ -33,20 +33,16 @@ pub fn try_file<'a, F: Files>(
     list: &'a str,
     profile: Profile,
     files: &mut F,
-) -> Result<(String, u8), Fault<'a>>
-    ensures known { IfOk result (λ said. said.1 ≤ 5) }
-    ensures said { IsTrue F.TELLS
-        → IfOk result (λ said. SaysVectors profile (F.store files.old).contents file.now list.now
-        (string_bytes said.0) said.1) }
-    ensures refused { IsTrue F.TELLS
-        → IfErr result (RefusesVectors profile (F.store files.old).contents file.now list.now) }
-    ensures calm { OnOk result (F.store files.new ≡ F.store files.old) }
-    ensures counted { IfErr result (λ fault. IsReadBy fault (F.store files.old) (F.store files.new)) }
+) -> Result<Answer, Fault<'a>>
+    ensures finds { IsTrue F.TELLS
+        → Finds (Request.Vectors file.entry list.entry profile) (F.store files.old).contents result }
+    ensures read { IsRead result (F.store files.old) (F.store files.new) }
 {
     let source = text_of_file(alloc, file, files)?;
     let lines = whole_text(alloc, list, files)?;
     let vectors = read(alloc, lines.as_str())?;
     let report = try_vectors(alloc, source.as_str(), profile, vectors.as_slice())?;
     let status = status_of(report.failures);
-    Ok((report.text, status))
+    let text = report.text.into_bytes();
+    Ok(Answer { text, status })
 }

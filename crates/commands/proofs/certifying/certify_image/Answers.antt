@@ -1,4 +1,5 @@
 use Rattle.std.proofs.Common.{◌≡◌, ℕ, Bool, List, Option, Ok, Err, map, inr, refl, ◌∙◌, subst}
+use Rattle.commands.specs.Answered.{answered}
 use Rattle.commands.specs.Below.{Arg, Certified, Collected, Counting, fault_of_given_texts, Fields, HasLines, Param}
 use Rattle.commands.specs.Below.{params_of, Shifts}
 use Rattle.commands.specs.Certificates.{shifts_seen}
@@ -7,72 +8,73 @@ use Rattle.commands.specs.Images.{HoldsImage}
 use Rattle.commands.specs.Progress.{CertificateGoesOn, Tells, FileCertificateTells}
 use Rattle.commands.specs.ImageRefusals.{no_image, no_arguments, no_answer, out_of_memory}
 use Rattle.commands.specs.Words.{IsFaultOfWords, AreGiven}
-use Rattle.commands.proofs.Counting.{memory_calm}
+use Rattle.commands.proofs.AnswerLemmas.{finds_fault, finds_turned, read_fault, read_memory}
 use Rattle.commands.proofs.CertificateLemmas.{stands_in_code}
-use Rattle.language.proofs.Handed.{handed_on, turned_on}
 use Rattle.commands.proofs.ProgressLemmas.{on_err, file_certificate_tells, certificate_reaches}
 use Rattle.commands.proofs.WordLemmas.{fault_of_words, given_from}
 use Rattle.commands.proofs.certifying.certify_image.Goals as goal
 
-pub returns-in_err-image-clause-refused : goal.returns-in_err-image-clause-refused
-returns-in_err-image-clause-refused g c = λ tells.
-    handed_on _ _ c.from_residual.ensures.1 (no_image (c.in_err-image.ensures.refused tells))
+pub returns-in_err-image-clause-finds : goal.returns-in_err-image-clause-finds
+returns-in_err-image-clause-finds g c = λ tells.
+    finds_fault _ _ c.from_residual.ensures.1 (no_image (c.in_err-image.ensures.refused tells), refl)
 
-pub returns-in_err-params-clause-refused : goal.returns-in_err-params-clause-refused
-returns-in_err-params-clause-refused g c = λ tells.
-    turned_on _ c.from_residual-in_err-params.ensures.1 (λ e memory. out_of_memory memory)
-
-pub returns-in_err-given-clause-refused : goal.returns-in_err-given-clause-refused
-returns-in_err-given-clause-refused g c = λ tells.
+pub returns-in_err-given-clause-finds : goal.returns-in_err-given-clause-finds
+returns-in_err-given-clause-finds g c = λ tells.
     let words = map (λ word. word.now) c.args.arguments.now in
     let why = c.in_err-given.field-0.0 in
-    handed_on _ _ c.from_residual-in_err-given.ensures.1 (no_arguments (c.in_ok-image.ensures.said tells)
-    (subst (λ (params : List Param). IsFaultOfWords (fault_of_given_texts params words) why) (c.as_slice.ensures.value
-    ∙ c.in_ok-params.ensures.params)
-    (fault_of_words _ why (Err why) refl c.in_err-given.ensures.fault c.in_err-given.ensures.unstopped)))
+    finds_fault _ _ c.from_residual-in_err-given.ensures.1 (
+      no_arguments (c.in_ok-image.ensures.said tells)
+          (subst (λ (params : List Param). IsFaultOfWords (fault_of_given_texts params words) why) (c.as_slice.ensures.value
+          ∙ c.in_ok-image.ensures.params)
+          (fault_of_words _ why (Err why) refl c.in_err-given.ensures.fault c.in_err-given.ensures.unstopped)),
+      refl,
+    )
 
-pub returns-in_err-certificate-clause-refused : goal.returns-in_err-certificate-clause-refused
-returns-in_err-certificate-clause-refused g c = λ tells.
+pub returns-in_err-certificate-clause-finds : goal.returns-in_err-certificate-clause-finds
+returns-in_err-certificate-clause-finds g c = λ tells.
     let words = map (λ word. word.now) c.args.arguments.now in
     let image = c.in_ok-image.image in
     let why = c.in_err-certificate.field-0.0 in
-    turned_on _ c.from_residual-in_err-certificate.ensures.1 (λ e memory. no_answer (c.in_ok-image.ensures.said tells) (
-      c.in_ok-given.given.items,
-      why,
-      given_from _ _ (c.as_slice.ensures.value ∙ c.in_ok-params.ensures.params) c.in_ok-given.ensures.faultless
-          c.in_ok-given.ensures.found,
-      subst (λ (s : Shifts). Certified image c.in_ok-given.given.items s (Err why)) c.shifts_seen.ensures
-          (subst (λ (xs : List (Option Arg)). Certified image xs c.shifts_seen.result (Err why))
-          c.as_slice-2.ensures.value c.in_err-certificate.ensures.certified),
-      memory,
+    finds_turned _ c.from_residual-in_err-certificate.ensures.1 (λ e is. (
+      no_answer (c.in_ok-image.ensures.said tells) (
+        c.in_ok-given.given.items,
+        why,
+        given_from _ _ (c.as_slice.ensures.value ∙ c.in_ok-image.ensures.params) c.in_ok-given.ensures.faultless
+            c.in_ok-given.ensures.found,
+        subst (λ (s : Shifts). Certified image c.in_ok-given.given.items s (Err why)) c.shifts_seen.ensures
+            (subst (λ (xs : List (Option Arg)). Certified image xs c.shifts_seen.result (Err why))
+            c.as_slice-2.ensures.value c.in_err-certificate.ensures.certified),
+        is,
+      ),
+      refl,
     ))
 
 pub text_of-requires : goal.text_of-requires
 text_of-requires g c = stands_in_code c.in_ok-image.image c.as_slice-2.result.now c.shifts_seen.result
     c.in_ok-certificate.certificate c.in_ok-certificate.ensures.certified
 
-pub returns-in_err-text-clause-refused : goal.returns-in_err-text-clause-refused
-returns-in_err-text-clause-refused g c = λ tells.
-    turned_on _ c.from_residual-in_err-text.ensures.1 (λ e memory. out_of_memory memory)
+pub returns-in_err-text-clause-finds : goal.returns-in_err-text-clause-finds
+returns-in_err-text-clause-finds g c = λ tells.
+    finds_turned _ c.from_residual-in_err-text.ensures.1 (λ e memory. (out_of_memory memory, refl))
 
-pub returns-clause-said : goal.returns-clause-said
-returns-clause-said g c = λ tells.
+pub returns-clause-finds : goal.returns-clause-finds
+returns-clause-finds g c = λ tells.
     let image = c.in_ok-image.image in
     let certificate = c.in_ok-certificate.certificate in
-    record {
+    answered (record {
       image = image;
       given = c.in_ok-given.given.items;
       certificate = certificate;
       held = c.in_ok-image.ensures.said tells;
       as_said = given_from _ _ (c.as_slice.ensures.value
-          ∙ c.in_ok-params.ensures.params) c.in_ok-given.ensures.faultless c.in_ok-given.ensures.found;
+          ∙ c.in_ok-image.ensures.params) c.in_ok-given.ensures.faultless c.in_ok-given.ensures.found;
       certified = subst (λ (s : Shifts). Certified image c.in_ok-given.given.items s (Ok certificate))
           c.shifts_seen.ensures
           (subst (λ (xs : List (Option Arg)). Certified image xs c.shifts_seen.result (Ok certificate))
           c.as_slice-2.ensures.value c.in_ok-certificate.ensures.certified);
       printed = c.in_ok-text.ensures;
-      ended = c.status_of_certificate.ensures.exact;
-    }
+      ended = c.status_of_certificate-status.ensures.exact;
+    }) refl
 
 -- what went out of the certified run, as of what the words give
 went_out : (Has : Counting) (before after : Collected) {files : Contents} {path : List ℕ} {words : List (List ℕ)}
@@ -92,33 +94,29 @@ pub returns-in_err-text-clause-part : goal.returns-in_err-text-clause-part
 returns-in_err-text-clause-part g c = λ tells both.
     on_err _ (inr (certificate_reaches _ _ _ _ _ c.args.progress c.args.shifts
     (went_out HasLines _ _ c.args.progress c.args.shifts (c.in_ok-image.ensures.said tells)
-    (given_from _ _ (c.as_slice.ensures.value ∙ c.in_ok-params.ensures.params) c.in_ok-given.ensures.faultless
+    (given_from _ _ (c.as_slice.ensures.value ∙ c.in_ok-image.ensures.params) c.in_ok-given.ensures.faultless
     c.in_ok-given.ensures.found) c.as_slice-2.ensures.value
     c.shifts_seen.ensures (c.in_ok-certificate.ensures.told both))))
 
 pub returns-clause-told : goal.returns-clause-told
 returns-clause-told g c = λ tells both.
     went_out HasLines _ _ c.args.progress c.args.shifts (c.in_ok-image.ensures.said tells)
-    (given_from _ _ (c.as_slice.ensures.value ∙ c.in_ok-params.ensures.params) c.in_ok-given.ensures.faultless
+    (given_from _ _ (c.as_slice.ensures.value ∙ c.in_ok-image.ensures.params) c.in_ok-given.ensures.faultless
     c.in_ok-given.ensures.found) c.as_slice-2.ensures.value
     c.shifts_seen.ensures (c.in_ok-certificate.ensures.told both)
 
-pub returns-in_err-image-clause-counted : goal.returns-in_err-image-clause-counted
-returns-in_err-image-clause-counted g c =
-    handed_on _ _ c.from_residual.ensures.1 c.in_err-image.ensures.counted
+pub returns-in_err-image-clause-read : goal.returns-in_err-image-clause-read
+returns-in_err-image-clause-read g c = read_fault _ _ _ _ c.from_residual.ensures.1 c.in_err-image.ensures.read
 
-pub returns-in_err-params-clause-counted : goal.returns-in_err-params-clause-counted
-returns-in_err-params-clause-counted g c =
-    turned_on _ c.from_residual-in_err-params.ensures.1 (λ e memory. memory_calm e memory c.in_ok-image.ensures.calm)
+pub returns-in_err-given-clause-read : goal.returns-in_err-given-clause-read
+returns-in_err-given-clause-read g c = read_fault _ _ _ _ c.from_residual-in_err-given.ensures.1 c.in_ok-image.ensures.read
 
-pub returns-in_err-given-clause-counted : goal.returns-in_err-given-clause-counted
-returns-in_err-given-clause-counted g c =
-    handed_on _ _ c.from_residual-in_err-given.ensures.1 c.in_ok-image.ensures.calm
+pub returns-in_err-certificate-clause-read : goal.returns-in_err-certificate-clause-read
+returns-in_err-certificate-clause-read g c =
+    read_fault _ _ _ _ c.from_residual-in_err-certificate.ensures.1 c.in_ok-image.ensures.read
 
-pub returns-in_err-certificate-clause-counted : goal.returns-in_err-certificate-clause-counted
-returns-in_err-certificate-clause-counted g c =
-    handed_on _ _ c.from_residual-in_err-certificate.ensures.1 c.in_ok-image.ensures.calm
+pub returns-in_err-text-clause-read : goal.returns-in_err-text-clause-read
+returns-in_err-text-clause-read g c = read_memory _ c.from_residual-in_err-text.ensures.1 c.in_ok-image.ensures.read
 
-pub returns-in_err-text-clause-counted : goal.returns-in_err-text-clause-counted
-returns-in_err-text-clause-counted g c =
-    turned_on _ c.from_residual-in_err-text.ensures.1 (λ e memory. memory_calm e memory c.in_ok-image.ensures.calm)
+pub returns-clause-read : goal.returns-clause-read
+returns-clause-read g c = c.in_ok-image.ensures.read

@@ -1,28 +1,32 @@
 use Rattle.std.proofs.Common.{List, map, Err, refl, ap, ◌∙◌, subst, arith}
 use Rattle.std.specs.String.{string_bytes}
+use Rattle.commands.specs.Answered.{not_answered}
 use Rattle.commands.specs.Below.{answer, fault_of_texts, Means, P1, Param, program_tree, Results}
 use Rattle.commands.specs.Meanings.{evaluation_budget, no_text, not_accepted, no_arguments, out_of_memory}
 use Rattle.commands.specs.OutcomeText.{outcome_text}
 use Rattle.commands.specs.Words.{IsFaultOfWords}
 use Rattle.commands.specs.declared.fault.Fault.TheVariants.{Eval}
-use Rattle.language.proofs.Handed.{handed_on, turned_on}
-use Rattle.commands.proofs.Counting.{memory_calm, told_calm}
+use Rattle.commands.proofs.AnswerLemmas.{finds_answer, finds_fault, finds_turned, read_fault, read_memory}
+use Rattle.commands.proofs.Counting.{told_calm}
 use Rattle.commands.proofs.MeaningLemmas.{program_held, only_memory, same_outcome, answered}
 use Rattle.commands.proofs.WordLemmas.{fault_of_words, spelled_from}
 use Rattle.commands.proofs.evaluating.evaluate_text.Goals as goal
 
-pub returns-in_err-text-clause-refused : goal.returns-in_err-text-clause-refused
-returns-in_err-text-clause-refused g c = λ tells.
-    handed_on _ _ c.from_residual.ensures.1 (no_text (c.in_err-text.ensures.refused tells))
+pub returns-in_err-text-clause-finds : goal.returns-in_err-text-clause-finds
+returns-in_err-text-clause-finds g c = λ tells.
+    finds_fault _ _ c.from_residual.ensures.1 (no_text (c.in_err-text.ensures.refused tells), refl)
 
-pub returns-in-Err-clause-refused : goal.returns-in-Err-clause-refused
-returns-in-Err-clause-refused g c = λ tells.
+pub returns-in-Err-clause-finds : goal.returns-in-Err-clause-finds
+returns-in-Err-clause-finds g c = λ tells.
     let held = c.in_ok-text.ensures.said tells in
-    not_accepted c.in-Err.refusal held.held held.is_text (rw c.as_str.ensures.value at c.in-Err.ensures.refused)
-    (rw c.as_str-in-Err.ensures.value at c.refused.ensures)
+    not_answered (
+      not_accepted c.in-Err.refusal held.held held.is_text
+          (rw c.as_str.ensures.value at c.in-Err.ensures.refused) (rw c.as_str-in-Err.ensures.value at c.refused.ensures),
+      refl,
+    )
 
-pub returns-in_err-args-clause-refused : goal.returns-in_err-args-clause-refused
-returns-in_err-args-clause-refused g c = λ tells.
+pub returns-in_err-args-clause-finds : goal.returns-in_err-args-clause-finds
+returns-in_err-args-clause-finds g c = λ tells.
     let files = (g.F.Files.store c.args.files.now).contents in
     let words = map (λ word. word.now) c.args.arguments.now in
     let why = c.in_err-args.field-0.0 in
@@ -30,29 +34,35 @@ returns-in_err-args-clause-refused g c = λ tells.
     let held = program_held files c.args.file.now (string_bytes c.in_ok-text.text) c.as_str.result.now
     (program_tree c.in-Ok.accepted.program) ok.0 ok.1 (c.in_ok-text.ensures.said tells)
     c.as_str.ensures.value ok.2 in
-    handed_on _ _ c.from_residual-in_err-args.ensures.1 (no_arguments held
-    (subst (λ (params : List Param). IsFaultOfWords (fault_of_texts params words) why)
-    (c.as_slice-params.ensures.value ∙ ok.3)
-    (fault_of_words _ why (Err why) refl c.in_err-args.ensures.fault c.in_err-args.ensures.unstopped)))
+    finds_fault _ _ c.from_residual-in_err-args.ensures.1 (
+      no_arguments held
+          (subst (λ (params : List Param). IsFaultOfWords (fault_of_texts params words) why)
+          (c.as_slice-params.ensures.value ∙ ok.3)
+          (fault_of_words _ why (Err why) refl c.in_err-args.ensures.fault c.in_err-args.ensures.unstopped)),
+      refl,
+    )
 
-pub returns-in_err-outcome-clause-refused : goal.returns-in_err-outcome-clause-refused
-returns-in_err-outcome-clause-refused g c = λ tells.
+pub returns-in_err-outcome-clause-finds : goal.returns-in_err-outcome-clause-finds
+returns-in_err-outcome-clause-finds g c = λ tells.
     let ok = c.in-Ok.ensures.accepted in
     let program = program_tree c.in-Ok.accepted.program in
     let spelled = spelled_from c.args.arguments.now (λ word. word.now) (c.as_slice-params.ensures.value
     ∙ ok.3) c.in_ok-args.ensures.within c.in_ok-args.ensures.found in
     let meant = c.accepted_texts_are_evaluated.ensures P1 c.as_str.result.now program ok.0 ok.1 c.in_ok-args.args
     evaluation_budget ok.2 spelled.within (omega arith) in
-    handed_on _ _ c.from_residual-in_err-outcome.ensures.1 (out_of_memory {fault = Eval c.in_err-outcome.field-0.0}
-    (only_memory c.in_err-outcome.field-0.0 (answer program c.in_ok-args.args evaluation_budget) meant.0
-    meant.2 c.in_err-outcome.ensures.answer))
+    finds_fault _ _ c.from_residual-in_err-outcome.ensures.1 (
+      out_of_memory {fault = Eval c.in_err-outcome.field-0.0}
+          (only_memory c.in_err-outcome.field-0.0 (answer program c.in_ok-args.args evaluation_budget) meant.0
+          meant.2 c.in_err-outcome.ensures.answer),
+      refl,
+    )
 
-pub returns-in_err-lines-clause-refused : goal.returns-in_err-lines-clause-refused
-returns-in_err-lines-clause-refused g c = λ tells.
-    turned_on _ c.from_residual-in_err-lines.ensures.1 (λ e memory. out_of_memory memory)
+pub returns-in_err-lines-clause-finds : goal.returns-in_err-lines-clause-finds
+returns-in_err-lines-clause-finds g c = λ tells.
+    finds_turned _ c.from_residual-in_err-lines.ensures.1 (λ e memory. (out_of_memory memory, refl))
 
-pub returns-clause-said : goal.returns-clause-said
-returns-clause-said g c = λ tells.
+pub returns-clause-finds : goal.returns-clause-finds
+returns-clause-finds g c = λ tells.
     let ok = c.in-Ok.ensures.accepted in
     let program = program_tree c.in-Ok.accepted.program in
     let args = c.in_ok-args.args in
@@ -64,35 +74,39 @@ returns-clause-said g c = λ tells.
     ok.2 spelled.within (omega arith) in
     let is = same_outcome outcome meant.0 (answer program args evaluation_budget) meant.2
     c.in_ok-outcome.ensures.answer in
-    record {
-      program = program;
-      export = ok.1;
-      args = args;
-      outcome = outcome;
-      held = program_held (g.F.Files.store c.args.files.now).contents c.args.file.now (string_bytes c.in_ok-text.text)
-          c.as_str.result.now program ok.0 ok.1 (c.in_ok-text.ensures.said tells) c.as_str.ensures.value ok.2;
-      spelled = spelled;
-      means = subst (λ (results : Results). Means program args results) is meant.1;
-      within = answered outcome meant.0 (answer program args evaluation_budget) meant.2 is;
-      printed = c.in_ok-lines.ensures ∙ ap (λ (params : List Param). outcome_text params outcome) same;
-    }
+    finds_answer _ (c.of_text.ensures.text ∙ c.in_ok-lines.ensures
+    ∙ ap (λ (params : List Param). outcome_text params outcome) same) c.of_text.ensures.status (
+      record {
+        program = program;
+        export = ok.1;
+        args = args;
+        outcome = outcome;
+        held = program_held (g.F.Files.store c.args.files.now).contents c.args.file.now (string_bytes c.in_ok-text.text)
+            c.as_str.result.now program ok.0 ok.1 (c.in_ok-text.ensures.said tells) c.as_str.ensures.value ok.2;
+        spelled = spelled;
+        means = subst (λ (results : Results). Means program args results) is meant.1;
+        within = answered outcome meant.0 (answer program args evaluation_budget) meant.2 is;
+        printed = refl;
+      },
+      refl,
+    ) refl
 
-pub returns-in_err-text-clause-counted : goal.returns-in_err-text-clause-counted
-returns-in_err-text-clause-counted g c =
-    handed_on _ _ c.from_residual.ensures.1 c.in_err-text.ensures.counted
+pub returns-in_err-text-clause-read : goal.returns-in_err-text-clause-read
+returns-in_err-text-clause-read g c = read_fault _ _ _ _ c.from_residual.ensures.1 c.in_err-text.ensures.counted
 
-pub returns-in_err-args-clause-counted : goal.returns-in_err-args-clause-counted
-returns-in_err-args-clause-counted g c =
-    handed_on _ _ c.from_residual-in_err-args.ensures.1 c.in_ok-text.ensures.calm
+pub returns-in_err-args-clause-read : goal.returns-in_err-args-clause-read
+returns-in_err-args-clause-read g c = read_fault _ _ _ _ c.from_residual-in_err-args.ensures.1 c.in_ok-text.ensures.calm
 
-pub returns-in_err-outcome-clause-counted : goal.returns-in_err-outcome-clause-counted
-returns-in_err-outcome-clause-counted g c =
-    handed_on _ _ c.from_residual-in_err-outcome.ensures.1 c.in_ok-text.ensures.calm
+pub returns-in_err-outcome-clause-read : goal.returns-in_err-outcome-clause-read
+returns-in_err-outcome-clause-read g c =
+    read_fault _ _ _ _ c.from_residual-in_err-outcome.ensures.1 c.in_ok-text.ensures.calm
 
-pub returns-in_err-lines-clause-counted : goal.returns-in_err-lines-clause-counted
-returns-in_err-lines-clause-counted g c =
-    turned_on _ c.from_residual-in_err-lines.ensures.1 (λ e memory. memory_calm e memory c.in_ok-text.ensures.calm)
+pub returns-in_err-lines-clause-read : goal.returns-in_err-lines-clause-read
+returns-in_err-lines-clause-read g c = read_memory _ c.from_residual-in_err-lines.ensures.1 c.in_ok-text.ensures.calm
 
-pub returns-in-Err-clause-counted : goal.returns-in-Err-clause-counted
-returns-in-Err-clause-counted g c =
+pub returns-in-Err-clause-read : goal.returns-in-Err-clause-read
+returns-in-Err-clause-read g c =
     told_calm c.args.explain _ _ c.refused.result c.refused.ensures c.in_ok-text.ensures.calm
+
+pub returns-clause-read : goal.returns-clause-read
+returns-clause-read g c = c.in_ok-text.ensures.calm

@@ -1,88 +1,53 @@
-use Rattle.std.proofs.Common.{List, Result, Err, map, inl, refl, ap, ◌∙◌, subst}
-use Rattle.commands.specs.Below.{fault_of_texts, LeakFault, Param, Stop}
-use Rattle.commands.specs.ImageRefusals.{no_image, no_arguments, no_answer, out_of_memory}
-use Rattle.commands.specs.Words.{IsFaultOfWords}
-use Rattle.language.proofs.Handed.{handed_on, turned_on}
-use Rattle.commands.proofs.Counting.{memory_calm, err_inj}
-use Rattle.commands.proofs.LeakFaults.{not_imageless, said_leak, wrote_leak, cut_at_output, leak_counts}
-use Rattle.commands.proofs.WordLemmas.{fault_of_words, spelled_from}
+use Rattle.std.proofs.Common.{Result, Err, refl, ap}
+use Rattle.commands.specs.Below.{collected, LeakFault, Stop}
+use Rattle.commands.specs.Contents.{Store}
+use Rattle.commands.specs.ImageRefusals.{no_answer}
+use Rattle.commands.proofs.AnswerLemmas.{does_fault, ends_fault}
+use Rattle.commands.proofs.Counting.{counted_by, either_counts, err_inj, kept_by}
+use Rattle.commands.proofs.ImageLemmas.{refused_anyway}
+use Rattle.commands.proofs.LeakFaults.{cut_at_output, fails_to_list, leak_counts, lists, not_write}
 use Rattle.commands.proofs.images.leak_image.Goals as goal
 
-pub returns-in_err-image-clause-refused : goal.returns-in_err-image-clause-refused
-returns-in_err-image-clause-refused g c = λ tells.
-    handed_on _ _ c.from_residual.ensures.1 (no_image (c.in_err-image.ensures.refused tells))
+pub returns-in_err-image-clause-does : goal.returns-in_err-image-clause-does
+returns-in_err-image-clause-does g c = λ tells both.
+    does_fault _ _ _ refl _ _ c.from_residual.ensures.1
+    (refused_anyway _ (c.in_err-image.ensures.refused tells), kept_by _ _ _ c.in_err-image.ensures.read)
+    (counted_by _ _ _ c.in_err-image.ensures.read)
 
-pub returns-in_err-params-clause-refused : goal.returns-in_err-params-clause-refused
-returns-in_err-params-clause-refused g c = λ tells.
-    turned_on _ c.from_residual-in_err-params.ensures.1 (λ e memory. out_of_memory memory)
+pub returns-in_err-image-clause-ended : goal.returns-in_err-image-clause-ended
+returns-in_err-image-clause-ended g c =
+    ends_fault _ _ _ _ _ c.from_residual.ensures.1 (counted_by _ _ _ c.in_err-image.ensures.read)
 
-pub returns-in_err-args-clause-refused : goal.returns-in_err-args-clause-refused
-returns-in_err-args-clause-refused g c = λ tells.
-    let words = map (λ word. word.now) c.args.arguments.now in
-    let why = c.in_err-args.field-0.0 in
-    handed_on _ _ c.from_residual-in_err-args.ensures.1 (no_arguments (c.in_ok-image.ensures.said tells)
-    (subst (λ (params : List Param). IsFaultOfWords (fault_of_texts params words) why) (c.as_slice.ensures.value
-    ∙ c.in_ok-params.ensures.params)
-    (fault_of_words _ why (Err why) refl c.in_err-args.ensures.fault c.in_err-args.ensures.unstopped)))
+pub returns-in-Ok-clause-does : goal.returns-in-Ok-clause-does
+returns-in-Ok-clause-does g c = λ tells both.
+    lists c.args.path c.args.arguments (c.in_ok-image.ensures.said tells) c.in_ok-image.ensures.spelled c.in-Ok.stop
+    c.status_of.result c.status_of.ensures.exact (c.in-Ok.ensures.written both) (c.in-Ok.ensures.calm (λ is. cc))
+    c.in_ok-image.ensures.read
 
-pub returns-in_err-image-clause-beginning : goal.returns-in_err-image-clause-beginning
-returns-in_err-image-clause-beginning g c = λ tells tells_too.
-    let files = (g.F.Files.store c.args.files.now).contents in
-    let path = c.args.path.now in
-    let words = map (λ word. word.now) c.args.arguments.now in
-    let out = g.O.Sink.taken c.args.out.now in
-    handed_on _ _ c.from_residual.ensures.1 (λ output.
-    absurd (not_imageless files path c.in_err-image.field-0.0 (c.in_err-image.ensures.refused tells) output))
+pub returns-in-Ok-clause-ended : goal.returns-in-Ok-clause-ended
+returns-in-Ok-clause-ended g c = (
+  c.status_of.ensures.known,
+  ap (λ (s : Store). s.failures) c.in_ok-image.ensures.read,
+  c.in-Ok.ensures.calm (λ is. cc),
+)
 
-pub returns-in-Ok-clause-said : goal.returns-in-Ok-clause-said
-returns-in-Ok-clause-said g c = λ tells.
-    said_leak (c.in_ok-image.ensures.said tells)
-    (spelled_from _ _ (c.as_slice.ensures.value ∙ c.in_ok-params.ensures.params)
-    c.in_ok-args.ensures.within c.in_ok-args.ensures.found)
-    c.in-Ok.stop c.status_of.result c.status_of.ensures.exact c.in-Ok.ensures.answer
-
-pub returns-in-Ok-clause-written : goal.returns-in-Ok-clause-written
-returns-in-Ok-clause-written g c = λ tells tells_too.
-    wrote_leak (c.in_ok-image.ensures.said tells)
-    (spelled_from _ _ (c.as_slice.ensures.value ∙ c.in_ok-params.ensures.params)
-    c.in_ok-args.ensures.within c.in_ok-args.ensures.found)
-    c.in-Ok.stop c.status_of.result _ _ c.status_of.ensures.exact (c.in-Ok.ensures.written tells_too)
-
-pub returns-clause-refused : goal.returns-clause-refused
-returns-clause-refused g c = λ tells.
-    no_answer (c.in_ok-image.ensures.said tells) (
-      c.in_ok-args.args,
-      c.in-Err.fault,
-      spelled_from _ _ (c.as_slice.ensures.value ∙ c.in_ok-params.ensures.params) c.in_ok-args.ensures.within
-          c.in_ok-args.ensures.found,
-      c.in-Err.ensures.answer,
-      c.leak_fault.ensures,
-    )
-
-pub returns-clause-beginning : goal.returns-clause-beginning
-returns-clause-beginning g c = λ tells tells_too output.
+pub returns-clause-does : goal.returns-clause-does
+returns-clause-does g c = λ tells both.
     let gives : LeakFault → Result Stop LeakFault = λ why. Err why in
-    cut_at_output (c.in_ok-image.ensures.said tells)
-    (spelled_from _ _ (c.as_slice.ensures.value ∙ c.in_ok-params.ensures.params)
-    c.in_ok-args.ensures.within c.in_ok-args.ensures.found)
-    c.in-Err.fault c.leak_fault.result _ _ c.leak_fault.ensures output
-    (λ is. c.in-Err.ensures.beginning tells_too (ap gives is))
+    let held = c.in_ok-image.ensures.said tells in
+    fails_to_list (λ o. collected (g.O.Sink.taken o) (g.O.Sink.failures o)) c.args.path c.args.arguments _ _ _ _
+    c.leak_fault.result
+    (no_answer held
+    (c.in_ok-image.args, c.in-Err.fault, c.in_ok-image.ensures.spelled, c.in-Err.ensures.answer, c.leak_fault.ensures))
+    (λ output. cut_at_output held c.in_ok-image.ensures.spelled c.in-Err.fault c.leak_fault.result _ _
+    c.leak_fault.ensures output (λ is. c.in-Err.ensures.beginning both (ap gives is)))
+    (λ other. c.in-Err.ensures.untouched (not_write c.in-Err.fault c.leak_fault.result c.leak_fault.ensures other))
+    (leak_counts c.in-Err.fault c.leak_fault.result c.leak_fault.ensures c.in_ok-image.ensures.read
+    (λ other. c.in-Err.ensures.calm (λ is. other (err_inj is))) (λ is. c.in-Err.ensures.counts (ap gives is)))
 
-pub returns-in_err-image-clause-counted : goal.returns-in_err-image-clause-counted
-returns-in_err-image-clause-counted g c =
-    handed_on _ _ c.from_residual.ensures.1 (inl (c.in_err-image.ensures.counted, refl))
-
-pub returns-in_err-params-clause-counted : goal.returns-in_err-params-clause-counted
-returns-in_err-params-clause-counted g c =
-    turned_on _ c.from_residual-in_err-params.ensures.1
-    (λ e memory. inl (memory_calm e memory c.in_ok-image.ensures.calm, refl))
-
-pub returns-in_err-args-clause-counted : goal.returns-in_err-args-clause-counted
-returns-in_err-args-clause-counted g c =
-    handed_on _ _ c.from_residual-in_err-args.ensures.1 (inl (c.in_ok-image.ensures.calm, refl))
-
-pub returns-clause-counted : goal.returns-clause-counted
-returns-clause-counted g c =
+pub returns-clause-ended : goal.returns-clause-ended
+returns-clause-ended g c =
     let gives : LeakFault → Result Stop LeakFault = λ why. Err why in
-    leak_counts c.in-Err.fault c.leak_fault.result c.leak_fault.ensures c.in_ok-image.ensures.calm
-    (λ other. c.in-Err.ensures.calm (λ is. other (err_inj is))) (λ is. c.in-Err.ensures.counts (ap gives is))
+    either_counts c.leak_fault.result
+    (leak_counts c.in-Err.fault c.leak_fault.result c.leak_fault.ensures c.in_ok-image.ensures.read
+    (λ other. c.in-Err.ensures.calm (λ is. other (err_inj is))) (λ is. c.in-Err.ensures.counts (ap gives is)))

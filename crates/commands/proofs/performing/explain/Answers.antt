@@ -1,8 +1,9 @@
-use Rattle.std.proofs.Common.{refl, sym, subst, ℕ}
+use Rattle.std.proofs.Common.{refl, sym, subst, ℕ, ◌∙◌, arith}
 use Rattle.commands.specs.Commanded.{Says, helped, unprinted, wrong, unsaid}
 use Rattle.commands.specs.Failures.{of_output}
 use Rattle.commands.specs.Requests.{calm}
 use Rattle.commands.specs.Below.{collected}
+use Rattle.commands.proofs.AnswerLemmas.{printed_all, printed_part}
 use Rattle.commands.proofs.Counting.{ends}
 use Rattle.commands.proofs.RequestLemmas.{is_put}
 use Rattle.commands.proofs.performing.explain.Goals as goal
@@ -30,17 +31,28 @@ returns-in-Ok-clause-told g c = λ out err.
     let before = collected (g.O.Sink.taken c.args.out.now) (g.O.Sink.failures c.args.out.now) in
     let after = collected (g.O.Sink.taken c.print.new.out) (g.O.Sink.failures c.print.new.out) in
     let still = collected (g.E.Sink.taken c.args.err.now) (g.E.Sink.failures c.args.err.now) in
-    subst (λ (status : ℕ). Says before after still still status) (sym c.in-Ok.ensures.answer)
-    (helped c.as_bytes-in-Help.result.now (c.in-Ok.ensures.whole out) refl)
+    let printed = printed_all c.of_text.result c.in-Ok.status c.in-Ok.ensures refl refl in
+    subst (λ (status : ℕ). Says before after still still status) (sym (printed.0 ∙ c.of_text.ensures.status))
+    (helped c.of_text.result.text.items (printed.2 out, printed.1) refl)
+
+pub returns-in-Ok-clause-known : goal.returns-in-Ok-clause-known
+returns-in-Ok-clause-known g c =
+    let printed = printed_all c.of_text.result c.in-Ok.status c.in-Ok.ensures refl refl in
+    omega (arith, printed.0, c.of_text.ensures.status)
+
+pub returns-in-Ok-clause-calm : goal.returns-in-Ok-clause-calm
+returns-in-Ok-clause-calm g c = λ is. (printed_all c.of_text.result c.in-Ok.status c.in-Ok.ensures refl refl).1
 
 pub returns-in-Ok-clause-counted : goal.returns-in-Ok-clause-counted
-returns-in-Ok-clause-counted g c = λ files. calm refl c.in-Ok.ensures.calm
+returns-in-Ok-clause-counted g c = λ files.
+    calm refl (printed_all c.of_text.result c.in-Ok.status c.in-Ok.ensures refl refl).1
 
-pub returns-clause-told : goal.returns-clause-told
-returns-clause-told g c = λ out err.
-    unprinted c.as_bytes-in-Help.result.now (c.in-Err.ensures.beginning out) c.in-Err.ensures.fault
-    (c.report-in-Err.ensures.reported err)
+pub returns-in-Err-clause-told : goal.returns-in-Err-clause-told
+returns-in-Err-clause-told g c = λ out err.
+    let printed = printed_part c.of_text.result c.in-Err.fault c.in-Err.ensures refl refl in
+    unprinted c.of_text.result.text.items (printed.2 out, printed.1) printed.0 (c.report-in-Err.ensures.reported err)
 
-pub returns-clause-counted : goal.returns-clause-counted
-returns-clause-counted g c = λ files.
-    ends c.in-Err.fault (of_output c.in-Err.ensures.fault refl c.in-Err.ensures.counts) c.report-in-Err.ensures.status
+pub returns-in-Err-clause-counted : goal.returns-in-Err-clause-counted
+returns-in-Err-clause-counted g c = λ files.
+    let printed = printed_part c.of_text.result c.in-Err.fault c.in-Err.ensures refl refl in
+    ends c.in-Err.fault (of_output printed.0 refl printed.1) c.report-in-Err.ensures.status
