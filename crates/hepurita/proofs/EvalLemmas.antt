@@ -2,7 +2,8 @@
 use Rattle.std.proofs.Common.{◌≡◌, ℕ, ◌≤◌, List, map, None, Ok, ap, subst, ◌∙◌}
 use Rattle.hepurita.specs.Below.{answer, AreWithin, Arg, extents_of, fault_of, flattened, found_params, judged_answer}
 use Rattle.hepurita.specs.Below.{most_work, outcome_of, Param, param_of, ProcedureTree, Profile, ProgramTree, Results}
-use Rattle.hepurita.specs.source_work.SourceWork.{source_work}
+use Rattle.hepurita.specs.source_work.SourceWork.{source_work, work_excess}
+use Rattle.language.specs.declared.why.Why.TheVariants.{TooMuch}
 use Rattle.hepurita.proofs.Below.{accepted_is_safe, few_of}
 use Rattle.language.specs.Evaluation.{program_run}
 use Rattle.hepurita.proofs.run_bounds_lemmas.Answered.{answered}
@@ -34,7 +35,7 @@ evaluated faultless profile text program before export args budget (readable rea
     let typed = flat_typed profile program before export plain small in
     let safe = accepted_is_safe flat typed in_range in
     let work = subst (λ n. n ≤ most_work) (same_work profile program before export plain small)
-    (within_work export.place (source_work before export) in_time) in
+    (within_work (TooMuch (work_excess before export)) export.place (source_work before export) in_time) in
     let params = map param_of export.parameters in
     let run = answered profile program before export args budget is.typed is.is_export parts.0 parts.1 typed
     (few_of (extents_of before) export small.sized).bodies in_range work within enough in (

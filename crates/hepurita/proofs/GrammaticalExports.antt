@@ -3,9 +3,8 @@
 use Rattle.std.proofs.Common.{◌≡◌, ℕ, List, [], Some, ap₂, nat_lt}
 use Rattle.std.specs.List.{AllByRecursion}
 use Rattle.hepurita.specs.Below.{accepted, because, cost_by, exported, flattened, most_work, ProcedureTree, Profile}
-use Rattle.hepurita.specs.Below.{ProgramTree, Reads, TooMuchWork, turns_of, when, work_cost, work_of}
-use Rattle.hepurita.specs.source_work.SourceWork.{source_work}
-use Rattle.hepurita.specs.source_work.SourceWork.{work_violations}
+use Rattle.hepurita.specs.Below.{ProgramTree, Reads, TooMuchWork, turns_of, when, work_of}
+use Rattle.hepurita.specs.source_work.SourceWork.{source_work, work_cost, work_violations}
 use Rattle.language.specs.Shares.{excess}
 use Rattle.language.specs.declared.cost.Cost.{Cost}
 use Rattle.language.specs.declared.why.Counted.TheVariants.{Work}

@@ -21,8 +21,8 @@ use Rattle.hepurita.specs.Below.{ProcedureTree, Profile, range_violations, resul
 use Rattle.hepurita.specs.Below.{right, right_block, RightTree, rotate, Rule, select, size_of}
 use Rattle.hepurita.specs.source_work.SourceWork.{source_work}
 use Rattle.hepurita.specs.Below.{StatementTree, term, term_violations, terms_violations, TermTree, TooMuchWork, truth}
-use Rattle.hepurita.specs.Below.{value_given, value_of, violations_all, when, word_as, work_excess}
-use Rattle.hepurita.specs.source_work.SourceWork.{work_violations}
+use Rattle.hepurita.specs.Below.{value_given, value_of, violations_all, when, word_as}
+use Rattle.hepurita.specs.source_work.SourceWork.{work_excess, work_violations}
 use Rattle.hepurita.specs.Below.{written}
 use Rattle.inline.specs.declared.flat.FlatVariable.{FlatVariable}
 use Rattle.inline.specs.Flat as flat

@@ -1,10 +1,11 @@
 -- An accepted text's image is the export, compiled; and what the passes ask of its export.
 use Rattle.std.proofs.Common.{◌≡◌, ℕ, ◌≤◌, inl, inr, nat_lt, List, length, map, sym, subst, ◌∙◌, arith}
 use Rattle.std.proofs.lemmas.Bool.{cases_lt, lt-ltb}
-use Rattle.hepurita.specs.Below.{accepted, AreWithin, Arg, at, Ending, Fields, FlatProgram, flattened, Gives, gives}
+use Rattle.hepurita.specs.Below.{accepted, AreWithin, Arg, because, Ending, Fields, FlatProgram, flattened, Gives, gives}
 use Rattle.hepurita.specs.Below.{IsGenerated, IsRemoved, IsTypedProgram, most_work, outcome_of, param_of, Place}
 use Rattle.hepurita.specs.Below.{ProcedureTree, Profile, ProgramTree, ranged, Reads, Results, StraightProgram}
 use Rattle.hepurita.specs.Below.{TooMuchWork, turns_of, when}
+use Rattle.language.specs.declared.why.Why.{Why}
 use Rattle.hepurita.proofs.Below.{flat_keeps_meaning, flat_is_typed, accepted_is_safe, safe_runs_meet_no_fault}
 use Rattle.intervals.specs.Loose.{IsSafe}
 use Rattle.hepurita.specs.Compiled.{Means, IsCompiled}
@@ -15,9 +16,10 @@ use Rattle.hepurita.proofs.GrammaticalExports.{HasGrammaticalExport, grammatical
 use Rattle.hepurita.proofs.JudgementLemmas.{of_accepted}
 
 -- where the limit on work is not passed, it is kept
-pub within_work : (place : Place) (work : ℕ) → length (at place (when (nat_lt most_work work) TooMuchWork)) ≡ 0
+pub within_work : (why : Why) (place : Place) (work : ℕ)
+    → length (because why place (when (nat_lt most_work work) TooMuchWork)) ≡ 0
     → work ≤ most_work
-within_work place work none =
+within_work why place work none =
     elim (cases_lt most_work work) [
       | inl above ↦ (let some = rw (lt-ltb most_work work above) at none in absurd (omega arith))
       | inr within ↦ within
