@@ -4,6 +4,8 @@
 #![tactic(auto)]
 
 #[cfg(test)]
+mod counted_streams;
+#[cfg(test)]
 mod faltering_streams;
 #[cfg(test)]
 mod largest_frame;

@@ -5,11 +5,12 @@ ghost use Rattle.std.specs.Prelude.{true, Some, None, if◌then◌else◌};
 ghost use Rattle.std.specs.Str.{bytes_eq};
 ghost use Rattle.std.specs.String.{string_bytes};
 
+use crate::counted_streams::{CountedSink, CountedSource};
 use commands::{Files, command};
 use std::alloc::Global;
 use std::process::Abort;
 use std::test::Fail;
-use streams::{ByteSink, ByteSource, Faltering, SinkFault, SourceFault, put_all};
+use streams::{ByteSink, ByteSource, SinkFault, SourceFault, put_all};
 
 /// Files of which there is one, in memory: what it holds is known. No other can be written.
 #[derive(Drop)]
@@ -21,9 +22,9 @@ struct OneFile {
 }
 
 impl Files for OneFile {
-    type Source = Faltering<ByteSource>;
+    type Source = CountedSource;
 
-    type Sink = Faltering<ByteSink>;
+    type Sink = CountedSink;
 
     ghost TELLS = { true };
 
@@ -32,43 +33,33 @@ impl Files for OneFile {
       failures = f.failures;
     } };
 
-    fn open(&mut self, path: &str) -> Result<Faltering<ByteSource>, SourceFault> {
+    fn open(&mut self, path: &str) -> Result<CountedSource, SourceFault> {
         if path == self.path.as_str() {
             if let Ok(bytes) = Vec::from_slice(self.alloc, self.file.as_slice()) {
-                return Ok(Faltering {
-                    stream: ByteSource::new(bytes),
-                    piece: usize::MAX,
-                    good_calls: None,
-                    failures: 0,
-                });
+                return Ok(CountedSource::new(ByteSource::new(bytes)));
             }
         }
         self.failures = self.failures.saturating_add(1);
         Err(SourceFault)
     }
 
-    fn close(&mut self, source: Faltering<ByteSource>) {
-        self.failures = self.failures.saturating_add(source.failures);
+    fn close(&mut self, source: CountedSource) {
+        self.failures = self.failures.saturating_add(source.failures());
     }
 
-    fn create(&mut self, path: &str) -> Result<Faltering<ByteSink>, SinkFault> {
+    fn create(&mut self, path: &str) -> Result<CountedSink, SinkFault> {
         if path != self.path.as_str() {
             self.failures = self.failures.saturating_add(1);
             return Err(SinkFault);
         }
         self.file = ByteSink::new(self.alloc);
-        Ok(Faltering {
-            stream: ByteSink::new(self.alloc),
-            piece: usize::MAX,
-            good_calls: None,
-            failures: 0,
-        })
+        Ok(CountedSink::new(ByteSink::new(self.alloc)))
     }
 
-    fn finish(&mut self, path: &str, sink: Faltering<ByteSink>) {
-        self.failures = self.failures.saturating_add(sink.failures);
+    fn finish(&mut self, path: &str, sink: CountedSink) {
+        self.failures = self.failures.saturating_add(sink.failures());
         if path == self.path.as_str() {
-            self.file = sink.stream;
+            self.file = sink.into_inner();
         }
     }
 }

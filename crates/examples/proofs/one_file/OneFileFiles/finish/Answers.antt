@@ -1,4 +1,4 @@
-use Rattle.std.proofs.Common.{◌-◌, ◌^◌, Some, None, if◌then◌else◌, ap, arith}
+use Rattle.std.proofs.Common.{ℕ, ◌+◌, ◌-◌, ◌^◌, Some, None, if◌then◌else◌, min, ap, ◌∙◌, arith}
 use Rattle.std.specs.Str.{bytes_eq}
 use Rattle.std.specs.String.{string_bytes}
 use Rattle.commands.proofs.StreamCounts.{kept_times}
@@ -10,13 +10,13 @@ returns-then-eq-clause-counts c =
     ap (λ (s : Store). s.failures)
     (kept_times
     (λ path. if bytes_eq path (string_bytes c.args.self.now.path) then Some c.args.self.now.file.bytes else None)
-    c.args.self.now.failures c.args.sink.failures c.saturating_add-self.result (omega arith)
-    c.saturating_add-self.ensures)
+    c.args.self.now.failures c.args.sink.inner.failures c.saturating_add-self.result (omega arith)
+    (c.saturating_add-self.ensures ∙ ap (λ (n : ℕ). min (c.args.self.now.failures + n) (2 ^ 64 - 1)) c.failures.ensures))
 
 pub returns-else-eq-clause-counts : goal.returns-else-eq-clause-counts
 returns-else-eq-clause-counts c =
     ap (λ (s : Store). s.failures)
     (kept_times
     (λ path. if bytes_eq path (string_bytes c.args.self.now.path) then Some c.args.self.now.file.bytes else None)
-    c.args.self.now.failures c.args.sink.failures c.saturating_add-self.result (omega arith)
-    c.saturating_add-self.ensures)
+    c.args.self.now.failures c.args.sink.inner.failures c.saturating_add-self.result (omega arith)
+    (c.saturating_add-self.ensures ∙ ap (λ (n : ℕ). min (c.args.self.now.failures + n) (2 ^ 64 - 1)) c.failures.ensures))
