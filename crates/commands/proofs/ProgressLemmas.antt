@@ -1,13 +1,12 @@
 -- What goes out while an image runs, case by case.
-use Rattle.std.proofs.Common.{◌≡◌, ◌⊎◌, inl, inr, ℕ, Bool, true, false, List, Option, Result, Ok, Err, OnOk, OnErr, sym, subst}
+use Rattle.std.proofs.Common.{◌≡◌, ℕ, Bool, true, false, List, Option, Result, Ok, Err, OnOk, OnErr, subst}
 use Rattle.commands.specs.Below.{Arg, BothGoOn, Code, code_at, code_base, Collected, Counting, Fields, frame_base}
 use Rattle.commands.specs.Below.{GoesOn, HasLines, IsTold, loaded_at, params_of, Reaches, State}
-use Rattle.commands.specs.declared.command_line.words.Request.{Request}
 use Rattle.commands.specs.Certificates.{shifts_seen}
 use Rattle.commands.specs.Contents.{Contents}
 use Rattle.commands.specs.Images.{HoldsImage}
 use Rattle.commands.specs.Progress.{RunGoesOn, PairGoesOn, CertificateGoesOn, Tells}
-use Rattle.commands.specs.Progress.{FileRunTells, FilePairTells, FileCertificateTells, RequestTells}
+use Rattle.commands.specs.Progress.{FileRunTells, FilePairTells, FileCertificateTells}
 use Rattle.commands.specs.Words.{AreSpelled, AreBothSpelled, AreGiven}
 use Rattle.run_reports.proofs.progress_lemmas.Told.{reaches}
 
@@ -83,17 +82,3 @@ pub certificate_reaches : (files : Contents) (path : List ℕ) (words : List (Li
     → FileCertificateTells Reaches progress shifts files path words before after
 certificate_reaches files path words before after false shifts told = told
 certificate_reaches files path words before after true shifts told = (told.0, told.1, told.2, told.3, reaches told.4)
-
--- a request that is known
-pub tells_known : (Has : Counting) (request known : Request) → request ≡ known
-    → (files : Contents) (before after : Collected) → RequestTells Has known files before after
-    → RequestTells Has request files before after
-tells_known Has request known same files before after told =
-    subst (λ (r : Request). RequestTells Has r files before after) (sym same) told
-
-pub part_known : {Quiet : Type 0} (request known : Request) → request ≡ known → (files : Contents)
-    (before after : Collected) → Quiet ⊎ RequestTells Reaches known files before after
-    → Quiet ⊎ RequestTells Reaches request files before after
-part_known request known same files before after (inl quiet) = inl quiet
-part_known request known same files before after (inr told) =
-    inr (tells_known Reaches request known same files before after told)

@@ -1,7 +1,4 @@
-use Rattle.std.proofs.Common.{refl, sym, subst}
-use Rattle.commands.specs.Answered.{Does}
-use Rattle.commands.specs.Below.{collected}
-use Rattle.commands.specs.declared.command_line.words.Request.{Request}
+use Rattle.std.proofs.Common.{refl}
 use Rattle.commands.proofs.AnswerLemmas.{does_read, ends_read, does_fault, ends_fault, does_silently, told_after}
 use Rattle.commands.proofs.AnswerLemmas.{part_after}
 use Rattle.commands.proofs.ProgressLemmas.{run_reaches, pair_reaches, certificate_reaches}
@@ -16,14 +13,16 @@ returns-in-Check-clause-ended g c = ends_read _ _ c.check_text.ensures.read c.pr
 
 pub returns-in-Stat-clause-does : goal.returns-in-Stat-clause-does
 returns-in-Stat-clause-does g c = λ files out.
-    does_read _ _ c.in-Stat.is (c.measure_file.ensures.finds files) c.measure_file.ensures.read out c.print-in-Stat.ensures
+    does_read _ _ c.in-Stat.is (c.measure_file.ensures.finds files) c.measure_file.ensures.read out
+    c.print-in-Stat.ensures
 
 pub returns-in-Stat-clause-ended : goal.returns-in-Stat-clause-ended
 returns-in-Stat-clause-ended g c = ends_read _ _ c.measure_file.ensures.read c.print-in-Stat.ensures
 
 pub returns-in-Eval-clause-does : goal.returns-in-Eval-clause-does
 returns-in-Eval-clause-does g c = λ files out.
-    does_read _ _ c.in-Eval.is (c.evaluate_text.ensures.finds files) c.evaluate_text.ensures.read out c.print-in-Eval.ensures
+    does_read _ _ c.in-Eval.is (c.evaluate_text.ensures.finds files) c.evaluate_text.ensures.read out
+    c.print-in-Eval.ensures
 
 pub returns-in-Eval-clause-ended : goal.returns-in-Eval-clause-ended
 returns-in-Eval-clause-ended g c = ends_read _ _ c.evaluate_text.ensures.read c.print-in-Eval.ensures
@@ -44,14 +43,16 @@ returns-in-Pair-clause-ended g c = ends_read _ _ c.pair_image.ensures.read c.pri
 
 pub returns-in-Certify-clause-does : goal.returns-in-Certify-clause-does
 returns-in-Certify-clause-does g c = λ files out.
-    does_read _ _ c.in-Certify.is (c.certify_image.ensures.finds files) c.certify_image.ensures.read out c.print-in-Certify.ensures
+    does_read _ _ c.in-Certify.is (c.certify_image.ensures.finds files) c.certify_image.ensures.read out
+    c.print-in-Certify.ensures
 
 pub returns-in-Certify-clause-ended : goal.returns-in-Certify-clause-ended
 returns-in-Certify-clause-ended g c = ends_read _ _ c.certify_image.ensures.read c.print-in-Certify.ensures
 
 pub returns-in-Picture-clause-does : goal.returns-in-Picture-clause-does
 returns-in-Picture-clause-does g c = λ files out.
-    does_read _ _ c.in-Picture.is (c.picture_image.ensures.finds files) c.picture_image.ensures.read out c.print-in-Picture.ensures
+    does_read _ _ c.in-Picture.is (c.picture_image.ensures.finds files) c.picture_image.ensures.read out
+    c.print-in-Picture.ensures
 
 pub returns-in-Picture-clause-ended : goal.returns-in-Picture-clause-ended
 returns-in-Picture-clause-ended g c = ends_read _ _ c.picture_image.ensures.read c.print-in-Picture.ensures
@@ -72,17 +73,20 @@ returns-in-Harts-clause-ended g c = ends_read _ _ c.run_file.ensures.read c.prin
 
 pub returns-in-Vectors-clause-does : goal.returns-in-Vectors-clause-does
 returns-in-Vectors-clause-does g c = λ files out.
-    does_read _ _ c.in-Vectors.is (c.try_file.ensures.finds files) c.try_file.ensures.read out c.print-in-Vectors.ensures
+    does_read _ _ c.in-Vectors.is (c.try_file.ensures.finds files) c.try_file.ensures.read out
+    c.print-in-Vectors.ensures
 
 pub returns-in-Vectors-clause-ended : goal.returns-in-Vectors-clause-ended
 returns-in-Vectors-clause-ended g c = ends_read _ _ c.try_file.ensures.read c.print-in-Vectors.ensures
 
 pub returns-in-Explain-clause-does : goal.returns-in-Explain-clause-does
 returns-in-Explain-clause-does g c = λ files out.
-    does_read _ _ c.in-Explain.is (c.lines_of.ensures.finds _) (c.lines_of.ensures.read (g.F.Files.store c.args.files.now)) out c.print-in-Explain.ensures
+    does_read _ _ c.in-Explain.is (c.lines_of.ensures.finds _)
+    (c.lines_of.ensures.read (g.F.Files.store c.args.files.now)) out c.print-in-Explain.ensures
 
 pub returns-in-Explain-clause-ended : goal.returns-in-Explain-clause-ended
-returns-in-Explain-clause-ended g c = ends_read _ _ (c.lines_of.ensures.read (g.F.Files.store c.args.files.now)) c.print-in-Explain.ensures
+returns-in-Explain-clause-ended g c =
+    ends_read _ _ (c.lines_of.ensures.read (g.F.Files.store c.args.files.now)) c.print-in-Explain.ensures
 
 pub returns-in_err-build_image-in-Build-clause-does : goal.returns-in_err-build_image-in-Build-clause-does
 returns-in_err-build_image-in-Build-clause-does g c = λ files out.
@@ -90,35 +94,44 @@ returns-in_err-build_image-in-Build-clause-does g c = λ files out.
     c.in_err-build_image-in-Build.ensures.counted
 
 pub returns-in_err-build_image-in-Build-clause-ended : goal.returns-in_err-build_image-in-Build-clause-ended
-returns-in_err-build_image-in-Build-clause-ended g c = ends_fault _ _ _ _ _ c.from_residual.ensures.1 c.in_err-build_image-in-Build.ensures.counted
+returns-in_err-build_image-in-Build-clause-ended g c =
+    ends_fault _ _ _ _ _ c.from_residual.ensures.1 c.in_err-build_image-in-Build.ensures.counted
 
 pub returns-in_ok-build_image-in-Build-clause-does : goal.returns-in_ok-build_image-in-Build-clause-does
 returns-in_ok-build_image-in-Build-clause-does g c = λ files out.
-    does_silently c.in-Build.is (refl, refl) (c.in_ok-build_image-in-Build.ensures.said files) c.in_ok-build_image-in-Build.ensures.calm
+    does_silently c.in-Build.is (refl, refl) (c.in_ok-build_image-in-Build.ensures.said files)
+    c.in_ok-build_image-in-Build.ensures.calm
 
 pub returns-in_err-write_function-in-Function-clause-does : goal.returns-in_err-write_function-in-Function-clause-does
 returns-in_err-write_function-in-Function-clause-does g c = λ files out.
-    does_fault _ _ _ c.in-Function.is _ _ c.from_residual-in_err-write_function-in-Function.ensures.1 (c.in_err-write_function-in-Function.ensures.refused files)
+    does_fault _ _ _ c.in-Function.is _ _ c.from_residual-in_err-write_function-in-Function.ensures.1
+    (c.in_err-write_function-in-Function.ensures.refused files)
     c.in_err-write_function-in-Function.ensures.counted
 
 pub returns-in_err-write_function-in-Function-clause-ended : goal.returns-in_err-write_function-in-Function-clause-ended
-returns-in_err-write_function-in-Function-clause-ended g c = ends_fault _ _ _ _ _ c.from_residual-in_err-write_function-in-Function.ensures.1 c.in_err-write_function-in-Function.ensures.counted
+returns-in_err-write_function-in-Function-clause-ended g c =
+    ends_fault _ _ _ _ _ c.from_residual-in_err-write_function-in-Function.ensures.1
+    c.in_err-write_function-in-Function.ensures.counted
 
 pub returns-in_ok-write_function-in-Function-clause-does : goal.returns-in_ok-write_function-in-Function-clause-does
 returns-in_ok-write_function-in-Function-clause-does g c = λ files out.
-    does_silently c.in-Function.is (refl, refl) (c.in_ok-write_function-in-Function.ensures.said files) c.in_ok-write_function-in-Function.ensures.calm
+    does_silently c.in-Function.is (refl, refl) (c.in_ok-write_function-in-Function.ensures.said files)
+    c.in_ok-write_function-in-Function.ensures.calm
 
 pub returns-in_err-wrap_code-in-Wrap-clause-does : goal.returns-in_err-wrap_code-in-Wrap-clause-does
 returns-in_err-wrap_code-in-Wrap-clause-does g c = λ files out.
-    does_fault _ _ _ c.in-Wrap.is _ _ c.from_residual-in_err-wrap_code-in-Wrap.ensures.1 (c.in_err-wrap_code-in-Wrap.ensures.refused files)
+    does_fault _ _ _ c.in-Wrap.is _ _ c.from_residual-in_err-wrap_code-in-Wrap.ensures.1
+    (c.in_err-wrap_code-in-Wrap.ensures.refused files)
     c.in_err-wrap_code-in-Wrap.ensures.counted
 
 pub returns-in_err-wrap_code-in-Wrap-clause-ended : goal.returns-in_err-wrap_code-in-Wrap-clause-ended
-returns-in_err-wrap_code-in-Wrap-clause-ended g c = ends_fault _ _ _ _ _ c.from_residual-in_err-wrap_code-in-Wrap.ensures.1 c.in_err-wrap_code-in-Wrap.ensures.counted
+returns-in_err-wrap_code-in-Wrap-clause-ended g c =
+    ends_fault _ _ _ _ _ c.from_residual-in_err-wrap_code-in-Wrap.ensures.1 c.in_err-wrap_code-in-Wrap.ensures.counted
 
 pub returns-in_ok-wrap_code-in-Wrap-clause-does : goal.returns-in_ok-wrap_code-in-Wrap-clause-does
 returns-in_ok-wrap_code-in-Wrap-clause-does g c = λ files out.
-    does_silently c.in-Wrap.is (refl, refl) (c.in_ok-wrap_code-in-Wrap.ensures.said files) c.in_ok-wrap_code-in-Wrap.ensures.calm
+    does_silently c.in-Wrap.is (refl, refl) (c.in_ok-wrap_code-in-Wrap.ensures.said files)
+    c.in_ok-wrap_code-in-Wrap.ensures.calm
 
 pub returns-in-Leak-clause-does : goal.returns-in-Leak-clause-does
 returns-in-Leak-clause-does g c = λ files out. rw c.in-Leak.is (c.leak_image.ensures.does files out)
@@ -132,7 +145,8 @@ returns-in-Run-clause-told g c = λ files err.
 
 pub returns-in-Run-clause-part : goal.returns-in-Run-clause-part
 returns-in-Run-clause-part g c = λ files err.
-    part_after c.in-Run.is _ _ _ _ c.print-in-Run.ensures (c.run_image.ensures.part files err) (c.run_image.ensures.told files err)
+    part_after c.in-Run.is _ _ _ _ c.print-in-Run.ensures (c.run_image.ensures.part files err)
+    (c.run_image.ensures.told files err)
     (run_reaches _ _ _ _ _ c.in-Run.progress)
 
 pub returns-in-Pair-clause-told : goal.returns-in-Pair-clause-told
@@ -141,7 +155,8 @@ returns-in-Pair-clause-told g c = λ files err.
 
 pub returns-in-Pair-clause-part : goal.returns-in-Pair-clause-part
 returns-in-Pair-clause-part g c = λ files err.
-    part_after c.in-Pair.is _ _ _ _ c.print-in-Pair.ensures (c.pair_image.ensures.part files err) (c.pair_image.ensures.told files err)
+    part_after c.in-Pair.is _ _ _ _ c.print-in-Pair.ensures (c.pair_image.ensures.part files err)
+    (c.pair_image.ensures.told files err)
     (pair_reaches _ _ _ _ _ c.in-Pair.options.progress)
 
 pub returns-in-Certify-clause-told : goal.returns-in-Certify-clause-told
@@ -150,5 +165,6 @@ returns-in-Certify-clause-told g c = λ files err.
 
 pub returns-in-Certify-clause-part : goal.returns-in-Certify-clause-part
 returns-in-Certify-clause-part g c = λ files err.
-    part_after c.in-Certify.is _ _ _ _ c.print-in-Certify.ensures (c.certify_image.ensures.part files err) (c.certify_image.ensures.told files err)
+    part_after c.in-Certify.is _ _ _ _ c.print-in-Certify.ensures (c.certify_image.ensures.part files err)
+    (c.certify_image.ensures.told files err)
     (certificate_reaches _ _ _ _ _ c.in-Certify.progress c.in-Certify.shifts)
