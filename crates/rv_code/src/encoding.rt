@@ -1,7 +1,8 @@
 // From an instruction to its word.
 
 ghost use Rattle.std.specs.Prelude.{◌≡◌, ◌<◌};
-ghost use Rattle.rv_code.specs.Words.{word_of, IsInstr, r_type, i_type, s_type, b_type, u_type, j_type, shift_type, fence_word, op_opcode, muldiv_funct7};
+ghost use Rattle.rv_code.specs.Words.{word_of, IsInstr, r_type, i_type, s_type, b_type, u_type, j_type, shift_type};
+ghost use Rattle.rv_code.specs.Words.{fence_word, op_opcode, muldiv_funct7};
 
 use crate::instructions::Instr;
 use crate::operations::{

@@ -1,7 +1,9 @@
 // The fields of a word.
 
 ghost use Rattle.std.specs.Prelude.{◌≡◌};
-ghost use Rattle.rv_code.specs.private.Reading.{rd_at, funct3_at, rs1_at, rs2_at, funct7_at, i_immediate_at, s_immediate_at, b_offset_at, u_immediate_at, j_offset_at, mode_at, before_at, after_at};
+ghost use Rattle.rv_code.specs.private.Reading.{rd_at, funct3_at, rs1_at, rs2_at, funct7_at, i_immediate_at};
+ghost use Rattle.rv_code.specs.private.Reading.{s_immediate_at, b_offset_at, u_immediate_at, j_offset_at, mode_at};
+ghost use Rattle.rv_code.specs.private.Reading.{before_at, after_at};
 
 use crate::{BranchOffset, FenceBits, Immediate12, JumpOffset, Reg, ShiftAmount, UpperImmediate};
 

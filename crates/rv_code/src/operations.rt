@@ -1,13 +1,15 @@
 // The instruction table: for each operation its name in text, the fixed fields of its words, and what
 // it makes of words.
 //
-// A new instruction of a format that is here is a variant, its row, its place in the table by funct3 and its value. Where no
-// operation of a group has a funct3, another one stands there, whose words have another.
-// What they have to be is said in `specs/Operations.antt`.
+// A new instruction of a format that is here is a variant, its row, its place in the table by funct3 and its value.
+// Where no operation of a group has a funct3, another one stands there, whose words have another. What they have to be
+// is said in `specs/Operations.antt`.
 
 ghost use Rattle.std.specs.Prelude.{◌≡◌};
-ghost use Rattle.rv_code.specs.Operations.{upper_row, branch_row, load_row, store_row, immediate_row, shift_row, register_row, multiply_row, divide_row};
-ghost use Rattle.rv_code.specs.Operations.{upper_value, holds, load_width, loaded_value, store_width, immediate_value, shift_value, register_value, multiply_value, divide_value};
+ghost use Rattle.rv_code.specs.Operations.{upper_row, branch_row, load_row, store_row, immediate_row, shift_row};
+ghost use Rattle.rv_code.specs.Operations.{register_row, multiply_row, divide_row};
+ghost use Rattle.rv_code.specs.Operations.{upper_value, holds, load_width, loaded_value, store_width, immediate_value};
+ghost use Rattle.rv_code.specs.Operations.{shift_value, register_value, multiply_value, divide_value};
 
 use crate::signed;
 use crate::upper_immediates::UpperImmediate;

@@ -1,6 +1,7 @@
 // Words as numbers with a sign, in two's complement.
 
-ghost use Rattle.std.specs.Prelude.{◌≡◌, ◌≢◌, ◌+◌, ◌-◌, ◌*◌, ◌^◌, ◌<◌, ◌≤◌, ◌*ℤ◌, unsigned_abs, nat_lt, int_le, int_div, int_rem, if◌then◌else◌};
+ghost use Rattle.std.specs.Prelude.{◌≡◌, ◌≢◌, ◌+◌, ◌-◌, ◌*◌, ◌^◌, ◌<◌, ◌≤◌, ◌*ℤ◌, unsigned_abs, nat_lt, int_le};
+ghost use Rattle.std.specs.Prelude.{int_div, int_rem, if◌then◌else◌};
 ghost use Rattle.rv_code.specs.Signed.{signed, word_for, high_word, signed_less, shifted_signed};
 
 /// Whether `a` is less than `b`.

@@ -1,7 +1,8 @@
 // What instructions do with the registers and the program counter.
 
 ghost use Rattle.std.specs.Prelude.{◌≡◌};
-ghost use Rattle.rv_machine.specs.Effects.{effect_of, load_size, store_size, address_of, jump_target, branch_target, register_target};
+ghost use Rattle.rv_machine.specs.Effects.{effect_of, load_size, store_size, address_of, jump_target, branch_target};
+ghost use Rattle.rv_machine.specs.Effects.{register_target};
 ghost use Rattle.rv_machine.specs.Harts.{pc_of, regs_of};
 
 use crate::hart::Hart;

@@ -1,6 +1,7 @@
 // A memory whose data is one stretch of bytes.
 
-ghost use Rattle.std.specs.Prelude.{◌≡◌, true, false, None, ℕ, ◌+◌, ◌-◌, ◌*◌, ◌/◌, ◌%◌, ◌^◌, ◌≤◌, ◌<◌, Some, is_some, length, IfOk, IfSome, vec_len};
+ghost use Rattle.std.specs.Prelude.{◌≡◌, true, false, None, ℕ, ◌+◌, ◌-◌, ◌*◌, ◌/◌, ◌%◌, ◌^◌, ◌≤◌, ◌<◌, Some, is_some};
+ghost use Rattle.std.specs.Prelude.{length, IfOk, IfSome, vec_len};
 ghost use Rattle.rv_machine.specs.Bytes.{bytes_from, with_byte};
 ghost use Rattle.rv_machine.specs.Sizes.{byte_count};
 
@@ -107,7 +108,8 @@ impl FlatMemory {
 fn put_byte(bytes: &mut [u8], at: usize, v: u32)
     requires { at < length bytes.old }
     ensures len { length bytes.new ≡ length bytes.old }
-    ensures bytes { (base : ℕ) → bytes_from base bytes.new ≡ with_byte (bytes_from base bytes.old) (base + at) (v % 256) }
+    ensures bytes { (base : ℕ)
+        → bytes_from base bytes.new ≡ with_byte (bytes_from base bytes.old) (base + at) (v % 256) }
 {
     bytes[at] = (v % 256) as u8;
 }

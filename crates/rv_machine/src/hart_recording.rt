@@ -32,7 +32,8 @@ pub trait HartRecorder {
     /// Takes an observation of the hart with this number: keeps it as the last one where it keeps
     /// any, or refuses it, keeps nothing of it and counts the refusal.
     fn note(&mut self, hart: u8, o: Observation) -> Result<(), AllocError>
-        ensures taken { OnOk result (list self.new ≡ kept_of KEEPS (list self.old) (record { hart = hart; observation = o } ∷ [])) }
+        ensures taken { OnOk result (list self.new
+            ≡ kept_of KEEPS (list self.old) (record { hart = hart; observation = o } ∷ [])) }
         ensures calm { OnOk result (refusals self.new ≡ refusals self.old) }
         ensures refused { OnErr result (list self.new ≡ list self.old) }
         ensures counted { OnErr result (refusals self.new ≡ one_more (refusals self.old)) };

@@ -1,6 +1,7 @@
 // Laws of the machine, which hold of the definitions alone.
 
-ghost use Rattle.std.specs.Prelude.{◌≡◌, ◌≢◌, ◌↔◌, ℕ, ◌+◌, ◌%◌, ◌^◌, ◌<◌, ◌≤◌, ◌⊎◌, Bool, true, false, List, All, ◌∷◌, [], ◌++◌, length, take, Option, Some, None, is_some, slice_get};
+ghost use Rattle.std.specs.Prelude.{◌≡◌, ◌≢◌, ◌↔◌, ℕ, ◌+◌, ◌%◌, ◌^◌, ◌<◌, ◌≤◌, ◌⊎◌, Bool, true, false, List, All, ◌∷◌};
+ghost use Rattle.std.specs.Prelude.{[], ◌++◌, length, take, Option, Some, None, is_some, slice_get};
 ghost use Rattle.rv_machine.specs.Below.{BranchTest, DivideOperation, ImmediateOperation, Instr, LoadOperation};
 ghost use Rattle.rv_machine.specs.Below.{MultiplyOperation, RegisterOperation, ShiftOperation, StoreOperation};
 ghost use Rattle.rv_machine.specs.Below.{UpperOperation};
@@ -9,10 +10,13 @@ ghost use Rattle.rv_machine.specs.declared.hart_recording.HartObservation.{HartO
 ghost use Rattle.rv_machine.specs.declared.stops.Stop.{Stop};
 ghost use Rattle.rv_machine.specs.Apart.{AreApart, KeepsInside, IsAsAlone, ShowTheSame};
 ghost use Rattle.rv_machine.specs.Bytes.{ByteMap, number_at, with_number};
-ghost use Rattle.rv_machine.specs.Effects.{sign_extended, upper_value, immediate_value, shift_value, register_value, multiply_value, divide_value, holds, load_size, loaded_value, store_size, address_of, jump_target, branch_target, register_target};
+ghost use Rattle.rv_machine.specs.Effects.{sign_extended, upper_value, immediate_value, shift_value, register_value};
+ghost use Rattle.rv_machine.specs.Effects.{multiply_value, divide_value, holds, load_size, loaded_value, store_size};
+ghost use Rattle.rv_machine.specs.Effects.{address_of, jump_target, branch_target, register_target};
 ghost use Rattle.rv_machine.specs.Entries.{Entry, entries_of, IsFirstDifference};
 ghost use Rattle.rv_machine.specs.Leakage.{Leads, Halts, Stepped, Runs, Ran};
-ghost use Rattle.rv_machine.specs.Machine.{State, Code, IsAt, Ending, Turn, here, next, observed, product_shown, with_value, with_stored, with_link, moved_to};
+ghost use Rattle.rv_machine.specs.Machine.{State, Code, IsAt, Ending, Turn, here, next, observed, product_shown};
+ghost use Rattle.rv_machine.specs.Machine.{with_value, with_stored, with_link, moved_to};
 ghost use Rattle.rv_machine.specs.Recording.{kept};
 ghost use Rattle.rv_machine.specs.Registers.{register};
 ghost use Rattle.rv_machine.specs.Sizes.{byte_count};
@@ -34,7 +38,9 @@ pub fn every_state_has_a_run()
     ensures stop { (code : Code) (s : State) (seen : List Observation) (stop : Stop)
         → Turn code s (Ending.stops seen stop) → (stop ≢ Stop.RecorderRefused) × (length seen ≤ 1) }
     ensures run { (code : Code) (budget : ℕ) (s : State)
-        → (seen : List Observation) × (stop : Stop) × (t : State) × Runs code budget s seen stop t × (stop ≢ Stop.RecorderRefused) }
+        → (seen : List Observation) × (stop : Stop) × (t : State)
+        × Runs code budget s seen stop t
+        × (stop ≢ Stop.RecorderRefused) }
 {}
 
 /// Runs follow one another.
@@ -44,7 +50,9 @@ pub fn runs_compose()
     ensures halts { (code : Code) (m n : ℕ) (s t u : State) (a b : List Observation) (stop : Stop)
         → Leads code m s a t → Halts code n t b stop u → Halts code (m + n) s (a ++ b) stop u }
     ensures runs { (code : Code) (budget : ℕ) (s t u : State) (o : Observation) (seen : List Observation) (stop : Stop)
-        → Turn code s (Ending.goes_on o t) → Runs code budget t seen stop u → Runs code (budget + 1) s (o ∷ seen) stop u }
+        → Turn code s (Ending.goes_on o t)
+        → Runs code budget t seen stop u
+        → Runs code (budget + 1) s (o ∷ seen) stop u }
 {}
 
 /// The runs from one state agree.
@@ -53,17 +61,24 @@ pub fn one_run()
         → Leads code n s a t → Leads code n s b u → (a ≡ b) × (t ≡ u) }
     ensures halts { (code : Code) (m n : ℕ) (s t u : State) (a b : List Observation) (stop other : Stop)
         → Halts code m s a stop t → Halts code n s b other u → (m ≡ n) × (a ≡ b) × (stop ≡ other) × (t ≡ u) }
-    ensures ran { (code : Code) (keeps : Bool) (n budget : ℕ) (s t u : State) (a list list' : List Observation) (stop other : Stop)
-        → Halts code n s a stop t → n ≤ budget → Ran code keeps budget s list other u list' → other ≢ Stop.RecorderRefused
+    ensures ran { (code : Code) (keeps : Bool) (n budget : ℕ) (s t u : State) (a list list' : List Observation)
+        (stop other : Stop)
+        → Halts code n s a stop t
+        → n ≤ budget
+        → Ran code keeps budget s list other u list'
+        → other ≢ Stop.RecorderRefused
         → (other ≡ stop) × (u ≡ t) × (list' ≡ kept keeps list a) }
 {}
 
-/// Two turns from one state with one list so far agree, where the recorder refused nothing; where it refused, the state and the
-/// list are as before.
+/// Two turns from one state with one list so far agree, where the recorder refused nothing; where it refused, the state
+/// and the list are as before.
 pub fn steps_agree()
-    ensures finished { (code : Code) (keeps : Bool) (s t u : State) (list one other : List Observation) (a b : Option Stop)
-        → Stepped code keeps s list a t one → Stepped code keeps s list b u other
-        → a ≢ Some Stop.RecorderRefused → b ≢ Some Stop.RecorderRefused
+    ensures finished { (code : Code) (keeps : Bool) (s t u : State) (list one other : List Observation)
+        (a b : Option Stop)
+        → Stepped code keeps s list a t one
+        → Stepped code keeps s list b u other
+        → a ≢ Some Stop.RecorderRefused
+        → b ≢ Some Stop.RecorderRefused
         → (a ≡ b) × (t ≡ u) × (one ≡ other) }
     ensures refused { (code : Code) (keeps : Bool) (s t : State) (list after : List Observation)
         → Stepped code keeps s list (Some Stop.RecorderRefused) t after → (t ≡ s) × (after ≡ list) }
@@ -72,12 +87,17 @@ pub fn steps_agree()
 /// Two runs from one state with one budget and one list so far agree, where the recorder refused
 /// nothing; where it refused in one of them, that one's list is a beginning of the other's.
 pub fn runs_agree()
-    ensures finished { (code : Code) (keeps : Bool) (budget : ℕ) (s t u : State) (list one other : List Observation) (stop stop' : Stop)
-        → Ran code keeps budget s list stop t one → Ran code keeps budget s list stop' u other
-        → stop ≢ Stop.RecorderRefused → stop' ≢ Stop.RecorderRefused
+    ensures finished { (code : Code) (keeps : Bool) (budget : ℕ) (s t u : State) (list one other : List Observation)
+        (stop stop' : Stop)
+        → Ran code keeps budget s list stop t one
+        → Ran code keeps budget s list stop' u other
+        → stop ≢ Stop.RecorderRefused
+        → stop' ≢ Stop.RecorderRefused
         → (stop ≡ stop') × (t ≡ u) × (one ≡ other) }
-    ensures refused { (code : Code) (keeps : Bool) (budget : ℕ) (s t u : State) (list one other : List Observation) (stop : Stop)
-        → Ran code keeps budget s list stop t one → Ran code keeps budget s list Stop.RecorderRefused u other
+    ensures refused { (code : Code) (keeps : Bool) (budget : ℕ) (s t u : State) (list one other : List Observation)
+        (stop : Stop)
+        → Ran code keeps budget s list stop t one
+        → Ran code keeps budget s list Stop.RecorderRefused u other
         → stop ≢ Stop.RecorderRefused
         → (rest : List Observation) × (one ≡ other ++ rest) }
 {}
@@ -100,10 +120,12 @@ pub fn instructions_turn()
         → Leads code 1 s (here s) (with_value s rd (upper_value operation s.pc immediate)) }
     ensures immediate { (code : Code) (s : State) (operation : ImmediateOperation) (rd rs1 immediate : ℕ)
         → IsAt code s.pc (Instr.Immediate operation rd rs1 immediate)
-        → Leads code 1 s (here s) (with_value s rd (immediate_value operation (register s.regs rs1) (sign_extended 12 immediate))) }
+        → Leads code 1 s (here s)
+        (with_value s rd (immediate_value operation (register s.regs rs1) (sign_extended 12 immediate))) }
     ensures register { (code : Code) (s : State) (operation : RegisterOperation) (rd rs1 rs2 : ℕ)
         → IsAt code s.pc (Instr.Register operation rd rs1 rs2)
-        → Leads code 1 s (here s) (with_value s rd (register_value operation (register s.regs rs1) (register s.regs rs2))) }
+        → Leads code 1 s (here s)
+        (with_value s rd (register_value operation (register s.regs rs1) (register s.regs rs2))) }
     ensures load { (code : Code) (s : State) (operation : LoadOperation) (rd rs1 offset value : ℕ)
         → let a = address_of s.regs rs1 offset in let n = load_size operation in
         IsAt code s.pc (Instr.Load operation rd rs1 offset)
@@ -118,9 +140,11 @@ pub fn instructions_turn()
         → IsAt code s.pc (Instr.Shift operation rd rs1 amount)
         → Leads code 1 s (here s) (with_value s rd (shift_value operation (register s.regs rs1) amount)) }
     ensures multiply { (code : Code) (s : State) (operation : MultiplyOperation) (rd rs1 rs2 : ℕ)
-        → let a = register s.regs rs1 in let b = register s.regs rs2 in
+        → let a = register s.regs rs1 in
+        let b = register s.regs rs2 in
         IsAt code s.pc (Instr.Multiply operation rd rs1 rs2)
-        → Leads code 1 s (observed s (product_shown code.profile a b) ∷ []) (with_value s rd (multiply_value operation a b)) }
+        → Leads code 1 s (observed s (product_shown code.profile a b) ∷ [])
+        (with_value s rd (multiply_value operation a b)) }
     ensures divide { (code : Code) (s : State) (operation : DivideOperation) (rd rs1 rs2 : ℕ)
         → let a = register s.regs rs1 in let b = register s.regs rs2 in
         IsAt code s.pc (Instr.Divide operation rd rs1 rs2)
@@ -166,26 +190,43 @@ pub fn numbers_in_bytes()
         → is_some (with_number bytes n a v x) ≡ is_some (bytes x) }
 {}
 
-/// Harts over one memory, each with bytes of its own that no other hart reaches. After any schedule each is what it is alone
-/// after as many turns as the schedule names it. Two such systems whose harts alone show the same show one list.
+/// Harts over one memory, each with bytes of its own that no other hart reaches. After any schedule each is what it is
+/// alone after as many turns as the schedule names it. Two such systems whose harts alone show the same show one list.
 pub fn harts_are_as_alone()
-    ensures alone { (own : ℕ → ByteMap) (schedule : List ℕ) (s end : System) (list : List HartObservation) (k : ℕ) (m : Member)
-        → AreApart own s → Follows schedule s list end → slice_get s.members k ≡ Some m
+    ensures alone { (own : ℕ → ByteMap) (schedule : List ℕ) (s end : System) (list : List HartObservation) (k : ℕ)
+        (m : Member)
+        → AreApart own s
+        → Follows schedule s list end
+        → slice_get s.members k ≡ Some m
         → IsAsAlone k (turns_of k schedule) (own k) m list end }
-    ensures shown { (own own' : ℕ → ByteMap) (schedule : List ℕ) (s s' end end' : System) (list list' : List HartObservation)
-        → AreApart own s → AreApart own' s'
-        → ((k : ℕ) (m m' : Member) → slice_get s.members k ≡ Some m → slice_get s'.members k ≡ Some m' → ShowTheSame (own k) m (own' k) m')
-        → Follows schedule s list end → Follows schedule s' list' end' → list ≡ list' }
+    ensures shown { (own own' : ℕ → ByteMap) (schedule : List ℕ) (s s' end end' : System)
+        (list list' : List HartObservation)
+        → AreApart own s
+        → AreApart own' s'
+        → ((k : ℕ) (m m' : Member) → slice_get s.members k ≡ Some m → slice_get s'.members k ≡ Some m'
+        → ShowTheSame (own k) m (own' k) m')
+        → Follows schedule s list end
+        → Follows schedule s' list' end'
+        → list ≡ list' }
 {}
 
-/// A hart alone whose run stops: it reaches for no other bytes unless that is how it stops, however many turns it makes it has shown a
-/// beginning of the run's list, an observation a turn, and once it has made the run's turns it is where the run stopped.
+/// A hart alone whose run stops: it reaches for no other bytes unless that is how it stops, however many turns it makes
+/// it has shown a beginning of the run's list, an observation a turn, and once it has made the run's turns it is where
+/// the run stopped.
 pub fn harts_halt()
     ensures inside { (m : Member) (own : ByteMap) (n : ℕ) (seen : List Observation) (stop : Stop) (t : State)
         → m.stop ≡ None → Halts m.code n (state_in own m) seen stop t → stop ≢ Stop.AccessFault → KeepsInside own m }
-    ensures shown { (m after : Member) (own bytes : ByteMap) (n k : ℕ) (seen list : List Observation) (stop : Stop) (t : State)
-        → m.stop ≡ None → Halts m.code n (state_in own m) seen stop t → Makes k own m list bytes after → list ≡ take k seen }
-    ensures stopped { (m after : Member) (own bytes : ByteMap) (n k : ℕ) (seen list : List Observation) (stop : Stop) (t : State)
-        → m.stop ≡ None → Halts m.code n (state_in own m) seen stop t → Makes k own m list bytes after → n ≤ k
+    ensures shown { (m after : Member) (own bytes : ByteMap) (n k : ℕ) (seen list : List Observation) (stop : Stop)
+        (t : State)
+        → m.stop ≡ None
+        → Halts m.code n (state_in own m) seen stop t
+        → Makes k own m list bytes after
+        → list ≡ take k seen }
+    ensures stopped { (m after : Member) (own bytes : ByteMap) (n k : ℕ) (seen list : List Observation) (stop : Stop)
+        (t : State)
+        → m.stop ≡ None
+        → Halts m.code n (state_in own m) seen stop t
+        → Makes k own m list bytes after
+        → n ≤ k
         → (after.stop ≡ Some stop) × (bytes ≡ t.bytes) × (list ≡ seen) }
 {}

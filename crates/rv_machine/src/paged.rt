@@ -1,6 +1,7 @@
 // A memory whose data are ranges of addresses, in pages.
 
-ghost use Rattle.std.specs.Prelude.{◌≡◌, ℕ, ◌+◌, ◌^◌, ◌≤◌, ◌<◌, true, false, vec_len, [], ◌∷◌, Some, None, is_some, slice_get, take, IfOk, OnOk, IfSome, IsSome, IsTrue};
+ghost use Rattle.std.specs.Prelude.{◌≡◌, ℕ, ◌+◌, ◌^◌, ◌≤◌, ◌<◌, true, false, vec_len, [], ◌∷◌, Some, None, is_some};
+ghost use Rattle.std.specs.Prelude.{slice_get, take, IfOk, OnOk, IfSome, IsSome, IsTrue};
 ghost use Rattle.std.specs.List.{All};
 ghost use Rattle.rv_machine.specs.declared.flat.FlatMemory.{FlatMemory};
 ghost use Rattle.rv_machine.specs.Bytes.{number_at, with_number};

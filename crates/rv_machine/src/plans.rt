@@ -56,7 +56,8 @@ fn unseen(change: Change) -> Plan
 /// The plan of a load. For each size there is code of its own.
 #[inline(always)]
 fn load_plan<M: Memory>(memory: &M, operation: LoadOperation, rd: Reg, a: u32) -> Plan
-    ensures ends { (profile : Profile) (pc : ℕ) (regs : ℕ → ℕ) → let s : State = record { pc = pc; regs = regs; bytes = M.bytes memory.now } in
+    ensures ends { (profile : Profile) (pc : ℕ) (regs : ℕ → ℕ)
+        → let s : State = record { pc = pc; regs = regs; bytes = M.bytes memory.now } in
         ends_as result.event result.change s ≡ ending_of profile (Effect.Loads operation rd a) s }
     ensures possible { IsPossible (M.bytes memory.now) result.change }
     ensures calm { stop_of result.change ≢ Some Stop.RecorderRefused }
@@ -79,7 +80,8 @@ fn sized_load_plan<M: Memory>(
     a: u32,
 ) -> Plan
     requires { size ≡ load_size operation }
-    ensures ends { (profile : Profile) (pc : ℕ) (regs : ℕ → ℕ) → let s : State = record { pc = pc; regs = regs; bytes = M.bytes memory.now } in
+    ensures ends { (profile : Profile) (pc : ℕ) (regs : ℕ → ℕ)
+        → let s : State = record { pc = pc; regs = regs; bytes = M.bytes memory.now } in
         ends_as result.event result.change s ≡ ending_of profile (Effect.Loads operation rd a) s }
     ensures possible { IsPossible (M.bytes memory.now) result.change }
     ensures calm { stop_of result.change ≢ Some Stop.RecorderRefused }
@@ -99,7 +101,8 @@ fn sized_load_plan<M: Memory>(
 /// The plan of a store. For each size there is code of its own.
 #[inline(always)]
 fn store_plan<M: Memory>(memory: &M, operation: StoreOperation, a: u32, value: u32) -> Plan
-    ensures ends { (profile : Profile) (pc : ℕ) (regs : ℕ → ℕ) → let s : State = record { pc = pc; regs = regs; bytes = M.bytes memory.now } in
+    ensures ends { (profile : Profile) (pc : ℕ) (regs : ℕ → ℕ)
+        → let s : State = record { pc = pc; regs = regs; bytes = M.bytes memory.now } in
         ends_as result.event result.change s ≡ ending_of profile (Effect.Stores operation a value) s }
     ensures possible { IsPossible (M.bytes memory.now) result.change }
     ensures calm { stop_of result.change ≢ Some Stop.RecorderRefused }
@@ -122,7 +125,8 @@ fn sized_store_plan<M: Memory>(
     value: u32,
 ) -> Plan
     requires { size ≡ store_size operation }
-    ensures ends { (profile : Profile) (pc : ℕ) (regs : ℕ → ℕ) → let s : State = record { pc = pc; regs = regs; bytes = M.bytes memory.now } in
+    ensures ends { (profile : Profile) (pc : ℕ) (regs : ℕ → ℕ)
+        → let s : State = record { pc = pc; regs = regs; bytes = M.bytes memory.now } in
         ends_as result.event result.change s ≡ ending_of profile (Effect.Stores operation a value) s }
     ensures possible { IsPossible (M.bytes memory.now) result.change }
     ensures calm { stop_of result.change ≢ Some Stop.RecorderRefused }

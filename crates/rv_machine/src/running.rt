@@ -34,7 +34,8 @@ impl<M: Memory> Running<M> {
             self.new.turns_left (state_of self.new.hart (M.bytes self.new.memory)) }
         ensures shown { (rest : List Observation)
             → IsShown (code_of code.now) self.new.turns_left (state_of self.new.hart (M.bytes self.new.memory)) rest
-            → IsShown (code_of code.now) self.old.turns_left (state_of self.old.hart (M.bytes self.old.memory)) (followed_by result rest) }
+            → IsShown (code_of code.now) self.old.turns_left (state_of self.old.hart (M.bytes self.old.memory))
+            (followed_by result rest) }
         ensures ended { result ≡ None → self.new.turns_left ≡ 0 }
         ensures fewer { IsSome result → self.new.turns_left < self.old.turns_left }
     {

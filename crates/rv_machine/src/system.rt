@@ -28,7 +28,8 @@ impl RunningHart {
     /// Makes the hart's next turn over a memory, and answers what it shows. A hart that has stopped
     /// does nothing and shows nothing. It takes no memory.
     pub fn turn<M: Memory>(&mut self, alloc: Global, memory: &mut M) -> Option<Observation>
-        ensures { MemberTurn (M.bytes memory.old) (member_now self.old) (followed_by result []) (M.bytes memory.new) (member_now self.new) }
+        ensures { MemberTurn (M.bytes memory.old) (member_now self.old) (followed_by result []) (M.bytes memory.new)
+            (member_now self.new) }
     {
         if self.stop.is_some() {
             return None;
@@ -50,7 +51,9 @@ impl<M: Memory> RunningHarts<M> {
     /// Makes the next turn of the hart with this number, and answers what it shows.
     fn turn(&mut self, alloc: Global, number: u8) -> Option<Observation>
         requires { number < length self.now.harts.items }
-        ensures turn { Follows (number ∷ []) (system_now self.old.harts.items (M.bytes self.old.memory)) (shown_by number (followed_by result [])) (system_now self.new.harts.items (M.bytes self.new.memory)) }
+        ensures turn { Follows (number ∷ [])
+            (system_now self.old.harts.items (M.bytes self.old.memory)) (shown_by number (followed_by result []))
+            (system_now self.new.harts.items (M.bytes self.new.memory)) }
         ensures count { length self.new.harts.items ≡ length self.old.harts.items }
     {
         let hart = &mut self.harts[usize::from(number)];
@@ -67,9 +70,12 @@ impl<M: Memory> RunningHarts<M> {
         recorder: &mut R,
     ) -> Result<(), AllocError>
         requires { All (λ number. number < length self.now.harts.items) schedule.now }
-        ensures followed { OnOk result (Followed R.KEEPS schedule.now (system_now self.old.harts.items (M.bytes self.old.memory)) (R.list recorder.old) (system_now self.new.harts.items (M.bytes self.new.memory)) (R.list recorder.new)) }
+        ensures followed { OnOk result (Followed R.KEEPS schedule.now
+            (system_now self.old.harts.items (M.bytes self.old.memory)) (R.list recorder.old)
+            (system_now self.new.harts.items (M.bytes self.new.memory)) (R.list recorder.new)) }
         ensures calm { OnOk result (R.refusals recorder.new ≡ R.refusals recorder.old) }
-        ensures cut_short { OnErr result (CutShort R.KEEPS schedule.now (system_now self.old.harts.items (M.bytes self.old.memory)) (R.list recorder.old) (R.list recorder.new)) }
+        ensures cut_short { OnErr result (CutShort R.KEEPS schedule.now
+            (system_now self.old.harts.items (M.bytes self.old.memory)) (R.list recorder.old) (R.list recorder.new)) }
         ensures refused { OnErr result (HasRefused (R.refusals recorder.old) (R.refusals recorder.new)) }
         ensures count { length self.new.harts.items ≡ length self.old.harts.items }
     {

@@ -1,11 +1,13 @@
 // Laws of the operators' formulas, and where texts begin.
 
-ghost use Rattle.std.specs.Prelude.{◌≡◌, ℕ, ◌+◌, ◌-◌, ◌/◌, ◌%◌, ◌^◌, ◌≤◌, Bool, if◌then◌else◌, bit_and, bit_or, bit_xor};
+ghost use Rattle.std.specs.Prelude.{◌≡◌, ℕ, ◌+◌, ◌-◌, ◌/◌, ◌%◌, ◌^◌, ◌≤◌, Bool, if◌then◌else◌, bit_and, bit_or};
+ghost use Rattle.std.specs.Prelude.{bit_xor};
 ghost use Rattle.word.specs.declared.place.TheConstants.Place.{ORIGIN};
 ghost use Rattle.word.specs.declared.width.Width.{Width};
 ghost use Rattle.word.specs.Places.{origin};
 ghost use Rattle.word.specs.Widths.{bits, IsWord};
-ghost use Rattle.word.specs.Operators.{wrapped, sum, negated, difference, product, quotient, remainder, complemented, shifted_left, shifted_right, rotated_left, converted, mask, selected};
+ghost use Rattle.word.specs.Operators.{wrapped, sum, negated, difference, product, quotient, remainder, complemented};
+ghost use Rattle.word.specs.Operators.{shifted_left, shifted_right, rotated_left, converted, mask, selected};
 
 use crate::width::Width;
 
@@ -51,7 +53,10 @@ pub fn differences_undo_sums()
 
 /// With a condition's mask `select` takes the first word where the condition holds, else the second.
 pub fn masks_select()
-    ensures { (c : Bool) (a b : ℕ) → IsWord Width.W32 a → IsWord Width.W32 b → selected (mask c) a b ≡ (if c then a else b) }
+    ensures { (c : Bool) (a b : ℕ)
+        → IsWord Width.W32 a
+        → IsWord Width.W32 b
+        → selected (mask c) a b ≡ (if c then a else b) }
 {}
 
 /// Where texts begin is the constant that code takes for it.

@@ -1,4 +1,5 @@
-// Words of 8, 16 and 32 bits, and what the language's operators make of them; places in texts; and for which observer code is made.
+// Words of 8, 16 and 32 bits, and what the language's operators make of them; places in texts; and for which observer
+// code is made.
 //
 // It promises that each operator gives what its formula on whole numbers gives (`specs/Operators.antt`),
 // for all operands, and that `select` with a condition's mask takes the one word where the condition
