@@ -48,7 +48,8 @@ fn is_immutable(variable: Option<VariableType>) -> bool
 
 /// Whether a parameter may change its argument, and that is an array that may not be assigned to.
 fn is_fixed(names: &Scope<'_>, parameter: &Parameter, argument: &Expr) -> bool
-    ensures { result ≡ (is_mutable parameter.now.form && is_immutable (argument_variable names.now (expr_tree argument.now))) }
+    ensures { result
+        ≡ (is_mutable parameter.now.form && is_immutable (argument_variable names.now (expr_tree argument.now))) }
 {
     parameter.form.is_mutable() && is_immutable(argument_variable(names, argument))
 }
@@ -72,8 +73,11 @@ fn note_passed(
     given: Typed,
     argument: &Expr,
 ) -> bool
-    ensures met { result ≡ are_met (argument_violations names.now place (record { parameter = parameter_tree parameter.now; given = given; argument = expr_tree argument.now })) }
-    ensures first { first.new.seen ≡ fold sooner first.old.seen (argument_violations names.now place (record { parameter = parameter_tree parameter.now; given = given; argument = expr_tree argument.now })) }
+    ensures met { result ≡ are_met (argument_violations names.now place
+        (record { parameter = parameter_tree parameter.now; given = given; argument = expr_tree argument.now })) }
+    ensures first { first.new.seen
+        ≡ fold sooner first.old.seen (argument_violations names.now place
+        (record { parameter = parameter_tree parameter.now; given = given; argument = expr_tree argument.now })) }
 {
     let part = Part::Parameter(parameter.place);
     let fits = note_argument(first, place, part, parameter_value(parameter), given);
@@ -94,8 +98,11 @@ pub fn note_all_passed(
 ) -> bool
     requires types { length types.now ≡ length parameters.now }
     requires arguments { length arguments.now ≡ length parameters.now }
-    ensures met { result ≡ are_met (passed_violations names.now place (passed (map parameter_tree parameters.now) types.now (map expr_tree arguments.now))) }
-    ensures first { first.new.seen ≡ fold sooner first.old.seen (passed_violations names.now place (passed (map parameter_tree parameters.now) types.now (map expr_tree arguments.now))) }
+    ensures met { result ≡ are_met (passed_violations names.now place
+        (passed (map parameter_tree parameters.now) types.now (map expr_tree arguments.now))) }
+    ensures first { first.new.seen
+        ≡ fold sooner first.old.seen (passed_violations names.now place
+        (passed (map parameter_tree parameters.now) types.now (map expr_tree arguments.now))) }
 {
     let mut met = true;
     for (index, parameter) in parameters.iter().enumerate() {

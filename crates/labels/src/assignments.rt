@@ -44,7 +44,8 @@ fn note_target(first: &mut First, place: Place, target: ValueType, given: Typed)
 
 /// Notes what may not be changed: what is immutable, and what is public under secret control.
 fn note_change(first: &mut First, change: Change, mutable: bool, label: Label)
-    ensures { first.new.seen ≡ fold sooner first.old.seen (change_violations change.control change.place change.declared_at mutable label) }
+    ensures { first.new.seen
+        ≡ fold sooner first.old.seen (change_violations change.control change.place change.declared_at mutable label) }
 {
     let why = Why::Fixed(change.declared_at);
     first.note(!mutable, change.place, Rule::NotMutable, why);
@@ -58,7 +59,9 @@ fn note_assignment(
     variable: Option<VariableType>,
     given: Option<Typed>,
 )
-    ensures { first.new.seen ≡ fold sooner first.old.seen (assignment_violations change.control change.place change.declared_at variable given) }
+    ensures { first.new.seen
+        ≡ fold sooner first.old.seen
+        (assignment_violations change.control change.place change.declared_at variable given) }
 {
     let (Some(variable), Some(given)) = (variable, given) else {
         return;
@@ -77,7 +80,9 @@ pub fn assignment(
     control: Option<SecretControl>,
     assignment: &Assignment,
 ) -> Result<(), AllocError>
-    ensures { OnOk result (first.new.seen ≡ fold sooner first.old.seen (statement_violations (map procedure_tree earlier.now) names.now control (statement_tree (Assign assignment.now)))) }
+    ensures { OnOk result (first.new.seen
+        ≡ fold sooner first.old.seen (statement_violations (map procedure_tree earlier.now) names.now control
+        (statement_tree (Assign assignment.now)))) }
 {
     let text = assignment.name.as_str();
     let variable = names.variable(text);
@@ -133,7 +138,9 @@ pub fn element_assignment(
     control: Option<SecretControl>,
     assignment: &ElementAssignment,
 ) -> Result<(), AllocError>
-    ensures { OnOk result (first.new.seen ≡ fold sooner first.old.seen (statement_violations (map procedure_tree earlier.now) names.now control (statement_tree (AssignElement assignment.now)))) }
+    ensures { OnOk result (first.new.seen
+        ≡ fold sooner first.old.seen (statement_violations (map procedure_tree earlier.now) names.now control
+        (statement_tree (AssignElement assignment.now)))) }
 {
     let text = assignment.name.as_str();
     let variable = names.variable(text);

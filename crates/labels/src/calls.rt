@@ -1,4 +1,5 @@
-ghost use Rattle.std.specs.Prelude.{◌≡◌, ◌&&◌, ◌∷◌, [], None, Some, fold, is_some, length, map, IfOk, OnOk, if◌then◌else◌};
+ghost use Rattle.std.specs.Prelude.{◌≡◌, ◌&&◌, ◌∷◌, [], None, Some, fold, is_some, length, map, IfOk, OnOk};
+ghost use Rattle.std.specs.Prelude.{if◌then◌else◌};
 ghost use Rattle.std.specs.Option.{option_map};
 ghost use Rattle.labels.specs.Below.{are_met, ArgumentCount, ArgumentCounts as Counts, arguments_violations, because};
 ghost use Rattle.labels.specs.Below.{call_tree, call_type, call_violations, CallAssignsPublicUnderSecretControl};
@@ -38,9 +39,12 @@ fn note_clash(first: &mut First, place: Place, clash: Option<SharedArray>)
 
 /// Notes that a call has too few arguments, or too many.
 fn note_count(first: &mut First, call: &Call, procedure: &Procedure)
-    ensures { first.new.seen ≡ fold sooner first.old.seen (because
-        (Counts (record { given = length call.now.arguments.items; taken = length procedure.now.parameters.items; procedure = procedure.now.place }))
-        call.now.place (ArgumentCount ∷ [])) }
+    ensures { first.new.seen
+        ≡ fold sooner first.old.seen (because (Counts (record {
+          given = length call.now.arguments.items;
+          taken = length procedure.now.parameters.items;
+          procedure = procedure.now.place;
+        })) call.now.place (ArgumentCount ∷ [])) }
 {
     let counts = ArgumentCounts {
         given: call.arguments.len(),
@@ -61,8 +65,11 @@ fn note_arguments(
     call: &Call,
 ) -> Result<bool, AllocError>
     requires { length types.now ≡ length call.now.arguments.items }
-    ensures met { IfOk result (λ met. met ≡ are_met (arguments_violations names.now call.now.place (procedure_tree procedure.now) types.now (map expr_tree call.now.arguments.items))) }
-    ensures first { OnOk result (first.new.seen ≡ fold sooner first.old.seen (arguments_violations names.now call.now.place (procedure_tree procedure.now) types.now (map expr_tree call.now.arguments.items))) }
+    ensures met { IfOk result (λ met. met ≡ are_met (arguments_violations names.now call.now.place
+        (procedure_tree procedure.now) types.now (map expr_tree call.now.arguments.items))) }
+    ensures first { OnOk result (first.new.seen
+        ≡ fold sooner first.old.seen (arguments_violations names.now call.now.place (procedure_tree procedure.now)
+        types.now (map expr_tree call.now.arguments.items))) }
 {
     let arguments = call.arguments.as_slice();
     let parameters = procedure.parameters.as_slice();
@@ -78,7 +85,8 @@ fn note_arguments(
 
 /// The earlier procedure that is called, with what is known of it.
 fn called<'p>(earlier: &'p [Procedure], what: Option<Callee>) -> Option<(Callee, &'p Procedure)>
-    ensures { option_map (λ known. (known.0, procedure_tree known.1.now)) result ≡ called_one (map procedure_tree earlier.now) what }
+    ensures { option_map (λ known. (known.0, procedure_tree known.1.now)) result
+        ≡ called_one (map procedure_tree earlier.now) what }
 {
     let Some(callee) = what else {
         return None;
@@ -96,8 +104,11 @@ fn note_call_control(
     control: Option<SecretControl>,
     callee: Callee,
 ) -> bool
-    ensures met { result ≡ are_met (when (is_some control && callee.assigns_public) CallAssignsPublicUnderSecretControl) }
-    ensures first { first.new.seen ≡ fold sooner first.old.seen (because (control_why control) place (when (is_some control && callee.assigns_public) CallAssignsPublicUnderSecretControl)) }
+    ensures met { result
+        ≡ are_met (when (is_some control && callee.assigns_public) CallAssignsPublicUnderSecretControl) }
+    ensures first { first.new.seen
+        ≡ fold sooner first.old.seen (because (control_why control) place
+        (when (is_some control && callee.assigns_public) CallAssignsPublicUnderSecretControl)) }
 {
     let told = control.is_some() && callee.assigns_public;
     let rule = Rule::CallAssignsPublicUnderSecretControl;
@@ -151,7 +162,8 @@ pub fn call(
     control: Option<SecretControl>,
     call: &Call,
 ) -> Result<Option<ValueType>, AllocError>
-    ensures typed { IfOk result (λ type. type ≡ call_type (map procedure_tree earlier.now) names.now control (call_tree call.now)) }
+    ensures typed { IfOk result (λ type.
+        type ≡ call_type (map procedure_tree earlier.now) names.now control (call_tree call.now)) }
     ensures first { OnOk result (first.new.seen ≡ fold sooner first.old.seen
         (call_violations (map procedure_tree earlier.now) names.now control (call_tree call.now))) }
 {

@@ -43,7 +43,8 @@ impl<'p> Checked<'p> {
 
     /// The exported procedure, and those before it.
     pub fn export(&self) -> (&'p [Procedure], &'p Procedure)
-        ensures exported { exported [] (program_tree self.now.program.now).procedures ≡ Some (map procedure_tree result.0.now, procedure_tree result.1.now) }
+        ensures exported { exported [] (program_tree self.now.program.now).procedures
+            ≡ Some (map procedure_tree result.0.now, procedure_tree result.1.now) }
         ensures earlier { AllByRecursion IsGrammatical (map procedure_tree result.0.now) }
         ensures grammatical { IsGrammatical (procedure_tree result.1.now) }
     {
@@ -54,7 +55,8 @@ impl<'p> Checked<'p> {
 
 /// Notes that no procedure is exported, or which further ones are; and counts those before the first.
 fn note_exports(procedures: &[Procedure], first: &mut First) -> Option<usize>
-    ensures first { first.new.seen ≡ fold sooner first.old.seen (export_violations (exports (map procedure_tree procedures.now))) }
+    ensures first { first.new.seen
+        ≡ fold sooner first.old.seen (export_violations (exports (map procedure_tree procedures.now))) }
     ensures export { result ≡ export_index (exported [] (map procedure_tree procedures.now)) }
 {
     let mut export = None;
@@ -92,7 +94,8 @@ fn note_procedures(
     first: &mut First,
     profile: Profile,
 ) -> Result<(), AllocError>
-    ensures first { OnOk result (first.new.seen ≡ fold sooner first.old.seen (procedures_violations [] (empty profile) (map procedure_tree procedures.now))) }
+    ensures first { OnOk result (first.new.seen
+        ≡ fold sooner first.old.seen (procedures_violations [] (empty profile) (map procedure_tree procedures.now))) }
     ensures memory { procedures.now ≡ [] → IsOk result }
 {
     let mut names = Scope::new(alloc, profile);
@@ -108,7 +111,8 @@ struct Findings {
 
 /// What is found of these procedures, where this is the observer.
 fn judged(alloc: Global, procedures: &[Procedure], profile: Profile) -> Result<Findings, AllocError>
-    ensures export { IfOk result (λ found. found.export ≡ export_index (exported [] (map procedure_tree procedures.now))) }
+    ensures export { IfOk result (λ found.
+        found.export ≡ export_index (exported [] (map procedure_tree procedures.now))) }
     ensures violation { IfOk result
         (λ found. found.violation ≡ fold sooner None
         (violations profile (record { procedures = map procedure_tree procedures.now }))) }
@@ -133,8 +137,10 @@ pub fn check_as<'p>(
     ensures program { IfOk result (λ checked. checked.program.now ≡ program.now) }
     ensures profile { IfOk result (λ checked. checked.profile ≡ profile) }
     ensures well_typed { IfOk result (λ _. length (violations profile (program_tree program.now)) ≡ 0) }
-    ensures empty { program.now ≡ [] → IfErr result (λ refusal. (refusal.rule ≡ NotExactlyOneExport) × (refusal.place ≡ Some origin)) }
-    ensures refused { IfErr result (λ refusal. IsRefusedFor (violations profile (program_tree program.now)) refusal.rule refusal.place) }
+    ensures empty { program.now ≡ []
+        → IfErr result (λ refusal. (refusal.rule ≡ NotExactlyOneExport) × (refusal.place ≡ Some origin)) }
+    ensures refused { IfErr result (λ refusal.
+        IsRefusedFor (violations profile (program_tree program.now)) refusal.rule refusal.place) }
     ensures told { IfErr result (IsToldOf (violations profile (program_tree program.now))) }
 {
     let found = judged(alloc, program.procedures(), profile)?;
@@ -156,8 +162,10 @@ pub fn check<'p>(alloc: Global, program: &'p Program) -> Result<Checked<'p>, Ref
     ensures program { IfOk result (λ checked. checked.program.now ≡ program.now) }
     ensures profile { IfOk result (λ checked. checked.profile ≡ P1) }
     ensures well_typed { IfOk result (λ _. length (violations P1 (program_tree program.now)) ≡ 0) }
-    ensures empty { program.now ≡ [] → IfErr result (λ refusal. (refusal.rule ≡ NotExactlyOneExport) × (refusal.place ≡ Some origin)) }
-    ensures refused { IfErr result (λ refusal. IsRefusedFor (violations P1 (program_tree program.now)) refusal.rule refusal.place) }
+    ensures empty { program.now ≡ []
+        → IfErr result (λ refusal. (refusal.rule ≡ NotExactlyOneExport) × (refusal.place ≡ Some origin)) }
+    ensures refused { IfErr result (λ refusal.
+        IsRefusedFor (violations P1 (program_tree program.now)) refusal.rule refusal.place) }
     ensures told { IfErr result (IsToldOf (violations P1 (program_tree program.now))) }
 {
     check_as(alloc, program, Profile::P1)

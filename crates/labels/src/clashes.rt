@@ -12,7 +12,8 @@ use std::alloc::{AllocError, Global};
 
 /// The name that an argument is.
 fn bare_name(argument: &Expr) -> Option<&str>
-    ensures { (array : ArrayType) → option_map (λ name. name.now) result ≡ array_name (Array array) (expr_tree argument.now) }
+    ensures { (array : ArrayType)
+        → option_map (λ name. name.now) result ≡ array_name (Array array) (expr_tree argument.now) }
 {
     match argument {
         Expr::Name(_, text) => Some(text.as_str()),
@@ -31,7 +32,8 @@ fn array_name(given: ValueType, argument: &Expr) -> Option<&str>
     }
 }
 
-/// The arrays that the arguments of a call are, so far, each with the place of the first parameter for which it is given.
+/// The arrays that the arguments of a call are, so far, each with the place of the first parameter for which it is
+/// given.
 #[derive(Drop)]
 struct Arrays<'a> {
     /// All of them.
@@ -41,17 +43,19 @@ struct Arrays<'a> {
 }
 
 impl<'a> Arrays<'a> {
-    /// One more array, for the parameter at a place. Answers the first parameter for which it was given before, where that or
-    /// this one may change it.
+    /// One more array, for the parameter at a place. Answers the first parameter for which it was given before, where
+    /// that or this one may change it.
     fn give(
         &mut self,
         name: &'a str,
         place: Place,
         mutable: bool,
     ) -> Result<Option<Place>, AllocError>
-        ensures before { IfOk result (λ before. before ≡ (if mutable then found self.old.given name.now else found self.old.changed name.now)) }
+        ensures before { IfOk result (λ before.
+            before ≡ (if mutable then found self.old.given name.now else found self.old.changed name.now)) }
         ensures given { OnOk result (self.new.given ≡ declared self.old.given name.now place) }
-        ensures changed { OnOk result (self.new.changed ≡ (if mutable then declared self.old.changed name.now place else self.old.changed)) }
+        ensures changed { OnOk result (self.new.changed
+            ≡ (if mutable then declared self.old.changed name.now place else self.old.changed)) }
     {
         let before = if mutable {
             self.given.find(name)
@@ -72,11 +76,13 @@ impl<'a> Arrays<'a> {
         given: ValueType,
         argument: &'a Expr,
     ) -> Result<Option<Place>, AllocError>
-        ensures before { IfOk result (λ before. before ≡ given_before self.old.given self.old.changed (is_mutable parameter.now.form)
-            (array_name given (expr_tree argument.now))) }
-        ensures given { OnOk result (self.new.given ≡ with_array self.old.given (array_name given (expr_tree argument.now)) parameter.now.place) }
+        ensures before { IfOk result (λ before. before ≡ given_before self.old.given self.old.changed
+            (is_mutable parameter.now.form) (array_name given (expr_tree argument.now))) }
+        ensures given { OnOk result (self.new.given
+            ≡ with_array self.old.given (array_name given (expr_tree argument.now)) parameter.now.place) }
         ensures changed { OnOk result (self.new.changed
-            ≡ with_changed self.old.changed (is_mutable parameter.now.form) (array_name given (expr_tree argument.now)) parameter.now.place) }
+            ≡ with_changed self.old.changed (is_mutable parameter.now.form) (array_name given (expr_tree argument.now))
+            parameter.now.place) }
     {
         match array_name(given, argument) {
             Some(name) => self.give(name, parameter.place, parameter.form.is_mutable()),
@@ -141,7 +147,8 @@ pub fn array_clash(
 ) -> Result<Option<SharedArray>, AllocError>
     requires types { length types.now ≡ length parameters.now }
     requires arguments { length arguments.now ≡ length parameters.now }
-    ensures { IfOk result (λ clash. clash ≡ first_clash [] (passed (map parameter_tree parameters.now) types.now (map expr_tree arguments.now))) }
+    ensures { IfOk result (λ clash. clash
+        ≡ first_clash [] (passed (map parameter_tree parameters.now) types.now (map expr_tree arguments.now))) }
 {
     let mut arrays = Arrays {
         given: Names::new(alloc),

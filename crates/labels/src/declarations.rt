@@ -40,8 +40,11 @@ pub fn right_side(
     control: Option<SecretControl>,
     right: &RightSide,
 ) -> Result<Option<Typed>, AllocError>
-    ensures typed { IfOk result (λ typed. typed ≡ right_typed (map procedure_tree earlier.now) names.now control (right_tree right.now)) }
-    ensures first { OnOk result (first.new.seen ≡ fold sooner first.old.seen (right_violations (map procedure_tree earlier.now) names.now control (right_tree right.now))) }
+    ensures typed { IfOk result (λ typed.
+        typed ≡ right_typed (map procedure_tree earlier.now) names.now control (right_tree right.now)) }
+    ensures first { OnOk result (first.new.seen
+        ≡ fold sooner first.old.seen
+        (right_violations (map procedure_tree earlier.now) names.now control (right_tree right.now))) }
 {
     match right {
         RightSide::Call(it) => {
@@ -75,8 +78,10 @@ fn note_declaration(
     declaration: &Declaration,
     given: Option<Typed>,
 )
-    ensures { first.new.seen ≡ fold sooner first.old.seen
-        (of_one [] (declaration_violations control declaration.now.place taken declaration.now.label declaration.now.mutable declaration.now.kind) given) }
+    ensures { first.new.seen
+        ≡ fold sooner first.old.seen (of_one []
+        (declaration_violations control declaration.now.place taken declaration.now.label declaration.now.mutable
+        declaration.now.kind) given) }
 {
     let Some(given) = given else {
         return;
@@ -101,7 +106,9 @@ pub fn declaration<'a>(
     declaration: &'a Declaration,
 ) -> Result<(), AllocError>
     ensures names { OnOk result (names.new ≡ scope_after names.old (statement_tree (Declare declaration.now))) }
-    ensures first { OnOk result (first.new.seen ≡ fold sooner first.old.seen (statement_violations (map procedure_tree earlier.now) names.old control (statement_tree (Declare declaration.now)))) }
+    ensures first { OnOk result (first.new.seen
+        ≡ fold sooner first.old.seen (statement_violations (map procedure_tree earlier.now) names.old control
+        (statement_tree (Declare declaration.now)))) }
 {
     let given = right_side(alloc, names, first, earlier, control, &declaration.value)?;
     let variable = VariableType {
@@ -149,8 +156,9 @@ fn note_array(
     array: &ArrayDeclaration,
     types: &[Typed],
 )
-    ensures { first.new.seen ≡ fold sooner first.old.seen (array_violations control array.now.place taken array.now.label array.now.mutable array.now.kind array.now.length
-        (values_tree array.now.values) types.now) }
+    ensures { first.new.seen
+        ≡ fold sooner first.old.seen (array_violations control array.now.place taken array.now.label array.now.mutable
+        array.now.kind array.now.length (values_tree array.now.values) types.now) }
 {
     let (place, label) = (array.place, array.label);
     let wanted = WordType {
@@ -170,8 +178,10 @@ fn written(
     first: &mut First,
     values: &Option<Vec<Expr>>,
 ) -> Result<Option<Vec<Typed>>, AllocError>
-    ensures typed { IfOk result (λ types. option_map (λ given. given.items) types ≡ typed_of_all names.now (written (values_tree values.now))) }
-    ensures first { OnOk result (first.new.seen ≡ fold sooner first.old.seen (exprs_violations names.now (written (values_tree values.now)))) }
+    ensures typed { IfOk result (λ types.
+        option_map (λ given. given.items) types ≡ typed_of_all names.now (written (values_tree values.now))) }
+    ensures first { OnOk result (first.new.seen
+        ≡ fold sooner first.old.seen (exprs_violations names.now (written (values_tree values.now)))) }
 {
     match values {
         None => Ok(Some(Vec::new(alloc))),
@@ -188,9 +198,11 @@ pub fn array<'a>(
     array: &'a ArrayDeclaration,
 ) -> Result<(), AllocError>
     ensures names { OnOk result (names.new ≡ scope_after names.old (statement_tree (DeclareArray array.now))) }
-    ensures first { OnOk result (first.new.seen ≡ fold sooner first.old.seen
-        (exprs_violations names.old (written (values_tree array.now.values))
-        ++ of_one [] (array_violations control array.now.place (is_some (found names.old array.now.name)) array.now.label array.now.mutable array.now.kind array.now.length (values_tree array.now.values))
+    ensures first { OnOk result (first.new.seen
+        ≡ fold sooner first.old.seen (exprs_violations names.old (written (values_tree array.now.values))
+        ++ of_one []
+        (array_violations control array.now.place (is_some (found names.old array.now.name)) array.now.label
+        array.now.mutable array.now.kind array.now.length (values_tree array.now.values))
         (typed_of_all names.old (written (values_tree array.now.values))))) }
 {
     let types = written(alloc, names, first, &array.values)?;

@@ -50,7 +50,8 @@ pub fn note_name(
 
 /// Notes a name that is no variable's, and gives what is known of the variable.
 pub fn name(names: &Scope<'_>, first: &mut First, place: Place, text: &Name) -> Option<Typed>
-    ensures typed { result ≡ option_map (typed_as (secret_name names.now text.now) None) (name_type names.now text.now) }
+    ensures typed { result
+        ≡ option_map (typed_as (secret_name names.now text.now) None) (name_type names.now text.now) }
     ensures first { first.new.seen ≡ fold sooner first.old.seen (name_violations names.now place text.now) }
 {
     let variable = names.variable(text.as_str());
@@ -131,8 +132,10 @@ pub fn expressions(
     exprs: &[Expr],
 ) -> Result<Option<Vec<Typed>>, AllocError>
     ensures count { IfOk result (λ types. IfSome types (λ given. length given.items ≡ length exprs.now)) }
-    ensures typed { IfOk result (λ types. option_map (λ given. given.items) types ≡ typed_of_all names.now (map expr_tree exprs.now)) }
-    ensures first { OnOk result (first.new.seen ≡ fold sooner first.old.seen (exprs_violations names.now (map expr_tree exprs.now))) }
+    ensures typed { IfOk result (λ types.
+        option_map (λ given. given.items) types ≡ typed_of_all names.now (map expr_tree exprs.now)) }
+    ensures first { OnOk result (first.new.seen
+        ≡ fold sooner first.old.seen (exprs_violations names.now (map expr_tree exprs.now))) }
 {
     let mut types = Vec::new(alloc);
     let mut typed = true;

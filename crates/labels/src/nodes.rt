@@ -17,8 +17,11 @@ use language::{
 
 /// Notes what a number violates, and gives what is known of it where it is well typed, as each function below.
 pub fn number(first: &mut First, place: Place, value: u32, kind: Kind) -> Option<Typed>
-    ensures typed { result ≡ option_map (typed_as None (Some value)) (unless (number_rules value kind) (word kind Public)) }
-    ensures first { first.new.seen ≡ fold sooner first.old.seen (because (Number (record { value = value; kind = kind })) place (number_rules value kind)) }
+    ensures typed { result
+        ≡ option_map (typed_as None (Some value)) (unless (number_rules value kind) (word kind Public)) }
+    ensures first { first.new.seen
+        ≡ fold sooner first.old.seen
+        (because (Number (record { value = value; kind = kind })) place (number_rules value kind)) }
 {
     let within = kind.includes(value);
     let why = Why::Number(Literal { value, kind });
@@ -57,7 +60,8 @@ pub fn prefix(
     operand: Option<Typed>,
 ) -> Option<Typed>
     ensures typed { result ≡ of_one None (of_operand (prefix_type operator)) operand }
-    ensures first { first.new.seen ≡ fold sooner first.old.seen (asked_of_one operand_why place (prefix_rules operator) operand) }
+    ensures first { first.new.seen
+        ≡ fold sooner first.old.seen (asked_of_one operand_why place (prefix_rules operator) operand) }
 {
     let operand = operand?;
     let fits = match operator {
@@ -127,7 +131,8 @@ pub fn binary(
 /// A rotation by so many bits.
 pub fn rotate(first: &mut First, place: Place, amount: u32, operand: Option<Typed>) -> Option<Typed>
     ensures typed { result ≡ of_one None (of_operand (rotate_type amount)) operand }
-    ensures first { first.new.seen ≡ fold sooner first.old.seen (asked_of_one (rotate_why amount) place (rotate_rules amount) operand) }
+    ensures first { first.new.seen
+        ≡ fold sooner first.old.seen (asked_of_one (rotate_why amount) place (rotate_rules amount) operand) }
 {
     let operand = operand?;
     let kind = operand.value.kind();
@@ -167,7 +172,8 @@ pub fn choice(
     otherwise: Option<Typed>,
 ) -> Option<Typed>
     ensures typed { result ≡ of_three None (of_choice select_type) condition accepted otherwise }
-    ensures first { first.new.seen ≡ fold sooner first.old.seen (asked_of_three choice_why place select_rules condition accepted otherwise) }
+    ensures first { first.new.seen
+        ≡ fold sooner first.old.seen (asked_of_three choice_why place select_rules condition accepted otherwise) }
 {
     let (Some(condition), Some(accepted), Some(otherwise)) = (condition, accepted, otherwise) else {
         return None;
@@ -200,7 +206,8 @@ pub fn element(
     index: Option<Typed>,
 ) -> Option<Typed>
     ensures typed { result ≡ of_two None (of_operands element_type) array index }
-    ensures first { first.new.seen ≡ fold sooner first.old.seen (asked_of_two element_why place element_rules array index) }
+    ensures first { first.new.seen
+        ≡ fold sooner first.old.seen (asked_of_two element_why place element_rules array index) }
 {
     let (Some(array), Some(index)) = (array, index) else {
         return None;

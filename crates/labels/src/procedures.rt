@@ -23,7 +23,8 @@ fn parameters<'a>(
     parameters: &'a [Parameter],
 ) -> Result<(), AllocError>
     ensures names { OnOk result (names.new ≡ with_parameters names.old (map parameter_tree parameters.now)) }
-    ensures first { OnOk result (first.new.seen ≡ fold sooner first.old.seen (parameter_violations names.old (map parameter_tree parameters.now))) }
+    ensures first { OnOk result (first.new.seen
+        ≡ fold sooner first.old.seen (parameter_violations names.old (map parameter_tree parameters.now))) }
 {
     for parameter in parameters {
         let variable = VariableType {
@@ -61,7 +62,8 @@ fn returned(
     wanted: Option<WordType>,
     returned: &Option<Return>,
 )
-    ensures { first.new.seen ≡ fold sooner first.old.seen (return_violations names.now wanted (option_map return_tree returned.now)) }
+    ensures { first.new.seen
+        ≡ fold sooner first.old.seen (return_violations names.now wanted (option_map return_tree returned.now)) }
 {
     if let Some(it) = returned {
         let given = expression(names, first, &it.value);
@@ -110,8 +112,11 @@ pub fn procedure<'a>(
     earlier: &[Procedure],
     procedure: &'a Procedure,
 ) -> Result<(), AllocError>
-    ensures names { OnOk result (names.new ≡ with_procedure names.old (length earlier.now) (procedure_tree procedure.now)) }
-    ensures first { OnOk result (first.new.seen ≡ fold sooner first.old.seen (procedure_violations (map procedure_tree earlier.now) names.old (procedure_tree procedure.now))) }
+    ensures names { OnOk result (names.new
+        ≡ with_procedure names.old (length earlier.now) (procedure_tree procedure.now)) }
+    ensures first { OnOk result (first.new.seen
+        ≡ fold sooner first.old.seen
+        (procedure_violations (map procedure_tree earlier.now) names.old (procedure_tree procedure.now))) }
 {
     let callee = Callee {
         number: earlier.len(),

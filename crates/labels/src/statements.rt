@@ -77,7 +77,9 @@ fn statement<'a>(
     statement: &'a Statement,
 ) -> Result<(), AllocError>
     ensures names { OnOk result (names.new ≡ scope_after names.old (statement_tree statement.now)) }
-    ensures first { OnOk result (first.new.seen ≡ fold sooner first.old.seen (statement_violations (map procedure_tree earlier.now) names.old control (statement_tree statement.now))) }
+    ensures first { OnOk result (first.new.seen
+        ≡ fold sooner first.old.seen
+        (statement_violations (map procedure_tree earlier.now) names.old control (statement_tree statement.now))) }
 {
     match statement {
         Statement::Declare(it) => declaration(alloc, names, first, earlier, control, it),
@@ -125,7 +127,9 @@ fn arm<'a>(
     arm: &'a [Statement],
 ) -> Result<(), AllocError>
     ensures names { OnOk result (names.new ≡ names.old) }
-    ensures first { OnOk result (first.new.seen ≡ fold sooner first.old.seen (block_violations (map procedure_tree earlier.now) names.old control (block_tree arm.now))) }
+    ensures first { OnOk result (first.new.seen
+        ≡ fold sooner first.old.seen
+        (block_violations (map procedure_tree earlier.now) names.old control (block_tree arm.now))) }
 {
     let outside = names.len();
     statements(alloc, names, first, earlier, control, arm)?;
@@ -145,9 +149,11 @@ fn turns<'a>(
     body: &'a [Statement],
 ) -> Result<(), AllocError>
     ensures names { OnOk result (names.new ≡ names.old) }
-    ensures first { OnOk result (first.new.seen ≡ fold sooner first.old.seen
-        (at counter.now.place (when (is_some (found names.old counter.now.name)) NameDeclaredTwice)
-        ++ block_violations (map procedure_tree earlier.now) (declared names.old counter.now.place counter.now.name counter_as) control (block_tree body.now))) }
+    ensures first { OnOk result (first.new.seen
+        ≡ fold sooner first.old.seen (at counter.now.place
+        (when (is_some (found names.old counter.now.name)) NameDeclaredTwice)
+        ++ block_violations (map procedure_tree earlier.now)
+        (declared names.old counter.now.place counter.now.name counter_as) control (block_tree body.now))) }
 {
     let before = names.len();
     let variable = VariableType {
@@ -176,7 +182,9 @@ pub fn statements<'a>(
     statements: &'a [Statement],
 ) -> Result<(), AllocError>
     ensures names { OnOk result (names.new ≡ scope_after_all names.old (block_tree statements.now)) }
-    ensures first { OnOk result (first.new.seen ≡ fold sooner first.old.seen (block_violations (map procedure_tree earlier.now) names.old control (block_tree statements.now))) }
+    ensures first { OnOk result (first.new.seen
+        ≡ fold sooner first.old.seen
+        (block_violations (map procedure_tree earlier.now) names.old control (block_tree statements.now))) }
 {
     for one in statements {
         statement(alloc, names, first, earlier, control, one)?;

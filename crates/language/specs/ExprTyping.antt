@@ -25,7 +25,8 @@ use Rattle.word.specs.declared.profile.Profile.TheVariants.{P1, P2}
 use Rattle.language.specs.declared.why.Typed.{Typed}
 use Rattle.language.specs.declared.why.Why.TheVariants.{Number}
 use Rattle.language.specs.Operators.{operation_of}
-use Rattle.language.specs.Reasons.{secret_in, literal_in, operand_why, rotate_why, operands_why, choice_why, element_why}
+use Rattle.language.specs.Reasons.{secret_in, literal_in, operand_why, rotate_why, operands_why, choice_why}
+use Rattle.language.specs.Reasons.{element_why}
 use Rattle.language.specs.Reasons.{unknown_why}
 use Rattle.language.specs.Tree.{ExprTree, number, truth, name, prefix, binary, rotate, convert, select, element}
 use Rattle.language.specs.Types.{Scope, found, variable, bits_of, word, joined, is_numeric, is_bool, is_array}

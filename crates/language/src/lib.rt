@@ -1,7 +1,7 @@
-// The language: the shapes of parameters and arguments, its syntax tree, its rules with their refusals, its
-// types, what a program means and how large it is. Of these there are definitions (`specs/`), in which the
-// promises of all crates above are stated. Modules have tables of names, the names in scope, what the texts of arguments
-// spell, and laws about typing. It stands on the words and the places of `word`.
+// The language: the shapes of parameters and arguments, its syntax tree, its rules with their refusals, its types, what
+// a program means and how large it is. Of these there are definitions (`specs/`), in which the promises of all crates
+// above are stated. Modules have tables of names, the names in scope, what the texts of arguments spell, and laws about
+// typing. It stands on the words and the places of `word`.
 #![tactic(auto)]
 
 pub mod arguments;

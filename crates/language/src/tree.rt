@@ -256,7 +256,8 @@ impl Program {
 
     /// The first exported procedure, and those before it.
     pub fn exported(&self) -> Option<(&[Procedure], &Procedure)>
-        ensures { option_map (λ found. (map procedure_tree found.0.now, procedure_tree found.1.now)) result ≡ exported [] (program_tree self.now).procedures }
+        ensures { option_map (λ found. (map procedure_tree found.0.now, procedure_tree found.1.now)) result
+            ≡ exported [] (program_tree self.now).procedures }
     {
         for (index, procedure) in self.procedures.iter().enumerate() {
             if procedure.export.is_some() {
@@ -272,7 +273,8 @@ pub fn procedure_named<'p>(
     procedures: &'p [Procedure],
     name: &Name,
 ) -> Option<(&'p [Procedure], &'p Procedure)>
-    ensures { option_map (λ found. (map procedure_tree found.0.now, procedure_tree found.1.now)) result ≡ named [] (map procedure_tree procedures.now) name.now }
+    ensures { option_map (λ found. (map procedure_tree found.0.now, procedure_tree found.1.now)) result
+        ≡ named [] (map procedure_tree procedures.now) name.now }
 {
     for (index, procedure) in procedures.iter().enumerate() {
         if procedure.name.as_str() == name.as_str() {

@@ -27,7 +27,8 @@ pub enum ValueType {
 }
 
 impl ValueType {
-    ghost use Rattle.language.specs.Types.{are_alike, is_array, is_bool, is_hidden, is_narrow, is_numeric, kind_of, label_of, widths_differ, word};
+    ghost use Rattle.language.specs.Types.{are_alike, is_array, is_bool, is_hidden, is_narrow, is_numeric, kind_of};
+    ghost use Rattle.language.specs.Types.{label_of, widths_differ, word};
 
     /// The type of a word.
     pub fn word(kind: Kind, label: Label) -> ValueType

@@ -1,5 +1,5 @@
--- What is kept of the arrays that the arguments of a call are, each with the place of the first parameter for which it is
--- given.
+-- What is kept of the arrays that the arguments of a call are, each with the place of the first parameter for which it
+-- is given.
 use Rattle.std.specs.Prelude.{ℕ, Bool, List, Option, Some, None, if◌then◌else◌}
 use Rattle.labels.specs.Below.{Place}
 use Rattle.language.specs.names.Scope.{declared, found}

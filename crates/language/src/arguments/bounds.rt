@@ -58,7 +58,9 @@ pub fn first_fault_by<P, A, F: Fn(&P, &A) -> Option<ArgumentRule>>(
     rule_at: F,
 ) -> Option<ArgumentFault>
     requires { F.IsAlwaysCallable rule_at }
-    ensures { (rule : P → A → Option ArgumentRule) → JudgesBy (F.post rule_at) rule → result ≡ fault_by rule params.now given.now }
+    ensures { (rule : P → A → Option ArgumentRule)
+        → JudgesBy (F.post rule_at) rule
+        → result ≡ fault_by rule params.now given.now }
 {
     if given.len() != params.len() {
         return Some(ArgumentFault::count());

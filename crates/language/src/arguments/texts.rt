@@ -131,9 +131,12 @@ pub fn argument(alloc: Global, param: &Param, text: &str) -> Result<Arg, AllocEr
 /// leftmost faulty text, its shape before its values. Memory is asked for only once the texts have
 /// no fault.
 pub fn read(alloc: Global, params: &[Param], texts: &[&str]) -> Result<Args, ReadError>
-    ensures found { IfOk result (λ args. map (λ arg. Some (words_of arg)) args ≡ map (λ text. numbers_of text.now) texts.now) }
+    ensures found { IfOk result (λ args.
+        map (λ arg. Some (words_of arg)) args ≡ map (λ text. numbers_of text.now) texts.now) }
     ensures within { IfOk result (AreWithin params.now) }
-    ensures fault { (fault : ArgumentFault) → (result ≡ Err (ReadError.Argument fault)) ↔ (fault_of_texts params.now (map (λ text. text.now) texts.now) ≡ Some fault) }
+    ensures fault { (fault : ArgumentFault)
+        → (result ≡ Err (ReadError.Argument fault))
+        ↔ (fault_of_texts params.now (map (λ text. text.now) texts.now) ≡ Some fault) }
     ensures only { OnOk result (fault_of_texts params.now (map (λ text. text.now) texts.now) ≡ None) }
 {
     if let Some(fault) = first_fault(params, texts) {

@@ -1,6 +1,8 @@
 ghost use Rattle.std.specs.Prelude.{◌≡◌, map};
-ghost use Rattle.language.specs.Tree.{block_tree, call_tree, parameter_tree, procedure_tree, right_tree, statement_tree};
-ghost use Rattle.language.specs.Typing.{assigns_public, block_assigns, calls_one, is_public_mutable, may_assign, parameters_assign, right_assigns, statement_assigns};
+ghost use Rattle.language.specs.Tree.{block_tree, call_tree, parameter_tree, procedure_tree, right_tree};
+ghost use Rattle.language.specs.Tree.{statement_tree};
+ghost use Rattle.language.specs.Typing.{assigns_public, block_assigns, calls_one, is_public_mutable, may_assign};
+ghost use Rattle.language.specs.Typing.{parameters_assign, right_assigns, statement_assigns};
 
 use crate::scopes::scope::Scope;
 use crate::{Call, Callee, Label, Parameter, Procedure, RightSide, Statement};
