@@ -1,5 +1,5 @@
--- How much room straight code asks of a frame: how many values of subexpressions are still needed at once, where operands
--- are computed from left to right, and how many loops stand in one another.
+-- How much room straight code asks of a frame: how many values of subexpressions are still needed at once, where
+-- operands are computed from left to right, and how many loops stand in one another.
 use Rattle.std.specs.Prelude.{ℕ, ◌+◌, List, [], ◌∷◌, Option, None, Some, max}
 use Rattle.branch_removal.specs.Straight.{StraightTree, set, array, put, take, branch, repeats}
 use Rattle.branch_removal.specs.Straight.{StraightBlock, nothing, first, StraightProgram}

@@ -1,5 +1,5 @@
--- How much each word variable of a program is used: the sum of 8 to the number of loops around, over the places in which
--- it is read, set or a loop's counter. No weight goes beyond the greatest number of 64 bits.
+-- How much each word variable of a program is used: the sum of 8 to the number of loops around, over the places in
+-- which it is read, set or a loop's counter. No weight goes beyond the greatest number of 64 bits.
 use Rattle.std.specs.Prelude.{ℕ, ◌+◌, ◌-◌, ◌*◌, ◌^◌, List, [], ◌∷◌, Option, None, Some, length, min}
 use Rattle.std.specs.Prelude.{replicate, slice_index, slice_set}
 use Rattle.branch_removal.specs.Straight.{StraightTree, set, array, put, take, branch, repeats}

@@ -19,7 +19,10 @@ pub fn straight_shows_what_is_public()
 
 /// What may stand in the place of a body's straight code is straight code for that body.
 pub fn replaced_is_removed()
-    ensures { (ranged : RangedProgram) (before after : StraightProgram) → IsRemoved ranged before → IsReplaced before after → IsRemoved ranged after }
+    ensures { (ranged : RangedProgram) (before after : StraightProgram)
+        → IsRemoved ranged before
+        → IsReplaced before after
+        → IsRemoved ranged after }
 {}
 
 /// An expression without an index, a division or a multiplication has nothing on its path.

@@ -14,7 +14,8 @@ pub fn branch_of(
     accepted: Vec<StraightStatement>,
     otherwise: Vec<StraightStatement>,
 ) -> StraightStatement
-    ensures { straight_tree result ≡ straight.branch (term_tree condition) (straight_block accepted.items) (straight_block otherwise.items) }
+    ensures { straight_tree result
+        ≡ straight.branch (term_tree condition) (straight_block accepted.items) (straight_block otherwise.items) }
 {
     StraightStatement::Branch(condition, accepted, otherwise)
 }
@@ -26,7 +27,8 @@ pub fn loop_of(
     high: Term,
     body: Vec<StraightStatement>,
 ) -> StraightStatement
-    ensures { straight_tree result ≡ straight.repeats counter (term_tree low) (term_tree high) (straight_block body.items) }
+    ensures { straight_tree result
+        ≡ straight.repeats counter (term_tree low) (term_tree high) (straight_block body.items) }
 {
     StraightStatement::Repeat(counter, low, high, body)
 }

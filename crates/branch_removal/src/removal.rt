@@ -19,7 +19,8 @@ use word::Place;
 
 /// Puts a statement behind what there is.
 fn push(code: &mut Vec<StraightStatement>, one: StraightStatement) -> Result<(), AllocError>
-    ensures { OnOk result (straight_block code.new.items ≡ chain (straight_block code.old.items) (single (straight_tree one))) }
+    ensures { OnOk result (straight_block code.new.items
+        ≡ chain (straight_block code.old.items) (single (straight_tree one))) }
 {
     code.push(one)?;
     Ok(())
@@ -95,7 +96,8 @@ fn push_removed(
     statement: &FlatStatement,
 ) -> Result<(), AllocError>
     requires numbered { control + controls_in (flat_tree statement.now) < 2 ^ 32 }
-    ensures { OnOk result (straight_block code.new.items ≡ chain (straight_block code.old.items) (removed within control (flat_tree statement.now))) }
+    ensures { OnOk result (straight_block code.new.items
+        ≡ chain (straight_block code.old.items) (removed within control (flat_tree statement.now))) }
 {
     match statement {
         FlatStatement::Declare(variable, _, _, value)
@@ -204,7 +206,8 @@ fn push_removed_all(
     body: &[FlatStatement],
 ) -> Result<(), AllocError>
     requires numbered { control + controls_in_all (flat_block body.now) < 2 ^ 32 }
-    ensures { OnOk result (straight_block code.new.items ≡ chain (straight_block code.old.items) (removed_all within control (flat_block body.now))) }
+    ensures { OnOk result (straight_block code.new.items
+        ≡ chain (straight_block code.old.items) (removed_all within control (flat_block body.now))) }
 {
     for statement in body {
         push_removed(alloc, code, within, control, statement)?;

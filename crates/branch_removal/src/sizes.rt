@@ -132,7 +132,8 @@ fn turns_of(turns: &[u32], counter: u32) -> u64
 /// How large a branch is, by its condition and its arms.
 fn branch_size(condition: &Term, accepted: Size, otherwise: Size) -> Size
     ensures work { result.work ≡ counted (1 + term_nodes (term_tree condition.now) + accepted.work + otherwise.work) }
-    ensures height { result.height ≡ max (counted (height_of (term_tree condition.now))) (max accepted.height otherwise.height) }
+    ensures height { result.height
+        ≡ max (counted (height_of (term_tree condition.now))) (max accepted.height otherwise.height) }
     ensures depth { result.depth ≡ max accepted.depth otherwise.depth }
 {
     Size {
@@ -148,8 +149,11 @@ fn branch_size(condition: &Term, accepted: Size, otherwise: Size) -> Size
 /// How large a loop of so many turns is, by its bounds and its body.
 fn loop_size(turns: u64, low: &Term, high: &Term, turn: Size) -> Size
     requires { turns < 2 ^ 32 }
-    ensures work { result.work ≡ counted (term_nodes (term_tree low.now) + term_nodes (term_tree high.now) + (turns + 1) * counted (1 + turn.work)) }
-    ensures height { result.height ≡ max (max (counted (height_of (term_tree low.now))) (counted (height_of (term_tree high.now)))) turn.height }
+    ensures work { result.work
+        ≡ counted
+        (term_nodes (term_tree low.now) + term_nodes (term_tree high.now) + (turns + 1) * counted (1 + turn.work)) }
+    ensures height { result.height
+        ≡ max (max (counted (height_of (term_tree low.now))) (counted (height_of (term_tree high.now)))) turn.height }
     ensures depth { result.depth ≡ counted (1 + turn.depth) }
 {
     let all = turn.work.saturating_add(1).saturating_mul(turns + 1);

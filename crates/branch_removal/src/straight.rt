@@ -61,9 +61,31 @@ impl<'f> Model for StraightCode<'f> {
 
     ghost coded = { coded_straight };
 
-    ghost view = { λ s. record { profile = s.profile; parameters = s.parameters.now; returned = s.returned; nodes = s.nodes; work = s.work; turns = s.turns.now; declared = s.declared.now; controls = s.controls; body = straight_block s.body.items; value = option_map term_tree s.value } };
+    ghost view = { λ s. record {
+      profile = s.profile;
+      parameters = s.parameters.now;
+      returned = s.returned;
+      nodes = s.nodes;
+      work = s.work;
+      turns = s.turns.now;
+      declared = s.declared.now;
+      controls = s.controls;
+      body = straight_block s.body.items;
+      value = option_map term_tree s.value;
+    } };
 
-    ghost invariant = { λ s. IsStraight (record { profile = s.profile; parameters = s.parameters.now; returned = s.returned; nodes = s.nodes; work = s.work; turns = s.turns.now; declared = s.declared.now; controls = s.controls; body = straight_block s.body.items; value = option_map term_tree s.value }) };
+    ghost invariant = { λ s. IsStraight (record {
+      profile = s.profile;
+      parameters = s.parameters.now;
+      returned = s.returned;
+      nodes = s.nodes;
+      work = s.work;
+      turns = s.turns.now;
+      declared = s.declared.now;
+      controls = s.controls;
+      body = straight_block s.body.items;
+      value = option_map term_tree s.value;
+    }) };
 }
 
 impl<'f> StraightCode<'f> {
@@ -74,8 +96,30 @@ impl<'f> StraightCode<'f> {
         body: Vec<StraightStatement>,
         value: Option<Term>,
     ) -> Self
-        requires { IsStraight (record { profile = ranged.now.flat.profile; parameters = ranged.now.flat.parameters; returned = ranged.now.flat.returned; nodes = ranged.now.flat.nodes; work = ranged.now.work; turns = ranged.now.turns; declared = ranged.now.flat.declared; controls = controls; body = straight_block body.items; value = option_map term_tree value }) }
-        ensures { result ≡ record { profile = ranged.now.flat.profile; parameters = ranged.now.flat.parameters; returned = ranged.now.flat.returned; nodes = ranged.now.flat.nodes; work = ranged.now.work; turns = ranged.now.turns; declared = ranged.now.flat.declared; controls = controls; body = straight_block body.items; value = option_map term_tree value } }
+        requires { IsStraight (record {
+          profile = ranged.now.flat.profile;
+          parameters = ranged.now.flat.parameters;
+          returned = ranged.now.flat.returned;
+          nodes = ranged.now.flat.nodes;
+          work = ranged.now.work;
+          turns = ranged.now.turns;
+          declared = ranged.now.flat.declared;
+          controls = controls;
+          body = straight_block body.items;
+          value = option_map term_tree value;
+        }) }
+        ensures { result ≡ record {
+          profile = ranged.now.flat.profile;
+          parameters = ranged.now.flat.parameters;
+          returned = ranged.now.flat.returned;
+          nodes = ranged.now.flat.nodes;
+          work = ranged.now.work;
+          turns = ranged.now.turns;
+          declared = ranged.now.flat.declared;
+          controls = controls;
+          body = straight_block body.items;
+          value = option_map term_tree value;
+        } }
     {
         let flat = ranged.flat();
         StraightCode {
@@ -99,7 +143,8 @@ impl<'f> StraightCode<'f> {
         body: &[StraightStatement],
         value: Option<&Term>,
     ) -> bool
-        ensures { result ≡ is_checked (with_variables self.now declared.now (straight_block body.now) (option_map (λ term. term_tree term.now) value.entry)) }
+        ensures { result ≡ is_checked (with_variables self.now declared.now (straight_block body.now)
+            (option_map (λ term. term_tree term.now) value.entry)) }
     {
         let parameters = &self.declared[..self.parameters.len()];
         come_first(parameters, declared)
@@ -115,7 +160,8 @@ impl<'f> StraightCode<'f> {
         body: &[StraightStatement],
         value: Option<&Term>,
     ) -> bool
-        ensures { result ≡ has_room (with_variables self.now declared.now (straight_block body.now) (option_map (λ term. term_tree term.now) value.entry)) }
+        ensures { result ≡ has_room (with_variables self.now declared.now (straight_block body.now)
+            (option_map (λ term. term_tree term.now) value.entry)) }
     {
         let code = block_size(self.turns, body);
         let last = result_size(value);
@@ -137,7 +183,8 @@ impl<'f> StraightCode<'f> {
     ) -> Option<StraightCode<'g>>
     where
         'f: 'g,
-        ensures exact { result ≡ checked (with_variables self.now declared.now (straight_block body.items) (option_map term_tree value)) }
+        ensures exact { result ≡ checked
+            (with_variables self.now declared.now (straight_block body.items) (option_map term_tree value)) }
         ensures straight { IfSome result IsStraight }
     {
         if !self.may_have(declared, body.as_slice(), value.as_ref()) {

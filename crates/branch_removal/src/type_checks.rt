@@ -136,7 +136,8 @@ fn may_fill(
     size: u32,
     values: &[Term],
 ) -> bool
-    ensures { result ≡ may_fill (types_beside profile declared.now (Some number)) size (element_in size (variable_at declared.now None number)) (map term_tree values.now) }
+    ensures { result ≡ may_fill (types_beside profile declared.now (Some number)) size
+        (element_in size (variable_at declared.now None number)) (map term_tree values.now) }
 {
     match element_in(size, variable_at(declared, None, number)) {
         None => false,
@@ -223,7 +224,8 @@ pub fn is_result(
     returned: Option<WordType>,
     value: Option<&Term>,
 ) -> bool
-    ensures { result ≡ is_result (types_beside profile declared.now None) returned (option_map (λ term. term_tree term.now) value.entry) }
+    ensures { result ≡ is_result (types_beside profile declared.now None) returned
+        (option_map (λ term. term_tree term.now) value.entry) }
 {
     match value {
         None => returned.is_none(),

@@ -2,7 +2,8 @@
 
 ghost use Rattle.std.specs.Prelude.{◌≡◌, map, IfOk};
 ghost use Rattle.branch_removal.specs.Straight.{straight_tree, straight_block};
-ghost use Rattle.branch_removal.specs.Uses.{used, used_in, used_in_terms, used_by, used_by_all, weight_inside, weights_of};
+ghost use Rattle.branch_removal.specs.Uses.{used, used_in, used_in_terms, used_by, used_by_all, weight_inside};
+ghost use Rattle.branch_removal.specs.Uses.{weights_of};
 ghost use Rattle.branch_removal.specs.Below.{term_tree};
 
 use crate::{StraightCode, StraightStatement};

@@ -47,9 +47,14 @@ impl Numbering<'_> {
         declared: &mut Vec<FlatVariable>,
         flat: &mut Vec<FlatStatement>,
     ) -> Result<(), AllocError>
-        ensures block { OnOk result (flat_block flat.new.items ≡ chain (flat_block flat.old.items) (passed self.now.names (length declared.old.items) (parameter_tree parameter.now ∷ []) (expr_tree argument.now ∷ []))) }
-        ensures own { OnOk result (own.new ≡ begun self.now.names own.old (length declared.old.items) (parameter_tree parameter.now ∷ []) (expr_tree argument.now ∷ [])) }
-        ensures declared { OnOk result (declared.new.items ≡ declared.old.items ++ passed_variables (parameter_tree parameter.now ∷ []) (expr_tree argument.now ∷ [])) }
+        ensures block { OnOk result (flat_block flat.new.items
+            ≡ chain (flat_block flat.old.items)
+            (passed self.now.names (length declared.old.items) (parameter_tree parameter.now ∷ [])
+            (expr_tree argument.now ∷ []))) }
+        ensures own { OnOk result (own.new ≡ begun self.now.names own.old (length declared.old.items)
+            (parameter_tree parameter.now ∷ []) (expr_tree argument.now ∷ [])) }
+        ensures declared { OnOk result (declared.new.items ≡ declared.old.items
+            ++ passed_variables (parameter_tree parameter.now ∷ []) (expr_tree argument.now ∷ [])) }
     {
         let declaration = FlatVariable::parameter(parameter.param());
         let number = match parameter.form {
@@ -83,9 +88,14 @@ impl Numbering<'_> {
         declared: &mut Vec<FlatVariable>,
         flat: &mut Vec<FlatStatement>,
     ) -> Result<Numbering<'p>, AllocError>
-        ensures block { OnOk result (flat_block flat.new.items ≡ chain (flat_block flat.old.items) (passed self.now.names (length declared.old.items) (map parameter_tree parameters.now) (map expr_tree arguments.now))) }
-        ensures own { IfOk result (λ own. own.names ≡ begun self.now.names [] (length declared.old.items) (map parameter_tree parameters.now) (map expr_tree arguments.now)) }
-        ensures declared { OnOk result (declared.new.items ≡ declared.old.items ++ passed_variables (map parameter_tree parameters.now) (map expr_tree arguments.now)) }
+        ensures block { OnOk result (flat_block flat.new.items
+            ≡ chain (flat_block flat.old.items)
+            (passed self.now.names (length declared.old.items) (map parameter_tree parameters.now)
+            (map expr_tree arguments.now))) }
+        ensures own { IfOk result (λ own. own.names ≡ begun self.now.names [] (length declared.old.items)
+            (map parameter_tree parameters.now) (map expr_tree arguments.now)) }
+        ensures declared { OnOk result (declared.new.items ≡ declared.old.items
+            ++ passed_variables (map parameter_tree parameters.now) (map expr_tree arguments.now)) }
     {
         let mut own = Numbering::new(self.alloc);
         for (index, parameter) in parameters.iter().enumerate() {

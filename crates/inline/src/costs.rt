@@ -27,7 +27,8 @@ pub struct SizeCosts {
     pub declared_bytes: Cost,
 }
 
-/// The first of the parts that have most nodes, of those in which most bodies are open, and of those that declare most bytes.
+/// The first of the parts that have most nodes, of those in which most bodies are open, and of those that declare most
+/// bytes.
 #[derive(Clone, Copy)]
 struct Largest {
     nodes: Option<Share>,
@@ -41,9 +42,12 @@ pub fn size_costs(
     earlier: &[Procedure],
     export: &Procedure,
 ) -> Result<SizeCosts, AllocError>
-    ensures nodes { IfOk result (λ costs. costs.nodes ≡ nodes_cost (extents_of (map procedure_tree earlier.now)) (procedure_tree export.now)) }
-    ensures bodies { IfOk result (λ costs. costs.bodies ≡ bodies_cost (extents_of (map procedure_tree earlier.now)) (procedure_tree export.now)) }
-    ensures declared_bytes { IfOk result (λ costs. costs.declared_bytes ≡ bytes_cost (extents_of (map procedure_tree earlier.now)) (procedure_tree export.now)) }
+    ensures nodes { IfOk result (λ costs.
+        costs.nodes ≡ nodes_cost (extents_of (map procedure_tree earlier.now)) (procedure_tree export.now)) }
+    ensures bodies { IfOk result (λ costs.
+        costs.bodies ≡ bodies_cost (extents_of (map procedure_tree earlier.now)) (procedure_tree export.now)) }
+    ensures declared_bytes { IfOk result (λ costs. costs.declared_bytes
+        ≡ bytes_cost (extents_of (map procedure_tree earlier.now)) (procedure_tree export.now)) }
 {
     let known = measured_all(alloc, earlier)?;
     Ok(costs_of(&known, export))
@@ -75,9 +79,12 @@ pub fn costs_of<'s>(earlier: &Names<'s, Measured<'s>>, export: &Procedure) -> Si
 
 /// The largest parts of an export: of its parameters, its statements and its `return`.
 fn largest_parts<'s>(earlier: &Names<'s, Measured<'s>>, export: &Procedure) -> Largest
-    ensures nodes { result.nodes ≡ largest (map counted_share (node_shares (extents_in earlier.now) (procedure_tree export.now))) }
-    ensures bodies { result.bodies ≡ largest (map counted_share (body_shares (extents_in earlier.now) (procedure_tree export.now))) }
-    ensures declared_bytes { result.declared_bytes ≡ largest (map counted_share (byte_shares (extents_in earlier.now) (procedure_tree export.now))) }
+    ensures nodes { result.nodes
+        ≡ largest (map counted_share (node_shares (extents_in earlier.now) (procedure_tree export.now))) }
+    ensures bodies { result.bodies
+        ≡ largest (map counted_share (body_shares (extents_in earlier.now) (procedure_tree export.now))) }
+    ensures declared_bytes { result.declared_bytes
+        ≡ largest (map counted_share (byte_shares (extents_in earlier.now) (procedure_tree export.now))) }
 {
     let before = Largest {
         nodes: None,
@@ -112,9 +119,15 @@ fn largest_statements<'s>(
     block: &[Statement],
     before: Largest,
 ) -> Largest
-    ensures nodes { result.nodes ≡ fold larger before.nodes (map counted_share (statement_shares (statement_nodes (extents_in earlier.now)) (block_tree block.now))) }
-    ensures bodies { result.bodies ≡ fold larger before.bodies (map counted_share (statement_shares (statement_bodies (extents_in earlier.now)) (block_tree block.now))) }
-    ensures declared_bytes { result.declared_bytes ≡ fold larger before.declared_bytes (map counted_share (statement_shares (statement_bytes (extents_in earlier.now)) (block_tree block.now))) }
+    ensures nodes { result.nodes
+        ≡ fold larger before.nodes
+        (map counted_share (statement_shares (statement_nodes (extents_in earlier.now)) (block_tree block.now))) }
+    ensures bodies { result.bodies
+        ≡ fold larger before.bodies
+        (map counted_share (statement_shares (statement_bodies (extents_in earlier.now)) (block_tree block.now))) }
+    ensures declared_bytes { result.declared_bytes
+        ≡ fold larger before.declared_bytes
+        (map counted_share (statement_shares (statement_bytes (extents_in earlier.now)) (block_tree block.now))) }
 {
     let mut most = before;
     for statement in block {
@@ -131,7 +144,8 @@ fn largest_statements<'s>(
 fn larger_statement(most: Largest, place: Place, size: Size) -> Largest
     ensures nodes { result.nodes ≡ larger most.nodes (record { place = place; count = size.nodes }) }
     ensures bodies { result.bodies ≡ larger most.bodies (record { place = place; count = size.bodies }) }
-    ensures declared_bytes { result.declared_bytes ≡ larger most.declared_bytes (counted_share (record { place = place; count = 4 * size.words })) }
+    ensures declared_bytes { result.declared_bytes
+        ≡ larger most.declared_bytes (counted_share (record { place = place; count = 4 * size.words })) }
 {
     Largest {
         nodes: larger(
@@ -160,7 +174,8 @@ fn larger_statement(most: Largest, place: Place, size: Size) -> Largest
 
 /// The part that has most nodes of those before and of a `return`.
 fn larger_return(most: Option<Share>, returned: Option<&Return>) -> Option<Share>
-    ensures { result ≡ fold larger most (map counted_share (return_shares (option_map (λ r. return_tree r.now) returned.entry))) }
+    ensures { result ≡ fold larger most
+        (map counted_share (return_shares (option_map (λ r. return_tree r.now) returned.entry))) }
 {
     match returned {
         Some(returned) => {

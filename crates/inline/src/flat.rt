@@ -65,8 +65,8 @@ impl FlatVariable {
     }
 }
 
-/// The statements of the body, one behind another, that a statement of the source became: where it stands there, and how
-/// many they are.
+/// The statements of the body, one behind another, that a statement of the source became: where it stands there, and
+/// how many they are.
 #[derive(Clone, Copy, Debug)]
 pub struct Stretch {
     pub place: Place,

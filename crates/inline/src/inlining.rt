@@ -35,7 +35,8 @@ fn flat_with(
 ) -> Result<Flat, AllocError>
     requires counted { nodes ≡ nodes_of (extents_of (map procedure_tree earlier.now)) (procedure_tree export.now) }
     requires kept { IsFlat (flattened profile (map procedure_tree earlier.now) (procedure_tree export.now)) }
-    ensures { IfOk result (λ flat. flat ≡ flattened profile (map procedure_tree earlier.now) (procedure_tree export.now)) }
+    ensures { IfOk result (λ flat.
+        flat ≡ flattened profile (map procedure_tree earlier.now) (procedure_tree export.now)) }
 {
     let mut numbering = Numbering::new(alloc);
     let mut declared = Vec::new(alloc);
@@ -58,33 +59,49 @@ fn flat_with(
     ))
 }
 
-/// The export behind the procedures that it may call, as one body for an observer, where it passes no limit on its size;
-/// else the first limit that it passes.
+/// The export behind the procedures that it may call, as one body for an observer, where it passes no limit on its
+/// size; else the first limit that it passes.
 fn flat_of(
     alloc: Global,
     profile: Profile,
     earlier: &[Procedure],
     export: &Procedure,
 ) -> Result<Flat, Refusal>
-    requires { length (size_violations (map procedure_tree earlier.now) (procedure_tree export.now)) ≡ 0 → IsFlat (flattened profile (map procedure_tree earlier.now) (procedure_tree export.now)) }
-    ensures accepted { IfOk result (λ flat. flat ≡ flattened profile (map procedure_tree earlier.now) (procedure_tree export.now)) }
-    ensures within { IfOk result (λ _. length (size_violations (map procedure_tree earlier.now) (procedure_tree export.now)) ≡ 0) }
-    ensures memory { earlier.now ≡ [] → IfErr result (λ refusal. IsWantOfMemory refusal.rule refusal.place → length (size_violations (map procedure_tree earlier.now) (procedure_tree export.now)) ≡ 0) }
-    ensures refused { IfErr result (λ refusal. IsRefusedFor (size_violations (map procedure_tree earlier.now) (procedure_tree export.now)) refusal.rule refusal.place) }
-    ensures told { IfErr result (IsToldOf (size_violations (map procedure_tree earlier.now) (procedure_tree export.now))) }
+    requires { length (size_violations (map procedure_tree earlier.now) (procedure_tree export.now)) ≡ 0
+        → IsFlat (flattened profile (map procedure_tree earlier.now) (procedure_tree export.now)) }
+    ensures accepted { IfOk result (λ flat.
+        flat ≡ flattened profile (map procedure_tree earlier.now) (procedure_tree export.now)) }
+    ensures within { IfOk result (λ _.
+        length (size_violations (map procedure_tree earlier.now) (procedure_tree export.now)) ≡ 0) }
+    ensures memory { earlier.now ≡ []
+        → IfErr result (λ refusal. IsWantOfMemory refusal.rule refusal.place
+        → length (size_violations (map procedure_tree earlier.now) (procedure_tree export.now)) ≡ 0) }
+    ensures refused { IfErr result (λ refusal. IsRefusedFor
+        (size_violations (map procedure_tree earlier.now) (procedure_tree export.now)) refusal.rule refusal.place) }
+    ensures told { IfErr result (IsToldOf
+        (size_violations (map procedure_tree earlier.now) (procedure_tree export.now))) }
 {
     let nodes = measure(alloc, earlier, export)?;
     Ok(flat_with(alloc, profile, nodes, earlier, export)?)
 }
 
-/// The export of a checked program as one body for the same observer, with every call replaced by the called body, where
-/// that passes no limit on its size; else the first limit that it passes. Of a program whose export is its first procedure,
-/// memory is asked for only where no limit is passed.
+/// The export of a checked program as one body for the same observer, with every call replaced by the called body,
+/// where that passes no limit on its size; else the first limit that it passes. Of a program whose export is its first
+/// procedure, memory is asked for only where no limit is passed.
 pub fn inline(alloc: Global, checked: &Checked<'_>) -> Result<Flat, Refusal>
-    ensures accepted { IfOk result (λ flat. (before : List ProcedureTree) × (p : ProcedureTree) × (exported [] (program_tree checked.now.program.now).procedures ≡ Some (before, p)) × (length (size_violations before p) ≡ 0) × (flat ≡ flattened checked.now.profile before p)) }
-    ensures memory { (p : ProcedureTree) → exported [] (program_tree checked.now.program.now).procedures ≡ Some ([], p) → IfErr result (λ refusal. IsWantOfMemory refusal.rule refusal.place → length (size_violations [] p) ≡ 0) }
-    ensures refused { IfErr result (λ refusal. (before : List ProcedureTree) × (p : ProcedureTree) × (exported [] (program_tree checked.now.program.now).procedures ≡ Some (before, p)) × IsRefusedFor (size_violations before p) refusal.rule refusal.place) }
-    ensures told { IfErr result (λ refusal. (before : List ProcedureTree) × (p : ProcedureTree) × (exported [] (program_tree checked.now.program.now).procedures ≡ Some (before, p)) × IsToldOf (size_violations before p) refusal) }
+    ensures accepted { IfOk result (λ flat. (before : List ProcedureTree) × (p : ProcedureTree)
+        × (exported [] (program_tree checked.now.program.now).procedures ≡ Some (before, p))
+        × (length (size_violations before p) ≡ 0)
+        × (flat ≡ flattened checked.now.profile before p)) }
+    ensures memory { (p : ProcedureTree)
+        → exported [] (program_tree checked.now.program.now).procedures ≡ Some ([], p)
+        → IfErr result (λ refusal. IsWantOfMemory refusal.rule refusal.place → length (size_violations [] p) ≡ 0) }
+    ensures refused { IfErr result (λ refusal. (before : List ProcedureTree) × (p : ProcedureTree)
+        × (exported [] (program_tree checked.now.program.now).procedures ≡ Some (before, p))
+        × IsRefusedFor (size_violations before p) refusal.rule refusal.place) }
+    ensures told { IfErr result (λ refusal. (before : List ProcedureTree) × (p : ProcedureTree)
+        × (exported [] (program_tree checked.now.program.now).procedures ≡ Some (before, p))
+        × IsToldOf (size_violations before p) refusal) }
 {
     let (earlier, export) = checked.export();
     flat_of(alloc, checked.profile(), earlier, export)

@@ -4,8 +4,8 @@ ghost use Rattle.inline.specs.Below.{counted};
 
 use language::Parameter;
 
-/// How large code is. The greatest number stands for those above it too: what is never reached may be larger than a number
-/// tells.
+/// How large code is. The greatest number stands for those above it too: what is never reached may be larger than a
+/// number tells.
 #[derive(Clone, Copy)]
 pub struct Size {
     pub nodes: u64,
@@ -47,7 +47,8 @@ impl Size {
 
     /// Of this and of what stands behind it.
     pub fn and(self, behind: Size) -> Size
-        ensures { result ≡ counted_size (self.nodes + behind.nodes) (self.words + behind.words) (max self.bodies behind.bodies) }
+        ensures { result
+            ≡ counted_size (self.nodes + behind.nodes) (self.words + behind.words) (max self.bodies behind.bodies) }
     {
         Size {
             bodies: self.bodies.max(behind.bodies),

@@ -36,7 +36,8 @@ pub fn nodes_in_all(values: &[Expr]) -> u64
 
 /// How many nodes arguments cost: a word is put into a parameter, an array stays where it is.
 pub fn nodes_passed(parameters: &[Parameter], arguments: &[Expr]) -> u64
-    ensures { result ≡ counted (nodes_passed (word_arguments (map parameter_tree parameters.now) (map expr_tree arguments.now))) }
+    ensures { result ≡ counted
+        (nodes_passed (word_arguments (map parameter_tree parameters.now) (map expr_tree arguments.now))) }
 {
     let mut sum = 0u64;
     for (index, parameter) in parameters.iter().enumerate() {

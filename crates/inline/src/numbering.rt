@@ -41,8 +41,8 @@ pub(crate) fn counter() -> FlatVariable
     FlatVariable::word(word, false)
 }
 
-/// Declares a variable. It gets the number that those before it are many; where no number is left, memory would not hold
-/// the variables either.
+/// Declares a variable. It gets the number that those before it are many; where no number is left, memory would not
+/// hold the variables either.
 pub fn add(declared: &mut Vec<FlatVariable>, declaration: FlatVariable) -> Result<u32, AllocError>
     ensures number { IfOk result (λ number. number ≡ length declared.old.items) }
     ensures declared { OnOk result (declared.new.items ≡ declared.old.items ++ declaration ∷ []) }
@@ -81,7 +81,8 @@ impl<'a> Numbering<'a> {
         declared: &mut Vec<FlatVariable>,
     ) -> Result<u32, AllocError>
         ensures number { IfOk result (λ number. number ≡ length declared.old.items) }
-        ensures names { OnOk result (self.new.names ≡ numbered.naming self.old.names name.now (length declared.old.items) declaration) }
+        ensures names { OnOk result (self.new.names
+            ≡ numbered.naming self.old.names name.now (length declared.old.items) declaration) }
         ensures declared { OnOk result (declared.new.items ≡ declared.old.items ++ declaration ∷ []) }
     {
         let number = add(declared, declaration)?;
@@ -101,9 +102,12 @@ impl<'a> Numbering<'a> {
         parameters: &'a [Parameter],
         declared: &mut Vec<FlatVariable>,
     ) -> Result<Vec<Param>, AllocError>
-        ensures params { IfOk result (λ params. params.items ≡ map numbered.param_of (map parameter_tree parameters.now)) }
-        ensures names { OnOk result (self.new.names ≡ numbered.with_parameters self.old.names (length declared.old.items) (map parameter_tree parameters.now)) }
-        ensures declared { OnOk result (declared.new.items ≡ declared.old.items ++ map declaration_of (map numbered.param_of (map parameter_tree parameters.now))) }
+        ensures params { IfOk result (λ params.
+            params.items ≡ map numbered.param_of (map parameter_tree parameters.now)) }
+        ensures names { OnOk result (self.new.names
+            ≡ numbered.with_parameters self.old.names (length declared.old.items) (map parameter_tree parameters.now)) }
+        ensures declared { OnOk result (declared.new.items
+            ≡ declared.old.items ++ map declaration_of (map numbered.param_of (map parameter_tree parameters.now))) }
     {
         let mut params = Vec::new(self.alloc);
         for parameter in parameters {
@@ -194,7 +198,8 @@ impl<'a> Numbering<'a> {
 
     /// Expressions with numbers in place of names.
     fn terms(&self, exprs: &[Expr]) -> Result<Vec<Term>, AllocError>
-        ensures { IfOk result (λ terms. map term_tree terms.items ≡ map (numbered.term self.now.names) (map expr_tree exprs.now)) }
+        ensures { IfOk result (λ terms.
+            map term_tree terms.items ≡ map (numbered.term self.now.names) (map expr_tree exprs.now)) }
     {
         let mut terms = Vec::new(self.alloc);
         for expr in exprs {
@@ -209,9 +214,16 @@ impl<'a> Numbering<'a> {
         array: &'a ArrayDeclaration,
         declared: &mut Vec<FlatVariable>,
     ) -> Result<FlatStatement, AllocError>
-        ensures statement { IfOk result (λ whole. flat_tree whole ≡ flat.array (length declared.old.items) (labelled array.now.kind array.now.label) array.now.mutable array.now.length (map (numbered.term self.old.names) (written (option_map (λ values. map expr_tree values.items) array.now.values)))) }
-        ensures names { OnOk result (self.new.names ≡ numbered.naming self.old.names array.now.name (length declared.old.items) (array_as (labelled array.now.kind array.now.label) array.now.mutable array.now.length)) }
-        ensures declared { OnOk result (declared.new.items ≡ declared.old.items ++ array_as (labelled array.now.kind array.now.label) array.now.mutable array.now.length ∷ []) }
+        ensures statement { IfOk result (λ whole. flat_tree whole
+            ≡ flat.array (length declared.old.items) (labelled array.now.kind array.now.label) array.now.mutable
+            array.now.length
+            (map (numbered.term self.old.names)
+            (written (option_map (λ values. map expr_tree values.items) array.now.values)))) }
+        ensures names { OnOk result (self.new.names
+            ≡ numbered.naming self.old.names array.now.name (length declared.old.items)
+            (array_as (labelled array.now.kind array.now.label) array.now.mutable array.now.length)) }
+        ensures declared { OnOk result (declared.new.items ≡ declared.old.items
+            ++ array_as (labelled array.now.kind array.now.label) array.now.mutable array.now.length ∷ []) }
     {
         let values = match &array.values {
             Some(values) => self.terms(values)?,
@@ -229,7 +241,8 @@ impl<'a> Numbering<'a> {
 
     /// A result in the names where `return` stands.
     pub(crate) fn value(&self, returned: &Option<Return>) -> Result<Option<Term>, AllocError>
-        ensures { IfOk result (λ value. option_map term_tree value ≡ numbered.value_of self.now.names (option_map return_tree returned.now)) }
+        ensures { IfOk result (λ value.
+            option_map term_tree value ≡ numbered.value_of self.now.names (option_map return_tree returned.now)) }
     {
         match returned {
             Some(returned) => Ok(Some(self.term(&returned.value)?)),

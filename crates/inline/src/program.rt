@@ -33,9 +33,31 @@ impl Model for Flat {
 
     ghost coded = { coded_program };
 
-    ghost view = { λ f. record { profile = f.profile; place = f.place; parameters = f.parameters.items; returned = f.returned; nodes = f.nodes; declared = f.declared.items; body = flat_block f.body.items; stretches = f.stretches.items; value = option_map term_tree f.value; return_place = f.return_place } };
+    ghost view = { λ f. record {
+      profile = f.profile;
+      place = f.place;
+      parameters = f.parameters.items;
+      returned = f.returned;
+      nodes = f.nodes;
+      declared = f.declared.items;
+      body = flat_block f.body.items;
+      stretches = f.stretches.items;
+      value = option_map term_tree f.value;
+      return_place = f.return_place;
+    } };
 
-    ghost invariant = { λ f. IsFlat (record { profile = f.profile; place = f.place; parameters = f.parameters.items; returned = f.returned; nodes = f.nodes; declared = f.declared.items; body = flat_block f.body.items; stretches = f.stretches.items; value = option_map term_tree f.value; return_place = f.return_place }) };
+    ghost invariant = { λ f. IsFlat (record {
+      profile = f.profile;
+      place = f.place;
+      parameters = f.parameters.items;
+      returned = f.returned;
+      nodes = f.nodes;
+      declared = f.declared.items;
+      body = flat_block f.body.items;
+      stretches = f.stretches.items;
+      value = option_map term_tree f.value;
+      return_place = f.return_place;
+    }) };
 }
 
 impl Flat {
@@ -52,8 +74,30 @@ impl Flat {
         value: Option<Term>,
         return_place: Option<Place>,
     ) -> Self
-        requires { IsFlat (record { profile = profile; place = place; parameters = parameters.items; returned = returned; nodes = nodes; declared = declared.items; body = flat_block body.items; stretches = stretches.items; value = option_map term_tree value; return_place = return_place }) }
-        ensures { result ≡ record { profile = profile; place = place; parameters = parameters.items; returned = returned; nodes = nodes; declared = declared.items; body = flat_block body.items; stretches = stretches.items; value = option_map term_tree value; return_place = return_place } }
+        requires { IsFlat (record {
+          profile = profile;
+          place = place;
+          parameters = parameters.items;
+          returned = returned;
+          nodes = nodes;
+          declared = declared.items;
+          body = flat_block body.items;
+          stretches = stretches.items;
+          value = option_map term_tree value;
+          return_place = return_place;
+        }) }
+        ensures { result ≡ record {
+          profile = profile;
+          place = place;
+          parameters = parameters.items;
+          returned = returned;
+          nodes = nodes;
+          declared = declared.items;
+          body = flat_block body.items;
+          stretches = stretches.items;
+          value = option_map term_tree value;
+          return_place = return_place;
+        } }
     {
         Flat {
             profile,

@@ -19,7 +19,10 @@ use std::alloc::Global;
 /// How many nodes there are, where such a size passes no limit.
 fn nodes_within(size: Size) -> Option<u32>
     ensures nodes { IfSome result (λ nodes. nodes ≡ size.nodes) }
-    ensures limits { is_none result ≡ (nat_lt most_nodes size.nodes || nat_lt most_bodies size.bodies || nat_lt most_declared_bytes (4 * size.words)) }
+    ensures limits { is_none result
+        ≡ (nat_lt most_nodes size.nodes
+        || nat_lt most_bodies size.bodies
+        || nat_lt most_declared_bytes (4 * size.words)) }
 {
     if size.nodes > u64::from(MOST_NODES)
         || size.bodies > u64::from(MOST_BODIES)
@@ -43,9 +46,23 @@ fn too_much(place: Place, rule: Rule, excess: Excess) -> Violation
 
 /// The first limit that is passed by such costs, at this place, where one is passed.
 fn first_passed(place: Place, costs: SizeCosts) -> Violation
-    ensures nodes { most_nodes < costs.nodes.whole → result ≡ record { place = place; rule = Rule.InlinedSize; why = Why.TooMuch (excess Counted.Nodes costs.nodes) } }
-    ensures bodies { costs.nodes.whole ≤ most_nodes → most_bodies < costs.bodies.whole → result ≡ record { place = place; rule = Rule.InlinedSize; why = Why.TooMuch (excess Counted.Bodies costs.bodies) } }
-    ensures declared_bytes { costs.nodes.whole ≤ most_nodes → costs.bodies.whole ≤ most_bodies → result ≡ record { place = place; rule = Rule.DeclaredBytes; why = Why.TooMuch (excess Counted.DeclaredBytes costs.declared_bytes) } }
+    ensures nodes { most_nodes < costs.nodes.whole
+        → result
+        ≡ record { place = place; rule = Rule.InlinedSize; why = Why.TooMuch (excess Counted.Nodes costs.nodes) } }
+    ensures bodies { costs.nodes.whole ≤ most_nodes
+        → most_bodies < costs.bodies.whole
+        → result ≡ record {
+          place = place;
+          rule = Rule.InlinedSize;
+          why = Why.TooMuch (excess Counted.Bodies costs.bodies);
+        } }
+    ensures declared_bytes { costs.nodes.whole ≤ most_nodes
+        → costs.bodies.whole ≤ most_bodies
+        → result ≡ record {
+          place = place;
+          rule = Rule.DeclaredBytes;
+          why = Why.TooMuch (excess Counted.DeclaredBytes costs.declared_bytes);
+        } }
 {
     if costs.nodes.whole > u64::from(MOST_NODES) {
         return too_much(place, Rule::InlinedSize, costs.nodes.excess(Counted::Nodes));
@@ -61,11 +78,13 @@ fn first_passed(place: Place, costs: SizeCosts) -> Violation
     too_much(place, Rule::DeclaredBytes, excess)
 }
 
-/// How many nodes the export has with every call replaced by the called body, where it passes no limit; else the first that
-/// it passes.
+/// How many nodes the export has with every call replaced by the called body, where it passes no limit; else the first
+/// that it passes.
 fn limited<'s>(earlier: &Names<'s, Measured<'s>>, export: &Procedure) -> Result<u32, Violation>
-    ensures nodes { IfOk result (λ nodes. (nodes ≤ most_nodes) × (nodes ≡ nodes_of (extents_in earlier.now) (procedure_tree export.now))) }
-    ensures within { IfOk result (λ _. length (limits_passed (extents_in earlier.now) (procedure_tree export.now)) ≡ 0) }
+    ensures nodes { IfOk result (λ nodes.
+        (nodes ≤ most_nodes) × (nodes ≡ nodes_of (extents_in earlier.now) (procedure_tree export.now))) }
+    ensures within { IfOk result (λ _.
+        length (limits_passed (extents_in earlier.now) (procedure_tree export.now)) ≡ 0) }
     ensures named { IfErr result (IsNamed (limits_passed (extents_in earlier.now) (procedure_tree export.now))) }
 {
     match nodes_within(size_of_export(earlier, export)) {
@@ -77,10 +96,14 @@ fn limited<'s>(earlier: &Names<'s, Measured<'s>>, export: &Procedure) -> Result<
 /// How many nodes the export has with every call replaced by the called body, where it passes no limit; else the
 /// first that it passes. Where no procedure is earlier no memory is asked for.
 pub fn measure(alloc: Global, earlier: &[Procedure], export: &Procedure) -> Result<u32, Refusal>
-    ensures nodes { IfOk result (λ nodes. nodes ≡ nodes_of (extents_of (map procedure_tree earlier.now)) (procedure_tree export.now)) }
-    ensures within { IfOk result (λ _. length (size_violations (map procedure_tree earlier.now) (procedure_tree export.now)) ≡ 0) }
-    ensures refused { IfErr result (λ refusal. IsRefusedFor (size_violations (map procedure_tree earlier.now) (procedure_tree export.now)) refusal.rule refusal.place) }
-    ensures told { IfErr result (IsToldOf (size_violations (map procedure_tree earlier.now) (procedure_tree export.now))) }
+    ensures nodes { IfOk result (λ nodes.
+        nodes ≡ nodes_of (extents_of (map procedure_tree earlier.now)) (procedure_tree export.now)) }
+    ensures within { IfOk result (λ _.
+        length (size_violations (map procedure_tree earlier.now) (procedure_tree export.now)) ≡ 0) }
+    ensures refused { IfErr result (λ refusal. IsRefusedFor
+        (size_violations (map procedure_tree earlier.now) (procedure_tree export.now)) refusal.rule refusal.place) }
+    ensures told { IfErr result (IsToldOf
+        (size_violations (map procedure_tree earlier.now) (procedure_tree export.now))) }
     ensures memory { earlier.now ≡ [] → IfErr result (λ refusal. IsWantOfMemory refusal.rule refusal.place → ⊥) }
 {
     let known = measured_all(alloc, earlier)?;

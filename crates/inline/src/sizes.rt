@@ -197,7 +197,8 @@ pub fn measured_all<'s>(
     alloc: Global,
     procedures: &'s [Procedure],
 ) -> Result<Names<'s, Measured<'s>>, AllocError>
-    ensures counts { IfOk result (λ table. AreCountsOf (extents_in table) (extents_of (map procedure_tree procedures.now))) }
+    ensures counts { IfOk result (λ table.
+        AreCountsOf (extents_in table) (extents_of (map procedure_tree procedures.now))) }
     ensures memory { IfErr result (λ _. 1 ≤ length procedures.now) }
 {
     let mut table = Names::new(alloc);

@@ -50,9 +50,15 @@ impl<'a> Numbering<'a> {
         flat: &mut Vec<FlatStatement>,
     ) -> Result<Given, AllocError>
         ensures word { IfOk result (λ given. given.word ≡ numbered.call_result (called_by earlier.now call.now.name)) }
-        ensures value { IfOk result (λ given. option_map term_tree given.value ≡ numbered.call_value (called_by earlier.now call.now.name) self.now.names (length declared.old.items) (map expr_tree call.now.arguments.items)) }
-        ensures block { OnOk result (flat_block flat.new.items ≡ chain (flat_block flat.old.items) (numbered.call_block (called_by earlier.now call.now.name) self.now.names (length declared.old.items) (map expr_tree call.now.arguments.items))) }
-        ensures declared { OnOk result (declared.new.items ≡ declared.old.items ++ numbered.call_variables (called_by earlier.now call.now.name) (map expr_tree call.now.arguments.items)) }
+        ensures value { IfOk result (λ given. option_map term_tree given.value
+            ≡ numbered.call_value (called_by earlier.now call.now.name) self.now.names (length declared.old.items)
+            (map expr_tree call.now.arguments.items)) }
+        ensures block { OnOk result (flat_block flat.new.items
+            ≡ chain (flat_block flat.old.items)
+            (numbered.call_block (called_by earlier.now call.now.name) self.now.names (length declared.old.items)
+            (map expr_tree call.now.arguments.items))) }
+        ensures declared { OnOk result (declared.new.items ≡ declared.old.items
+            ++ numbered.call_variables (called_by earlier.now call.now.name) (map expr_tree call.now.arguments.items)) }
     {
         let Some((before, callee)) = procedure_named(earlier, &call.name) else {
             return Ok(Given {
@@ -103,9 +109,15 @@ impl<'a> Numbering<'a> {
         declared: &mut Vec<FlatVariable>,
         flat: &mut Vec<FlatStatement>,
     ) -> Result<Term, AllocError>
-        ensures value { IfOk result (λ value. term_tree value ≡ numbered.right (called_by earlier.now) self.now.names (length declared.old.items) (right_tree right.now)) }
-        ensures block { OnOk result (flat_block flat.new.items ≡ chain (flat_block flat.old.items) (numbered.right_block (called_by earlier.now) self.now.names (length declared.old.items) (right_tree right.now))) }
-        ensures declared { OnOk result (declared.new.items ≡ declared.old.items ++ numbered.right_variables (called_by earlier.now) (right_tree right.now)) }
+        ensures value { IfOk result (λ value. term_tree value
+            ≡ numbered.right (called_by earlier.now) self.now.names (length declared.old.items)
+            (right_tree right.now)) }
+        ensures block { OnOk result (flat_block flat.new.items
+            ≡ chain (flat_block flat.old.items)
+            (numbered.right_block (called_by earlier.now) self.now.names (length declared.old.items)
+            (right_tree right.now))) }
+        ensures declared { OnOk result (declared.new.items
+            ≡ declared.old.items ++ numbered.right_variables (called_by earlier.now) (right_tree right.now)) }
     {
         match right {
             RightSide::Value(expr) => self.term(expr),
@@ -128,9 +140,19 @@ impl<'a> Numbering<'a> {
         declared: &mut Vec<FlatVariable>,
         flat: &mut Vec<FlatStatement>,
     ) -> Result<(), AllocError>
-        ensures block { OnOk result (flat_block flat.new.items ≡ chain (flat_block flat.old.items) (numbered.statement (called_by earlier.now) self.old.names (length declared.old.items) (source.declaration declaration.now.place declaration.now.label declaration.now.mutable declaration.now.kind declaration.now.name (right_tree declaration.now.value)))) }
-        ensures names { OnOk result (self.new.names ≡ numbered.names_after (called_by earlier.now) self.old.names (length declared.old.items) (source.declaration declaration.now.place declaration.now.label declaration.now.mutable declaration.now.kind declaration.now.name (right_tree declaration.now.value))) }
-        ensures declared { OnOk result (declared.new.items ≡ declared.old.items ++ numbered.declared_in (called_by earlier.now) (source.declaration declaration.now.place declaration.now.label declaration.now.mutable declaration.now.kind declaration.now.name (right_tree declaration.now.value))) }
+        ensures block { OnOk result (flat_block flat.new.items
+            ≡ chain (flat_block flat.old.items)
+            (numbered.statement (called_by earlier.now) self.old.names (length declared.old.items)
+            (source.declaration declaration.now.place declaration.now.label declaration.now.mutable declaration.now.kind
+            declaration.now.name (right_tree declaration.now.value)))) }
+        ensures names { OnOk result (self.new.names
+            ≡ numbered.names_after (called_by earlier.now) self.old.names (length declared.old.items)
+            (source.declaration declaration.now.place declaration.now.label declaration.now.mutable declaration.now.kind
+            declaration.now.name (right_tree declaration.now.value))) }
+        ensures declared { OnOk result (declared.new.items ≡ declared.old.items
+            ++ numbered.declared_in (called_by earlier.now)
+            (source.declaration declaration.now.place declaration.now.label declaration.now.mutable declaration.now.kind
+            declaration.now.name (right_tree declaration.now.value))) }
     {
         let value = self.right(earlier, &declaration.value, declared, flat)?;
         let word = WordType {
@@ -156,8 +178,13 @@ impl<'a> Numbering<'a> {
         declared: &mut Vec<FlatVariable>,
         flat: &mut Vec<FlatStatement>,
     ) -> Result<(), AllocError>
-        ensures block { OnOk result (flat_block flat.new.items ≡ chain (flat_block flat.old.items) (numbered.statement (called_by earlier.now) self.now.names (length declared.old.items) (source.assignment assignment.now.place assignment.now.target assignment.now.name (right_tree assignment.now.value)))) }
-        ensures declared { OnOk result (declared.new.items ≡ declared.old.items ++ numbered.right_variables (called_by earlier.now) (right_tree assignment.now.value)) }
+        ensures block { OnOk result (flat_block flat.new.items
+            ≡ chain (flat_block flat.old.items)
+            (numbered.statement (called_by earlier.now) self.now.names (length declared.old.items)
+            (source.assignment assignment.now.place assignment.now.target assignment.now.name
+            (right_tree assignment.now.value)))) }
+        ensures declared { OnOk result (declared.new.items ≡ declared.old.items
+            ++ numbered.right_variables (called_by earlier.now) (right_tree assignment.now.value)) }
     {
         let number = self.numbered(&assignment.name).number;
         let value = self.right(earlier, &assignment.value, declared, flat)?;
@@ -174,8 +201,13 @@ impl<'a> Numbering<'a> {
         declared: &mut Vec<FlatVariable>,
         flat: &mut Vec<FlatStatement>,
     ) -> Result<(), AllocError>
-        ensures block { OnOk result (flat_block flat.new.items ≡ chain (flat_block flat.old.items) (numbered.element_block (called_by earlier.now) self.now.names (length declared.old.items) assignment.now.bracket assignment.now.name (expr_tree assignment.now.index) (right_tree assignment.now.value))) }
-        ensures declared { OnOk result (declared.new.items ≡ declared.old.items ++ numbered.element_variables (called_by earlier.now) (right_tree assignment.now.value)) }
+        ensures block { OnOk result (flat_block flat.new.items
+            ≡ chain (flat_block flat.old.items)
+            (numbered.element_block (called_by earlier.now) self.now.names (length declared.old.items)
+            assignment.now.bracket assignment.now.name (expr_tree assignment.now.index)
+            (right_tree assignment.now.value))) }
+        ensures declared { OnOk result (declared.new.items ≡ declared.old.items
+            ++ numbered.element_variables (called_by earlier.now) (right_tree assignment.now.value)) }
     {
         let place = assignment.bracket;
         let Numbered {
@@ -216,8 +248,12 @@ impl<'a> Numbering<'a> {
         declared: &mut Vec<FlatVariable>,
         flat: &mut Vec<FlatStatement>,
     ) -> Result<(), AllocError>
-        ensures block { OnOk result (flat_block flat.new.items ≡ chain (flat_block flat.old.items) (numbered.statement (called_by earlier.now) self.now.names (length declared.old.items) (source.call (call_tree call.now)))) }
-        ensures declared { OnOk result (declared.new.items ≡ declared.old.items ++ numbered.declared_in (called_by earlier.now) (source.call (call_tree call.now))) }
+        ensures block { OnOk result (flat_block flat.new.items
+            ≡ chain (flat_block flat.old.items)
+            (numbered.statement (called_by earlier.now) self.now.names (length declared.old.items)
+            (source.call (call_tree call.now)))) }
+        ensures declared { OnOk result (declared.new.items ≡ declared.old.items
+            ++ numbered.declared_in (called_by earlier.now) (source.call (call_tree call.now))) }
     {
         push(flat, FlatStatement::Skip)?;
         let Given { word, value } = self.call(earlier, call, declared, flat)?;
@@ -242,9 +278,19 @@ impl<'a> Numbering<'a> {
         declared: &mut Vec<FlatVariable>,
         flat: &mut Vec<FlatStatement>,
     ) -> Result<(), AllocError>
-        ensures block { OnOk result (flat_block flat.new.items ≡ chain (flat_block flat.old.items) (single (flat_forms.branch (numbered.label_in self.old.names (expr_tree condition.now)) (numbered.term self.old.names (expr_tree condition.now)) (numbered.block (called_by earlier.now) self.old.names (length declared.old.items) (block_tree accepted.now)) (numbered.block (called_by earlier.now) self.old.names (length declared.old.items + numbered.numbers_taken_all (called_by earlier.now) (block_tree accepted.now)) (block_tree otherwise.now))))) }
+        ensures block { OnOk result (flat_block flat.new.items
+            ≡ chain (flat_block flat.old.items)
+            (single (flat_forms.branch (numbered.label_in self.old.names (expr_tree condition.now))
+            (numbered.term self.old.names (expr_tree condition.now))
+            (numbered.block (called_by earlier.now) self.old.names (length declared.old.items)
+            (block_tree accepted.now))
+            (numbered.block (called_by earlier.now) self.old.names
+            (length declared.old.items + numbered.numbers_taken_all (called_by earlier.now) (block_tree accepted.now))
+            (block_tree otherwise.now))))) }
         ensures names { OnOk result (self.new.names ≡ self.old.names) }
-        ensures declared { OnOk result (declared.new.items ≡ declared.old.items ++ (numbered.declared_in_all (called_by earlier.now) (block_tree accepted.now) ++ numbered.declared_in_all (called_by earlier.now) (block_tree otherwise.now))) }
+        ensures declared { OnOk result (declared.new.items ≡ declared.old.items
+            ++ (numbered.declared_in_all (called_by earlier.now) (block_tree accepted.now)
+            ++ numbered.declared_in_all (called_by earlier.now) (block_tree otherwise.now))) }
     {
         let label = self.label(condition);
         let condition = self.term(condition)?;
@@ -264,9 +310,11 @@ impl<'a> Numbering<'a> {
         arm: &'a [Statement],
         declared: &mut Vec<FlatVariable>,
     ) -> Result<Vec<FlatStatement>, AllocError>
-        ensures block { IfOk result (λ whole. flat_block whole.items ≡ numbered.block (called_by earlier.now) self.old.names (length declared.old.items) (block_tree arm.now)) }
+        ensures block { IfOk result (λ whole. flat_block whole.items
+            ≡ numbered.block (called_by earlier.now) self.old.names (length declared.old.items) (block_tree arm.now)) }
         ensures names { OnOk result (self.new.names ≡ self.old.names) }
-        ensures declared { OnOk result (declared.new.items ≡ declared.old.items ++ numbered.declared_in_all (called_by earlier.now) (block_tree arm.now)) }
+        ensures declared { OnOk result (declared.new.items
+            ≡ declared.old.items ++ numbered.declared_in_all (called_by earlier.now) (block_tree arm.now)) }
     {
         let names = self.names.len();
         let mut flat = Vec::new(self.alloc);
@@ -287,9 +335,16 @@ impl<'a> Numbering<'a> {
         declared: &mut Vec<FlatVariable>,
         flat: &mut Vec<FlatStatement>,
     ) -> Result<(), AllocError>
-        ensures block { OnOk result (flat_block flat.new.items ≡ chain (flat_block flat.old.items) (single (flat_forms.loop (length declared.old.items) (numbered.term self.old.names (expr_tree low.now)) (numbered.term self.old.names (expr_tree high.now)) (numbered.block (called_by earlier.now) (naming self.old.names counted.now.name (length declared.old.items) (word_as counter_type false)) (length declared.old.items + 1) (block_tree body.now))))) }
+        ensures block { OnOk result (flat_block flat.new.items
+            ≡ chain (flat_block flat.old.items)
+            (single (flat_forms.loop (length declared.old.items) (numbered.term self.old.names (expr_tree low.now))
+            (numbered.term self.old.names (expr_tree high.now))
+            (numbered.block (called_by earlier.now)
+            (naming self.old.names counted.now.name (length declared.old.items) (word_as counter_type false))
+            (length declared.old.items + 1) (block_tree body.now))))) }
         ensures names { OnOk result (self.new.names ≡ self.old.names) }
-        ensures declared { OnOk result (declared.new.items ≡ declared.old.items ++ word_as counter_type false ∷ numbered.declared_in_all (called_by earlier.now) (block_tree body.now)) }
+        ensures declared { OnOk result (declared.new.items ≡ declared.old.items
+            ++ word_as counter_type false ∷ numbered.declared_in_all (called_by earlier.now) (block_tree body.now)) }
     {
         let low = self.term(low)?;
         let high = self.term(high)?;
@@ -309,9 +364,15 @@ impl<'a> Numbering<'a> {
         declared: &mut Vec<FlatVariable>,
         flat: &mut Vec<FlatStatement>,
     ) -> Result<(), AllocError>
-        ensures block { OnOk result (flat_block flat.new.items ≡ chain (flat_block flat.old.items) (numbered.statement (called_by earlier.now) self.old.names (length declared.old.items) (statement_tree statement.now))) }
-        ensures names { OnOk result (self.new.names ≡ numbered.names_after (called_by earlier.now) self.old.names (length declared.old.items) (statement_tree statement.now)) }
-        ensures declared { OnOk result (declared.new.items ≡ declared.old.items ++ numbered.declared_in (called_by earlier.now) (statement_tree statement.now)) }
+        ensures block { OnOk result (flat_block flat.new.items
+            ≡ chain (flat_block flat.old.items)
+            (numbered.statement (called_by earlier.now) self.old.names (length declared.old.items)
+            (statement_tree statement.now))) }
+        ensures names { OnOk result (self.new.names
+            ≡ numbered.names_after (called_by earlier.now) self.old.names (length declared.old.items)
+            (statement_tree statement.now)) }
+        ensures declared { OnOk result (declared.new.items
+            ≡ declared.old.items ++ numbered.declared_in (called_by earlier.now) (statement_tree statement.now)) }
     {
         match statement {
             Statement::Declare(it) => self.word(earlier, it, declared, flat),
@@ -337,9 +398,15 @@ impl<'a> Numbering<'a> {
         declared: &mut Vec<FlatVariable>,
         flat: &mut Vec<FlatStatement>,
     ) -> Result<(), AllocError>
-        ensures block { OnOk result (flat_block flat.new.items ≡ chain (flat_block flat.old.items) (numbered.block (called_by earlier.now) self.old.names (length declared.old.items) (block_tree block.now))) }
-        ensures names { OnOk result (self.new.names ≡ numbered.names_after_all (called_by earlier.now) self.old.names (length declared.old.items) (block_tree block.now)) }
-        ensures declared { OnOk result (declared.new.items ≡ declared.old.items ++ numbered.declared_in_all (called_by earlier.now) (block_tree block.now)) }
+        ensures block { OnOk result (flat_block flat.new.items
+            ≡ chain (flat_block flat.old.items)
+            (numbered.block (called_by earlier.now) self.old.names (length declared.old.items)
+            (block_tree block.now))) }
+        ensures names { OnOk result (self.new.names
+            ≡ numbered.names_after_all (called_by earlier.now) self.old.names (length declared.old.items)
+            (block_tree block.now)) }
+        ensures declared { OnOk result (declared.new.items
+            ≡ declared.old.items ++ numbered.declared_in_all (called_by earlier.now) (block_tree block.now)) }
     {
         for statement in block {
             self.statement(earlier, statement, declared, flat)?;

@@ -20,10 +20,17 @@ impl<'a> Numbering<'a> {
         declared: &mut Vec<FlatVariable>,
         flat: &mut Vec<FlatStatement>,
     ) -> Result<Vec<Stretch>, AllocError>
-        ensures stretches { IfOk result (λ all. all.items ≡ numbered.stretches (called_by earlier.now) self.old.names (length declared.old.items) (block_tree block.now)) }
-        ensures block { OnOk result (flat_block flat.new.items ≡ chain (flat_block flat.old.items) (numbered.block (called_by earlier.now) self.old.names (length declared.old.items) (block_tree block.now))) }
-        ensures names { OnOk result (self.new.names ≡ numbered.names_after_all (called_by earlier.now) self.old.names (length declared.old.items) (block_tree block.now)) }
-        ensures declared { OnOk result (declared.new.items ≡ declared.old.items ++ numbered.declared_in_all (called_by earlier.now) (block_tree block.now)) }
+        ensures stretches { IfOk result (λ all. all.items ≡ numbered.stretches (called_by earlier.now) self.old.names
+            (length declared.old.items) (block_tree block.now)) }
+        ensures block { OnOk result (flat_block flat.new.items
+            ≡ chain (flat_block flat.old.items)
+            (numbered.block (called_by earlier.now) self.old.names (length declared.old.items)
+            (block_tree block.now))) }
+        ensures names { OnOk result (self.new.names
+            ≡ numbered.names_after_all (called_by earlier.now) self.old.names (length declared.old.items)
+            (block_tree block.now)) }
+        ensures declared { OnOk result (declared.new.items
+            ≡ declared.old.items ++ numbered.declared_in_all (called_by earlier.now) (block_tree block.now)) }
     {
         let mut all = Vec::new(self.alloc);
         for statement in block {

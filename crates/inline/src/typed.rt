@@ -16,7 +16,8 @@ pub fn prefix(
     operator: PrefixOperator,
     operand: (Term, Kind),
 ) -> Result<(Term, Kind), AllocError>
-    ensures term { IfOk result (λ whole. term_tree whole.0 ≡ flat.prefix operator (width_of operand.1) (term_tree operand.0)) }
+    ensures term { IfOk result (λ whole.
+        term_tree whole.0 ≡ flat.prefix operator (width_of operand.1) (term_tree operand.0)) }
     ensures kind { IfOk result (λ whole. whole.1 ≡ operand.1) }
 {
     let (term, kind) = operand;
@@ -45,7 +46,8 @@ pub fn binary(
 
 /// A rotation by so many bits.
 pub fn rotate(alloc: Global, operand: (Term, Kind), amount: u32) -> Result<(Term, Kind), AllocError>
-    ensures term { IfOk result (λ whole. term_tree whole.0 ≡ flat.rotate (width_of operand.1) (term_tree operand.0) amount) }
+    ensures term { IfOk result (λ whole.
+        term_tree whole.0 ≡ flat.rotate (width_of operand.1) (term_tree operand.0) amount) }
     ensures kind { IfOk result (λ whole. whole.1 ≡ operand.1) }
 {
     let (term, kind) = operand;

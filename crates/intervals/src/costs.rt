@@ -20,7 +20,8 @@ fn split(body: &[FlatStatement], count: usize) -> (&[FlatStatement], &[FlatState
 
 /// The statement of the source that has most work, of those that became these stretches of the body.
 fn largest_stretch(turns: &[u32], stretches: &[Stretch], body: &[FlatStatement]) -> Option<Share>
-    ensures { result ≡ fold larger None (map counted_share (stretch_shares turns.now stretches.now (flat_block body.now))) }
+    ensures { result
+        ≡ fold larger None (map counted_share (stretch_shares turns.now stretches.now (flat_block body.now))) }
 {
     let mut left = body;
     let mut most = None;
@@ -38,7 +39,8 @@ fn largest_stretch(turns: &[u32], stretches: &[Stretch], body: &[FlatStatement])
 
 /// The part that has most work of those before and of a result whose `return` stands there.
 fn larger_value(most: Option<Share>, place: Option<Place>, value: Option<&Term>) -> Option<Share>
-    ensures { result ≡ fold larger most (map counted_share (value_shares place (option_map (λ term. term_tree term.now) value.entry))) }
+    ensures { result ≡ fold larger most
+        (map counted_share (value_shares place (option_map (λ term. term_tree term.now) value.entry))) }
 {
     match place {
         Some(place) => {

@@ -19,8 +19,8 @@ pub fn safe_runs_meet_no_fault()
         → ending_of p args ≡ gives (outcome_of p args) }
 {}
 
-/// A well-typed program whose ranges are kept is safe: no run on arguments within its parameter types, whatever the secrets in
-/// it are, meets a fault or makes more turns in a loop than are counted for it.
+/// A well-typed program whose ranges are kept is safe: no run on arguments within its parameter types, whatever the
+/// secrets in it are, meets a fault or makes more turns in a loop than are counted for it.
 pub fn accepted_is_safe()
     ensures { (p : FlatProgram) → IsTypedProgram p → length (range_violations p) ≡ 0 → IsSafe p (turns_of p) }
 {}

@@ -3,7 +3,9 @@
 ghost use Rattle.std.specs.Prelude.{◌≡◌, ◌++◌, OnOk};
 ghost use Rattle.std.specs.Option.{option_to_list};
 ghost use Rattle.intervals.specs.Below.{term_tree};
-ghost use Rattle.intervals.specs.Narrowing.{is_both, met_all, named, said_where_false, said_where_true, says, told_false, told_true, told_where_false, told_where_true, where_false, where_true};
+ghost use Rattle.intervals.specs.Narrowing.{is_both, met_all, named, said_where_false, said_where_true, says};
+ghost use Rattle.intervals.specs.Narrowing.{told_false, told_true, told_where_false, told_where_true, where_false};
+ghost use Rattle.intervals.specs.Narrowing.{where_true};
 ghost use Rattle.intervals.specs.Undoing.{CameFrom};
 
 use crate::Interval;
@@ -103,7 +105,8 @@ fn gather_true(
     condition: &Term,
     told: &mut Vec<Said>,
 ) -> Result<(), AllocError>
-    ensures { OnOk result (told.new.items ≡ told.old.items ++ told_true declared.now bounds.now (term_tree condition.now)) }
+    ensures { OnOk result (told.new.items
+        ≡ told.old.items ++ told_true declared.now bounds.now (term_tree condition.now)) }
 {
     let Term::Binary(_, operator, _, left, right) = condition else {
         return Ok(());
@@ -141,7 +144,8 @@ pub fn learn_true(
     label: Label,
     condition: &Term,
 ) -> Result<(), AllocError>
-    ensures bounds { OnOk result (known.new.bounds.items ≡ where_true declared.now known.old.bounds.items label (term_tree condition.now)) }
+    ensures bounds { OnOk result (known.new.bounds.items
+        ≡ where_true declared.now known.old.bounds.items label (term_tree condition.now)) }
     ensures from { OnOk result (CameFrom known.old known.new) }
 {
     match label {
@@ -161,7 +165,8 @@ pub fn learn_false(
     label: Label,
     condition: &Term,
 ) -> Result<(), AllocError>
-    ensures bounds { OnOk result (known.new.bounds.items ≡ where_false declared.now known.old.bounds.items label (term_tree condition.now)) }
+    ensures bounds { OnOk result (known.new.bounds.items
+        ≡ where_false declared.now known.old.bounds.items label (term_tree condition.now)) }
     ensures from { OnOk result (CameFrom known.old known.new) }
 {
     match label {

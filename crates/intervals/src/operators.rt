@@ -1,7 +1,8 @@
 // What operators make of intervals.
 
 ghost use Rattle.std.specs.Prelude.{◌≡◌, min};
-ghost use Rattle.intervals.specs.Intervals.{between, converted_interval, fitting, full, full_of, hull, operated_interval, prefix_interval, shifted_interval};
+ghost use Rattle.intervals.specs.Intervals.{between, converted_interval, fitting, full, full_of, hull};
+ghost use Rattle.intervals.specs.Intervals.{operated_interval, prefix_interval, shifted_interval};
 ghost use Rattle.intervals.specs.Below.{Divide, Remainder, Subtract};
 
 use crate::Interval;

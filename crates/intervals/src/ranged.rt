@@ -4,8 +4,8 @@ ghost use Rattle.intervals.specs.Kept.{IsRanged};
 use inline::Flat;
 use std::marker::Model;
 
-/// A body with what is counted for it, its work within the limit. It is safe: no run meets a fault, or makes more turns in
-/// a loop than are counted for it.
+/// A body with what is counted for it, its work within the limit. It is safe: no run meets a fault, or makes more turns
+/// in a loop than are counted for it.
 #[derive(Drop)]
 pub struct Ranged<'f> {
     flat: &'f Flat,

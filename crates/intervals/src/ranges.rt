@@ -1,6 +1,7 @@
 ghost use Rattle.std.specs.Prelude.{◌≡◌, None, Some, fold, length, map, replicate, IfErr, IfOk, OnOk};
 ghost use Rattle.intervals.specs.Loose.{IsSafe};
-ghost use Rattle.intervals.specs.Ranges.{bound_by, bound_of, first_bounds, range_violations, result_violations, turns_of};
+ghost use Rattle.intervals.specs.Ranges.{bound_by, bound_of, first_bounds, range_violations, result_violations};
+ghost use Rattle.intervals.specs.Ranges.{turns_of};
 ghost use Rattle.intervals.specs.Work.{IsRefusedByRanges, IsToldByRanges, ranged, work_excess, work_violations};
 ghost use Rattle.intervals.specs.Below.{IsFirst, IsNamed, sooner, TellsOf};
 
@@ -101,7 +102,10 @@ fn with_work<'f>(flat: &'f Flat, turns: Vec<u32>) -> Result<Ranged<'f>, Refusal>
     requires safe { IsSafe flat.now turns.items }
     ensures accepted { IfOk result (λ result. result ≡ ranged flat.now) }
     ensures worked { OnOk result (length (work_violations flat.now) ≡ 0) }
-    ensures refused { IfErr result (λ refusal. (first : Violation) × IsFirst (work_violations flat.now) first × IsNamed (work_violations flat.now) first × TellsOf refusal first) }
+    ensures refused { IfErr result (λ refusal. (first : Violation)
+        × IsFirst (work_violations flat.now) first
+        × IsNamed (work_violations flat.now) first
+        × TellsOf refusal first) }
 {
     let work = program_work(turns.as_slice(), flat);
     if work > MOST_WORK {

@@ -81,7 +81,8 @@ pub fn note_term(
     term: &Term,
 ) -> Interval
     ensures interval { result ≡ interval declared.now bounds.now (term_tree term.now) }
-    ensures first { first.new.seen ≡ fold sooner first.old.seen (term_violations declared.now bounds.now (term_tree term.now)) }
+    ensures first { first.new.seen
+        ≡ fold sooner first.old.seen (term_violations declared.now bounds.now (term_tree term.now)) }
 {
     match term {
         Term::Number(value, _) => Interval {
@@ -133,7 +134,8 @@ pub fn note_terms(
     bounds: &[Option<Interval>],
     terms: &[Term],
 )
-    ensures { first.new.seen ≡ fold sooner first.old.seen (terms_violations declared.now bounds.now (map term_tree terms.now)) }
+    ensures { first.new.seen
+        ≡ fold sooner first.old.seen (terms_violations declared.now bounds.now (map term_tree terms.now)) }
 {
     for term in terms {
         note_term(first, declared, bounds, term);

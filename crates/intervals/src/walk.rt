@@ -4,7 +4,8 @@ ghost use Rattle.std.specs.Prelude.{◌≡◌, fold, map, slice_set, OnOk};
 ghost use Rattle.intervals.specs.Below.{flat_block, flat_tree, sooner, term_tree};
 ghost use Rattle.intervals.specs.Intervals.{with_bound};
 ghost use Rattle.intervals.specs.Narrowing.{where_false, where_true};
-ghost use Rattle.intervals.specs.Ranges.{bounds_after, bounds_after_all, counted, counted_all, counter_interval, is_steady, most_turns, violations, violations_all};
+ghost use Rattle.intervals.specs.Ranges.{bounds_after, bounds_after_all, counted, counted_all, counter_interval};
+ghost use Rattle.intervals.specs.Ranges.{is_steady, most_turns, violations, violations_all};
 ghost use Rattle.intervals.specs.Undoing.{CameFrom};
 
 use crate::Interval;
@@ -71,10 +72,14 @@ fn statement(
     walk: &mut Walk,
     statement: &FlatStatement,
 ) -> Result<(), AllocError>
-    ensures bounds { OnOk result (walk.new.known.bounds.items ≡ bounds_after declared.now walk.old.known.bounds.items (flat_tree statement.now)) }
+    ensures bounds { OnOk result (walk.new.known.bounds.items
+        ≡ bounds_after declared.now walk.old.known.bounds.items (flat_tree statement.now)) }
     ensures from { OnOk result (CameFrom walk.old.known walk.new.known) }
-    ensures turns { OnOk result (walk.new.turns.items ≡ counted declared.now walk.old.known.bounds.items walk.old.turns.items (flat_tree statement.now)) }
-    ensures first { OnOk result (walk.new.first.seen ≡ fold sooner walk.old.first.seen (violations declared.now walk.old.known.bounds.items (flat_tree statement.now))) }
+    ensures turns { OnOk result (walk.new.turns.items
+        ≡ counted declared.now walk.old.known.bounds.items walk.old.turns.items (flat_tree statement.now)) }
+    ensures first { OnOk result (walk.new.first.seen
+        ≡ fold sooner walk.old.first.seen
+        (violations declared.now walk.old.known.bounds.items (flat_tree statement.now))) }
 {
     let bounds = walk.known.bounds.as_slice();
     match statement {
@@ -131,8 +136,13 @@ fn accepted_arm(
 ) -> Result<(), AllocError>
     ensures bounds { OnOk result (walk.new.known.bounds.items ≡ walk.old.known.bounds.items) }
     ensures changes { OnOk result (walk.new.known.changes.items ≡ walk.old.known.changes.items) }
-    ensures turns { OnOk result (walk.new.turns.items ≡ counted_all declared.now (where_true declared.now walk.old.known.bounds.items label (term_tree condition.now)) walk.old.turns.items (flat_block arm.now)) }
-    ensures first { OnOk result (walk.new.first.seen ≡ fold sooner walk.old.first.seen (violations_all declared.now (where_true declared.now walk.old.known.bounds.items label (term_tree condition.now)) (flat_block arm.now))) }
+    ensures turns { OnOk result (walk.new.turns.items
+        ≡ counted_all declared.now
+        (where_true declared.now walk.old.known.bounds.items label (term_tree condition.now)) walk.old.turns.items
+        (flat_block arm.now)) }
+    ensures first { OnOk result (walk.new.first.seen
+        ≡ fold sooner walk.old.first.seen (violations_all declared.now
+        (where_true declared.now walk.old.known.bounds.items label (term_tree condition.now)) (flat_block arm.now))) }
 {
     let outside = walk.known.mark();
     learn_true(declared, &mut walk.known, label, condition)?;
@@ -152,8 +162,13 @@ fn otherwise_arm(
 ) -> Result<(), AllocError>
     ensures bounds { OnOk result (walk.new.known.bounds.items ≡ walk.old.known.bounds.items) }
     ensures changes { OnOk result (walk.new.known.changes.items ≡ walk.old.known.changes.items) }
-    ensures turns { OnOk result (walk.new.turns.items ≡ counted_all declared.now (where_false declared.now walk.old.known.bounds.items label (term_tree condition.now)) walk.old.turns.items (flat_block arm.now)) }
-    ensures first { OnOk result (walk.new.first.seen ≡ fold sooner walk.old.first.seen (violations_all declared.now (where_false declared.now walk.old.known.bounds.items label (term_tree condition.now)) (flat_block arm.now))) }
+    ensures turns { OnOk result (walk.new.turns.items
+        ≡ counted_all declared.now
+        (where_false declared.now walk.old.known.bounds.items label (term_tree condition.now)) walk.old.turns.items
+        (flat_block arm.now)) }
+    ensures first { OnOk result (walk.new.first.seen
+        ≡ fold sooner walk.old.first.seen (violations_all declared.now
+        (where_false declared.now walk.old.known.bounds.items label (term_tree condition.now)) (flat_block arm.now))) }
 {
     let outside = walk.known.mark();
     learn_false(declared, &mut walk.known, label, condition)?;
@@ -173,8 +188,12 @@ fn turns(
 ) -> Result<(), AllocError>
     ensures bounds { OnOk result (walk.new.known.bounds.items ≡ walk.old.known.bounds.items) }
     ensures changes { OnOk result (walk.new.known.changes.items ≡ walk.old.known.changes.items) }
-    ensures turns { OnOk result (walk.new.turns.items ≡ counted_all declared.now (with_bound walk.old.known.bounds.items counter numbers) walk.old.turns.items (flat_block body.now)) }
-    ensures first { OnOk result (walk.new.first.seen ≡ fold sooner walk.old.first.seen (violations_all declared.now (with_bound walk.old.known.bounds.items counter numbers) (flat_block body.now))) }
+    ensures turns { OnOk result (walk.new.turns.items
+        ≡ counted_all declared.now
+        (with_bound walk.old.known.bounds.items counter numbers) walk.old.turns.items (flat_block body.now)) }
+    ensures first { OnOk result (walk.new.first.seen
+        ≡ fold sooner walk.old.first.seen
+        (violations_all declared.now (with_bound walk.old.known.bounds.items counter numbers) (flat_block body.now))) }
 {
     let outside = walk.known.mark();
     walk.known.set(counter, numbers)?;
@@ -190,10 +209,14 @@ pub fn statements(
     walk: &mut Walk,
     body: &[FlatStatement],
 ) -> Result<(), AllocError>
-    ensures bounds { OnOk result (walk.new.known.bounds.items ≡ bounds_after_all declared.now walk.old.known.bounds.items (flat_block body.now)) }
+    ensures bounds { OnOk result (walk.new.known.bounds.items
+        ≡ bounds_after_all declared.now walk.old.known.bounds.items (flat_block body.now)) }
     ensures from { OnOk result (CameFrom walk.old.known walk.new.known) }
-    ensures turns { OnOk result (walk.new.turns.items ≡ counted_all declared.now walk.old.known.bounds.items walk.old.turns.items (flat_block body.now)) }
-    ensures first { OnOk result (walk.new.first.seen ≡ fold sooner walk.old.first.seen (violations_all declared.now walk.old.known.bounds.items (flat_block body.now))) }
+    ensures turns { OnOk result (walk.new.turns.items
+        ≡ counted_all declared.now walk.old.known.bounds.items walk.old.turns.items (flat_block body.now)) }
+    ensures first { OnOk result (walk.new.first.seen
+        ≡ fold sooner walk.old.first.seen
+        (violations_all declared.now walk.old.known.bounds.items (flat_block body.now))) }
 {
     for one in body {
         statement(declared, walk, one)?;

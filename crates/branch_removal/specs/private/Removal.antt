@@ -28,7 +28,8 @@ abbrev mutual
   removed within control skip = nothing
   removed within control (branch Secret condition accepted otherwise) =
       first (take_within within control condition)
-      (chain (removed_all (Some control) (control + 2) accepted) (removed_all (Some (control + 1)) (control + 2) otherwise))
+      (chain (removed_all (Some control) (control + 2) accepted)
+      (removed_all (Some (control + 1)) (control + 2) otherwise))
   removed within control (branch Public condition accepted otherwise) =
       single (straight.branch condition (removed_all within control accepted) (removed_all within control otherwise))
   removed within control (loop x low high body) = single (repeats x low high (removed_all within control body))
