@@ -37,16 +37,23 @@ pub fn certify<M: Memory>(
     requires extent { (a : ℕ) → is_some (M.bytes known.old.marks a) ≡ is_some (M.bytes run.old.memory a) }
     ensures certified { (seen : List Observation) × (ending : RunEnding)
         × CertifiedRun (code_of code.now) run.old.turns_left
-        (known_of (state_of run.old.hart (M.bytes run.old.memory)) known.old.registers (M.bytes known.old.marks) known.old.shifts) seen ending
+        (known_of (state_of run.old.hart (M.bytes run.old.memory)) known.old.registers (M.bytes known.old.marks)
+        known.old.shifts) seen ending
         × (result ≡ end_of seen ending) }
-    ensures spent { run.new.turns_left ≡ 0 → (seen : List Observation)
+    ensures spent { run.new.turns_left ≡ 0
+        → (seen : List Observation)
         × KnownLeads (code_of code.now) run.old.turns_left
-        (known_of (state_of run.old.hart (M.bytes run.old.memory)) known.old.registers (M.bytes known.old.marks) known.old.shifts) seen
-        (known_of (state_of run.new.hart (M.bytes run.new.memory)) known.new.registers (M.bytes known.new.marks) known.new.shifts)
+        (known_of (state_of run.old.hart (M.bytes run.old.memory)) known.old.registers (M.bytes known.old.marks)
+        known.old.shifts) seen
+        (known_of (state_of run.new.hart (M.bytes run.new.memory)) known.new.registers (M.bytes known.new.marks)
+        known.new.shifts)
         × (result ≡ CertifiedEnd.Same Stop.Budget (length (entries_of seen))) }
-    ensures ended { (seen : List Observation) (later : Known) → 0 < run.new.turns_left
+    ensures ended { (seen : List Observation) (later : Known)
+        → 0 < run.new.turns_left
         → KnownLeads (code_of code.now) run.old.turns_left
-        (known_of (state_of run.old.hart (M.bytes run.old.memory)) known.old.registers (M.bytes known.old.marks) known.old.shifts) seen later → ⊥ }
+        (known_of (state_of run.old.hart (M.bytes run.old.memory)) known.old.registers (M.bytes known.old.marks)
+        known.old.shifts) seen later
+        → ⊥ }
     ensures extent { (a : ℕ) → is_some (M.bytes known.new.marks a) ≡ is_some (M.bytes run.new.memory a) }
 {
     let mut entries = 0;

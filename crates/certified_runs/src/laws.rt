@@ -31,9 +31,12 @@ pub fn certified_runs_cover()
     ensures some { (code : Code) (budget : ℕ) (k : Known) (s : State) (seen : List Observation) (stop : Stop)
         → CertifiedRun code budget k seen (RunEnding.same stop) → Covers k s
         → (t : State) × Runs code budget s seen stop t }
-    ensures every { (code : Code) (budget : ℕ) (k : Known) (s t : State) (seen shown : List Observation) (stop other : Stop)
-        → CertifiedRun code budget k seen (RunEnding.same stop) → Covers k s
-        → Runs code budget s shown other t → other ≢ Stop.RecorderRefused
+    ensures every { (code : Code) (budget : ℕ) (k : Known) (s t : State) (seen shown : List Observation)
+        (stop other : Stop)
+        → CertifiedRun code budget k seen (RunEnding.same stop)
+        → Covers k s
+        → Runs code budget s shown other t
+        → other ≢ Stop.RecorderRefused
         → (shown ≡ seen) × (other ≡ stop) }
 {}
 
@@ -53,20 +56,23 @@ pub fn certified_runs_depend_on_what_is_known()
         → CertifiedRun code budget k seen ending → CertifiedRun code budget other seen ending }
 {}
 
-/// Where a certified run may differ, each covered state makes turns that show its list, fewer than the budget, up to the
-/// program counter of the turn that may differ.
+/// Where a certified run may differ, each covered state makes turns that show its list, fewer than the budget, up to
+/// the program counter of the turn that may differ.
 pub fn certified_runs_cut_short_agree()
     ensures { (code : Code) (budget : ℕ) (k : Known) (s : State) (seen : List Observation) (pc : ℕ)
         → CertifiedRun code budget k seen (RunEnding.may_differ pc) → Covers k s
         → (n : ℕ) × (t : State) × (n < budget) × Leads code n s seen t × (t.pc ≡ pc) }
 {}
 
-/// And every run from a covered state with its budget, cut short by no recorder, shows first the entries of its list and
-/// then that program counter, so that all these entries are common.
+/// And every run from a covered state with its budget, cut short by no recorder, shows first the entries of its list
+/// and then that program counter, so that all these entries are common.
 pub fn runs_that_may_differ_begin_alike()
-    ensures { (code : Code) (budget : ℕ) (k : Known) (s t : State) (seen shown : List Observation) (stop : Stop) (pc : ℕ)
-        → CertifiedRun code budget k seen (RunEnding.may_differ pc) → Covers k s
-        → Runs code budget s shown stop t → stop ≢ Stop.RecorderRefused
+    ensures { (code : Code) (budget : ℕ) (k : Known) (s t : State) (seen shown : List Observation) (stop : Stop)
+        (pc : ℕ)
+        → CertifiedRun code budget k seen (RunEnding.may_differ pc)
+        → Covers k s
+        → Runs code budget s shown stop t
+        → stop ≢ Stop.RecorderRefused
         → (rest : List Entry) × (entries_of shown ≡ entries_of seen ++ Entry.program_counter pc ∷ rest) }
 {}
 
@@ -77,10 +83,16 @@ pub fn runs_shift_by_one_list()
         → ShiftsBy code budget s amounts → ShiftsBy code budget s others → amounts ≡ others }
 {}
 
-/// Where a certified run with shifts seen is the same for all that is unknown, the runs from any two covered states with
-/// its budget shift by the same amounts. They also show the same program counters, so the same shifts go by them.
+/// Where a certified run with shifts seen is the same for all that is unknown, the runs from any two covered states
+/// with its budget shift by the same amounts. They also show the same program counters, so the same shifts go by them.
 pub fn certified_shifts_agree()
-    ensures { (code : Code) (budget : ℕ) (k : Known) (s t : State) (seen : List Observation) (stop : Stop) (amounts others : List ℕ)
-        → CertifiedRun code budget k seen (RunEnding.same stop) → k.shifts ≡ Shifts.Seen → Covers k s → Covers k t
-        → ShiftsBy code budget s amounts → ShiftsBy code budget t others → amounts ≡ others }
+    ensures { (code : Code) (budget : ℕ) (k : Known) (s t : State) (seen : List Observation) (stop : Stop)
+        (amounts others : List ℕ)
+        → CertifiedRun code budget k seen (RunEnding.same stop)
+        → k.shifts ≡ Shifts.Seen
+        → Covers k s
+        → Covers k t
+        → ShiftsBy code budget s amounts
+        → ShiftsBy code budget t others
+        → amounts ≡ others }
 {}

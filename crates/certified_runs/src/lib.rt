@@ -1,9 +1,9 @@
 // Certified runs: one run of any code in which some registers and bytes are unknown, so that what it shows holds of all
 // their values at once.
 //
-// `certify` makes such a run and answers how it ends: alike whatever the unknown parts hold, or at a turn that may go by them.
-// It asks of each instruction whether what decides it is known (`changes`), and has the machine make the turn (`turns`), so
-// what instructions compute is the table of `rv_machine` alone, on which this stands.
+// `certify` makes such a run and answers how it ends: alike whatever the unknown parts hold, or at a turn that may go
+// by them. It asks of each instruction whether what decides it is known (`changes`), and has the machine make the turn
+// (`turns`), so what instructions compute is the table of `rv_machine` alone, on which this stands.
 //
 // The laws say that a turn of what is known keeps covering each state that it covered, and shows what that state's turn
 // shows, or says that this may depend on what is unknown; and so do runs (`specs/Known.antt`, `specs/Certified.antt`).

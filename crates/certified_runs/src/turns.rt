@@ -60,8 +60,10 @@ pub(crate) fn turn<M: Memory>(
 ) -> TurnEnd
     requires { HaveOneExtent (M.bytes known.old.marks) (M.bytes memory.old) }
     ensures turned { HasTurned (code_of code.now)
-        (known_of (state_of hart.old (M.bytes memory.old)) known.old.registers (M.bytes known.old.marks) known.old.shifts) result
-        (known_of (state_of hart.new (M.bytes memory.new)) known.new.registers (M.bytes known.new.marks) known.new.shifts) }
+        (known_of (state_of hart.old (M.bytes memory.old)) known.old.registers (M.bytes known.old.marks)
+        known.old.shifts) result
+        (known_of (state_of hart.new (M.bytes memory.new)) known.new.registers (M.bytes known.new.marks)
+        known.new.shifts) }
     ensures extent { HaveOneExtent (M.bytes known.new.marks) (M.bytes memory.new) }
 {
     let Some(instr) = code.instruction_at(hart.pc()) else {

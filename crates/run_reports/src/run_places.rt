@@ -1,5 +1,5 @@
-// Where in a run an entry is shown: the last turn before it, what the instruction of that turn reads, and the entry itself, or the
-// stop where there are no more.
+// Where in a run an entry is shown: the last turn before it, what the instruction of that turn reads, and the entry
+// itself, or the stop where there are no more.
 //
 // A run is made anew for each question, and nothing of it is kept (`Places.antt` and `Shown.antt` of
 // `specs/run_places`). It stands on the machine of `rv_machine`.

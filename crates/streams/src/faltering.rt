@@ -1,4 +1,5 @@
-ghost use Rattle.std.specs.Prelude.{◌≡◌, ◌≤◌, ◌<◌, ◌++◌, [], length, take, if◌then◌else◌, IsTrue, IsFalse, IsErr, IfOk, OnOk, OnErr};
+ghost use Rattle.std.specs.Prelude.{◌≡◌, ◌≤◌, ◌<◌, ◌++◌, [], length, take, if◌then◌else◌, IsTrue, IsFalse, IsErr, IfOk};
+ghost use Rattle.std.specs.Prelude.{OnOk, OnErr};
 ghost use Rattle.streams.specs.Streams.{is_due, left_after};
 ghost use Rattle.word.specs.Counts.{one_more};
 

@@ -1,4 +1,5 @@
-ghost use Rattle.std.specs.Prelude.{◌≡◌, ◌≢◌, ℕ, ◌<◌, ◌≤◌, ◌++◌, ◌-◌, [], false, Bool, List, length, vec_len, take, drop, IsTrue, IfOk, OnOk, OnErr, IsErrOf};
+ghost use Rattle.std.specs.Prelude.{◌≡◌, ◌≢◌, ℕ, ◌<◌, ◌≤◌, ◌++◌, ◌-◌, [], false, Bool, List, length, vec_len, take};
+ghost use Rattle.std.specs.Prelude.{drop, IsTrue, IfOk, OnOk, OnErr, IsErrOf};
 ghost use Rattle.streams.specs.Streams.{LosesPart};
 ghost use Rattle.word.specs.Counts.{one_more};
 ghost use Rattle.streams.specs.declared.source.ReadFault.TheVariants.{Memory};

@@ -10,8 +10,8 @@ pub enum Side {
     Other,
 }
 
-/// What either run does in some step of a cell's column at an address of its row, and whether some of it is a difference:
-/// of the one run, or of the other.
+/// What either run does in some step of a cell's column at an address of its row, and whether some of it is a
+/// difference: of the one run, or of the other.
 #[derive(Clone, Copy)]
 pub struct Cell {
     /// An instruction is executed there, or one that shows its operands.

@@ -79,7 +79,8 @@ fn drawings_text(alloc: Global, grid: &Grid) -> Result<String, AllocError>
 /// What stands behind what is said of the runs.
 #[tactic(auto, unfolding(crate::specs::pictures::Page::rest_text))]
 fn rest_text(alloc: Global, grid: &Grid, steps: Steps) -> Result<String, AllocError>
-    ensures { IfOk result (λ text. string_bytes text ≡ rest_text grid.now.axes grid.now.cells.items steps.are_two steps.one steps.other) }
+    ensures { IfOk result (λ text.
+        string_bytes text ≡ rest_text grid.now.axes grid.now.cells.items steps.are_two steps.one steps.other) }
 {
     let legend = legend_text(alloc, steps.are_two)?;
     let steps = steps_text(alloc, steps)?;
@@ -90,7 +91,8 @@ fn rest_text(alloc: Global, grid: &Grid, steps: Steps) -> Result<String, AllocEr
 
 /// The page of a grid, with what is said of the runs.
 pub fn page(alloc: Global, grid: &Grid, said: &[u8], steps: Steps) -> Result<Vec<u8>, AllocError>
-    ensures exact { IfOk result (λ page. page.items ≡ page_text grid.now.axes grid.now.cells.items said.now steps.are_two steps.one steps.other) }
+    ensures exact { IfOk result (λ page.
+        page.items ≡ page_text grid.now.axes grid.now.cells.items said.now steps.are_two steps.one steps.other) }
     ensures small { IfOk result (λ page. length page.items ≤ 1_000_000 + length said.now) }
 {
     let rest = rest_text(alloc, grid, steps)?;

@@ -26,8 +26,8 @@ pub fn count_steps<M: Memory>(alloc: Global, code: &CodeRegion, run: &mut Runnin
     }
 }
 
-/// Makes the steps of two runs of the same code, one of each after the other, and puts what they show into a grid that has no
-/// marks. It takes no memory.
+/// Makes the steps of two runs of the same code, one of each after the other, and puts what they show into a grid that
+/// has no marks. It takes no memory.
 pub fn paint<M: Memory>(
     alloc: Global,
     code: &CodeRegion,

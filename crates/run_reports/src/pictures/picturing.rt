@@ -18,8 +18,8 @@ pub struct Runs<M> {
     pub other: Running<M>,
 }
 
-/// What is drawn of two runs: which addresses code and frame have, what is said of the runs, which stands on the page as it
-/// is, and whether they are two, or one in both places.
+/// What is drawn of two runs: which addresses code and frame have, what is said of the runs, which stands on the page
+/// as it is, and whether they are two, or one in both places.
 #[derive(Clone, Copy)]
 pub struct Drawing<'a> {
     pub code: Area,
@@ -38,9 +38,12 @@ pub fn picture<M: Memory>(
     drawing: &Drawing<'_>,
 ) -> Result<Vec<u8>, AllocError>
     requires few { (drawn.old.one.turns_left < 2 ^ 63) × (drawn.old.other.turns_left < 2 ^ 63) }
-    requires steps { (counted.old.one.turns_left ≡ drawn.old.one.turns_left) × (counted.old.other.turns_left ≡ drawn.old.other.turns_left) }
-    requires one { state_of counted.old.one.hart (M.bytes counted.old.one.memory) ≡ state_of drawn.old.one.hart (M.bytes drawn.old.one.memory) }
-    requires other { state_of counted.old.other.hart (M.bytes counted.old.other.memory) ≡ state_of drawn.old.other.hart (M.bytes drawn.old.other.memory) }
+    requires steps { (counted.old.one.turns_left ≡ drawn.old.one.turns_left)
+        × (counted.old.other.turns_left ≡ drawn.old.other.turns_left) }
+    requires one { state_of counted.old.one.hart (M.bytes counted.old.one.memory)
+        ≡ state_of drawn.old.one.hart (M.bytes drawn.old.one.memory) }
+    requires other { state_of counted.old.other.hart (M.bytes counted.old.other.memory)
+        ≡ state_of drawn.old.other.hart (M.bytes drawn.old.other.memory) }
     ensures exact { IfOk result (λ page. IsPicture (code_of code.now)
         drawn.old.one.turns_left (state_of drawn.old.one.hart (M.bytes drawn.old.one.memory))
         drawn.old.other.turns_left (state_of drawn.old.other.hart (M.bytes drawn.old.other.memory))

@@ -38,8 +38,8 @@ fn end_behind(before: u64, end: CertifiedEnd) -> CertifiedEnd
     }
 }
 
-/// Makes turns of a run of which these parts are known, as `certify` does. A line goes out behind each `TURNS_A_LINE` turns
-/// after which the run goes on.
+/// Makes turns of a run of which these parts are known, as `certify` does. A line goes out behind each `TURNS_A_LINE`
+/// turns after which the run goes on.
 pub fn certify_in_pieces<M: Memory, E: Sink>(
     code: &CodeRegion,
     run: &mut Running<M>,
@@ -50,11 +50,15 @@ pub fn certify_in_pieces<M: Memory, E: Sink>(
     requires extent { (a : ℕ) → is_some (M.bytes known.old.marks a) ≡ is_some (M.bytes run.old.memory a) }
     ensures certified { (seen : List Observation) × (ending : RunEnding)
         × CertifiedRun (code_of code.now) run.old.turns_left
-        (known_of (state_of run.old.hart (M.bytes run.old.memory)) known.old.registers (M.bytes known.old.marks) known.old.shifts) seen ending
+        (known_of (state_of run.old.hart (M.bytes run.old.memory)) known.old.registers (M.bytes known.old.marks)
+        known.old.shifts) seen ending
         × (result ≡ end_of seen ending) }
-    ensures told { IsTrue E.TELLS → IsTold HasLines (GoesOnKnown (code_of code.now) run.old.turns_left
-        (known_of (state_of run.old.hart (M.bytes run.old.memory)) known.old.registers (M.bytes known.old.marks) known.old.shifts))
-        (collected (E.taken err.old) (E.failures err.old)) (collected (E.taken err.new) (E.failures err.new)) }
+    ensures told { IsTrue E.TELLS
+        → IsTold HasLines
+        (GoesOnKnown (code_of code.now) run.old.turns_left
+        (known_of (state_of run.old.hart (M.bytes run.old.memory)) known.old.registers (M.bytes known.old.marks)
+        known.old.shifts)) (collected (E.taken err.old) (E.failures err.old))
+        (collected (E.taken err.new) (E.failures err.new)) }
 {
     let mut lines = ProgressLines::new();
     let mut entries = 0;

@@ -9,10 +9,10 @@ use rv_machine::{CodeRegion, Memory, Pairing, Running, entry_count, first_differ
 use std::alloc::Global;
 use streams::Sink;
 
-/// Makes turns of two runs of the same code in step, and compares what they show, as `compare` does. A line goes out behind
-/// each `TURNS_A_LINE` turns of each run after which both go on.
-// The loop is one of its own: `compare` does not say how many entries it has seen where it finds no difference. So `compare`
-// stays compiled as it is, and this one makes its turns one by one.
+/// Makes turns of two runs of the same code in step, and compares what they show, as `compare` does. A line goes out
+/// behind each `TURNS_A_LINE` turns of each run after which both go on.
+// The loop is one of its own: `compare` does not say how many entries it has seen where it finds no difference. So
+// `compare` stays compiled as it is, and this one makes its turns one by one.
 #[inline(never)]
 pub fn compare_telling<M: Memory, E: Sink>(
     alloc: Global,
@@ -27,9 +27,11 @@ pub fn compare_telling<M: Memory, E: Sink>(
         × IsShown (code_of code.now) one.old.turns_left (state_of one.old.hart (M.bytes one.old.memory)) seen
         × IsShown (code_of code.now) other.old.turns_left (state_of other.old.hart (M.bytes other.old.memory)) seen'
         × Compares (entries_of seen) (entries_of seen') result }
-    ensures told { IsTrue E.TELLS → IsTold HasLines
-        (BothGoOn (code_of code.now) one.old.turns_left (state_of one.old.hart (M.bytes one.old.memory)) (state_of other.old.hart (M.bytes other.old.memory)))
-        (collected (E.taken err.old) (E.failures err.old)) (collected (E.taken err.new) (E.failures err.new)) }
+    ensures told { IsTrue E.TELLS
+        → IsTold HasLines
+        (BothGoOn (code_of code.now) one.old.turns_left (state_of one.old.hart (M.bytes one.old.memory))
+        (state_of other.old.hart (M.bytes other.old.memory))) (collected (E.taken err.old) (E.failures err.old))
+        (collected (E.taken err.new) (E.failures err.new)) }
 {
     let mut lines = ProgressLines::new();
     let mut made: u64 = 0;

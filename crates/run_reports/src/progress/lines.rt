@@ -15,7 +15,8 @@ pub const TURNS_A_LINE: u64 = 1 << 27;
 fn put_line<E: Sink>(err: &mut E, turns: u64) -> Result<(), SinkFault>
     ensures whole { IsTrue E.TELLS → OnOk result (E.taken err.new ≡ E.taken err.old ++ progress_line turns) }
     ensures calm { OnOk result (E.failures err.new ≡ E.failures err.old) }
-    ensures beginning { IsTrue E.TELLS → OnErr result (GainsPart (E.taken err.old) (E.taken err.new) (progress_line turns)) }
+    ensures beginning { IsTrue E.TELLS
+        → OnErr result (GainsPart (E.taken err.old) (E.taken err.new) (progress_line turns)) }
     ensures counts { OnErr result (E.failures err.new ≡ one_more (E.failures err.old)) }
 {
     let mut digits = Buffer::new();

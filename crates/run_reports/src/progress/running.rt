@@ -10,8 +10,8 @@ use rv_machine::{CodeRegion, Memory, Observation, Recorder, Running, Stop, run};
 use std::alloc::AllocError;
 use streams::Sink;
 
-/// Keeps nothing, and never refuses. It is a type of its own, so that the loop over a run in one piece, which has another
-/// recorder, stays compiled in line where that is called.
+/// Keeps nothing, and never refuses. It is a type of its own, so that the loop over a run in one piece, which has
+/// another recorder, stays compiled in line where that is called.
 #[derive(Drop)]
 struct Unrecorded;
 
@@ -47,8 +47,8 @@ fn is_spent(stop: Stop) -> bool
     stop == Stop::Budget
 }
 
-/// Makes turns of a run until one stops, at most as many as it may still make, and then it stops by `Budget`. A line goes out
-/// behind each `TURNS_A_LINE` turns after which the run goes on.
+/// Makes turns of a run until one stops, at most as many as it may still make, and then it stops by `Budget`. A line
+/// goes out behind each `TURNS_A_LINE` turns after which the run goes on.
 // It is never compiled in line: beside a caller's own values, those of the turns do not fit the registers.
 #[inline(never)]
 pub fn run_in_pieces<M: Memory, E: Sink>(
@@ -58,7 +58,9 @@ pub fn run_in_pieces<M: Memory, E: Sink>(
 ) -> Stop
     requires few { running.old.turns_left < 2 ^ 63 }
     ensures ran { (seen : List Observation)
-        × Runs (code_of code.now) running.old.turns_left (state_of running.old.hart (M.bytes running.old.memory)) seen result (state_of running.new.hart (M.bytes running.new.memory)) }
+        × Runs (code_of code.now) running.old.turns_left
+        (state_of running.old.hart (M.bytes running.old.memory)) seen result
+        (state_of running.new.hart (M.bytes running.new.memory)) }
     ensures calm { result ≢ Stop.RecorderRefused }
     ensures told { IsTrue E.TELLS → IsTold HasLines
         (GoesOn (code_of code.now) running.old.turns_left (state_of running.old.hart (M.bytes running.old.memory)))

@@ -15,21 +15,27 @@ pub fn places_behind_turns()
         → ShowsAt code budget s (length (entries_of seen) + place) shown }
 {}
 
-/// The last turns before the first difference of two runs are one turn: both runs have shown one list before it, and come to
-/// one program counter.
+/// The last turns before the first difference of two runs are one turn: both runs have shown one list before it, and
+/// come to one program counter.
 pub fn one_turn_before_a_difference()
-    ensures { (code : Code) (budget : ℕ) (s s' t t' : State) (whole whole' seen seen' : List Observation) (stop stop' : Stop) (place : ℕ)
-        → Ends code budget s whole stop → Ends code budget s' whole' stop'
+    ensures { (code : Code) (budget : ℕ) (s s' t t' : State) (whole whole' seen seen' : List Observation)
+        (stop stop' : Stop) (place : ℕ)
+        → Ends code budget s whole stop
+        → Ends code budget s' whole' stop'
         → IsFirstDifference (entries_of whole) (entries_of whole') place
-        → IsLastBefore code budget s place seen t → IsLastBefore code budget s' place seen' t'
+        → IsLastBefore code budget s place seen t
+        → IsLastBefore code budget s' place seen' t'
         → (seen ≡ seen') × (t.pc ≡ t'.pc) }
 {}
 
-/// Two runs that begin at one program counter and differ reach their first difference: an entry comes before it, and neither run
-/// shows fewer entries than come before it.
+/// Two runs that begin at one program counter and differ reach their first difference: an entry comes before it, and
+/// neither run shows fewer entries than come before it.
 pub fn a_difference_is_reached()
-    ensures { (code : Code) (budget : ℕ) (s s' : State) (whole whole' : List Observation) (stop stop' : Stop) (place : ℕ)
-        → Ends code budget s whole stop → Ends code budget s' whole' stop' → s.pc ≡ s'.pc
+    ensures { (code : Code) (budget : ℕ) (s s' : State) (whole whole' : List Observation) (stop stop' : Stop)
+        (place : ℕ)
+        → Ends code budget s whole stop
+        → Ends code budget s' whole' stop'
+        → s.pc ≡ s'.pc
         → IsFirstDifference (entries_of whole) (entries_of whole') place
         → (0 < place) × (ShowsFewer code budget s place → ⊥) × (ShowsFewer code budget s' place → ⊥) }
 {}

@@ -46,7 +46,8 @@ fn push_read(
     hart: &Hart,
     instr: &Instr,
 ) -> Result<(), AllocError>
-    ensures { OnOk result (text.new.items ≡ text.old.items ++ registers_text (regs_of hart.now) (registers_read instr.now)) }
+    ensures { OnOk result (text.new.items
+        ≡ text.old.items ++ registers_text (regs_of hart.now) (registers_read instr.now)) }
 {
     match *instr {
         Instr::Upper(_, _, _) | Instr::Jump(_, _) => Ok(()),
@@ -63,10 +64,11 @@ fn push_read(
     }
 }
 
-/// The registers that the instruction at a hart's program counter reads, each behind a blank and with what it holds; nothing
-/// where no instruction stands there.
+/// The registers that the instruction at a hart's program counter reads, each behind a blank and with what it holds;
+/// nothing where no instruction stands there.
 pub fn registers_at(alloc: Global, code: &CodeRegion, hart: &Hart) -> Result<Vec<u8>, AllocError>
-    ensures { IfOk result (λ text. (bytes : ByteMap) → SaysRegisters (code_of code.now) (state_of hart.now bytes) text.items) }
+    ensures { IfOk result (λ text. (bytes : ByteMap)
+        → SaysRegisters (code_of code.now) (state_of hart.now bytes) text.items) }
 {
     let mut text = Vec::new(alloc);
     match code.instruction_at(hart.pc()) {

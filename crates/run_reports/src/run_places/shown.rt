@@ -39,7 +39,8 @@ fn entry_at(seen: &Observation, place: u64) -> Option<Shown>
 
 /// What a turn shows at a place, or else how many entries are before the place behind those of the turn.
 fn entry_or_rest(seen: Option<Observation>, place: u64) -> Result<Shown, u64>
-    ensures entry { IfOk result (λ shown. option_map shown_entry (slice_get (entries_of (listed seen)) place) ≡ Some shown) }
+    ensures entry { IfOk result (λ shown.
+        option_map shown_entry (slice_get (entries_of (listed seen)) place) ≡ Some shown) }
     ensures rest { IfErr result (λ rest. length (entries_of (listed seen)) + rest ≡ place) }
 {
     let Some(seen) = seen else {
@@ -58,7 +59,8 @@ pub fn shown_at<M: Memory>(
     run: &mut Running<M>,
     place: u64,
 ) -> Shown
-    ensures { ShowsAt (code_of code.now) run.old.turns_left (state_of run.old.hart (M.bytes run.old.memory)) place result }
+    ensures { ShowsAt (code_of code.now) run.old.turns_left (state_of run.old.hart (M.bytes run.old.memory)) place
+        result }
 {
     let mut left = place;
     for _turn in 0..run.turns_left {

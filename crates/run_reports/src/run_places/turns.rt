@@ -9,8 +9,8 @@ use rv_machine::{
 };
 use std::alloc::{AllocError, Global};
 
-/// Keeps nothing, and never refuses. It is a recorder of its own, so that the machine's loop with `NullRecorder` has one
-/// caller in a program, where the compiler puts it in line: with two of them each step takes a tenth more.
+/// Keeps nothing, and never refuses. It is a recorder of its own, so that the machine's loop with `NullRecorder` has
+/// one caller in a program, where the compiler puts it in line: with two of them each step takes a tenth more.
 #[derive(Drop)]
 struct Unheard;
 
@@ -30,14 +30,15 @@ impl Recorder for Unheard {
     }
 }
 
-/// One turn: what it shows, and why the run ends by it, where it does. It takes no memory. How many turns may still be made
-/// is not changed.
+/// One turn: what it shows, and why the run ends by it, where it does. It takes no memory. How many turns may still be
+/// made is not changed.
 pub(crate) fn turn<M: Memory>(
     alloc: Global,
     code: &CodeRegion,
     run: &mut Running<M>,
 ) -> (Option<Observation>, Option<Stop>)
-    ensures { Turned (code_of code.now) (state_of run.old.hart (M.bytes run.old.memory)) result.0 result.1 (state_of run.new.hart (M.bytes run.new.memory)) }
+    ensures { Turned (code_of code.now) (state_of run.old.hart (M.bytes run.old.memory)) result.0 result.1
+        (state_of run.new.hart (M.bytes run.new.memory)) }
 {
     let mut recorder = TurnRecorder::new(alloc);
     let stop = step(&mut run.hart, code, &mut run.memory, &mut recorder);
@@ -51,8 +52,8 @@ pub struct Before {
     pub entries: u64,
 }
 
-/// Where a run is before the last of its turns whose program counter is an entry before this place. `None` where it shows fewer
-/// entries than that. It uses up the run.
+/// Where a run is before the last of its turns whose program counter is an entry before this place. `None` where it
+/// shows fewer entries than that. It uses up the run.
 pub fn last_before<M: Memory>(
     alloc: Global,
     code: &CodeRegion,
@@ -61,9 +62,12 @@ pub fn last_before<M: Memory>(
 ) -> Option<Before>
     requires { 0 < place }
     ensures found { IfSome result (λ before. (seen : List Observation) × (t : State)
-        × IsLastBefore (code_of code.now) run.old.turns_left (state_of run.old.hart (M.bytes run.old.memory)) place seen t
-        × (before.turns ≡ length seen) × (before.entries ≡ length (entries_of seen))) }
-    ensures none { result ≡ None → ShowsFewer (code_of code.now) run.old.turns_left (state_of run.old.hart (M.bytes run.old.memory)) place }
+        × IsLastBefore (code_of code.now) run.old.turns_left (state_of run.old.hart (M.bytes run.old.memory)) place seen
+        t
+        × (before.turns ≡ length seen)
+        × (before.entries ≡ length (entries_of seen))) }
+    ensures none { result ≡ None
+        → ShowsFewer (code_of code.now) run.old.turns_left (state_of run.old.hart (M.bytes run.old.memory)) place }
 {
     let mut left = place;
     for turns in 0..run.turns_left {
@@ -89,7 +93,8 @@ pub fn last_before<M: Memory>(
 /// Makes so many turns of a run, of which none stops.
 pub fn make_turns<M: Memory>(code: &CodeRegion, running: &mut Running<M>, turns: u64)
     requires { turns ≤ running.old.turns_left }
-    ensures there { (seen : List Observation) (t : State) → Leads (code_of code.now) turns (state_of running.old.hart (M.bytes running.old.memory)) seen t
+    ensures there { (seen : List Observation) (t : State)
+        → Leads (code_of code.now) turns (state_of running.old.hart (M.bytes running.old.memory)) seen t
         → state_of running.new.hart (M.bytes running.new.memory) ≡ t }
     ensures left { running.new.turns_left ≡ running.old.turns_left - turns }
 {
