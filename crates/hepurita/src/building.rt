@@ -45,14 +45,21 @@ pub fn build_with(
 
 /// A text is not both accepted and refused, for one observer.
 pub fn accepted_or_refused()
-    ensures { (profile : Profile) (text : List ℕ) (program : ProgramTree) (before : List ProcedureTree) (export : ProcedureTree) (rule : Rule) (place : Place) → Judges profile text (accepts program before export) → Judges profile text (refuses rule place) → ⊥ }
+    ensures { (profile : Profile) (text : List ℕ) (program : ProgramTree) (before : List ProcedureTree)
+        (export : ProcedureTree) (rule : Rule) (place : Place)
+        → Judges profile text (accepts program before export)
+        → Judges profile text (refuses rule place)
+        → ⊥ }
 {
     one_answer_for_a_text();
 }
 
 /// For one observer a text is refused for one rule at one place.
 pub fn one_refusal()
-    ensures { (profile : Profile) (text : List ℕ) (rule rule' : Rule) (place place' : Place) → Judges profile text (refuses rule place) → Judges profile text (refuses rule' place') → (rule ≡ rule') × (place ≡ place') }
+    ensures { (profile : Profile) (text : List ℕ) (rule rule' : Rule) (place place' : Place)
+        → Judges profile text (refuses rule place)
+        → Judges profile text (refuses rule' place')
+        → (rule ≡ rule') × (place ≡ place') }
 {
     one_answer_for_a_text();
 }

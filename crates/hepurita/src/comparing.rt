@@ -16,7 +16,8 @@ use std::alloc::Global;
 /// The first fault of two lists of arguments; those of the second are numbered after the first's.
 pub fn fault_of_both(image: &Image, one: &Args, other: &Args) -> Option<ArgumentFault>
     ensures first { result ≡ pair_fault (params_of image.now) one.now other.now }
-    ensures within { result ≡ None → AreWithin (params_of image.now) one.now × AreWithin (params_of image.now) other.now }
+    ensures within { result ≡ None
+        → AreWithin (params_of image.now) one.now × AreWithin (params_of image.now) other.now }
     ensures allowed { IsImage image.now }
 {
     let count = image.slots().len();

@@ -18,8 +18,8 @@ use intervals::Ranged;
 use language::{Profile, Program, Refusal};
 use std::alloc::Global;
 
-/// The first optimised code of a straight program that is within the limit on words, or else its plain code. Only memory
-/// refuses it.
+/// The first optimised code of a straight program that is within the limit on words, or else its plain code. Only
+/// memory refuses it.
 fn first_code(alloc: Global, straight: &Straight<'_>) -> Result<Code, Refusal>
     ensures generated { IfOk result (IsCodeFor straight.now) }
     ensures exact { IfOk result (λ code. code ≡ first_of (optimised_for straight.now) (fields_of straight.now)) }
@@ -61,7 +61,8 @@ fn code_in(
     optimisation: Optimisation,
 ) -> Result<Code, Refusal>
     ensures compiled { (profile : Profile) (text : List ℕ) (is : IsFlattened profile text flattened.now)
-        → IfOk result (IsCompilation optimisation profile text (program_tree flattened.now.program) is.before is.export) }
+        → IfOk result (IsCompilation optimisation profile text (program_tree flattened.now.program) is.before
+        is.export) }
     ensures refused { (profile : Profile) (text : List ℕ) → IsFlattened profile text flattened.now
         → IfErr result (IsRefusalOf profile text) }
 {
@@ -76,9 +77,9 @@ pub struct Compiled {
     pub code: Code,
 }
 
-/// A text that is accepted for an observer of this profile, compiled to plain or to optimised code, or the first refusal.
-/// Passes are asked in the order: the text itself; names, types and labels; sizes; ranges; work. Which texts are accepted,
-/// and what the others are refused for, does not depend on the optimisation.
+/// A text that is accepted for an observer of this profile, compiled to plain or to optimised code, or the first
+/// refusal. Passes are asked in the order: the text itself; names, types and labels; sizes; ranges; work. Which texts
+/// are accepted, and what the others are refused for, does not depend on the optimisation.
 ///
 /// Either image, run on any arguments within the parameter types, gives what the text means, within its
 /// stated steps and its frame; and on arguments that are equal where they are public the observer

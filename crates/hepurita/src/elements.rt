@@ -20,7 +20,10 @@ pub fn element_size(kind: Kind) -> Size
 /// Puts numbers one after another, from this address on.
 pub fn put_numbers<M: Memory>(memory: &mut M, at: u32, size: Size, numbers: &[u32])
     requires below { at + byte_count size * length numbers.now ≤ 2 ^ 32 }
-    requires data { (x : ℕ) → at ≤ x → x < at + byte_count size * length numbers.now → is_some (M.bytes memory.old x) ≡ true }
+    requires data { (x : ℕ)
+        → at ≤ x
+        → x < at + byte_count size * length numbers.now
+        → is_some (M.bytes memory.old x) ≡ true }
     ensures { M.bytes memory.new ≡ with_numbers (M.bytes memory.old) (byte_count size) at numbers.now }
 {
     let step = size.bytes();

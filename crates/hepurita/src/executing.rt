@@ -17,8 +17,8 @@ use rv_machine::{PagedMemory, Running, Stop, run};
 use std::alloc::Global;
 
 /// What is answered where the machine stops so.
-// It is compiled in line: a call would take the memory's address, and then what the turns before it work on does not stay in
-// registers.
+// It is compiled in line: a call would take the memory's address, and then what the turns before it work on does not
+// stay in registers.
 #[inline(always)]
 pub fn answer(
     image: &Image,
@@ -52,7 +52,8 @@ pub fn execute<R: Recorder>(
     recorder: &mut R,
 ) -> Result<Outcome, RunFault>
     ensures executed { Executed image.now args.now R.KEEPS (R.list recorder.old) result (R.list recorder.new) }
-    ensures refused { result ≡ Err (RunFault.Stopped Stop.RecorderRefused) → HasRefused (R.refusals recorder.old) (R.refusals recorder.new) }
+    ensures refused { result ≡ Err (RunFault.Stopped Stop.RecorderRefused)
+        → HasRefused (R.refusals recorder.old) (R.refusals recorder.new) }
     ensures count { R.refusals recorder.new ≡ refusals_after result (R.refusals recorder.old) }
     ensures ready { R.is_ready recorder.old image.now.max_steps → result ≢ Err (RunFault.Stopped Stop.RecorderRefused) }
     ensures memory { result ≡ Err RunFault.Memory → R.list recorder.new ≡ R.list recorder.old }

@@ -1,5 +1,5 @@
-// What a text is judged to be, for an observer: what is refused first, and the program, parameters and result of an accepted
-// text.
+// What a text is judged to be, for an observer: what is refused first, and the program, parameters and result of an
+// accepted text.
 
 ghost use Rattle.std.specs.Prelude.{◌≡◌, List, map, IfOk, IfErr};
 ghost use Rattle.hepurita.specs.Below.{flattened, param_of, ProcedureTree, program_tree};
@@ -15,7 +15,9 @@ use std::alloc::Global;
 /// The export of a program that violates no rule on names, types and labels, with the bodies that it
 /// calls as one body within the limits on size; or the first refusal.
 pub(crate) fn flat_of(alloc: Global, program: &Program, profile: Profile) -> Result<Flat, Refusal>
-    ensures accepted { IfOk result (λ flat. (before : List ProcedureTree) × (export : ProcedureTree) × IsSmall profile (program_tree program.now) before export × (flat ≡ flattened profile before export)) }
+    ensures accepted { IfOk result (λ flat. (before : List ProcedureTree) × (export : ProcedureTree)
+        × IsSmall profile (program_tree program.now) before export
+        × (flat ≡ flattened profile before export)) }
     ensures refused { IfErr result (IsRefusal (JudgesProgram profile (program_tree program.now))) }
     ensures told { IfErr result (IsToldOfProgram profile (program_tree program.now)) }
 {
@@ -34,7 +36,10 @@ pub struct Accepted {
 /// The program of a text that is accepted for an observer of profile 1, or the first refusal: the one that
 /// `build` names, which tells what was found there.
 pub fn judge(alloc: Global, text: &str) -> Result<Accepted, Refusal>
-    ensures accepted { IfOk result (λ accepted. (before : List ProcedureTree) × (export : ProcedureTree) × Judges Profile.P1 text.now (accepts (program_tree accepted.program) before export) × (accepted.params.items ≡ map param_of export.parameters) × (accepted.returned ≡ export.result)) }
+    ensures accepted { IfOk result (λ accepted. (before : List ProcedureTree) × (export : ProcedureTree)
+        × Judges Profile.P1 text.now (accepts (program_tree accepted.program) before export)
+        × (accepted.params.items ≡ map param_of export.parameters)
+        × (accepted.returned ≡ export.result)) }
     ensures refused { IfErr result (IsRefusalOf Profile.P1 text.now) }
 {
     judge_as(alloc, text, Profile::P1)
@@ -42,7 +47,10 @@ pub fn judge(alloc: Global, text: &str) -> Result<Accepted, Refusal>
 
 /// The same for an observer of this profile: the refusal is the one that `build_as` names.
 pub fn judge_as(alloc: Global, text: &str, profile: Profile) -> Result<Accepted, Refusal>
-    ensures accepted { IfOk result (λ accepted. (before : List ProcedureTree) × (export : ProcedureTree) × Judges profile text.now (accepts (program_tree accepted.program) before export) × (accepted.params.items ≡ map param_of export.parameters) × (accepted.returned ≡ export.result)) }
+    ensures accepted { IfOk result (λ accepted. (before : List ProcedureTree) × (export : ProcedureTree)
+        × Judges profile text.now (accepts (program_tree accepted.program) before export)
+        × (accepted.params.items ≡ map param_of export.parameters)
+        × (accepted.returned ≡ export.result)) }
     ensures refused { IfErr result (IsRefusalOf profile text.now) }
 {
     let flattened = flatten(alloc, text, profile)?;

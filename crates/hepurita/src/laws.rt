@@ -19,23 +19,30 @@ ghost use Rattle.hepurita.specs.Uncut.{RunsFor};
 use language::arguments::faultless_arguments;
 use syntax::one_answer_for_a_text;
 
-/// What the passes promise, put together. Where a text is a program that is accepted with an export, for an observer, the
-/// image for straight code for the export, with the bodies that it calls, is that export, compiled.
+/// What the passes promise, put together. Where a text is a program that is accepted with an export, for an observer,
+/// the image for straight code for the export, with the bodies that it calls, is that export, compiled.
 pub fn texts_are_compiled()
-    ensures { (profile : Profile) (text : List ℕ) (program : ProgramTree) (before : List ProcedureTree) (export : ProcedureTree) (straight : StraightProgram) (image : Fields) → Reads text (accepted program)
+    ensures { (profile : Profile) (text : List ℕ) (program : ProgramTree) (before : List ProcedureTree)
+        (export : ProcedureTree) (straight : StraightProgram) (image : Fields)
+        → Reads text (accepted program)
         → JudgesProgram profile program (accepts program before export)
-        → IsRemoved (ranged (flattened profile before export)) straight → IsGenerated straight image → IsCompiled program before export image }
+        → IsRemoved (ranged (flattened profile before export)) straight
+        → IsGenerated straight image
+        → IsCompiled program before export image }
 {}
 
 /// Code and frame of a compiled image may lie at the standard bases, and those of eight images beside one
 /// another, the code 2^20 and the frames 2^16 bytes apart.
 pub fn bases_fit()
-    ensures { (program : ProgramTree) (before : List ProcedureTree) (p : ProcedureTree) (image : Fields) (k : ℕ) → IsCompiled program before p image → nodes_of (extents_of before) p ≤ most_nodes → k < most_images
+    ensures { (program : ProgramTree) (before : List ProcedureTree) (p : ProcedureTree) (image : Fields) (k : ℕ)
+        → IsCompiled program before p image
+        → nodes_of (extents_of before) p ≤ most_nodes
+        → k < most_images
         → AreBases image (code_base + code_distance * k) (frame_base + frame_distance * k) }
 {}
 
-/// A text has one plain and one optimised image for an observer: what `build_with` answers twice is one list of bytes, so an image can
-/// be checked by its hash.
+/// A text has one plain and one optimised image for an observer: what `build_with` answers twice is one list of bytes,
+/// so an image can be checked by its hash.
 pub fn builds_agree()
     ensures { (optimisation : Optimisation) (profile : Profile) (text one other : List ℕ)
         → IsBuilt optimisation profile text one → IsBuilt optimisation profile text other → one ≡ other }
@@ -51,67 +58,106 @@ pub fn compilations_are_spelled()
         → (bytes : List ℕ) × Builds optimisation profile text bytes program before export image }
 {}
 
-/// The calls, one after another. The image of a text that is accepted for an observer, plain or optimised, read from the bytes that
-/// `build_with` answers and executed on arguments within the parameter types, gives the one outcome that the text
-/// means. On two lists of arguments that are equal where they are public `pair` answers `same`, the
-/// recorder takes one and the same list, and the return and the `mut` arrays are equal where they are public. Other
-/// answers are out of memory and a recorder that refuses.
+/// The calls, one after another. The image of a text that is accepted for an observer, plain or optimised, read from
+/// the bytes that `build_with` answers and executed on arguments within the parameter types, gives the one outcome that
+/// the text means. On two lists of arguments that are equal where they are public `pair` answers `same`, the recorder
+/// takes one and the same list, and the return and the `mut` arrays are equal where they are public. Other answers are
+/// out of memory and a recorder that refuses.
 pub fn images_do_what_texts_mean()
-    ensures outcome { (optimisation : Optimisation) (profile : Profile) (text bytes : List ℕ) (program : ProgramTree) (before : List ProcedureTree) (export : ProcedureTree) (image : Fields) (args : List Arg) (keeps : Bool) (list after : List Observation) (answer : Result Results RunFault)
-        → Builds optimisation profile text bytes program before export image → AreWithin (params_of image) args
-        → Executed image args keeps list answer after → IsTheOutcome program args answer }
-    ensures same { (optimisation : Optimisation) (profile : Profile) (text bytes : List ℕ) (program : ProgramTree) (before : List ProcedureTree) (export : ProcedureTree) (image : Fields) (one other : List Arg) (answer : Result Pairing RunFault)
-        → Builds optimisation profile text bytes program before export image → Agree (params_of image) one other
-        → Paired image one other answer → IsSame answer }
-    ensures shown { (optimisation : Optimisation) (profile : Profile) (text bytes : List ℕ) (program : ProgramTree) (before : List ProcedureTree) (export : ProcedureTree) (image : Fields) (one other : List Arg) (keeps : Bool) (list after after' : List Observation) (a b : Results)
-        → Builds optimisation profile text bytes program before export image → Agree (params_of image) one other
-        → Executed image one keeps list (Ok a) after → Executed image other keeps list (Ok b) after' → after ≡ after' }
-    ensures public { (optimisation : Optimisation) (profile : Profile) (text bytes : List ℕ) (program : ProgramTree) (before : List ProcedureTree) (export : ProcedureTree) (image : Fields) (one other : List Arg) (keeps : Bool) (list after after' : List Observation) (a b : Results)
-        → Builds optimisation profile text bytes program before export image → Agree (params_of image) one other
-        → Executed image one keeps list (Ok a) after → Executed image other keeps list (Ok b) after' → AgreeInPublic (params_of image) export.result a b }
+    ensures outcome { (optimisation : Optimisation) (profile : Profile) (text bytes : List ℕ) (program : ProgramTree)
+        (before : List ProcedureTree) (export : ProcedureTree) (image : Fields) (args : List Arg) (keeps : Bool)
+        (list after : List Observation) (answer : Result Results RunFault)
+        → Builds optimisation profile text bytes program before export image
+        → AreWithin (params_of image) args
+        → Executed image args keeps list answer after
+        → IsTheOutcome program args answer }
+    ensures same { (optimisation : Optimisation) (profile : Profile) (text bytes : List ℕ) (program : ProgramTree)
+        (before : List ProcedureTree) (export : ProcedureTree) (image : Fields) (one other : List Arg)
+        (answer : Result Pairing RunFault)
+        → Builds optimisation profile text bytes program before export image
+        → Agree (params_of image) one other
+        → Paired image one other answer
+        → IsSame answer }
+    ensures shown { (optimisation : Optimisation) (profile : Profile) (text bytes : List ℕ) (program : ProgramTree)
+        (before : List ProcedureTree) (export : ProcedureTree) (image : Fields) (one other : List Arg) (keeps : Bool)
+        (list after after' : List Observation) (a b : Results)
+        → Builds optimisation profile text bytes program before export image
+        → Agree (params_of image) one other
+        → Executed image one keeps list (Ok a) after
+        → Executed image other keeps list (Ok b) after'
+        → after ≡ after' }
+    ensures public { (optimisation : Optimisation) (profile : Profile) (text bytes : List ℕ) (program : ProgramTree)
+        (before : List ProcedureTree) (export : ProcedureTree) (image : Fields) (one other : List Arg) (keeps : Bool)
+        (list after after' : List Observation) (a b : Results)
+        → Builds optimisation profile text bytes program before export image
+        → Agree (params_of image) one other
+        → Executed image one keeps list (Ok a) after
+        → Executed image other keeps list (Ok b) after'
+        → AgreeInPublic (params_of image) export.result a b }
 {
     one_answer_for_a_text();
     faultless_arguments();
 }
 
-/// Runs that are cut off. However few turns the image of an accepted text, plain or optimised, is given, on arguments within the
-/// parameter types and with no recorder that refuses, it has stopped by `Ecall` with the one outcome that the text means, or it
-/// has not stopped and had fewer turns than the image states. On two lists of arguments that are equal where they are public, as many turns show one
-/// and the same list.
+/// Runs that are cut off. However few turns the image of an accepted text, plain or optimised, is given, on arguments
+/// within the parameter types and with no recorder that refuses, it has stopped by `Ecall` with the one outcome that
+/// the text means, or it has not stopped and had fewer turns than the image states. On two lists of arguments that are
+/// equal where they are public, as many turns show one and the same list.
 pub fn cut_off_runs_are_right()
-    ensures outcome { (optimisation : Optimisation) (profile : Profile) (text bytes : List ℕ) (program : ProgramTree) (before : List ProcedureTree) (export : ProcedureTree) (image : Fields) (args : List Arg) (given : ℕ) (seen : List Observation) (stop : Stop) (end : State)
-        → Builds optimisation profile text bytes program before export image → AreWithin (params_of image) args
-        → RunsFor given image args seen stop end → IsRightSoFar program image args given stop end }
-    ensures shown { (optimisation : Optimisation) (profile : Profile) (text bytes : List ℕ) (program : ProgramTree) (before : List ProcedureTree) (export : ProcedureTree) (image : Fields) (one other : List Arg) (given : ℕ) (seen seen' : List Observation) (stop stop' : Stop) (end end' : State)
-        → Builds optimisation profile text bytes program before export image → Agree (params_of image) one other
-        → RunsFor given image one seen stop end → RunsFor given image other seen' stop' end' → seen ≡ seen' }
+    ensures outcome { (optimisation : Optimisation) (profile : Profile) (text bytes : List ℕ) (program : ProgramTree)
+        (before : List ProcedureTree) (export : ProcedureTree) (image : Fields) (args : List Arg) (given : ℕ)
+        (seen : List Observation) (stop : Stop) (end : State)
+        → Builds optimisation profile text bytes program before export image
+        → AreWithin (params_of image) args
+        → RunsFor given image args seen stop end
+        → IsRightSoFar program image args given stop end }
+    ensures shown { (optimisation : Optimisation) (profile : Profile) (text bytes : List ℕ) (program : ProgramTree)
+        (before : List ProcedureTree) (export : ProcedureTree) (image : Fields) (one other : List Arg) (given : ℕ)
+        (seen seen' : List Observation) (stop stop' : Stop) (end end' : State)
+        → Builds optimisation profile text bytes program before export image
+        → Agree (params_of image) one other
+        → RunsFor given image one seen stop end
+        → RunsFor given image other seen' stop' end'
+        → seen ≡ seen' }
 {
     one_answer_for_a_text();
 }
 
-/// What `eval` answers for an accepted text, with a budget that the most work fits, as the command gives it: the one outcome
-/// that the text means. So it never says that the text has no meaning, or that the budget is used up.
+/// What `eval` answers for an accepted text, with a budget that the most work fits, as the command gives it: the one
+/// outcome that the text means. So it never says that the text has no meaning, or that the budget is used up.
 pub fn accepted_texts_are_evaluated()
-    ensures { (profile : Profile) (text : List ℕ) (program : ProgramTree) (before : List ProcedureTree) (export : ProcedureTree) (args : List Arg) (budget : ℕ)
-        → Judges profile text (accepts program before export) → AreWithin (map param_of export.parameters) args → most_work ≤ budget
+    ensures { (profile : Profile) (text : List ℕ) (program : ProgramTree) (before : List ProcedureTree)
+        (export : ProcedureTree) (args : List Arg) (budget : ℕ)
+        → Judges profile text (accepts program before export)
+        → AreWithin (map param_of export.parameters) args
+        → most_work ≤ budget
         → (results : Results) × Means program args results × (answer program args budget ≡ Ok results) }
 {
     faultless_arguments();
 }
 
-/// Two calls of `execute` with one image, one list of arguments and one list of what was recorded before. Where neither lacks
-/// memory they answer the same and leave one list. Where one of them does, or its recorder, what it leaves is a beginning of
-/// what the other leaves.
+/// Two calls of `execute` with one image, one list of arguments and one list of what was recorded before. Where neither
+/// lacks memory they answer the same and leave one list. Where one of them does, or its recorder, what it leaves is a
+/// beginning of what the other leaves.
 pub fn executions_agree()
-    ensures answered { (image : Fields) (args : List Arg) (keeps : Bool) (list one other : List Observation) (a b : Result Results RunFault)
-        → Executed image args keeps list a one → Executed image args keeps list b other
-        → (WantsMemory a → ⊥) → (WantsMemory b → ⊥) → (a ≡ b) × (one ≡ other) }
-    ensures wanted { (image : Fields) (args : List Arg) (keeps : Bool) (list one other : List Observation) (a b : Result Results RunFault)
-        → Executed image args keeps list a one → Executed image args keeps list b other
-        → (WantsMemory a → ⊥) → WantsMemory b → (rest : List Observation) × (one ≡ other ++ rest) }
+    ensures answered { (image : Fields) (args : List Arg) (keeps : Bool) (list one other : List Observation)
+        (a b : Result Results RunFault)
+        → Executed image args keeps list a one
+        → Executed image args keeps list b other
+        → (WantsMemory a → ⊥)
+        → (WantsMemory b → ⊥)
+        → (a ≡ b) × (one ≡ other) }
+    ensures wanted { (image : Fields) (args : List Arg) (keeps : Bool) (list one other : List Observation)
+        (a b : Result Results RunFault)
+        → Executed image args keeps list a one
+        → Executed image args keeps list b other
+        → (WantsMemory a → ⊥)
+        → WantsMemory b
+        → (rest : List Observation) × (one ≡ other ++ rest) }
 {}
 
-/// Two calls of `pair` with one image and the same two lists of arguments answer the same, where neither runs out of memory.
+/// Two calls of `pair` with one image and the same two lists of arguments answer the same, where neither runs out of
+/// memory.
 pub fn comparisons_agree()
     ensures { (image : Fields) (one other : List Arg) (a b : Result Pairing RunFault)
         → Paired image one other a → Paired image one other b

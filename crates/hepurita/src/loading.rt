@@ -80,7 +80,8 @@ pub fn frame(alloc: Global, image: &Image) -> Result<PagedMemory, AllocError>
 /// not begun yet.
 pub fn load(alloc: Global, image: &Image, args: &Args) -> Result<Running<PagedMemory>, AllocError>
     requires { AreWithin (params_of image.now) args.now }
-    ensures state { IfOk result (λ run. state_of run.hart (paged_bytes run.memory) ≡ loaded_at code_base frame_base image.now args.now) }
+    ensures state { IfOk result (λ run.
+        state_of run.hart (paged_bytes run.memory) ≡ loaded_at code_base frame_base image.now args.now) }
     ensures steps { IfOk result (λ run. run.turns_left ≡ image.now.max_steps) }
 {
     let mut memory = frame(alloc, image)?;

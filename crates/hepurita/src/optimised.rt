@@ -1,12 +1,12 @@
 // Which of its two codes a text is compiled to.
 
-/// Whether a text is compiled to optimised code. Both codes are promised the same: what the text means, within the stated steps
-/// and the frame, shown alike for arguments that are equal where they are public.
+/// Whether a text is compiled to optimised code. Both codes are promised the same: what the text means, within the
+/// stated steps and the frame, shown alike for arguments that are equal where they are public.
 #[derive(Clone, Copy, Debug, PartialEq, Eq)]
 pub enum Optimisation {
     /// Plain code: every variable lives in the frame.
     Off,
-    /// Optimised code, of fewer steps: the words that are used most live in registers, numbers stand in instructions, and
-    /// what is known before a run is not computed in it.
+    /// Optimised code, of fewer steps: the words that are used most live in registers, numbers stand in instructions,
+    /// and what is known before a run is not computed in it.
     On,
 }

@@ -26,8 +26,8 @@ fn made_or_given<'a, 'f>(
     }
 }
 
-/// The optimised code of a program whose loops are as they stay, where it is within the limit on words: short arrays become
-/// words, what is known then is a number, and words share variables. Only memory refuses it.
+/// The optimised code of a program whose loops are as they stay, where it is within the limit on words: short arrays
+/// become words, what is known then is a number, and words share variables. Only memory refuses it.
 fn finished(alloc: Global, straight: &StraightCode<'_>) -> Result<Option<Code>, Refusal>
     ensures generated { IfOk result (λ made. IfSome made (IsCodeFor straight.now)) }
     ensures exact { IfOk result (λ made. made ≡ optimised_fields_of (finished_of straight.now)) }
@@ -45,8 +45,8 @@ fn finished(alloc: Global, straight: &StraightCode<'_>) -> Result<Option<Code>, 
     generate_optimised(alloc, shared)
 }
 
-/// The optimised code of a program in which loops become their turns, where it is within the limit on words. Only memory
-/// refuses it.
+/// The optimised code of a program in which loops become their turns, where it is within the limit on words. Only
+/// memory refuses it.
 pub fn unrolled(alloc: Global, straight: &StraightCode<'_>) -> Result<Option<Code>, Refusal>
     ensures generated { IfOk result (λ made. IfSome made (IsCodeFor straight.now)) }
     ensures exact { IfOk result (λ made. made ≡ optimised_fields_of (finished_of (after unrolled_of straight.now))) }

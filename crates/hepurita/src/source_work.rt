@@ -1,6 +1,6 @@
-// Work as a sum over the source: what each node of a procedure costs at most, with the bodies that it calls counted where
-// they are called. The laws here say that it is the work of the body with numbered variables, part by part, and that the
-// parts make the whole.
+// Work as a sum over the source: what each node of a procedure costs at most, with the bodies that it calls counted
+// where they are called. The laws here say that it is the work of the body with numbered variables, part by part, and
+// that the parts make the whole.
 
 mod laws;
 

@@ -121,7 +121,8 @@ impl<'a> Reader<'a> {
     #[tactic(auto, unfolding(crate::specs::Format::read_by))]
     fn end(&self) -> Result<(), ImageFault>
         ensures { (image : Fields)
-            → MatchResult result (λ _. ahead (ends image) self.now ≡ Ok image) (λ fault. FaultIs fault (ahead (ends image) self.now)) }
+            → MatchResult result (λ _. ahead (ends image) self.now ≡ Ok image)
+            (λ fault. FaultIs fault (ahead (ends image) self.now)) }
     {
         if self.left.is_empty() {
             Ok(())

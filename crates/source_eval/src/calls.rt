@@ -15,7 +15,8 @@ use std::alloc::Global;
 
 /// A copy of the array that an argument names.
 fn array_named(variables: &Variables<'_>, argument: &Expr) -> Result<Option<Value>, EvalFault>
-    ensures ok { IfOk result (λ value. option_map value_of value ≡ array_named (held variables.now) (expr_tree argument.now)) }
+    ensures ok { IfOk result (λ value.
+        option_map value_of value ≡ array_named (held variables.now) (expr_tree argument.now)) }
     ensures memory { IfErr result (λ fault. fault ≡ Memory) }
 {
     match argument {
@@ -38,7 +39,8 @@ fn argument_held(
     argument: &Expr,
     words: &[Word],
 ) -> Result<Option<Value>, EvalFault>
-    ensures ok { IfOk result (λ value. option_map value_of value ≡ argument_held (held variables.now) form (expr_tree argument.now) (map word_of words.now)) }
+    ensures ok { IfOk result (λ value. option_map value_of value
+        ≡ argument_held (held variables.now) form (expr_tree argument.now) (map word_of words.now)) }
     ensures memory { IfErr result (λ fault. fault ≡ Memory) }
 {
     match (form, words) {
@@ -109,7 +111,8 @@ fn give_back<'a>(
     parameter: &Parameter,
     argument: &'a Expr,
 ) -> Result<(), EvalFault>
-    ensures ok { OnOk result (held caller.new ≡ gone_back parameter.now.form (held caller.old) (held inner.now) (expr_tree argument.now) parameter.now.name) }
+    ensures ok { OnOk result (held caller.new
+        ≡ gone_back parameter.now.form (held caller.old) (held inner.now) (expr_tree argument.now) parameter.now.name) }
     ensures memory { IfErr result (λ fault. fault ≡ Memory) }
 {
     if let (Form::MutableArray, Expr::Name(_, name)) = (parameter.form, argument) {
@@ -127,7 +130,9 @@ pub fn copy_out<'a>(
     parameters: &[Parameter],
     arguments: &'a [Expr],
 ) -> Result<(), EvalFault>
-    ensures ok { OnOk result (held caller.new ≡ copied_out (held caller.old) (held inner.now) (map parameter_tree parameters.now) (map expr_tree arguments.now)) }
+    ensures ok { OnOk result (held caller.new
+        ≡ copied_out (held caller.old) (held inner.now) (map parameter_tree parameters.now)
+        (map expr_tree arguments.now)) }
     ensures memory { IfErr result (λ fault. fault ≡ Memory) }
 {
     for (index, parameter) in parameters.iter().enumerate() {

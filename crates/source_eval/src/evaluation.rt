@@ -75,7 +75,8 @@ fn final_arrays(
     variables: &Variables<'_>,
     parameters: &[Parameter],
 ) -> Result<Vec<Numbers>, EvalFault>
-    ensures ok { IfOk result (λ arrays. arrays.items ≡ final_arrays (held variables.now) (map parameter_tree parameters.now)) }
+    ensures ok { IfOk result (λ arrays.
+        arrays.items ≡ final_arrays (held variables.now) (map parameter_tree parameters.now)) }
     ensures memory { IfErr result (λ fault. fault ≡ Memory) }
 {
     let mut arrays = Vec::new(alloc);
@@ -158,7 +159,9 @@ pub fn eval(
 ) -> Result<Outcome, EvalFault>
     ensures answer { result ≢ Err Memory → result ≡ answer (program_tree program.now) args.now budget }
     // Whatever memory does.
-    ensures judged { (fault : ArgumentFault) → fault_of (params_of (program_tree program.now)) args.now ≡ Some fault → result ≡ Err (EvalFault.Argument fault) }
+    ensures judged { (fault : ArgumentFault)
+        → fault_of (params_of (program_tree program.now)) args.now ≡ Some fault
+        → result ≡ Err (EvalFault.Argument fault) }
 {
     if let Some((earlier, export)) = program.exported() {
         return eval_export(alloc, earlier, export, args, budget);

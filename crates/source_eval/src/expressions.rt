@@ -16,7 +16,8 @@ use std::alloc::Global;
 /// The value of an expression.
 #[tactic(auto, unfolding(language::specs::Evaluation::tick, language::specs::Evaluation::andthen))]
 pub fn value(variables: &Variables<'_>, left: &mut u64, expr: &Expr) -> Result<Word, EvalFault>
-    ensures ok { IfOk result (λ w. Ended (value (held variables.now) (expr_tree expr.now)) left.old 0 (word_of w) left.new) }
+    ensures ok { IfOk result (λ w.
+        Ended (value (held variables.now) (expr_tree expr.now)) left.old 0 (word_of w) left.new) }
     ensures err { IfErr result (λ fault. Stopped (value (held variables.now) (expr_tree expr.now)) left.old 0 fault) }
 {
     spend(left)?;
@@ -67,8 +68,10 @@ pub fn values(
     left: &mut u64,
     exprs: &[Expr],
 ) -> Result<Vec<Word>, EvalFault>
-    ensures ok { IfOk result (λ words. Ended (values (held variables.now) (map expr_tree exprs.now)) left.old 0 (map word_of words.items) left.new) }
-    ensures err { IfErr result (λ fault. Stopped (values (held variables.now) (map expr_tree exprs.now)) left.old 0 fault) }
+    ensures ok { IfOk result (λ words. Ended (values (held variables.now) (map expr_tree exprs.now)) left.old 0
+        (map word_of words.items) left.new) }
+    ensures err { IfErr result (λ fault.
+        Stopped (values (held variables.now) (map expr_tree exprs.now)) left.old 0 fault) }
 {
     let mut words = Vec::new(alloc);
     for expr in exprs {
@@ -85,8 +88,11 @@ pub fn passed(
     parameters: &[Parameter],
     arguments: &[Expr],
 ) -> Result<Vec<Word>, EvalFault>
-    ensures ok { IfOk result (λ words. Ended (passed (held variables.now) (word_arguments (map parameter_tree parameters.now) (map expr_tree arguments.now))) left.old 0 (map word_of words.items) left.new) }
-    ensures err { IfErr result (λ fault. Stopped (passed (held variables.now) (word_arguments (map parameter_tree parameters.now) (map expr_tree arguments.now))) left.old 0 fault) }
+    ensures ok { IfOk result (λ words. Ended (passed (held variables.now)
+        (word_arguments (map parameter_tree parameters.now) (map expr_tree arguments.now))) left.old 0
+        (map word_of words.items) left.new) }
+    ensures err { IfErr result (λ fault. Stopped (passed (held variables.now)
+        (word_arguments (map parameter_tree parameters.now) (map expr_tree arguments.now))) left.old 0 fault) }
 {
     let mut words = Vec::new(alloc);
     for (index, parameter) in parameters.iter().enumerate() {

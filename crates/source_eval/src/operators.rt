@@ -12,8 +12,13 @@ use language::{BinaryOperator, Kind, Place, PrefixOperator, is_true};
 
 /// The word between two operands, at the operator's place.
 pub fn binary(place: Place, operator: BinaryOperator, a: Word, b: Word) -> Result<Word, EvalFault>
-    ensures ok { IfOk result (λ w. (if divides operator && (b.value == 0) then faults place else gives (binary_word operator (word_of a) (word_of b))) ≡ gives (word_of w)) }
-    ensures err { IfErr result (IsFault (if divides operator && (b.value == 0) then faults place else gives (binary_word operator (word_of a) (word_of b)))) }
+    ensures ok { IfOk result (λ w. (if divides operator && (b.value == 0)
+        then faults place
+        else gives (binary_word operator (word_of a) (word_of b)))
+        ≡ gives (word_of w)) }
+    ensures err { IfErr result (IsFault (if divides operator && (b.value == 0)
+        then faults place
+        else gives (binary_word operator (word_of a) (word_of b)))) }
 {
     if operator.divides() && b.value == 0 {
         return Err(EvalFault::NoMeaning(place));

@@ -76,7 +76,10 @@ impl<'a> Variables<'a> {
 
     /// From here on a name holds this, unless it holds something already: of a name that stands twice the first counts.
     pub fn set_first(&mut self, name: &'a Name, value: Value) -> Result<(), EvalFault>
-        ensures ok { OnOk result (held self.new ≡ (if is_some (held self.old name.now) then held self.old else with_value (held self.old) name.now (value_of value))) }
+        ensures ok { OnOk result (held self.new
+            ≡ (if is_some (held self.old name.now)
+            then held self.old
+            else with_value (held self.old) name.now (value_of value))) }
         ensures memory { IfErr result (λ fault. fault ≡ Memory) }
     {
         if self.get(name).is_some() {
@@ -115,7 +118,8 @@ impl<'a> Variables<'a> {
 
     /// From here on an element of the array that a name holds is this.
     pub fn set_element(&mut self, name: &Name, index: u32, word: Word)
-        ensures { held self.new ≡ with_some (held self.old) name.now (with_element (held self.old name.now) index (word_of word)) }
+        ensures { held self.new
+            ≡ with_some (held self.old) name.now (with_element (held self.old name.now) index (word_of word)) }
     {
         if let Some(held) = self.values.get_mut(name.as_str()) {
             put(held, index, word);

@@ -24,7 +24,8 @@ use Rattle.syntax.specs.declared.token.Sign.TheVariants.{Assign, Plus, Minus, St
 use Rattle.syntax.specs.declared.token.Sign.TheVariants.{Caret, Tilde, Bang, Below, Above}
 use Rattle.syntax.specs.declared.token.Suffix.{Suffix}
 use Rattle.syntax.specs.declared.token.Suffix.TheVariants.{U8, U16, U32}
-use Rattle.language.specs.declared.operators.BinaryOperator.TheVariants.{Either, Both, Equal, Unequal, Less, LessOrEqual}
+use Rattle.language.specs.declared.operators.BinaryOperator.TheVariants.{Either, Both, Equal, Unequal, Less}
+use Rattle.language.specs.declared.operators.BinaryOperator.TheVariants.{LessOrEqual}
 use Rattle.language.specs.declared.operators.BinaryOperator.TheVariants.{Greater, GreaterOrEqual, BitOr, BitXor, BitAnd}
 use Rattle.language.specs.declared.operators.BinaryOperator.TheVariants.{ShiftLeft as ShiftedLeft}
 use Rattle.language.specs.declared.operators.BinaryOperator.TheVariants.{ShiftRight as ShiftedRight, Add, Subtract}

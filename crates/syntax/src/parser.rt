@@ -58,7 +58,8 @@ struct Parser<'t> {
 
 impl<'t> Parser<'t> {
     fn procedures(&mut self) -> Result<Vec<Procedure>, Fault>
-        ensures leads { MatchResult result (λ procedures. ahead program_state self.old ≡ accepted (program_tree procedures.items))
+        ensures leads { MatchResult result
+            (λ procedures. ahead program_state self.old ≡ accepted (program_tree procedures.items))
             (λ f. FaultIs f (ahead program_state self.old)) }
     {
         let mut procedures = Vec::new(self.alloc);
@@ -79,7 +80,8 @@ fn parse_tokens<'t>(
     tokens: &'t [Token<'t>],
     end: ListEnd,
 ) -> Result<Vec<Procedure>, Refusal>
-    ensures accepted { IfOk result (λ procedures. Answers (lexemes tokens.entry.now) (ending end) (accepted (program_tree procedures.items))) }
+    ensures accepted { IfOk result (λ procedures.
+        Answers (lexemes tokens.entry.now) (ending end) (accepted (program_tree procedures.items))) }
     ensures refused { IfErr result (IsRefusedAs (Answers (lexemes tokens.entry.now) (ending end))) }
 {
     let mut parser = Parser {

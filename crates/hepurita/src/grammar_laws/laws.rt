@@ -30,7 +30,10 @@ pub fn offsets_decide_places()
 
 /// No two nodes of a program have their heads at one offset.
 pub fn heads_are_distinct()
-    ensures { (text : List ℕ) (tree : ProgramTree) → Reads text (accepted tree) → (n : ℕ) → in_program (here n) tree ≤ 1 }
+    ensures { (text : List ℕ) (tree : ProgramTree)
+        → Reads text (accepted tree)
+        → (n : ℕ)
+        → in_program (here n) tree ≤ 1 }
 {}
 
 /// The offset of a head of a program decides its line and its column.

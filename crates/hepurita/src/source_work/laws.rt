@@ -8,15 +8,21 @@ ghost use Rattle.hepurita.specs.source_work.SourceWork.{source_work, work_cost, 
 
 /// The work of the export of a program that violates no rule is that of its one body with numbered variables.
 pub fn work_is_that_of_the_body()
-    ensures { (profile : Profile) (program : ProgramTree) (before : List ProcedureTree) (p : ProcedureTree) → length (violations profile program) ≡ 0
-        → exported [] program.procedures ≡ Some (before, p) → AllByRecursion IsGrammatical before → IsGrammatical p
+    ensures { (profile : Profile) (program : ProgramTree) (before : List ProcedureTree) (p : ProcedureTree)
+        → length (violations profile program) ≡ 0
+        → exported [] program.procedures ≡ Some (before, p)
+        → AllByRecursion IsGrammatical before
+        → IsGrammatical p
         → source_work before p ≡ work_of (flattened profile before p) }
 {}
 
 /// And so is what is counted of it, with its first part of those that cost most.
 pub fn cost_is_that_of_the_body()
-    ensures { (profile : Profile) (program : ProgramTree) (before : List ProcedureTree) (p : ProcedureTree) → length (violations profile program) ≡ 0
-        → exported [] program.procedures ≡ Some (before, p) → AllByRecursion IsGrammatical before → IsGrammatical p
+    ensures { (profile : Profile) (program : ProgramTree) (before : List ProcedureTree) (p : ProcedureTree)
+        → length (violations profile program) ≡ 0
+        → exported [] program.procedures ≡ Some (before, p)
+        → AllByRecursion IsGrammatical before
+        → IsGrammatical p
         → work_cost before p ≡ cost_by (turns_of (flattened profile before p)) (flattened profile before p) }
 {}
 

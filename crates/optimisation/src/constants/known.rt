@@ -161,7 +161,8 @@ impl Known {
 
     /// A word stays known where one instruction holds it as a number.
     fn shorten(&mut self, number: usize)
-        ensures words { self.new.words.items ≡ slice_set self.old.words.items number (short (word_at self.old.words.items number)) }
+        ensures words { self.new.words.items
+            ≡ slice_set self.old.words.items number (short (word_at self.old.words.items number)) }
         ensures copies { self.new.copies ≡ self.old.copies }
     {
         if let Some(word) = self.words.get_mut(number) {

@@ -36,7 +36,8 @@ struct Bounds<'b> {
 
 /// Puts a statement behind a block.
 fn push(code: &mut Vec<StraightStatement>, statement: StraightStatement) -> Result<(), AllocError>
-    ensures { OnOk result (straight_block code.new.items ≡ chain (straight_block code.old.items) (single (straight_tree statement))) }
+    ensures { OnOk result (straight_block code.new.items
+        ≡ chain (straight_block code.old.items) (single (straight_tree statement))) }
 {
     code.push(statement)?;
     Ok(())

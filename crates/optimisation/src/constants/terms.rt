@@ -125,7 +125,8 @@ fn prefixed(
 
 /// What an operator comes to, where both its operands are numbers.
 fn between(operator: BinaryOperator, width: Width, left: &Term, right: &Term) -> Option<Constant>
-    ensures { result ≡ folding.between operator width (constant_of (term_tree left.now)) (constant_of (term_tree right.now)) }
+    ensures { result
+        ≡ folding.between operator width (constant_of (term_tree left.now)) (constant_of (term_tree right.now)) }
 {
     let one = constant_of(left)?;
     let other = constant_of(right)?;
@@ -138,14 +139,16 @@ fn between(operator: BinaryOperator, width: Width, left: &Term, right: &Term) ->
 
 /// What the left operand of an operator decides alone, where it is a number.
 fn left_decides(operator: BinaryOperator, left: &Term) -> Option<bool>
-    ensures { result ≡ option_and_then (λ c. folding.decided_by_left operator c.value) (constant_of (term_tree left.now)) }
+    ensures { result
+        ≡ option_and_then (λ c. folding.decided_by_left operator c.value) (constant_of (term_tree left.now)) }
 {
     decided_by_left(operator, constant_of(left)?.value)
 }
 
 /// And what the right one does.
 fn right_decides(operator: BinaryOperator, right: &Term) -> Option<bool>
-    ensures { result ≡ option_and_then (λ c. folding.decided_by_right operator c.value) (constant_of (term_tree right.now)) }
+    ensures { result
+        ≡ option_and_then (λ c. folding.decided_by_right operator c.value) (constant_of (term_tree right.now)) }
 {
     decided_by_right(operator, constant_of(right)?.value)
 }
@@ -191,7 +194,8 @@ fn turned(
     left: Term,
     right: Term,
 ) -> Result<Term, AllocError>
-    ensures { IfOk result (λ term. term_tree term ≡ folding.turned place operator width (term_tree left) (term_tree right)) }
+    ensures { IfOk result (λ term.
+        term_tree term ≡ folding.turned place operator width (term_tree left) (term_tree right)) }
 {
     match turned_by(operator, &left) {
         Some(comparison) => operation(alloc, place, comparison, width, right, left),
@@ -199,8 +203,8 @@ fn turned(
     }
 }
 
-/// An operator and its two operands: where one is a power of two, a shift or a mask of the other, and else what they are
-/// turned round or narrowed.
+/// An operator and its two operands: where one is a power of two, a shift or a mask of the other, and else what they
+/// are turned round or narrowed.
 fn stepped(
     alloc: Global,
     place: Place,
@@ -209,7 +213,8 @@ fn stepped(
     left: Term,
     right: Term,
 ) -> Result<Term, AllocError>
-    ensures { IfOk result (λ term. term_tree term ≡ folding.stepped place operator width (term_tree left) (term_tree right)) }
+    ensures { IfOk result (λ term.
+        term_tree term ≡ folding.stepped place operator width (term_tree left) (term_tree right)) }
 {
     if let Some(step) = step_of(operator, constant_of(&right)) {
         let number = number_of(step.number);
@@ -233,7 +238,8 @@ fn reduced(
     left: Term,
     right: Term,
 ) -> Result<Term, AllocError>
-    ensures { IfOk result (λ term. term_tree term ≡ folding.reduced place operator width (term_tree left) (term_tree right)) }
+    ensures { IfOk result (λ term.
+        term_tree term ≡ folding.reduced place operator width (term_tree left) (term_tree right)) }
 {
     if leaves_left(operator, width, &right) {
         Ok(left)
@@ -253,7 +259,8 @@ fn binary(
     left: Term,
     right: Term,
 ) -> Result<Term, AllocError>
-    ensures { IfOk result (λ term. term_tree term ≡ folding.operated_on place operator width (term_tree left) (term_tree right)) }
+    ensures { IfOk result (λ term.
+        term_tree term ≡ folding.operated_on place operator width (term_tree left) (term_tree right)) }
 {
     match between(operator, width, &left, &right) {
         Some(known) => Ok(number_of(known)),
@@ -297,7 +304,8 @@ fn select(
     accepted: Term,
     otherwise: Term,
 ) -> Result<Term, AllocError>
-    ensures { IfOk result (λ term. term_tree term ≡ chosen (decision (term_tree condition)) (term_tree condition) (term_tree accepted) (term_tree otherwise)) }
+    ensures { IfOk result (λ term. term_tree term
+        ≡ chosen (decision (term_tree condition)) (term_tree condition) (term_tree accepted) (term_tree otherwise)) }
 {
     match decision(&condition) {
         Some(true) => Ok(accepted),
@@ -354,7 +362,8 @@ pub fn simple(alloc: Global, known: &Known, term: &Term) -> Result<Term, AllocEr
 
 /// Expressions, in their order.
 pub fn all_simple(alloc: Global, known: &Known, terms: &[Term]) -> Result<Vec<Term>, AllocError>
-    ensures { IfOk result (λ simpler. map term_tree simpler.items ≡ map (simple (words_of known.now)) (map term_tree terms.now)) }
+    ensures { IfOk result (λ simpler.
+        map term_tree simpler.items ≡ map (simple (words_of known.now)) (map term_tree terms.now)) }
 {
     let mut simpler = Vec::new(alloc);
     for term in terms {
@@ -369,7 +378,8 @@ pub fn simple_where_any(
     known: &Known,
     term: Option<&Term>,
 ) -> Result<Option<Term>, AllocError>
-    ensures { IfOk result (λ simpler. option_map term_tree simpler ≡ option_map (simple (words_of known.now)) (option_map (λ term. term_tree term.now) term.entry)) }
+    ensures { IfOk result (λ simpler. option_map term_tree simpler
+        ≡ option_map (simple (words_of known.now)) (option_map (λ term. term_tree term.now) term.entry)) }
 {
     match term {
         Some(term) => Ok(Some(simple(alloc, known, term)?)),

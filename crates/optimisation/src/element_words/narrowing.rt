@@ -55,7 +55,8 @@ fn narrow_all(parts: &mut Parts, terms: &[Term])
 
 /// Those where an element is set.
 fn narrow_put(parts: &mut Parts, array: u32, index: &Term, value: &Term)
-    ensures { parts.new.arrays.items ≡ narrowed_put parts.old.arrays.items array (term_tree index.now) (term_tree value.now) }
+    ensures { parts.new.arrays.items
+        ≡ narrowed_put parts.old.arrays.items array (term_tree index.now) (term_tree value.now) }
 {
     narrow_at(parts, array, index);
     narrow(parts, index);
@@ -100,7 +101,8 @@ pub fn narrow_by_all(parts: &mut Parts, body: &[StraightStatement])
 
 /// Those in a result, where there is one.
 pub fn narrow_result(parts: &mut Parts, value: Option<&Term>)
-    ensures { parts.new.arrays.items ≡ narrowed_result parts.old.arrays.items (option_map (λ term. term_tree term.now) value.entry) }
+    ensures { parts.new.arrays.items
+        ≡ narrowed_result parts.old.arrays.items (option_map (λ term. term_tree term.now) value.entry) }
 {
     if let Some(value) = value {
         narrow(parts, value);

@@ -43,7 +43,9 @@ fn push_numbered(
     room: u16,
 ) -> Result<u16, AllocError>
     ensures within { IfOk result (λ size. size ≤ room) }
-    ensures left { IfOk result (λ size. (rest : Table) → arrays.new.items ++ numbered (base + size) (room - size) rest ≡ arrays.old.items ++ numbered base room (array ∷ rest)) }
+    ensures left { IfOk result (λ size. (rest : Table)
+        → arrays.new.items ++ numbered (base + size) (room - size) rest
+        ≡ arrays.old.items ++ numbered base room (array ∷ rest)) }
 {
     match array {
         Some(part) => {

@@ -15,7 +15,8 @@ use std::alloc::{AllocError, Global};
 
 /// Puts a statement behind a block.
 fn push(code: &mut Vec<StraightStatement>, statement: StraightStatement) -> Result<(), AllocError>
-    ensures { OnOk result (straight_block code.new.items ≡ chain (straight_block code.old.items) (single (straight_tree statement))) }
+    ensures { OnOk result (straight_block code.new.items
+        ≡ chain (straight_block code.old.items) (single (straight_tree statement))) }
 {
     code.push(statement)?;
     Ok(())
@@ -135,7 +136,8 @@ pub fn block(
     parts: &Parts,
     body: &[StraightStatement],
 ) -> Result<Vec<StraightStatement>, AllocError>
-    ensures { IfOk result (λ code. straight_block code.items ≡ split_all parts.now.arrays.items (straight_block body.now)) }
+    ensures { IfOk result (λ code.
+        straight_block code.items ≡ split_all parts.now.arrays.items (straight_block body.now)) }
 {
     let mut code = Vec::new(alloc);
     for each in body {

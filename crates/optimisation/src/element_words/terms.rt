@@ -63,7 +63,8 @@ fn boxed(alloc: Global, parts: &Parts, term: &Term) -> Result<Box<Term>, AllocEr
 
 /// Expressions, in their order.
 pub fn all_split(alloc: Global, parts: &Parts, terms: &[Term]) -> Result<Vec<Term>, AllocError>
-    ensures { IfOk result (λ made. map term_tree made.items ≡ map (split parts.now.arrays.items) (map term_tree terms.now)) }
+    ensures { IfOk result (λ made.
+        map term_tree made.items ≡ map (split parts.now.arrays.items) (map term_tree terms.now)) }
 {
     let mut made = Vec::new(alloc);
     for term in terms {
@@ -78,7 +79,8 @@ pub fn split_where_any(
     parts: &Parts,
     term: Option<&Term>,
 ) -> Result<Option<Term>, AllocError>
-    ensures { IfOk result (λ made. option_map term_tree made ≡ option_map (split parts.now.arrays.items) (option_map (λ term. term_tree term.now) term.entry)) }
+    ensures { IfOk result (λ made. option_map term_tree made
+        ≡ option_map (split parts.now.arrays.items) (option_map (λ term. term_tree term.now) term.entry)) }
 {
     match term {
         Some(term) => Ok(Some(split(alloc, parts, term)?)),

@@ -83,7 +83,8 @@ impl<'w> Words<'w> {
 
     /// The variable that a word gets, its own or one of these.
     fn variable_for(&self, conflicts: &[bool], variables: &[u32], word: u32) -> u32
-        ensures { result ≡ variable_for self.now.declared.now self.now.starts.now conflicts.now self.now.width variables.now word }
+        ensures { result ≡ variable_for self.now.declared.now self.now.starts.now conflicts.now self.now.width
+            variables.now word }
     {
         if self.is_fixed(conflicts, word) {
             word

@@ -54,7 +54,8 @@ fn gather_set(
     word: u32,
     value: &Term,
 )
-    ensures { held_by live.new ≡ gathered table.now done.now (held_by live.old) (set within word (term_tree value.now)) }
+    ensures { held_by live.new
+        ≡ gathered table.now done.now (held_by live.old) (set within word (term_tree value.now)) }
 {
     match within {
         None => read(live, table, done, value),
@@ -74,7 +75,8 @@ fn gather(
     done: &[bool],
     statement: &StraightStatement,
 ) -> Result<(), AllocError>
-    ensures { OnOk result (held_by live.new ≡ gathered table.now done.now (held_by live.old) (straight_tree statement.now)) }
+    ensures { OnOk result (held_by live.new
+        ≡ gathered table.now done.now (held_by live.old) (straight_tree statement.now)) }
 {
     match statement {
         StraightStatement::Set(within, word, value) => {
@@ -112,7 +114,8 @@ fn gather_all(
     mut done: Vec<bool>,
     body: &[StraightStatement],
 ) -> Result<(), AllocError>
-    ensures { OnOk result (held_by live.new ≡ gathered_all table.now done.items (held_by live.old) (straight_block body.now)) }
+    ensures { OnOk result (held_by live.new
+        ≡ gathered_all table.now done.items (held_by live.old) (straight_block body.now)) }
 {
     for statement in body {
         gather(alloc, live, table, done.as_slice(), statement)?;

@@ -245,7 +245,9 @@ impl Live {
     /// These are the holders where a turn of a loop may begin or the loop is over. What is live before a turn has to be
     /// live there.
     pub fn close(&mut self, table: &[u32], counter: u32, head: Vec<Option<u32>>)
-        ensures { (before : Held) → before.holders ≡ head.items → held_by self.new ≡ closed table.now counter before (held_by self.old) }
+        ensures { (before : Held)
+            → before.holders ≡ head.items
+            → held_by self.new ≡ closed table.now counter before (held_by self.old) }
     {
         self.count(table, counter);
         let fine = covers(head.as_slice(), self.holders.as_slice());

@@ -53,7 +53,9 @@ fn over(
     live: &mut Live,
     table: &[u32],
 ) -> Result<Parts, AllocError>
-    ensures code { IfOk result (λ parts. with_body straight.now (straight_block parts.body.items) (option_map term_tree parts.value) ≡ over table.now (held_by live.old) straight.now) }
+    ensures code { IfOk result (λ parts. with_body straight.now (straight_block parts.body.items)
+        (option_map term_tree parts.value)
+        ≡ over table.now (held_by live.old) straight.now) }
     ensures live { OnOk result (held_by live.new ≡ at_start table.now (held_by live.old) straight.now) }
     ensures straight { IsStraight straight.now }
 {
@@ -98,7 +100,8 @@ fn table_for(alloc: Global, straight: &StraightCode<'_>) -> Result<Vec<u32>, All
 
 /// Straight code in which a word that nobody reads is not set, and words that are never live at once share a variable.
 /// It may stand in the place of the code that it is made of, which alone decides it; there is none where sharing does
-/// not fit, or where it would not be well typed or not within the limits on size. Running out of memory alone refuses it.
+/// not fit, or where it would not be well typed or not within the limits on size. Running out of memory alone refuses
+/// it.
 pub fn share_words<'f>(
     alloc: Global,
     straight: &StraightCode<'f>,

@@ -25,7 +25,8 @@ struct Bounds<'b> {
 
 /// Before an array's element is set.
 fn put(live: &mut Live, table: &[u32], array: u32, index: &Term, value: &Term)
-    ensures { held_by live.new ≡ before_put table.now (held_by live.old) array (term_tree index.now) (term_tree value.now) }
+    ensures { held_by live.new
+        ≡ before_put table.now (held_by live.old) array (term_tree index.now) (term_tree value.now) }
 {
     live.live(table, array);
     read(live, table, &[], value);
@@ -81,7 +82,8 @@ fn set(
 ) -> Result<Option<StraightStatement>, AllocError>
     ensures code { IfOk result (λ code. option_map straight_tree code
         ≡ shared table.now (held_by live.old) (straight.set within word (term_tree value.now))) }
-    ensures live { OnOk result (held_by live.new ≡ before table.now (held_by live.old) (straight.set within word (term_tree value.now))) }
+    ensures live { OnOk result (held_by live.new
+        ≡ before table.now (held_by live.old) (straight.set within word (term_tree value.now))) }
 {
     if is_dead(live, table, word, value) {
         return Ok(None);
@@ -100,7 +102,8 @@ fn statement(
     table: &[u32],
     statement: &StraightStatement,
 ) -> Result<Option<StraightStatement>, AllocError>
-    ensures code { IfOk result (λ code. option_map straight_tree code ≡ shared table.now (held_by live.old) (straight_tree statement.now)) }
+    ensures code { IfOk result (λ code.
+        option_map straight_tree code ≡ shared table.now (held_by live.old) (straight_tree statement.now)) }
     ensures live { OnOk result (held_by live.new ≡ before table.now (held_by live.old) (straight_tree statement.now)) }
 {
     match statement {
@@ -201,7 +204,8 @@ pub fn statements(
     table: &[u32],
     body: &[StraightStatement],
 ) -> Result<Vec<StraightStatement>, AllocError>
-    ensures code { IfOk result (λ code. straight_block code.items ≡ shared_all table.now (held_by live.old) (straight_block body.now)) }
+    ensures code { IfOk result (λ code.
+        straight_block code.items ≡ shared_all table.now (held_by live.old) (straight_block body.now)) }
     ensures live { OnOk result (held_by live.new ≡ before_all table.now (held_by live.old) (straight_block body.now)) }
 {
     let mut backwards = Vec::new(alloc);

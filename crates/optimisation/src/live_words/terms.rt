@@ -49,7 +49,8 @@ pub fn read_all(live: &mut Live, table: &[u32], done: &[bool], terms: &[Term])
 
 /// So is what an expression reads, where there is one.
 pub fn read_any(live: &mut Live, table: &[u32], term: Option<&Term>)
-    ensures { held_by live.new ≡ reading_any table.now (held_by live.old) (option_map (λ term. term_tree term.now) term.entry) }
+    ensures { held_by live.new
+        ≡ reading_any table.now (held_by live.old) (option_map (λ term. term_tree term.now) term.entry) }
 {
     if let Some(term) = term {
         read(live, table, &[], term);
@@ -121,7 +122,8 @@ pub fn renamed_any(
     table: &[u32],
     term: Option<&Term>,
 ) -> Result<Option<Term>, AllocError>
-    ensures { IfOk result (λ copy. option_map term_tree copy ≡ option_map (renamed table.now) (option_map (λ term. term_tree term.now) term.entry)) }
+    ensures { IfOk result (λ copy. option_map term_tree copy
+        ≡ option_map (renamed table.now) (option_map (λ term. term_tree term.now) term.entry)) }
 {
     match term {
         Some(term) => Ok(Some(renamed(alloc, table, term)?)),

@@ -50,7 +50,8 @@ pub fn piece_of_word(word: &str) -> Piece
 
 /// The keyword that a word spells.
 fn keyword_of(word: &str) -> Option<Keyword>
-    ensures { MatchOption result ((keyword : Keyword) → word.now ≢ keyword_text keyword) (λ keyword. word.now ≡ keyword_text keyword) }
+    ensures { MatchOption result
+        ((keyword : Keyword) → word.now ≢ keyword_text keyword) (λ keyword. word.now ≡ keyword_text keyword) }
 {
     match word {
         "export" => Some(Keyword::Export),

@@ -34,7 +34,8 @@ fn suffix_at(bytes: &[u8]) -> Option<usize>
 
 /// The suffix that the end of a number spells.
 fn suffix_of(tail: &str) -> Option<Option<Suffix>>
-    ensures { MatchOption result ((suffix : Option Suffix) → tail.now ≢ suffix_text suffix) (λ suffix. tail.now ≡ suffix_text suffix) }
+    ensures { MatchOption result
+        ((suffix : Option Suffix) → tail.now ≢ suffix_text suffix) (λ suffix. tail.now ≡ suffix_text suffix) }
 {
     match tail {
         "" => Some(None),

@@ -1,8 +1,8 @@
 -- Expressions in which what is known is a number: an operator between numbers is what it comes to, one that a number on
 -- one side decides is that bool, one that leaves its operand as it is is that operand, one by a power of two is a shift
--- or a mask, a comparison that `!` stands before is the opposite one, one with a number on its left is turned round, and
--- bits of a word are had by two shifts. A division by 0 stays, since it comes to nothing. A word that is another one's
--- copy is read as that one.
+-- or a mask, a comparison that `!` stands before is the opposite one, one with a number on its left is turned round,
+-- and bits of a word are had by two shifts. A division by 0 stays, since it comes to nothing. A word that is another
+-- one's copy is read as that one.
 use Rattle.std.specs.Prelude.{ℕ, ◌-◌, ◌==◌, ◌&&◌, Bool, true, false, nat_le, Option, None, Some, if◌then◌else◌}
 use Rattle.std.specs.Bool.{then_some}
 use Rattle.std.specs.Option.{option_and, option_and_then, option_map, option_or}
