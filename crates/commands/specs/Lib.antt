@@ -1,3 +1,14 @@
+-- What this crate defines, by file.
+-- Commanded: what a command line leads to; Requests: what each request prints and writes, and its exit status;
+--   Contents: what files hold, and how that changes; Answered, Failures, FaultText: what is printed, and which calls
+--   have failed.
+-- Read from files: FileTexts a source, Images an image, ImageArguments and Words arguments; ImageRefusals, Unread: why
+--   not.
+-- What a command prints: Judged of check, Costs of stat, Meanings of eval, Runs and OutcomeText of run, Leaks of leak,
+--   Pairs of pair, Certificates of certify, Pictures of picture, Harts and HartsText of harts, Vectors of vectors;
+--   Stops has exit statuses, Progress the lines of progress. What it writes: Written one file, TwoFiles two,
+--   FunctionFiles those of function, WrappedCode the image of wrap.
+-- command_line: the words of a command line.
 pub mod command_line
 pub mod Contents
 pub mod Costs

@@ -1,3 +1,12 @@
+-- What this crate defines, by file and folder.
+-- Table, Listed, Text: the explanations, which codes have one, and how one is printed.
+-- source_excerpts: the line of a source with a place marked. call_places: the procedure of a place, and where it is
+--   called.
+-- expected_tokens: which kinds of tokens may follow a prefix of a source.
+-- refusal_details: what is said of a refusal beside its rule: Details has all of it, WhyLines what the evidence of a
+--   violation says, TypeLines, SizeLines and ExpectedLines its parts. explained_refusals: all that is printed below
+--   one.
+-- private: whether the names in the table are those of the rules.
 pub mod source_excerpts
 pub mod expected_tokens
 pub mod call_places

@@ -1,3 +1,12 @@
+-- What this crate defines, by file.
+-- Built: what `build` answers; Flattened: a source up to the passes on size; CodeFor: code for straight code or for
+--   what replaces it; Exact: the one plain and the one optimised image; Told: the refusal of a source, and what it
+--   tells.
+-- Meant: what a program means on arguments; Compiled: what is promised of a compiled image; Linked: of its body in
+--   other code; Uncut, CutOff: of runs that no recorder cuts short, and of runs that are cut off.
+-- Executed, Paired, Answers: what `execute` and `pair` answer; Text: how errors of a run are printed.
+-- Bases: the standard base addresses; Frames: where data is in a frame.
+-- grammar_laws: heads of nodes, for laws on the grammar; source_work: work as a sum over the source.
 pub mod Bases
 pub mod Frames
 pub mod Meant

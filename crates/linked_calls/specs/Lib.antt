@@ -1,3 +1,9 @@
+-- What this crate defines, by file.
+-- Callable: the linked call and its theorem; Convention, Calls, Called: the calling convention, what a caller sets up,
+--   and what a call leaves.
+-- FunctionCode, Sections: the words of a function for C, and the same in sections.
+-- Words, Copies, Zeros, Cleared: its pieces: word arguments and results, arrays, the frame zeroed, registers cleared.
+-- Does: what a piece of code does wherever it is; Meant, Stretches: raw words that are passed, and ranges of bytes.
 pub mod Called
 pub mod Callable
 pub mod Calls

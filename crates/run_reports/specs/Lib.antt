@@ -1,3 +1,9 @@
+-- What this crate defines, by folder, one a module.
+-- run_places: Places has the steps of a run by the entries that they show, Reads the registers that an instruction
+--   reads, Shown what a run shows at a place.
+-- progress: Lines has the lines of progress, GoingOn how many there are, Certified those of certified runs.
+-- pictures: Page has the page, Grid its columns and rows, Marks what stands in them, Constants its fixed text, Pictured
+--   which page is the picture of two runs.
 pub mod run_places
 pub mod progress
 pub mod pictures

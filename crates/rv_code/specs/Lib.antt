@@ -1,3 +1,9 @@
+-- What this crate defines, by file.
+-- Operations: the instruction table: fixed fields, names, and what operations compute.
+-- Words: the word of each instruction, and the ranges of its fields.
+-- Text, FieldText: the assembly text of instructions, and of their operands.
+-- Signed: two's complement.
+-- private: how a word is read; for contracts of private functions alone.
 pub mod Operations
 pub mod Words
 pub mod Text
