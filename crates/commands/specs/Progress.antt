@@ -52,7 +52,8 @@ abbrev pub FileCertificateTells : Counting → Bool → Bool → Contents → Li
 FileCertificateTells Has false shifts files path words before after = after ≡ before
 FileCertificateTells Has true shifts files path words before after =
     (image : Fields) × (given : List (Option Arg)) × HoldsImage files path image
-    × AreGiven (params_of image) words given × IsTold Has (CertificateGoesOn image given (shifts_seen shifts)) before after
+    × AreGiven (params_of image) words given
+    × IsTold Has (CertificateGoesOn image given (shifts_seen shifts)) before after
 
 -- what goes out for a request, by what files hold
 abbrev pub RequestTells : Counting → Request → Contents → Collected → Collected → Type 0

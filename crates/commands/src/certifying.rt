@@ -1,6 +1,7 @@
 // One run of an image for all values of the arguments that are not given.
 
-ghost use Rattle.std.specs.Prelude.{◌≡◌, ◌≢◌, ◌≤◌, ◌++◌, ◌⊎◌, ℕ, List, Some, None, map, codes, IsTrue, IfOk, OnOk, OnErr};
+ghost use Rattle.std.specs.Prelude.{◌≡◌, ◌≢◌, ◌≤◌, ◌++◌, ◌⊎◌, ℕ, List, Some, None, map, codes, IsTrue, IfOk, OnOk};
+ghost use Rattle.std.specs.Prelude.{OnErr};
 ghost use Rattle.std.specs.Fmt.{decimal};
 ghost use Rattle.commands.specs.Answered.{Finds, IsRead};
 ghost use Rattle.commands.specs.Below.{code_at, code_base, collected, HasLines, IsLineAt, Reaches, stop_line, word_at};
@@ -21,8 +22,8 @@ use std::alloc::{AllocError, Global};
 use streams::Sink;
 
 /// Whether an observer sees the same of an image for all values of the arguments that are not given, as lines, and the
-/// exit status. With `shifts` the observer also sees by how much registers are shifted. How many steps the run has made goes
-/// to `err`, where that is asked for.
+/// exit status. With `shifts` the observer also sees by how much registers are shifted. How many steps the run has made
+/// goes to `err`, where that is asked for.
 pub fn certify_image<'a, F: Files, E: Sink>(
     alloc: Global,
     path: &'a str,
@@ -93,7 +94,9 @@ fn same_text(alloc: Global, stop: Stop) -> Result<Vec<u8>, AllocError>
 /// Where runs may begin to differ, and the line of the word there.
 fn difference_text(alloc: Global, image: &Image, entry: u64, pc: u32) -> Result<Vec<u8>, AllocError>
     requires { word_at (code_at code_base image.now) pc ≢ None }
-    ensures { IfOk result (λ text. (line : List ℕ) × IsLineAt (code_at code_base image.now) pc (Some line) × (text.items ≡ codes "may differ at " ++ decimal entry ++ codes "\n" ++ line)) }
+    ensures { IfOk result (λ text. (line : List ℕ)
+        × IsLineAt (code_at code_base image.now) pc (Some line)
+        × (text.items ≡ codes "may differ at " ++ decimal entry ++ codes "\n" ++ line)) }
 {
     let head = format!(in alloc; "may differ at {entry}\n")?;
     let mut text = Vec::from_slice(alloc, head.as_bytes())?;

@@ -22,8 +22,8 @@ pub fn budget_is_as_stated()
     ensures nodes { EVALUATION_BUDGET ≡ evaluation_budget }
 {}
 
-/// What an accepted text means on arguments, as lines. It is accepted for an observer of profile 1, and the budget suffices
-/// for each text that is. A refusal of the source is explained where that is asked for.
+/// What an accepted text means on arguments, as lines. It is accepted for an observer of profile 1, and the budget
+/// suffices for each text that is. A refusal of the source is explained where that is asked for.
 pub fn evaluate_text<'a, F: Files>(
     alloc: Global,
     file: &'a str,

@@ -87,8 +87,8 @@ impl Fault<'_> {
     }
 }
 
-/// Its lines for standard error, without the last one's end. Those of a file's fault are written out here, since what is
-/// derived has no contract.
+/// Its lines for standard error, without the last one's end. Those of a file's fault are written out here, since what
+/// is derived has no contract.
 impl fmt::Display for Fault<'_> {
     ghost use Rattle.std.specs.Prelude.{Some};
     ghost use Rattle.commands.specs.FaultText.{fault_line};

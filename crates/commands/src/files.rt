@@ -3,8 +3,8 @@ ghost use Rattle.commands.specs.Contents.{Store, failed, failed_times, IsWritten
 
 use streams::{Sink, SinkFault, Source, SourceFault};
 
-/// Files by their paths. They have a view: what they hold, and how many calls of them have failed, a count that stays at
-/// 2^64 - 1. In it are the failed calls of a source or a sink once that is handed back.
+/// Files by their paths. They have a view: what they hold, and how many calls of them have failed, a count that stays
+/// at 2^64 - 1. In it are the failed calls of a source or a sink once that is handed back.
 pub trait Files {
     type Source: Source;
 

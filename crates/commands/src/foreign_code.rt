@@ -16,8 +16,8 @@ use std::alloc::Global;
 /// How many bytes of code are read at most: one more than an image may have, so that longer code is refused.
 const CODE_LIMIT: usize = 4 * MOST_WORDS as usize + 1;
 
-/// Makes an image of the code of one file, with the parameters and the result of the text of another. It is written only
-/// once nothing was refused.
+/// Makes an image of the code of one file, with the parameters and the result of the text of another. It is written
+/// only once nothing was refused.
 pub fn wrap_code<'a, F: Files>(
     alloc: Global,
     file: &'a str,

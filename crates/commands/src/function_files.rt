@@ -15,8 +15,8 @@ use crate::texts::{refused, text_of_file, write_file};
 use functions::function_text::{FunctionFault, Texts, texts_of};
 use std::alloc::Global;
 
-/// The texts of the plain or the optimised function that the text of a file is compiled to, for an observer. A refusal of
-/// the source is explained where that is asked for.
+/// The texts of the plain or the optimised function that the text of a file is compiled to, for an observer. A refusal
+/// of the source is explained where that is asked for.
 fn function_texts<'a, F: Files>(
     alloc: Global,
     file: &'a str,
@@ -62,9 +62,9 @@ fn write_both<'a, F: Files>(
     write_file(other, texts.header.as_bytes(), files)
 }
 
-/// Compiles the text of a file, for an observer, to a plain or an optimised function that C calls: its text for an assembler
-/// is written to one file, and then its C header to another. Neither is written unless both texts are there. A refusal of
-/// the source is explained where that is asked for.
+/// Compiles the text of a file, for an observer, to a plain or an optimised function that C calls: its text for an
+/// assembler is written to one file, and then its C header to another. Neither is written unless both texts are there.
+/// A refusal of the source is explained where that is asked for.
 pub fn write_function<'a, F: Files>(
     alloc: Global,
     file: &'a str,

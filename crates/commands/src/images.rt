@@ -175,8 +175,8 @@ pub fn list_image<'a, F: Files>(
     Ok(Answer::of_bytes(lines))
 }
 
-/// Whether an observer sees the same of an image on two lists of arguments, as a line; where that is to be explained, the lines
-/// behind it say why not. How many steps both runs have made goes to `err`, where that is asked for.
+/// Whether an observer sees the same of an image on two lists of arguments, as a line; where that is to be explained,
+/// the lines behind it say why not. How many steps both runs have made goes to `err`, where that is asked for.
 pub fn pair_image<'a, F: Files, E: Sink>(
     alloc: Global,
     path: &'a str,
@@ -204,7 +204,8 @@ pub fn pair_image<'a, F: Files, E: Sink>(
     Ok(Answer::of_bytes(text))
 }
 
-/// A comparison of an image's runs on these arguments as lines: its line, and why it differs, where that is to be explained.
+/// A comparison of an image's runs on these arguments as lines: its line, and why it differs, where that is to be
+/// explained.
 fn pairing_lines(
     alloc: Global,
     image: &Image,
@@ -248,7 +249,8 @@ pub fn both_args(
     arguments: &[&str],
 ) -> Result<(Args, Args), RunFault>
     requires { length params.now ≤ most_parameters }
-    ensures found { IfOk result (λ both. AreBothSpelled params.now (map (λ word. word.now) arguments.now) both.0 both.1) }
+    ensures found { IfOk result (λ both.
+        AreBothSpelled params.now (map (λ word. word.now) arguments.now) both.0 both.1) }
     ensures refused { IfErr result (IsFaultOfWords (fault_of_both params.now (map (λ word. word.now) arguments.now))) }
 {
     match arguments.split_at_checked(params.len()) {
@@ -266,7 +268,8 @@ fn later_args(alloc: Global, params: &[Param], arguments: &[&str]) -> Result<Arg
     requires { length params.now ≤ most_parameters }
     ensures found { IfOk result (AreSpelled params.now (map (λ word. word.now) arguments.now)) }
     ensures only { OnOk result (fault_of_texts params.now (map (λ word. word.now) arguments.now) ≡ None) }
-    ensures refused { IfErr result (IsFaultOfWords (option_map (shifted (length params.now)) (fault_of_texts params.now (map (λ word. word.now) arguments.now)))) }
+    ensures refused { IfErr result (IsFaultOfWords (option_map (shifted (length params.now))
+        (fault_of_texts params.now (map (λ word. word.now) arguments.now)))) }
 {
     match read_args(alloc, params, arguments) {
         Ok(args) => Ok(args),

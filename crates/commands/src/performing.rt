@@ -34,9 +34,9 @@ pub const STANDARD_OUTPUT: &str = "-";
 
 const OUT_OF_MEMORY: &str = "refused: M1: memory\n";
 
-/// Does what the words ask for, of which the first is the program's own name, or says why they ask for nothing, and answers
-/// the exit status: 0 done, 1 refused by a rule or not certified, 2 the command line is wrong, 3 a file failed, 4 memory, 5
-/// stopped otherwise than by ECALL.
+/// Does what the words ask for, of which the first is the program's own name, or says why they ask for nothing, and
+/// answers the exit status: 0 done, 1 refused by a rule or not certified, 2 the command line is wrong, 3 a file failed,
+/// 4 memory, 5 stopped otherwise than by ECALL.
 pub fn command<'a, F: Files, O: Sink, E: Sink>(
     alloc: Global,
     words: &'a [&'a str],
@@ -50,7 +50,8 @@ pub fn command<'a, F: Files, O: Sink, E: Sink>(
         (collected (E.taken err.old) (E.failures err.old)) (collected (E.taken err.new) (E.failures err.new)) result }
     ensures known { result ≤ 5 }
     ensures calm { result ≡ 0 → O.failures out.new ≡ O.failures out.old }
-    ensures counted { Ends (F.store files.old).failures (F.store files.new).failures (O.failures out.old) (O.failures out.new) result }
+    ensures counted { Ends (F.store files.old).failures (F.store files.new).failures (O.failures out.old)
+        (O.failures out.new) result }
 {
     match parse(alloc, words) {
         Ok(request) => perform(alloc, request, files, out, err),
@@ -58,8 +59,8 @@ pub fn command<'a, F: Files, O: Sink, E: Sink>(
     }
 }
 
-/// Does what is asked for, prints what answers it, or why it is not done, and answers the exit status. Lines of progress go to
-/// `err` before that.
+/// Does what is asked for, prints what answers it, or why it is not done, and answers the exit status. Lines of
+/// progress go to `err` before that.
 pub fn perform<F: Files, O: Sink, E: Sink>(
     alloc: Global,
     request: Request<'_>,

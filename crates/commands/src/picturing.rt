@@ -3,7 +3,8 @@
 ghost use Rattle.std.specs.Prelude.{◌≡◌, map, IsTrue, IfOk, IfErr};
 ghost use Rattle.commands.specs.Answered.{Finds, IsRead};
 ghost use Rattle.commands.specs.Below.{IsImage, params_of};
-ghost use Rattle.commands.specs.Pictures.{PicturesOne, PicturesTwo, PicturesImage, RefusesOne, RefusesTwo, RefusesLists};
+ghost use Rattle.commands.specs.Pictures.{PicturesOne, PicturesTwo, PicturesImage, RefusesOne, RefusesTwo};
+ghost use Rattle.commands.specs.Pictures.{RefusesLists};
 
 use crate::answer::Answer;
 use crate::certifying::text_of;
@@ -25,8 +26,8 @@ const BEFORE_CERTIFICATE: &[u8] =
 /// What is said before a comparison.
 const BEFORE_PAIRING: &[u8] = b"Two runs, one over the other. pair says:\n";
 
-/// The page of an image's runs: as many words as parameters are one list of arguments, where `?` stands for any value of a
-/// secret parameter, and others are two lists, of which the first half is the first.
+/// The page of an image's runs: as many words as parameters are one list of arguments, where `?` stands for any value
+/// of a secret parameter, and others are two lists, of which the first half is the first.
 pub fn picture_image<'a, F: Files>(
     alloc: Global,
     path: &'a str,

@@ -8,7 +8,8 @@ ghost use Rattle.commands.specs.Below.{hart_of, job_of, most_images, params_of};
 ghost use Rattle.commands.specs.Failures.{IsReadBy};
 ghost use Rattle.commands.specs.FileTexts.{NoWholeText};
 ghost use Rattle.commands.specs.Harts.{IsJobOf, SaysPlan, RefusesJobs, RefusesPlan};
-ghost use Rattle.commands.specs.HartsText.{behind, turns_text, ended_line, ended_text, ends_text, harts_text, is_well, status_of_ends};
+ghost use Rattle.commands.specs.HartsText.{behind, turns_text, ended_line, ended_text, ends_text, harts_text, is_well};
+ghost use Rattle.commands.specs.HartsText.{status_of_ends};
 ghost use Rattle.commands.specs.OutcomeText.{outcome_text};
 
 use crate::answer::{Answer, DONE, STOPPED};
@@ -45,8 +46,8 @@ pub fn whole_text<'a, F: Files>(
     }
 }
 
-/// Runs the harts that a file says: what an observer sees of them and how each ended, as lines, and the exit status. The file
-/// is read into `text`.
+/// Runs the harts that a file says: what an observer sees of them and how each ended, as lines, and the exit status.
+/// The file is read into `text`.
 pub fn run_file<'a, F: Files>(
     alloc: Global,
     file: &'a str,
@@ -60,9 +61,9 @@ pub fn run_file<'a, F: Files>(
     run_side_by_side(alloc, text.as_str(), files)
 }
 
-/// Runs the harts of a file with this text: what an observer sees of each turn and how each hart ended, as lines, and the
-/// exit status. They are refused by the first faulty line, by the first hart whose image or arguments are faulty, or by
-/// what `run_harts` refuses.
+/// Runs the harts of a file with this text: what an observer sees of each turn and how each hart ended, as lines, and
+/// the exit status. They are refused by the first faulty line, by the first hart whose image or arguments are faulty,
+/// or by what `run_harts` refuses.
 fn run_side_by_side<'a, F: Files>(
     alloc: Global,
     text: &'a str,
@@ -161,7 +162,9 @@ fn push_end(
     image: &Image,
     end: &HartEnd,
 ) -> Result<(), AllocError>
-    ensures { OnOk result (text.new.items ≡ text.old.items ++ behind hart (ended_line end.now.stop) ++ behind hart (ended_text image.now end.now.outcome)) }
+    ensures { OnOk result (text.new.items ≡ text.old.items
+        ++ behind hart (ended_line end.now.stop)
+        ++ behind hart (ended_text image.now end.now.outcome)) }
 {
     push_stop(alloc, text, hart, end.stop)?;
     match &end.outcome {
@@ -193,7 +196,8 @@ fn push_outcome(
     image: &Image,
     outcome: &Outcome,
 ) -> Result<(), AllocError>
-    ensures { OnOk result (text.new.items ≡ text.old.items ++ behind hart (outcome_text (params_of image.now) outcome.now)) }
+    ensures { OnOk result (text.new.items
+        ≡ text.old.items ++ behind hart (outcome_text (params_of image.now) outcome.now)) }
 {
     let params = hepurita::params(alloc, image)?;
     let lines = outcome::text_of(alloc, params.as_slice(), outcome)?;

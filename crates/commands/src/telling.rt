@@ -15,7 +15,8 @@ use rv_machine::{NullRecorder, Pairing, Stop};
 use std::alloc::Global;
 use streams::Sink;
 
-/// Runs an image on arguments as `execute` does, and a line goes out behind each so many steps after which the run goes on.
+/// Runs an image on arguments as `execute` does, and a line goes out behind each so many steps after which the run goes
+/// on.
 fn execute_telling<E: Sink>(
     alloc: Global,
     image: &Image,
@@ -65,7 +66,8 @@ pub fn outcome_of<E: Sink>(
     }
 }
 
-/// Compares two runs of an image as `pair` does, and a line goes out behind each so many steps of both after which both go on.
+/// Compares two runs of an image as `pair` does, and a line goes out behind each so many steps of both after which both
+/// go on.
 fn pair_telling<E: Sink>(
     alloc: Global,
     image: &Image,

@@ -117,8 +117,8 @@ pub fn check_text<'a, F: Files>(
     }
 }
 
-/// The plain or the optimised image of the source of a file, for an observer. It is put into memory: where it goes to is
-/// opened only once the text was accepted. A refusal of the source is explained where that is asked for.
+/// The plain or the optimised image of the source of a file, for an observer. It is put into memory: where it goes to
+/// is opened only once the text was accepted. A refusal of the source is explained where that is asked for.
 fn image_of_text<'a, F: Files>(
     alloc: Global,
     file: &'a str,
@@ -149,8 +149,8 @@ fn image_of_text<'a, F: Files>(
     }
 }
 
-/// Compiles the source of one file, for an observer, to the plain or the optimised image of another, which is created only
-/// once the text was accepted. A refusal does not depend on the optimisation.
+/// Compiles the source of one file, for an observer, to the plain or the optimised image of another, which is created
+/// only once the text was accepted. A refusal does not depend on the optimisation.
 pub fn build_image<'a, F: Files>(
     alloc: Global,
     file: &'a str,

@@ -25,8 +25,8 @@ fn status_of(failures: usize) -> u8
     if failures == 0 { DONE } else { FAILED }
 }
 
-/// What is wrong with each vector of a file that fails on the source of another, for an observer, and how many passed and
-/// failed, as lines; and the exit status.
+/// What is wrong with each vector of a file that fails on the source of another, for an observer, and how many passed
+/// and failed, as lines; and the exit status.
 pub fn try_file<'a, F: Files>(
     alloc: Global,
     file: &'a str,

@@ -17,7 +17,8 @@ use word::Place;
 /// The last procedure whose name stands behind so many bytes or fewer.
 #[tactic(auto, using(crate::proofs::call_places_lemmas::CallLemmas::or_assoc))]
 pub fn procedure_at(at: u32, program: &Program) -> Option<&Procedure>
-    ensures { option_map (λ found. procedure_tree found.now) result ≡ procedure_at at (program_tree program.now).procedures }
+    ensures { option_map (λ found. procedure_tree found.now) result
+        ≡ procedure_at at (program_tree program.now).procedures }
 {
     let mut last = None;
     let procedures = program.procedures();

@@ -17,8 +17,8 @@ use crate::{Explanation, explanation};
 use language::{Place, Refusal, Rule};
 use std::alloc::{AllocError, Global};
 
-/// The lines that explain a refusal of a source, without the last one's end: the marked place, where the refusal has one,
-/// what there is at it, and the rule. It fails only when out of memory.
+/// The lines that explain a refusal of a source, without the last one's end: the marked place, where the refusal has
+/// one, what there is at it, and the rule. It fails only when out of memory.
 pub fn explain_refusal(alloc: Global, source: &str, refusal: Refusal) -> Result<String, Refusal>
     ensures said { IfOk result (λ lines. Explains source.now refusal (string_bytes lines)) }
     ensures memory { IfErr result (λ fault. IsWantOfMemory fault.rule fault.place) }

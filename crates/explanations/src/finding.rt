@@ -10,7 +10,8 @@ use crate::row::Explanation;
 /// The first row of a code: there is one exactly if a row has this code.
 pub fn row_of(rows: &[Explanation], code: &str) -> Option<Explanation>
     requires { IsTrue (have_names rows.now) }
-    ensures text { option_map (λ row. row.rule.now) result ≡ text_in (map (λ row. (row.code.now, row.rule.now)) rows.now) code.now }
+    ensures text { option_map (λ row. row.rule.now) result
+        ≡ text_in (map (λ row. (row.code.now, row.rule.now)) rows.now) code.now }
     ensures asked { IfSome result (λ row. row.code.now ≡ code.now) }
     ensures named { IfSome result HasItsName }
     ensures known { IsSome result ↔ (Contains (map (λ row. row.code.now) rows.now) code.now) }

@@ -70,8 +70,8 @@ const CODES: [&str; 58] = [
     "RecorderRefused",
 ];
 
-/// What a code means, with the table's text of it and, of a rule, its name: there is an answer exactly for the codes that
-/// are listed.
+/// What a code means, with the table's text of it and, of a rule, its name: there is an answer exactly for the codes
+/// that are listed.
 pub fn explanation(code: &str) -> Option<Explanation>
     ensures text { option_map (λ row. row.rule.now) result ≡ text_of code.now }
     ensures asked { IfSome result (λ row. row.code.now ≡ code.now) }

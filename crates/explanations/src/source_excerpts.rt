@@ -56,7 +56,8 @@ fn marked_text(
 
 /// A line of two parts, as it is shown.
 fn line_text(alloc: Global, front: Part<'_>, back: Part<'_>) -> Result<String, AllocError>
-    ensures { IfOk result (λ text. string_bytes text ≡ line_text front.entry.dots.now front.entry.bytes.now back.entry.bytes.now back.entry.dots.now) }
+    ensures { IfOk result (λ text. string_bytes text
+        ≡ line_text front.entry.dots.now front.entry.bytes.now back.entry.bytes.now back.entry.dots.now) }
 {
     let mut text = String::new(alloc);
     push_shown(&mut text, front.dots)?;

@@ -1,5 +1,6 @@
-// Makes the words of a function for C: the code of an image, between code that takes arguments as C passes them for RV32
-// and code that hands results back. Which words these are, and what a call of them does, is said in `linked_calls`.
+// Makes the words of a function for C: the code of an image, between code that takes arguments as C passes them for
+// RV32 and code that hands results back. Which words these are, and what a call of them does, is said in
+// `linked_calls`.
 
 mod copying;
 mod entering;

@@ -1,7 +1,8 @@
 // What is refused before memory is asked for.
 
 ghost use Rattle.std.specs.Prelude.{◌≡◌, ◌<◌, ◌≤◌, length, map, None, All, OnOk, IfErr};
-ghost use Rattle.harts.specs.Refused.{most_turns, fault_in, HasNoFault, AreFew, AreAllowed, RefusesCount, RefusesArguments, RefusesSchedule, Refuses};
+ghost use Rattle.harts.specs.Refused.{most_turns, fault_in, HasNoFault, AreFew, AreAllowed, RefusesCount};
+ghost use Rattle.harts.specs.Refused.{RefusesArguments, RefusesSchedule, Refuses};
 ghost use Rattle.harts.specs.Frames.{job_of, IsRunnable};
 
 use crate::bases::MOST_IMAGES;

@@ -78,7 +78,8 @@ fn end(
     requires number { number < most_images }
     requires allowed { IsImage image.now }
     requires space { IsSpaceFor image.now space }
-    ensures { (args : List Arg) → result ≡ end_of number (record { image = image.now; args = args }) stop (paged_bytes memory.now) }
+    ensures { (args : List Arg)
+        → result ≡ end_of number (record { image = image.now; args = args }) stop (paged_bytes memory.now) }
 {
     let outcome = match stop {
         Some(stop) => outcome_of(number, image, stop, memory, space),
@@ -97,7 +98,8 @@ pub fn ends(
     requires allowed { All HasImage (map job_of jobs.now) }
     requires count { length running.now.harts.items ≡ length jobs.now }
     requires space { IsEndSpaceFor (map job_of jobs.now) space }
-    ensures { result.items ≡ ends_of (map job_of jobs.now) (system_now running.now.harts.items (paged_bytes running.now.memory)) }
+    ensures { result.items
+        ≡ ends_of (map job_of jobs.now) (system_now running.now.harts.items (paged_bytes running.now.memory)) }
 {
     let EndSpace { each, mut ends } = space;
     for space in each {

@@ -12,35 +12,61 @@ ghost use Rattle.harts.specs.Below.{Observation, Results, System, turns_of};
 
 use rv_machine::Stop;
 
-/// Every schedule: images of accepted texts side by side on one memory, on arguments within their parameter types, their turns
-/// interleaved as a schedule says. Each hart is what it is alone after as many turns, and alone there is one such state; it has
-/// not stopped, or has with the outcome that its text means. Where
-/// each hart's arguments are equal where they are public, an observer sees one and the same list; so one who chooses the
-/// schedule by what was seen learns no more.
+/// Every schedule: images of accepted texts side by side on one memory, on arguments within their parameter types,
+/// their turns interleaved as a schedule says. Each hart is what it is alone after as many turns, and alone there is
+/// one such state; it has not stopped, or has with the outcome that its text means. Where each hart's arguments are
+/// equal where they are public, an observer sees one and the same list; so one who chooses the schedule by what was
+/// seen learns no more.
 pub fn every_schedule()
-    ensures alone { (jobs : List Job) (schedule : List ℕ) (list : List HartObservation) (end : System) (k : ℕ) (job : Job) (from : IsFromText job)
-        → length jobs ≤ most_images → AllByRecursion IsFromText jobs → Follows schedule (system_of jobs) list end
-        → slice_get jobs k ≡ Some job → IsAlone from.built.program k job schedule list end }
+    ensures alone { (jobs : List Job) (schedule : List ℕ) (list : List HartObservation) (end : System) (k : ℕ)
+        (job : Job) (from : IsFromText job)
+        → length jobs ≤ most_images
+        → AllByRecursion IsFromText jobs
+        → Follows schedule (system_of jobs) list end
+        → slice_get jobs k ≡ Some job
+        → IsAlone from.built.program k job schedule list end }
     ensures one_alone { (n : ℕ) (own bytes bytes' : ByteMap) (m after after' : Member) (seen seen' : List Observation)
-        → Makes n own m seen bytes after → Makes n own m seen' bytes' after' → (seen ≡ seen') × (bytes ≡ bytes') × (after ≡ after') }
-    ensures equal_leakage { (one other : List Job) (schedule : List ℕ) (list list' : List HartObservation) (end end' : System)
-        → length one ≤ most_images → AllByRecursion IsFromText one → AllAgree one other
-        → Follows schedule (system_of one) list end → Follows schedule (system_of other) list' end' → list ≡ list' }
+        → Makes n own m seen bytes after
+        → Makes n own m seen' bytes' after'
+        → (seen ≡ seen') × (bytes ≡ bytes') × (after ≡ after') }
+    ensures equal_leakage { (one other : List Job) (schedule : List ℕ) (list list' : List HartObservation)
+        (end end' : System)
+        → length one ≤ most_images
+        → AllByRecursion IsFromText one
+        → AllAgree one other
+        → Follows schedule (system_of one) list end
+        → Follows schedule (system_of other) list' end'
+        → list ≡ list' }
 {}
 
-/// What `run_harts` answers and records of images of accepted texts, on arguments within their parameter types: a hart that the
-/// schedule gave as many turns as its image states has stopped with the outcome that its text means, and one that it gave fewer
-/// has not stopped, or has in this way. Where each hart's arguments are equal
-/// where they are public, one and the same list is recorded.
+/// What `run_harts` answers and records of images of accepted texts, on arguments within their parameter types: a hart
+/// that the schedule gave as many turns as its image states has stopped with the outcome that its text means, and one
+/// that it gave fewer has not stopped, or has in this way. Where each hart's arguments are equal where they are public,
+/// one and the same list is recorded.
 pub fn harts_do_what_texts_mean()
-    ensures ended { (jobs : List Job) (schedule : List ℕ) (keeps : Bool) (list list' : List HartObservation) (ends : List HartEnd) (k : ℕ) (job : Job) (from : IsFromText job)
-        → AllByRecursion IsFromText jobs → RunsHarts jobs schedule keeps list (Ok ends) list'
-        → slice_get jobs k ≡ Some job → job.image.max_steps ≤ turns_of k schedule
-        → (results : Results) × Means from.built.program job.args results × (slice_get ends k ≡ Some (record { stop = Some Stop.Ecall; outcome = Some results })) }
-    ensures so_far { (jobs : List Job) (schedule : List ℕ) (keeps : Bool) (list list' : List HartObservation) (ends : List HartEnd) (k : ℕ) (job : Job) (from : IsFromText job)
-        → AllByRecursion IsFromText jobs → RunsHarts jobs schedule keeps list (Ok ends) list' → slice_get jobs k ≡ Some job
-        → (slice_get ends k ≡ Some still_going) ⊎ ((results : Results) × Means from.built.program job.args results × (slice_get ends k ≡ Some (ended_with results))) }
-    ensures recorded { (one other : List Job) (schedule : List ℕ) (keeps : Bool) (list after after' : List HartObservation) (ends ends' : List HartEnd)
-        → AllByRecursion IsFromText one → AllAgree one other
-        → RunsHarts one schedule keeps list (Ok ends) after → RunsHarts other schedule keeps list (Ok ends') after' → after ≡ after' }
+    ensures ended { (jobs : List Job) (schedule : List ℕ) (keeps : Bool) (list list' : List HartObservation)
+        (ends : List HartEnd) (k : ℕ) (job : Job) (from : IsFromText job)
+        → AllByRecursion IsFromText jobs
+        → RunsHarts jobs schedule keeps list (Ok ends) list'
+        → slice_get jobs k ≡ Some job
+        → job.image.max_steps ≤ turns_of k schedule
+        → (results : Results)
+        × Means from.built.program job.args results
+        × (slice_get ends k ≡ Some (record { stop = Some Stop.Ecall; outcome = Some results })) }
+    ensures so_far { (jobs : List Job) (schedule : List ℕ) (keeps : Bool) (list list' : List HartObservation)
+        (ends : List HartEnd) (k : ℕ) (job : Job) (from : IsFromText job)
+        → AllByRecursion IsFromText jobs
+        → RunsHarts jobs schedule keeps list (Ok ends) list'
+        → slice_get jobs k ≡ Some job
+        → (slice_get ends k ≡ Some still_going)
+        ⊎ ((results : Results)
+        × Means from.built.program job.args results
+        × (slice_get ends k ≡ Some (ended_with results))) }
+    ensures recorded { (one other : List Job) (schedule : List ℕ) (keeps : Bool)
+        (list after after' : List HartObservation) (ends ends' : List HartEnd)
+        → AllByRecursion IsFromText one
+        → AllAgree one other
+        → RunsHarts one schedule keeps list (Ok ends) after
+        → RunsHarts other schedule keeps list (Ok ends') after'
+        → after ≡ after' }
 {}

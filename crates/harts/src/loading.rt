@@ -58,7 +58,8 @@ fn frames(alloc: Global, jobs: &[(Image, Args)]) -> Result<PagedMemory, AllocErr
 /// The hart of the image with this number, with its own code alone, for the image's observer.
 fn hart(alloc: Global, number: usize, image: &Image) -> Result<RunningHart, AllocError>
     requires { number < most_images }
-    ensures { (args : List Arg) → IfOk result (λ hart. member_now hart ≡ member_of number (record { image = image.now; args = args })) }
+    ensures { (args : List Arg)
+        → IfOk result (λ hart. member_now hart ≡ member_of number (record { image = image.now; args = args })) }
 {
     let base = code_base(number);
     Ok(RunningHart {
@@ -86,7 +87,8 @@ pub fn load(alloc: Global, jobs: &[(Image, Args)]) -> Result<RunningHarts<PagedM
     requires few { length jobs.now ≤ most_images }
     requires within { All IsRunnable (map job_of jobs.now) }
     ensures allowed { OnOk result (All HasImage (map job_of jobs.now)) }
-    ensures loaded { IfOk result (λ running. system_now running.harts.items (paged_bytes running.memory) ≡ system_of (map job_of jobs.now)) }
+    ensures loaded { IfOk result (λ running.
+        system_now running.harts.items (paged_bytes running.memory) ≡ system_of (map job_of jobs.now)) }
 {
     let memory = frames(alloc, jobs)?;
     let harts = harts(alloc, jobs)?;

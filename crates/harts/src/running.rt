@@ -25,9 +25,11 @@ pub fn run_harts<R: HartRecorder>(
     schedule: &[u8],
     recorder: &mut R,
 ) -> Result<Vec<HartEnd>, HartsFault>
-    ensures ran { RunsHarts (map job_of jobs.now) schedule.now R.KEEPS (R.list recorder.old) (answer_of result) (R.list recorder.new) }
+    ensures ran { RunsHarts (map job_of jobs.now) schedule.now R.KEEPS (R.list recorder.old) (answer_of result)
+        (R.list recorder.new) }
     ensures calm { result ≢ Err HartsFault.Memory → R.refusals recorder.new ≡ R.refusals recorder.old }
-    ensures memory { result ≡ Err HartsFault.Memory → (recorder.new ≡ recorder.old) ⊎ HasRefused (R.refusals recorder.old) (R.refusals recorder.new) }
+    ensures memory { result ≡ Err HartsFault.Memory
+        → (recorder.new ≡ recorder.old) ⊎ HasRefused (R.refusals recorder.old) (R.refusals recorder.new) }
 {
     check(jobs, schedule)?;
     let space = end_space(alloc, jobs)?;

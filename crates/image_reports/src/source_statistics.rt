@@ -33,8 +33,10 @@ pub fn source_statistics(alloc: Global, source: &str, profile: Profile) -> Resul
 
 /// The lines of a body with what was counted for it, and of the program whose export it is. Only memory refuses them.
 fn costs(alloc: Global, ranged: &Ranged<'_>, program: &Program) -> Result<String, Refusal>
-    requires { IfSome (exported [] (program_tree program.now).procedures) (λ export. cost_by ranged.now.turns ranged.now.flat ≡ work_cost export.0 export.1) }
-    ensures said { IfOk result (λ text. string_bytes text ≡ costs_text ranged.now (fields_of (straight_of ranged.now)) ++ export_lines (exported [] (program_tree program.now).procedures)) }
+    requires { IfSome (exported [] (program_tree program.now).procedures)
+        (λ export. cost_by ranged.now.turns ranged.now.flat ≡ work_cost export.0 export.1) }
+    ensures said { IfOk result (λ text. string_bytes text ≡ costs_text ranged.now (fields_of (straight_of ranged.now))
+        ++ export_lines (exported [] (program_tree program.now).procedures)) }
     ensures memory { IfErr result (λ refusal. IsWantOfMemory refusal.rule refusal.place) }
 {
     let mut text = body_costs(alloc, ranged)?;
@@ -45,7 +47,8 @@ fn costs(alloc: Global, ranged: &Ranged<'_>, program: &Program) -> Result<String
 
 /// The lines of a body with what was counted for it. Only memory refuses them.
 fn body_costs(alloc: Global, ranged: &Ranged<'_>) -> Result<String, Refusal>
-    ensures said { IfOk result (λ text. string_bytes text ≡ costs_text ranged.now (fields_of (straight_of ranged.now))) }
+    ensures said { IfOk result (λ text.
+        string_bytes text ≡ costs_text ranged.now (fields_of (straight_of ranged.now))) }
     ensures memory { IfErr result (λ refusal. IsWantOfMemory refusal.rule refusal.place) }
 {
     let code = code_of(alloc, ranged, Optimisation::Off)?;

@@ -1,5 +1,5 @@
-// Files of harts: which images run side by side, on which arguments, and whose turn it is when. A text gives one plan, or has a
-// first faulty line and the first rule that the line breaks, and `read` answers that.
+// Files of harts: which images run side by side, on which arguments, and whose turn it is when. A text gives one plan,
+// or has a first faulty line and the first rule that the line breaks, and `read` answers that.
 
 mod fault;
 mod jobs;

@@ -24,8 +24,12 @@ pub fn leak<W: Sink>(
     sink: &mut W,
 ) -> Result<Stop, LeakFault>
     ensures answer { Leaks image.now args.now result }
-    ensures written { IsTrue W.TELLS → IfOk result (λ stop. Writes (IsLeak image.now args.now stop) (W.taken sink.old) (W.taken sink.new)) }
-    ensures beginning { IsTrue W.TELLS → IsErrOf result LeakFault.Write → WritesPart (λ bytes. (stop : Stop) × IsLeak image.now args.now stop bytes) (W.taken sink.old) (W.taken sink.new) }
+    ensures written { IsTrue W.TELLS
+        → IfOk result (λ stop. Writes (IsLeak image.now args.now stop) (W.taken sink.old) (W.taken sink.new)) }
+    ensures beginning { IsTrue W.TELLS
+        → IsErrOf result LeakFault.Write
+        → WritesPart (λ bytes. (stop : Stop) × IsLeak image.now args.now stop bytes) (W.taken sink.old)
+        (W.taken sink.new) }
     ensures untouched { IfErr result (λ fault. fault ≢ LeakFault.Write → sink.new ≡ sink.old) }
     ensures calm { result ≢ Err LeakFault.Write → W.failures sink.new ≡ W.failures sink.old }
     ensures counts { IsErrOf result LeakFault.Write → W.failures sink.new ≡ one_more (W.failures sink.old) }

@@ -34,7 +34,8 @@ fn text_of(size: Size) -> [u8; 1]
 /// Puts the line of an access at the end: its name, its address and how many bytes it takes.
 fn append_access(lines: &mut Lines, name: &[u8], a: u32, size: Size)
     requires { array_vec_len lines.old + length name.now + 11 ≤ 34 }
-    ensures { lines.new.items ≡ lines.old.items ++ (name.now ++ eight_digits a ++ codes " " ++ size_text size ++ codes "\n") }
+    ensures { lines.new.items
+        ≡ lines.old.items ++ (name.now ++ eight_digits a ++ codes " " ++ size_text size ++ codes "\n") }
 {
     append(lines, name);
     append(lines, &eight(a));
@@ -46,7 +47,8 @@ fn append_access(lines: &mut Lines, name: &[u8], a: u32, size: Size)
 /// Puts the line of an operation at the end: its name and its operands.
 fn append_operation(lines: &mut Lines, name: &[u8], a: u32, b: u32)
     requires { array_vec_len lines.old + length name.now + 18 ≤ 34 }
-    ensures { lines.new.items ≡ lines.old.items ++ (name.now ++ eight_digits a ++ codes " " ++ eight_digits b ++ codes "\n") }
+    ensures { lines.new.items
+        ≡ lines.old.items ++ (name.now ++ eight_digits a ++ codes " " ++ eight_digits b ++ codes "\n") }
 {
     append(lines, name);
     append(lines, &eight(a));

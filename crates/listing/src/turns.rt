@@ -20,7 +20,8 @@ fn turn<M: Memory>(
     code: &CodeRegion,
     memory: &mut M,
 ) -> (Option<Observation>, Option<Stop>)
-    ensures { Turned (code_of code.now) (state_of hart.old (M.bytes memory.old)) result.0 result.1 (state_of hart.new (M.bytes memory.new)) }
+    ensures { Turned (code_of code.now) (state_of hart.old (M.bytes memory.old)) result.0 result.1
+        (state_of hart.new (M.bytes memory.new)) }
 {
     let mut recorder = TurnRecorder::new(alloc);
     let stop = step(hart, code, memory, &mut recorder);
@@ -31,7 +32,8 @@ fn turn<M: Memory>(
 fn write_seen<W: Sink>(sink: &mut W, seen: Option<Observation>) -> Result<(), SinkFault>
     ensures whole { IsTrue W.TELLS → OnOk result (W.taken sink.new ≡ W.taken sink.old ++ lines_of (listed seen)) }
     ensures calm { OnOk result (W.failures sink.new ≡ W.failures sink.old) }
-    ensures beginning { IsTrue W.TELLS → OnErr result (GainsPart (W.taken sink.old) (W.taken sink.new) (lines_of (listed seen))) }
+    ensures beginning { IsTrue W.TELLS
+        → OnErr result (GainsPart (W.taken sink.old) (W.taken sink.new) (lines_of (listed seen))) }
     ensures counts { OnErr result (W.failures sink.new ≡ one_more (W.failures sink.old)) }
 {
     match seen {
@@ -45,7 +47,8 @@ fn end<W: Sink>(sink: &mut W, stop: Stop) -> Result<Stop, SinkFault>
     ensures answer { IfOk result (λ answer. answer ≡ stop) }
     ensures whole { IsTrue W.TELLS → OnOk result (W.taken sink.new ≡ W.taken sink.old ++ stop_line stop) }
     ensures calm { OnOk result (W.failures sink.new ≡ W.failures sink.old) }
-    ensures beginning { IsTrue W.TELLS → OnErr result (GainsPart (W.taken sink.old) (W.taken sink.new) (stop_line stop)) }
+    ensures beginning { IsTrue W.TELLS
+        → OnErr result (GainsPart (W.taken sink.old) (W.taken sink.new) (stop_line stop)) }
     ensures counts { OnErr result (W.failures sink.new ≡ one_more (W.failures sink.old)) }
 {
     put_all(sink, lines::stop_line(stop).as_slice())?;
@@ -62,9 +65,16 @@ pub fn write_run<M: Memory, W: Sink>(
     sink: &mut W,
     budget: u64,
 ) -> Result<Stop, SinkFault>
-    ensures ended { IfOk result (λ stop. (seen : List Observation) × Ends (code_of code.now) budget (state_of hart.old (M.bytes memory.old)) seen stop) }
-    ensures written { IsTrue W.TELLS → IfOk result (λ stop. Writes (IsListing (code_of code.now) budget (state_of hart.old (M.bytes memory.old)) stop) (W.taken sink.old) (W.taken sink.new)) }
-    ensures beginning { IsTrue W.TELLS → OnErr result (WritesPart (λ bytes. (stop : Stop) × IsListing (code_of code.now) budget (state_of hart.old (M.bytes memory.old)) stop bytes) (W.taken sink.old) (W.taken sink.new)) }
+    ensures ended { IfOk result (λ stop. (seen : List Observation)
+        × Ends (code_of code.now) budget (state_of hart.old (M.bytes memory.old)) seen stop) }
+    ensures written { IsTrue W.TELLS
+        → IfOk result (λ stop. Writes
+        (IsListing (code_of code.now) budget (state_of hart.old (M.bytes memory.old)) stop) (W.taken sink.old)
+        (W.taken sink.new)) }
+    ensures beginning { IsTrue W.TELLS
+        → OnErr result (WritesPart (λ bytes. (stop : Stop)
+        × IsListing (code_of code.now) budget (state_of hart.old (M.bytes memory.old)) stop bytes) (W.taken sink.old)
+        (W.taken sink.new)) }
     ensures calm { OnOk result (W.failures sink.new ≡ W.failures sink.old) }
     ensures counts { OnErr result (W.failures sink.new ≡ one_more (W.failures sink.old)) }
 {

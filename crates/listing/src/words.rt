@@ -24,7 +24,9 @@ fn text_of(alloc: Global, word: u32) -> Result<String, AllocError>
 
 /// Puts the line of a word at the end.
 fn push_line(alloc: Global, lines: &mut Vec<u8>, address: u32, word: u32) -> Result<(), AllocError>
-    ensures { OnOk result ((text : List ℕ) × IsTextOf word text × (lines.new.items ≡ lines.old.items ++ word_line address word text)) }
+    ensures { OnOk result ((text : List ℕ)
+        × IsTextOf word text
+        × (lines.new.items ≡ lines.old.items ++ word_line address word text)) }
 {
     let text = text_of(alloc, word)?;
     lines.extend_from_slice(head_of_word(address, word).as_slice())?;
@@ -60,7 +62,8 @@ fn word_of(image: &Image, address: u32) -> Option<u32>
 
 /// The line of the word of an image that begins at an address, as in its listing. `None` where no word does.
 pub fn line_at(alloc: Global, image: &Image, address: u32) -> Result<Option<Vec<u8>>, AllocError>
-    ensures { IfOk result (λ line. IsLineAt (code_at code_base image.now) address (option_map (λ line. line.items) line)) }
+    ensures { IfOk result (λ line.
+        IsLineAt (code_at code_base image.now) address (option_map (λ line. line.items) line)) }
 {
     match word_of(image, address) {
         Some(word) => {

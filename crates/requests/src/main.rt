@@ -5,7 +5,8 @@
 // on lists of which the first has a value outside its type and the second is too short, and puts the image's
 // bytes into a sink in memory. It prints what they gave, or which call wanted memory.
 //
-// Given a text, it compiles that one, and prints what comes of the image's bytes with each of them changed to each value.
+// Given a text, it compiles that one, and prints what comes of the image's bytes with each of them changed to each
+// value.
 #![tactic(auto)]
 
 mod calls;

@@ -17,7 +17,8 @@ pub(crate) fn request_of<'a>(
     matches: &ArgMatches<'a>,
     arguments: &'a [&'a str],
 ) -> Result<Request<'a>, (ErrorKind, &'static str)>
-    ensures { IfOk result (λ request. IfSome (arguments_of request) (λ given. given ≡ map (λ word. word.now) arguments.now)) }
+    ensures { IfOk result (λ request.
+        IfSome (arguments_of request) (λ given. given ≡ map (λ word. word.now) arguments.now)) }
 {
     let Some((name, given)) = matches.subcommand() else {
         return Err((ErrorKind::MissingSubcommand, "a command is required"));
@@ -34,7 +35,8 @@ fn request_with<'a>(
     given: &ArgMatches<'a>,
     arguments: &'a [&'a str],
 ) -> Option<Request<'a>>
-    ensures { IfSome result (λ request. IfSome (arguments_of request) (λ given. given ≡ map (λ word. word.now) arguments.now)) }
+    ensures { IfSome result (λ request.
+        IfSome (arguments_of request) (λ given. given ≡ map (λ word. word.now) arguments.now)) }
 {
     match name {
         "eval" => Some(Request::Eval {
@@ -193,7 +195,8 @@ fn profile_of(matches: &ArgMatches<'_>) -> Profile
 /// Optimised code where it is asked for, else plain code.
 fn optimisation_of(matches: &ArgMatches<'_>) -> Optimisation
     ensures plain { one_text (found_of matches.now) (codes "optimise") ≡ None → result ≡ Optimisation.Off }
-    ensures optimised { one_text (found_of matches.now) (codes "optimise") ≡ Some (codes "true") → result ≡ Optimisation.On }
+    ensures optimised { one_text (found_of matches.now) (codes "optimise") ≡ Some (codes "true")
+        → result ≡ Optimisation.On }
 {
     if matches.get_flag("optimise") {
         Optimisation::On

@@ -96,7 +96,8 @@ pub enum NoRequest {
     Memory,
 }
 
-/// Reads the words, of which the first is the program's own name. The arguments of a request are the words behind its path.
+/// Reads the words, of which the first is the program's own name. The arguments of a request are the words behind its
+/// path.
 pub fn parse<'a>(alloc: Global, words: &'a [&'a str]) -> Result<Request<'a>, NoRequest>
     ensures { IfOk result (IsAskedBy (map (λ word. word.now) words.now)) }
 {
@@ -130,8 +131,8 @@ fn asked<'a>(alloc: Global, words: &'a [&'a str]) -> Result<Request<'a>, Error>
     }
 }
 
-/// The words after a command, its flags and its FILE or IMAGE. Each of them is an argument, also `--` and what looks like a
-/// flag; before the path, behind the flags, `--` says that the path may begin with a hyphen.
+/// The words after a command, its flags and its FILE or IMAGE. Each of them is an argument, also `--` and what looks
+/// like a flag; before the path, behind the flags, `--` says that the path may begin with a hyphen.
 fn after_path<'a>(words: &'a [&'a str]) -> &'a [&'a str]
     ensures { map (λ word. word.now) result.now ≡ after_path (map (λ word. word.now) words.now) }
 {

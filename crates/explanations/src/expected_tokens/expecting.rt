@@ -10,8 +10,8 @@ use language::{Refusal, Rule};
 use std::alloc::Global;
 use syntax::parse;
 
-/// What the kinds of tokens are called that may stand behind the beginning of a source, in the order of their list. It fails
-/// only when out of memory.
+/// What the kinds of tokens are called that may stand behind the beginning of a source, in the order of their list. It
+/// fails only when out of memory.
 pub fn expected(alloc: Global, front: &str) -> Result<Vec<&'static str>, Refusal>
     ensures expected { IfOk result (λ names. Expects front.now candidates (map (λ name. name.now) names.items)) }
     ensures memory { IfErr result (λ fault. IsWantOfMemory fault.rule fault.place) }

@@ -40,7 +40,8 @@ fn expected_line(alloc: Global, names: &[&str]) -> Result<String, AllocError>
 
 /// Puts names at the end of a text, each behind a comma.
 fn push_names(text: &mut String, names: &[&str]) -> Result<(), AllocError>
-    ensures { OnOk result (string_bytes text.new ≡ string_bytes text.old ++ more_names (map (λ name. name.now) names.now)) }
+    ensures { OnOk result (string_bytes text.new
+        ≡ string_bytes text.old ++ more_names (map (λ name. name.now) names.now)) }
 {
     for name in names {
         text.push_str(", ")?;

@@ -28,7 +28,8 @@ pub fn room_above(code: &mut Vec<Instr>) -> Result<(), AllocError>
 
 /// The frame's base into x5.
 pub fn frame_base(code: &mut Vec<Instr>, room: u32) -> Result<(), AllocError>
-    ensures { OnOk result (code.new.items ≡ code.old.items ++ (constant_code 5 room ++ Register Sub 5 stack_register 5 ∷ [])) }
+    ensures { OnOk result (code.new.items
+        ≡ code.old.items ++ (constant_code 5 room ++ Register Sub 5 stack_register 5 ∷ [])) }
 {
     constant(code, Reg::X5, room)?;
     code.push(Instr::Register(RegisterOperation::Sub, Reg::X5, Reg::X2, Reg::X5))?;
@@ -37,7 +38,8 @@ pub fn frame_base(code: &mut Vec<Instr>, room: u32) -> Result<(), AllocError>
 
 /// The frame, zeroed block by block downward.
 pub fn cleared_frame(alloc: Global, code: &mut Vec<Instr>) -> Result<(), AllocError>
-    ensures { OnOk result (code.new.items ≡ code.old.items ++ until_equal stack_register 5 (added stack_register (4096 - 16) ∷ zeros_code)) }
+    ensures { OnOk result (code.new.items
+        ≡ code.old.items ++ until_equal stack_register 5 (added stack_register (4096 - 16) ∷ zeros_code)) }
 {
     let mut block = Vec::new(alloc);
     block.push(added(Reg::X2, IMMEDIATES - BLOCK))?;

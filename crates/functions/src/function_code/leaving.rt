@@ -47,7 +47,8 @@ pub fn array(
 
 /// The frame's end into x5.
 pub fn frame_top(code: &mut Vec<Instr>, room: u32) -> Result<(), AllocError>
-    ensures { OnOk result (code.new.items ≡ code.old.items ++ (constant_code 5 room ++ Register Add 5 5 stack_register ∷ [])) }
+    ensures { OnOk result (code.new.items
+        ≡ code.old.items ++ (constant_code 5 room ++ Register Add 5 5 stack_register ∷ [])) }
 {
     constant(code, Reg::X5, room)?;
     code.push(Instr::Register(RegisterOperation::Add, Reg::X5, Reg::X5, Reg::X2))?;

@@ -33,7 +33,8 @@ pub(crate) fn profile_text(profile: Profile) -> &'static str
 
 /// The instructions of a section, at the end of a text.
 fn push_code(text: &mut String, section: Section, code: &[Instr]) -> Result<(), AllocError>
-    ensures { OnOk result (string_bytes text.new ≡ string_bytes text.old ++ flat_map (instruction_lines section) code.now) }
+    ensures { OnOk result (string_bytes text.new
+        ≡ string_bytes text.old ++ flat_map (instruction_lines section) code.now) }
 {
     for instruction in code {
         push_instruction(text, section, instruction)?;
@@ -153,7 +154,8 @@ fn push_tail(text: &mut String, function: &Function) -> Result<(), AllocError>
 
 /// The sections before the body, at the end of a text.
 fn push_entry(alloc: Global, text: &mut String, image: &ImageFields) -> Result<(), AllocError>
-    ensures { OnOk result (string_bytes text.new ≡ string_bytes text.old ++ sections_lines image.now (enter_sections image.now)) }
+    ensures { OnOk result (string_bytes text.new
+        ≡ string_bytes text.old ++ sections_lines image.now (enter_sections image.now)) }
 {
     let sections = enter_sections(alloc, image)?;
     push_sections(alloc, text, image, sections.as_slice())
@@ -161,7 +163,9 @@ fn push_entry(alloc: Global, text: &mut String, image: &ImageFields) -> Result<(
 
 /// The body, at the end of a text.
 fn push_body(alloc: Global, text: &mut String, image: &ImageFields) -> Result<(), AllocError>
-    ensures { OnOk result ((lines : List ℕ) × ListsWords (body_words image.now.words) lines × (string_bytes text.new ≡ string_bytes text.old ++ (title_line (codes "the body") ++ lines))) }
+    ensures { OnOk result ((lines : List ℕ)
+        × ListsWords (body_words image.now.words) lines
+        × (string_bytes text.new ≡ string_bytes text.old ++ (title_line (codes "the body") ++ lines))) }
 {
     let lines = body_lines(alloc, body(image))?;
     text.push_str("    # the body\n")?;
@@ -171,14 +175,15 @@ fn push_body(alloc: Global, text: &mut String, image: &ImageFields) -> Result<()
 
 /// The sections behind the body, at the end of a text.
 fn push_exit(alloc: Global, text: &mut String, image: &ImageFields) -> Result<(), AllocError>
-    ensures { OnOk result (string_bytes text.new ≡ string_bytes text.old ++ sections_lines image.now (leave_sections image.now)) }
+    ensures { OnOk result (string_bytes text.new
+        ≡ string_bytes text.old ++ sections_lines image.now (leave_sections image.now)) }
 {
     let sections = leave_sections(alloc, image)?;
     push_sections(alloc, text, image, sections.as_slice())
 }
 
-/// The text of a function for a GNU or LLVM assembler: its words as numbers, each with its instruction as a comment, with
-/// the function's symbol, and what a debugger has to know at each word. It is refused only when out of memory.
+/// The text of a function for a GNU or LLVM assembler: its words as numbers, each with its instruction as a comment,
+/// with the function's symbol, and what a debugger has to know at each word. It is refused only when out of memory.
 pub fn assembler_text(alloc: Global, function: &Function) -> Result<String, AllocError>
     ensures { IfOk result (λ text. IsAssemblerText (parts_of function.now) (string_bytes text)) }
 {

@@ -37,7 +37,8 @@ fn named_params(
     macros: &Macros<'_>,
     parameters: &[Parameter],
 ) -> Result<Vec<NamedParam>, AllocError>
-    ensures { IfOk result (λ params. map named params.items ≡ map (written_parameter macros.now.function.now) (map parameter_tree parameters.now)) }
+    ensures { IfOk result (λ params. map named params.items
+        ≡ map (written_parameter macros.now.function.now) (map parameter_tree parameters.now)) }
 {
     let mut params = Vec::with_capacity(alloc, parameters.len())?;
     for parameter in parameters {
@@ -52,8 +53,10 @@ fn named_params(
 
 /// The export of a program that has one.
 fn export_of(program: &Program) -> &Procedure
-    requires { (before : List ProcedureTree) × (export : ProcedureTree) × (exported [] (program_tree program.now).procedures ≡ Some (before, export)) }
-    ensures { (before : List ProcedureTree) × (exported [] (program_tree program.now).procedures ≡ Some (before, procedure_tree result.now)) }
+    requires { (before : List ProcedureTree) × (export : ProcedureTree)
+        × (exported [] (program_tree program.now).procedures ≡ Some (before, export)) }
+    ensures { (before : List ProcedureTree)
+        × (exported [] (program_tree program.now).procedures ≡ Some (before, procedure_tree result.now)) }
 {
     match program.exported() {
         Some((_, export)) => export,
@@ -93,8 +96,9 @@ fn of_export(
     Ok(named_function(alloc, export, code)?)
 }
 
-/// The function of a text that is accepted for an observer of this profile, with plain or optimised code. A text that is not
-/// is refused as by `compile_with`, before its names are looked at; then an export's name that C, C++ or an assembler cannot take.
+/// The function of a text that is accepted for an observer of this profile, with plain or optimised code. A text that
+/// is not is refused as by `compile_with`, before its names are looked at; then an export's name that C, C++ or an
+/// assembler cannot take.
 pub fn function_of(
     alloc: Global,
     text: &str,

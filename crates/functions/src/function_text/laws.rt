@@ -10,23 +10,25 @@ use linked_calls::calls_are_linked;
 use rv_code::laws::words_differ;
 use syntax::one_answer_for_a_text;
 
-/// A text has one plain and one optimised function for an observer: two of a kind are one in their names, parameters and image,
-/// so in their words; and the texts of two are one.
+/// A text has one plain and one optimised function for an observer: two of a kind are one in their names, parameters
+/// and image, so in their words; and the texts of two are one.
 pub fn functions_agree()
     ensures parts { (optimisation : Optimisation) (profile : Profile) (text : List ℕ) (one other : Parts)
         → IsFunctionOf optimisation profile text one → IsFunctionOf optimisation profile text other → one ≡ other }
-    ensures texts { (optimisation : Optimisation) (profile : Profile) (text assembler header assembler' header' : List ℕ)
-        → AreTextsOf optimisation profile text assembler header → AreTextsOf optimisation profile text assembler' header'
+    ensures texts { (optimisation : Optimisation) (profile : Profile)
+        (text assembler header assembler' header' : List ℕ)
+        → AreTextsOf optimisation profile text assembler header
+        → AreTextsOf optimisation profile text assembler' header'
         → (assembler ≡ assembler') × (header ≡ header') }
 {
     words_differ();
     one_answer_for_a_text();
 }
 
-/// The function of a text, plain or optimised, can be called from wherever its words stand in code, as C calls functions: what
-/// it leaves is what the text's program means on the arguments, and what it shows an observer is one list for arguments that
-/// agree where they are public. The number that its header defines as the macro of its stack is exactly the room of a call
-/// below the caller's stack pointer.
+/// The function of a text, plain or optimised, can be called from wherever its words stand in code, as C calls
+/// functions: what it leaves is what the text's program means on the arguments, and what it shows an observer is one
+/// list for arguments that agree where they are public. The number that its header defines as the macro of its stack is
+/// exactly the room of a call below the caller's stack pointer.
 pub fn functions_are_linked()
     ensures linked { FunctionsAreLinked }
     ensures stack { HeadersStateStacks }

@@ -53,7 +53,9 @@ fn push_illegal(text: &mut String, word: u32) -> Result<(), AllocError>
 
 /// A word of an image.
 pub fn push_word(text: &mut String, word: u32) -> Result<(), AllocError>
-    ensures { OnOk result ((told : List ℕ) × IsTextOf word told × (string_bytes text.new ≡ string_bytes text.old ++ word_line word told)) }
+    ensures { OnOk result ((told : List ℕ)
+        × IsTextOf word told
+        × (string_bytes text.new ≡ string_bytes text.old ++ word_line word told)) }
 {
     match decode(word) {
         Some(instruction) => push_told(text, word, &instruction),
@@ -84,7 +86,8 @@ fn argument_title(form: Form) -> &'static str
 
 /// What the section of an argument is for.
 fn push_argument(text: &mut String, index: u16, form: Form) -> Result<(), AllocError>
-    ensures { OnOk result (string_bytes text.new ≡ string_bytes text.old ++ (codes "parameter " ++ decimal index ++ argument_title form)) }
+    ensures { OnOk result (string_bytes text.new
+        ≡ string_bytes text.old ++ (codes "parameter " ++ decimal index ++ argument_title form)) }
 {
     let what = argument_title(form);
     write!(text, "parameter {index}{what}")?;
@@ -93,7 +96,8 @@ fn push_argument(text: &mut String, index: u16, form: Form) -> Result<(), AllocE
 
 /// What the section of an array is for that goes back.
 fn push_array(text: &mut String, index: u16) -> Result<(), AllocError>
-    ensures { OnOk result (string_bytes text.new ≡ string_bytes text.old ++ (codes "parameter " ++ decimal index ++ codes ": the array, back")) }
+    ensures { OnOk result (string_bytes text.new
+        ≡ string_bytes text.old ++ (codes "parameter " ++ decimal index ++ codes ": the array, back")) }
 {
     write!(text, "parameter {index}: the array, back")?;
     Ok(())
@@ -147,7 +151,8 @@ fn push_kept(text: &mut String, instruction: &Instr) -> Result<(), AllocError>
 
 /// That the register of a number is the caller's again.
 fn push_back(text: &mut String, register: u8) -> Result<(), AllocError>
-    ensures { OnOk result (string_bytes text.new ≡ string_bytes text.old ++ (codes "    .cfi_restore " ++ decimal register ++ codes "\n")) }
+    ensures { OnOk result (string_bytes text.new
+        ≡ string_bytes text.old ++ (codes "    .cfi_restore " ++ decimal register ++ codes "\n")) }
 {
     text.push_str("    .cfi_restore ")?;
     push_number(text, u64::from(register))?;

@@ -22,15 +22,16 @@ pub struct Texts {
     pub header: String,
 }
 
-/// Both texts of the function of a text, for an observer of this profile, with plain or optimised code. A text that is not
-/// accepted is refused as by `compile_with`, then an export's name that C, C++ or an assembler cannot take.
+/// Both texts of the function of a text, for an observer of this profile, with plain or optimised code. A text that is
+/// not accepted is refused as by `compile_with`, then an export's name that C, C++ or an assembler cannot take.
 pub fn texts_of(
     alloc: Global,
     text: &str,
     profile: Profile,
     optimisation: Optimisation,
 ) -> Result<Texts, FunctionFault<Refusal>>
-    ensures made { IfOk result (λ texts. AreTextsOf optimisation profile text.now (string_bytes texts.assembler) (string_bytes texts.header)) }
+    ensures made { IfOk result (λ texts.
+        AreTextsOf optimisation profile text.now (string_bytes texts.assembler) (string_bytes texts.header)) }
     ensures fault { IfErr result (IsFaultOf profile text.now) }
 {
     let function = function_of(alloc, text, profile, optimisation)?;

@@ -16,10 +16,10 @@ use run_reports::progress::certify_in_pieces;
 use std::alloc::Global;
 use streams::Sink;
 
-/// Runs an image once for all arguments that have the given values, and answers whether an observer sees the same of all of them.
-/// An argument that is not given stands for every value of its type; it may be that of a secret parameter alone. Where
-/// shifts are seen, the observer also sees the amount of each shift by a register. What is given is refused by its first
-/// fault, before memory is asked for, and once the image is loaded the run takes no memory.
+/// Runs an image once for all arguments that have the given values, and answers whether an observer sees the same of
+/// all of them. An argument that is not given stands for every value of its type; it may be that of a secret parameter
+/// alone. Where shifts are seen, the observer also sees the amount of each shift by a register. What is given is
+/// refused by its first fault, before memory is asked for, and once the image is loaded the run takes no memory.
 pub fn certify(
     alloc: Global,
     image: &Image,
@@ -45,9 +45,11 @@ pub fn certify_telling<E: Sink>(
     err: &mut E,
 ) -> Result<Certificate, RunFault>
     ensures certified { Certified image.now given.now shifts result }
-    ensures told { IsTrue E.TELLS → OnOk result (IsTold HasLines
-        (GoesOnKnown (code_at code_base image.now) image.now.max_steps (known_at code_base frame_base image.now given.now shifts))
-        (collected (E.taken err.old) (E.failures err.old)) (collected (E.taken err.new) (E.failures err.new))) }
+    ensures told { IsTrue E.TELLS
+        → OnOk result (IsTold HasLines
+        (GoesOnKnown (code_at code_base image.now) image.now.max_steps
+        (known_at code_base frame_base image.now given.now shifts)) (collected (E.taken err.old) (E.failures err.old))
+        (collected (E.taken err.new) (E.failures err.new))) }
     ensures untold { OnErr result (err.new ≡ err.old) }
 {
     if let Some(fault) = first_fault(image.slots(), given) {

@@ -32,7 +32,8 @@ fn argument_bytes(param: Param) -> u32
 fn forget_bytes<M: Memory>(known: &mut KnownParts<M>, at: u32, bytes: u32)
     requires below { at + bytes < 2 ^ 32 }
     requires data { (x : ℕ) → at ≤ x → x < at + bytes → is_some (M.bytes known.old.marks x) ≡ true }
-    ensures bytes { known_bytes (M.bytes known.new.marks) ≡ with_bytes_known (known_bytes (M.bytes known.old.marks)) bytes at false }
+    ensures bytes { known_bytes (M.bytes known.new.marks)
+        ≡ with_bytes_known (known_bytes (M.bytes known.old.marks)) bytes at false }
     ensures extent { (x : ℕ) → is_some (M.bytes known.new.marks x) ≡ is_some (M.bytes known.old.marks x) }
     ensures registers { known.new.registers ≡ known.old.registers }
     ensures shifts { known.new.shifts ≡ known.old.shifts }
@@ -51,7 +52,8 @@ fn forget_unknown<M: Memory>(
 )
     requires count { length given.now ≡ length slots.now }
     requires data { All (HoldsSlot frame (M.bytes known.old.marks)) slots.now }
-    ensures bytes { known_bytes (M.bytes known.new.marks) ≡ known_with_given frame (known_bytes (M.bytes known.old.marks)) slots.now given.now }
+    ensures bytes { known_bytes (M.bytes known.new.marks)
+        ≡ known_with_given frame (known_bytes (M.bytes known.old.marks)) slots.now given.now }
     ensures extent { (x : ℕ) → is_some (M.bytes known.new.marks x) ≡ is_some (M.bytes known.old.marks x) }
     ensures registers { known.new.registers ≡ known.old.registers }
     ensures shifts { known.new.shifts ≡ known.old.shifts }
@@ -93,9 +95,11 @@ pub fn load_given(
     shifts: Shifts,
 ) -> Result<Loaded, AllocError>
     requires { fault_of_given (params_of image.now) given.now ≡ None }
-    ensures known { IfOk result (λ loaded. known_of (state_of loaded.run.hart (paged_bytes loaded.run.memory)) loaded.known.registers (paged_bytes loaded.known.marks) loaded.known.shifts
+    ensures known { IfOk result (λ loaded. known_of (state_of loaded.run.hart (paged_bytes loaded.run.memory))
+        loaded.known.registers (paged_bytes loaded.known.marks) loaded.known.shifts
         ≡ known_at code_base frame_base image.now given.now shifts) }
-    ensures extent { IfOk result (λ loaded. (a : ℕ) → is_some (paged_bytes loaded.known.marks a) ≡ is_some (paged_bytes loaded.run.memory a)) }
+    ensures extent { IfOk result (λ loaded. (a : ℕ)
+        → is_some (paged_bytes loaded.known.marks a) ≡ is_some (paged_bytes loaded.run.memory a)) }
     ensures steps { IfOk result (λ loaded. loaded.run.turns_left ≡ image.now.max_steps) }
 {
     let mut memory = frame(alloc, image)?;

@@ -49,16 +49,19 @@ fn given_by(alloc: Global, param: &Param, text: &str) -> Result<Option<Arg>, All
     Ok(Some(argument(alloc, param, text)?))
 }
 
-/// What texts give of arguments for these parameters, or their first fault. A text is `?` for every value of a secret parameter, or
-/// numbers as `read_args` of `hepurita` reads them.
+/// What texts give of arguments for these parameters, or their first fault. A text is `?` for every value of a secret
+/// parameter, or numbers as `read_args` of `hepurita` reads them.
 pub fn read_given(
     alloc: Global,
     params: &[Param],
     texts: &[&str],
 ) -> Result<Vec<Option<Arg>>, RunFault>
-    ensures found { IfOk result (λ given. map (λ one. Some (option_map words_of one)) given.items ≡ map (λ text. numbers_given text.now) texts.now) }
+    ensures found { IfOk result (λ given.
+        map (λ one. Some (option_map words_of one)) given.items ≡ map (λ text. numbers_given text.now) texts.now) }
     ensures faultless { IfOk result (λ given. fault_of_given params.now given.items ≡ None) }
-    ensures fault { (fault : ArgumentFault) → (result ≡ Err (RunFault.Argument fault.rule fault.index)) ↔ (fault_of_given_texts params.now (map (λ text. text.now) texts.now) ≡ Some fault) }
+    ensures fault { (fault : ArgumentFault)
+        → (result ≡ Err (RunFault.Argument fault.rule fault.index))
+        ↔ (fault_of_given_texts params.now (map (λ text. text.now) texts.now) ≡ Some fault) }
     ensures only { OnOk result (fault_of_given_texts params.now (map (λ text. text.now) texts.now) ≡ None) }
     ensures unstopped { (stop : Stop) → result ≢ Err (RunFault.Stopped stop) }
 {

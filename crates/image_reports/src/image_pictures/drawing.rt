@@ -32,8 +32,8 @@ pub fn picture_of_given(
     draw(alloc, image, &mut counted, &mut drawn, said, false)
 }
 
-/// The page of two runs of an image over each other, on two lists of arguments within its parameter types, with this said
-/// of them.
+/// The page of two runs of an image over each other, on two lists of arguments within its parameter types, with this
+/// said of them.
 pub fn picture_of_pair(
     alloc: Global,
     image: &Image,
@@ -58,9 +58,11 @@ fn both_of_given(
     given: &[Option<Arg>],
 ) -> Result<Runs<PagedMemory>, AllocError>
     requires { fault_of_given (params_of image.now) given.now ≡ None }
-    ensures one { IfOk result (λ runs. BeginsAt image.now (known_at code_base frame_base image.now given.now Shifts.Hidden).state
+    ensures one { IfOk result (λ runs. BeginsAt image.now
+        (known_at code_base frame_base image.now given.now Shifts.Hidden).state
         (state_of runs.one.hart (paged_bytes runs.one.memory)) runs.one.turns_left) }
-    ensures other { IfOk result (λ runs. BeginsAt image.now (known_at code_base frame_base image.now given.now Shifts.Hidden).state
+    ensures other { IfOk result (λ runs. BeginsAt image.now
+        (known_at code_base frame_base image.now given.now Shifts.Hidden).state
         (state_of runs.other.hart (paged_bytes runs.other.memory)) runs.other.turns_left) }
 {
     let one = load_given(alloc, image, given, Shifts::Hidden)?.run;

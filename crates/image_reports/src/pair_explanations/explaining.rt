@@ -13,7 +13,8 @@ use run_reports::run_places::{last_before, make_turns, registers_at, shown_at};
 use rv_machine::CodeRegion;
 use std::alloc::{AllocError, Global};
 
-/// What is said of the run of an image on arguments, of which this is the code, and which shows at least as many entries.
+/// What is said of the run of an image on arguments, of which this is the code, and which shows at least as many
+/// entries.
 fn said_of_run(
     alloc: Global,
     image: &Image,
@@ -24,8 +25,11 @@ fn said_of_run(
     requires within { AreWithin (params_of image.now) args.now }
     requires place { 0 < place }
     requires code { code_of code.now ≡ code_at code_base image.now }
-    requires reached { ShowsFewer (code_at code_base image.now) image.now.max_steps (loaded_at code_base frame_base image.now args.now) place → ⊥ }
-    ensures { IfOk result (λ said. (seen : List Observation) × SaysOf image.now args.now place seen said.pc said.text.items) }
+    requires reached { ShowsFewer (code_at code_base image.now) image.now.max_steps
+        (loaded_at code_base frame_base image.now args.now) place
+        → ⊥ }
+    ensures { IfOk result (λ said. (seen : List Observation)
+        × SaysOf image.now args.now place seen said.pc said.text.items) }
 {
     let mut whole = load(alloc, image, args)?;
     let Some(before) = last_before(alloc, code, &mut whole, place) else {
@@ -41,9 +45,9 @@ fn said_of_run(
     Ok(Said { pc, text })
 }
 
-/// The lines that explain why what an observer sees of the runs of an image on two lists of arguments differs first at this entry: the
-/// last word that both runs come to before it, and for each run what that word reads, and what the run shows at the entry. Both
-/// runs are made again.
+/// The lines that explain why what an observer sees of the runs of an image on two lists of arguments differs first at
+/// this entry: the last word that both runs come to before it, and for each run what that word reads, and what the run
+/// shows at the entry. Both runs are made again.
 pub fn explain_difference(
     alloc: Global,
     image: &Image,

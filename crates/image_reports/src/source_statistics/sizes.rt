@@ -10,17 +10,19 @@ use language::{Cost, Procedure, Program, Share};
 use std::alloc::{AllocError, Global};
 use std::fmt::Write;
 
-/// Puts lines at the end of a text for the export of a program, whose work costs so much: how many bodies are open at once
-/// and how many bytes are declared, and the first of the parts that have most nodes, of those that declare most, and of
-/// those that have most work.
+/// Puts lines at the end of a text for the export of a program, whose work costs so much: how many bodies are open at
+/// once and how many bytes are declared, and the first of the parts that have most nodes, of those that declare most,
+/// and of those that have most work.
 pub fn push_sizes(
     alloc: Global,
     text: &mut String,
     work: Cost,
     program: &Program,
 ) -> Result<(), AllocError>
-    requires { IfSome (exported [] (program_tree program.now).procedures) (λ export. work ≡ work_cost export.0 export.1) }
-    ensures { OnOk result (string_bytes text.new ≡ string_bytes text.old ++ export_lines (exported [] (program_tree program.now).procedures)) }
+    requires { IfSome (exported [] (program_tree program.now).procedures)
+        (λ export. work ≡ work_cost export.0 export.1) }
+    ensures { OnOk result (string_bytes text.new
+        ≡ string_bytes text.old ++ export_lines (exported [] (program_tree program.now).procedures)) }
 {
     match program.exported() {
         Some((earlier, export)) => push_export(alloc, earlier, export, work, text),
@@ -37,7 +39,8 @@ fn push_export(
     text: &mut String,
 ) -> Result<(), AllocError>
     requires { work ≡ work_cost (map procedure_tree earlier.now) (procedure_tree export.now) }
-    ensures { OnOk result (string_bytes text.new ≡ string_bytes text.old ++ size_lines (map procedure_tree earlier.now) (procedure_tree export.now)) }
+    ensures { OnOk result (string_bytes text.new
+        ≡ string_bytes text.old ++ size_lines (map procedure_tree earlier.now) (procedure_tree export.now)) }
 {
     let sizes = size_costs(alloc, earlier, export)?;
     push_costs(text, sizes, work)
@@ -45,7 +48,8 @@ fn push_export(
 
 /// Puts the lines of what was counted at the end.
 fn push_costs(text: &mut String, sizes: SizeCosts, work: Cost) -> Result<(), AllocError>
-    ensures { OnOk result (string_bytes text.new ≡ string_bytes text.old ++ size_text sizes.nodes sizes.bodies sizes.declared_bytes work) }
+    ensures { OnOk result (string_bytes text.new
+        ≡ string_bytes text.old ++ size_text sizes.nodes sizes.bodies sizes.declared_bytes work) }
 {
     let bodies = sizes.bodies.whole;
     let declared = sizes.declared_bytes.whole;

@@ -2,7 +2,8 @@
 
 ghost use Rattle.std.specs.Prelude.{◌≡◌, ◌++◌, OnOk};
 ghost use Rattle.std.specs.String.{string_bytes};
-ghost use Rattle.image_reports.specs.statistics.FieldsText.{profile_number, sizes_text, slot_lines, returned_line, fields_text};
+ghost use Rattle.image_reports.specs.statistics.FieldsText.{profile_number, sizes_text, slot_lines, returned_line};
+ghost use Rattle.image_reports.specs.statistics.FieldsText.{fields_text};
 
 use crate::statistics::types::{ParamType, kind_text, label_text};
 use codegen::image_fields::{ImageFields, ResultSlot, Slot};

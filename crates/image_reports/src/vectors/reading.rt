@@ -11,8 +11,11 @@ use std::alloc::Global;
 
 /// The vectors that lines say, one after another; else the first line, counted from 1, that has not the form of one.
 fn vectors_of<'a>(alloc: Global, lines: &[&'a str]) -> Result<Vec<Vector<'a>>, VectorsFault>
-    ensures vectors { IfOk result (λ vectors. vectors_from 1 (map (λ line. line.now) lines.now) ≡ Ok (map named vectors.items)) }
-    ensures fault { (line : ℕ) → result ≡ Err (Line line) → vectors_from 1 (map (λ line. line.now) lines.now) ≡ Err line }
+    ensures vectors { IfOk result (λ vectors.
+        vectors_from 1 (map (λ line. line.now) lines.now) ≡ Ok (map named vectors.items)) }
+    ensures fault { (line : ℕ)
+        → result ≡ Err (Line line)
+        → vectors_from 1 (map (λ line. line.now) lines.now) ≡ Err line }
 {
     let mut vectors = Vec::new(alloc);
     for (index, line) in lines.iter().enumerate() {

@@ -22,7 +22,11 @@ use std::alloc::Global;
 pub fn outcome_of(alloc: Global, image: &Image, args: &Args) -> Result<Vec<Numbers>, Refusal>
     requires source { (program : ProgramTree) × IsImageOf program image.now }
     requires within { AreWithin (params_of image.now) args.now }
-    ensures means { (program : ProgramTree) → IsImageOf program image.now → IfOk result (λ lists. (results : Results) × Means program args.now results × (lists.items ≡ lists_of results)) }
+    ensures means { (program : ProgramTree)
+        → IsImageOf program image.now
+        → IfOk result (λ lists. (results : Results)
+        × Means program args.now results
+        × (lists.items ≡ lists_of results)) }
     ensures short { IfOk result (λ lists. All (λ list. length list < 65536) lists.items) }
     ensures memory { IfErr result (λ refusal. IsWantOfMemory refusal.rule refusal.place) }
 {
@@ -35,10 +39,13 @@ pub fn outcome_of(alloc: Global, image: &Image, args: &Args) -> Result<Vec<Numbe
     }
 }
 
-/// What is wrong with what an observer sees of an image on these arguments, for all secrets; `None` where it is the same.
+/// What is wrong with what an observer sees of an image on these arguments, for all secrets; `None` where it is the
+/// same.
 pub fn wrong_of(alloc: Global, image: &Image, args: &Args) -> Result<Option<String>, Refusal>
     requires { AreWithin (params_of image.now) args.now }
-    ensures wrong { IfOk result (λ wrong. (end : CertifiedEnd) × Certified image.now (publics (params_of image.now) args.now) Shifts.Hidden (Ok end) × (option_map string_bytes wrong ≡ wrong_in end)) }
+    ensures wrong { IfOk result (λ wrong. (end : CertifiedEnd)
+        × Certified image.now (publics (params_of image.now) args.now) Shifts.Hidden (Ok end)
+        × (option_map string_bytes wrong ≡ wrong_in end)) }
     ensures memory { IfErr result (λ refusal. IsWantOfMemory refusal.rule refusal.place) }
 {
     let params = params(alloc, image)?;

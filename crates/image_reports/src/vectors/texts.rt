@@ -59,7 +59,8 @@ fn plain(alloc: Global, text: &str) -> Result<String, Refusal>
 
 /// Texts as arguments on the command line are written.
 pub fn all_plain(alloc: Global, texts: &[&str]) -> Result<Vec<String>, Refusal>
-    ensures plain { IfOk result (λ strings. map string_bytes strings.items ≡ map plain (map (λ text. text.now) texts.now)) }
+    ensures plain { IfOk result (λ strings.
+        map string_bytes strings.items ≡ map plain (map (λ text. text.now) texts.now)) }
     ensures memory { IfErr result (λ refusal. IsWantOfMemory refusal.rule refusal.place) }
 {
     let mut strings = Vec::new(alloc);
@@ -113,7 +114,8 @@ fn push_all_shown(
     wanted: &[&str],
     lists: &[Numbers],
 ) -> Result<(), AllocError>
-    ensures { OnOk result (string_bytes text.new ≡ string_bytes text.old ++ all_shown (map (λ text. text.now) wanted.now) lists.now) }
+    ensures { OnOk result (string_bytes text.new
+        ≡ string_bytes text.old ++ all_shown (map (λ text. text.now) wanted.now) lists.now) }
 {
     for (index, numbers) in lists.iter().enumerate() {
         text.push_str(" ")?;
@@ -127,7 +129,8 @@ fn push_all_shown(
 
 /// Puts texts at the end, each with a blank before it.
 fn push_texts(text: &mut String, texts: &[&str]) -> Result<(), AllocError>
-    ensures { OnOk result (string_bytes text.new ≡ string_bytes text.old ++ flat_map (λ text. codes " " ++ text) (map (λ text. text.now) texts.now)) }
+    ensures { OnOk result (string_bytes text.new
+        ≡ string_bytes text.old ++ flat_map (λ text. codes " " ++ text) (map (λ text. text.now) texts.now)) }
 {
     for further in texts {
         text.push_str(" ")?;

@@ -46,7 +46,9 @@ fn verdict_on(
 ) -> Result<Option<String>, Refusal>
     requires source { (program : ProgramTree) × IsImageOf program image.now }
     requires spelled { AreSpelled (params_of image.now) (map plain (named vector.now).given) args.now }
-    ensures verdict { (program : ProgramTree) → IsImageOf program image.now → IfOk result (λ wrong. IsVerdict program image.now (named vector.now) (option_map string_bytes wrong)) }
+    ensures verdict { (program : ProgramTree)
+        → IsImageOf program image.now
+        → IfOk result (λ wrong. IsVerdict program image.now (named vector.now) (option_map string_bytes wrong)) }
     ensures memory { IfErr result (λ refusal. IsWantOfMemory refusal.rule refusal.place) }
 {
     let lists = outcome_of(alloc, image, args)?;
@@ -59,7 +61,9 @@ fn verdict_on(
 /// What is wrong with a vector; `None` where it passes.
 fn verdict_of(alloc: Global, image: &Image, vector: &Vector<'_>) -> Result<Option<String>, Refusal>
     requires source { (program : ProgramTree) × IsImageOf program image.now }
-    ensures verdict { (program : ProgramTree) → IsImageOf program image.now → IfOk result (λ wrong. IsVerdict program image.now (named vector.now) (option_map string_bytes wrong)) }
+    ensures verdict { (program : ProgramTree)
+        → IsImageOf program image.now
+        → IfOk result (λ wrong. IsVerdict program image.now (named vector.now) (option_map string_bytes wrong)) }
     ensures memory { IfErr result (λ refusal. IsWantOfMemory refusal.rule refusal.place) }
 {
     let params = params(alloc, image)?;
@@ -73,7 +77,10 @@ fn verdict_of(alloc: Global, image: &Image, vector: &Vector<'_>) -> Result<Optio
 /// Tries vectors on the image of a source.
 fn try_all(alloc: Global, image: &Image, vectors: &[Vector<'_>]) -> Result<Report, Refusal>
     requires source { (program : ProgramTree) × IsImageOf program image.now }
-    ensures tally { (program : ProgramTree) → IsImageOf program image.now → IfOk result (λ report. IsTally program image.now (map named vectors.now) (string_bytes report.text) report.failures) }
+    ensures tally { (program : ProgramTree)
+        → IsImageOf program image.now
+        → IfOk result (λ report.
+        IsTally program image.now (map named vectors.now) (string_bytes report.text) report.failures) }
     ensures memory { IfErr result (λ refusal. IsWantOfMemory refusal.rule refusal.place) }
 {
     let mut text = String::new(alloc);
@@ -100,7 +107,8 @@ pub fn try_vectors(
     profile: Profile,
     vectors: &[Vector<'_>],
 ) -> Result<Report, Refusal>
-    ensures report { IfOk result (λ report. IsReport profile source.now (map named vectors.now) (string_bytes report.text) report.failures) }
+    ensures report { IfOk result (λ report.
+        IsReport profile source.now (map named vectors.now) (string_bytes report.text) report.failures) }
     ensures refused { IfErr result (IsRefusalOf profile source.now) }
 {
     let image = image_of(alloc, source, profile)?;

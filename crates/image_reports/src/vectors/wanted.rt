@@ -86,7 +86,8 @@ pub fn difference_of(
     lists: &[Numbers],
 ) -> Result<Option<String>, Refusal>
     requires { All (λ list. length list < 65536) lists.now }
-    ensures differs { IfOk result (λ text. IsDifference (map (λ text. text.now) wanted.now) lists.now (option_map string_bytes text)) }
+    ensures differs { IfOk result (λ text.
+        IsDifference (map (λ text. text.now) wanted.now) lists.now (option_map string_bytes text)) }
     ensures memory { IfErr result (λ refusal. IsWantOfMemory refusal.rule refusal.place) }
 {
     let texts = all_plain(alloc, wanted)?;

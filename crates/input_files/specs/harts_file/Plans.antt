@@ -3,7 +3,8 @@ use Rattle.std.specs.Prelude.{◌≡◌, ℕ, ◌≤◌, Bool, true, nat_lt, Lis
 use Rattle.std.specs.Prelude.{Option, Some}
 use Rattle.std.specs.List.{range_with_len, repeat}
 use Rattle.input_files.specs.Below.{most_images, most_turns}
-use Rattle.input_files.specs.harts_file.Lines.{PlannedHart, PlannedTurns, turns_of, rounds, Said, a_hart, some_turns, said_in}
+use Rattle.input_files.specs.harts_file.Lines.{PlannedHart, PlannedTurns, turns_of, rounds, Said, a_hart, some_turns}
+use Rattle.input_files.specs.harts_file.Lines.{said_in}
 
 -- whose turn it is, one after another, where there are so many harts
 abbrev pub turns_listed : ℕ → PlannedTurns → List ℕ

@@ -2,7 +2,8 @@
 
 ghost use Rattle.std.specs.Prelude.{◌≡◌, IfOk, map};
 ghost use Rattle.std.specs.Option.{option_map};
-ghost use Rattle.input_files.specs.harts_file.Lines.{is_joined, hart_by, turns_by, rounds_by, said_with, said_by_fields, said_of};
+ghost use Rattle.input_files.specs.harts_file.Lines.{is_joined, hart_by, turns_by, rounds_by, said_with};
+ghost use Rattle.input_files.specs.harts_file.Lines.{said_by_fields, said_of};
 ghost use Rattle.input_files.specs.harts_file.private.Reading.{said_by_line, held};
 
 use crate::harts_file::jobs::Job;
@@ -32,7 +33,8 @@ fn is_joined(line: &str) -> bool
 
 /// What the fields behind `hart` say: the path of an image, and arguments.
 fn hart_by<'a>(alloc: Global, fields: &[&'a str]) -> Result<Option<Line<'a>>, AllocError>
-    ensures { IfOk result (λ line. option_map said_by_line line ≡ option_map held (hart_by (map (λ field. field.now) fields.now))) }
+    ensures { IfOk result (λ line.
+        option_map said_by_line line ≡ option_map held (hart_by (map (λ field. field.now) fields.now))) }
 {
     match fields {
         [path, arguments @ ..] => {
@@ -76,7 +78,8 @@ fn said_with<'a>(
     word: &str,
     fields: &[&'a str],
 ) -> Result<Option<Line<'a>>, AllocError>
-    ensures { IfOk result (λ line. option_map said_by_line line ≡ option_map held (said_with word.now (map (λ field. field.now) fields.now))) }
+    ensures { IfOk result (λ line.
+        option_map said_by_line line ≡ option_map held (said_with word.now (map (λ field. field.now) fields.now))) }
 {
     match word {
         "hart" => hart_by(alloc, fields),
@@ -88,7 +91,8 @@ fn said_with<'a>(
 
 /// What fields say, of which the first is a word.
 fn said_by_fields<'a>(alloc: Global, fields: &[&'a str]) -> Result<Option<Line<'a>>, AllocError>
-    ensures { IfOk result (λ line. option_map said_by_line line ≡ option_map held (said_by_fields (map (λ field. field.now) fields.now))) }
+    ensures { IfOk result (λ line.
+        option_map said_by_line line ≡ option_map held (said_by_fields (map (λ field. field.now) fields.now))) }
 {
     match fields {
         [word, fields @ ..] => said_with(alloc, word, fields),

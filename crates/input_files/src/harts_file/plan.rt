@@ -22,11 +22,13 @@ pub struct Plan<'a> {
     ghost short: { vec_len schedule ≤ most_turns },
 }
 
-/// Reads lines, of which each but the last is ended by a line feed: harts first, then turns. Answers the plan, else the first
-/// faulty line and the first rule that it breaks. That there is no hart stands at line 1.
+/// Reads lines, of which each but the last is ended by a line feed: harts first, then turns. Answers the plan, else the
+/// first faulty line and the first rule that it breaks. That there is no hart stands at line 1.
 pub fn read<'a>(alloc: Global, text: &'a str) -> Result<Plan<'a>, PlanFault>
     ensures plan { IfOk result (λ plan. IsPlan text.now (map hart_of plan.jobs.items) plan.schedule.items) }
-    ensures fault { (rule : HartsRule) (line : ℕ) → result ≡ Err (PlanFault.Line rule line) → IsFault text.now rule line }
+    ensures fault { (rule : HartsRule) (line : ℕ)
+        → result ≡ Err (PlanFault.Line rule line)
+        → IsFault text.now rule line }
 {
     let mut reader = Reader::new(alloc);
     for (index, text) in text.split_terminator('\n').enumerate() {

@@ -1,6 +1,7 @@
 // Taking lines, one after another.
 
-ghost use Rattle.std.specs.Prelude.{◌≡◌, ◌≢◌, ◌+◌, ◌-◌, ◌*◌, ◌≤◌, ◌++◌, true, length, map, vec_len, Some, None, IfOk, [], replicate};
+ghost use Rattle.std.specs.Prelude.{◌≡◌, ◌≢◌, ◌+◌, ◌-◌, ◌*◌, ◌≤◌, ◌++◌, true, length, map, vec_len, Some, None, IfOk};
+ghost use Rattle.std.specs.Prelude.{[], replicate};
 ghost use Rattle.std.specs.List.{range_with_len, repeat};
 ghost use Rattle.input_files.specs.Below.{most_turns};
 ghost use Rattle.input_files.specs.harts_file.Lines.{turns_of, rounds, a_hart, some_turns, said_of};
@@ -29,7 +30,8 @@ impl<'a> Reader<'a> {
     /// Takes the next line, which stands without its end, and answers the first rule that it breaks, if it breaks one.
     pub fn take(&mut self, alloc: Global, text: &'a str) -> Result<Option<HartsRule>, AllocError>
         ensures rule { IfOk result (λ rule. rule ≡ rule_of (given_to self.old) (said_of text.now)) }
-        ensures taken { IfOk result (λ rule. rule ≡ None → given_to self.new ≡ given_with (given_to self.old) (said_of text.now)) }
+        ensures taken { IfOk result (λ rule.
+            rule ≡ None → given_to self.new ≡ given_with (given_to self.old) (said_of text.now)) }
     {
         match line_of(alloc, text)? {
             Some(Line::Hart(job)) => self.take_hart(job),
@@ -41,7 +43,8 @@ impl<'a> Reader<'a> {
 
     fn take_hart(&mut self, job: Job<'a>) -> Result<Option<HartsRule>, AllocError>
         ensures rule { IfOk result (λ rule. rule ≡ rule_of_said (given_to self.old) (a_hart (hart_of job.entry))) }
-        ensures taken { IfOk result (λ rule. rule ≡ None → given_to self.new ≡ given_also (given_to self.old) (a_hart (hart_of job.entry))) }
+        ensures taken { IfOk result (λ rule.
+            rule ≡ None → given_to self.new ≡ given_also (given_to self.old) (a_hart (hart_of job.entry))) }
     {
         if self.has_turns {
             return Ok(Some(HartsRule::LineForm));
@@ -54,8 +57,10 @@ impl<'a> Reader<'a> {
     }
 
     fn take_turns(&mut self, hart: u64, count: u64) -> Result<Option<HartsRule>, AllocError>
-        ensures rule { IfOk result (λ rule. rule ≡ rule_of_said (given_to self.old) (some_turns (turns_of hart count))) }
-        ensures taken { IfOk result (λ rule. rule ≡ None → given_to self.new ≡ given_also (given_to self.old) (some_turns (turns_of hart count))) }
+        ensures rule { IfOk result (λ rule.
+            rule ≡ rule_of_said (given_to self.old) (some_turns (turns_of hart count))) }
+        ensures taken { IfOk result (λ rule.
+            rule ≡ None → given_to self.new ≡ given_also (given_to self.old) (some_turns (turns_of hart count))) }
     {
         self.has_turns = true;
         let harts = self.jobs.len() as u64;
@@ -75,7 +80,8 @@ impl<'a> Reader<'a> {
 
     fn take_rounds(&mut self, count: u64) -> Result<Option<HartsRule>, AllocError>
         ensures rule { IfOk result (λ rule. rule ≡ rule_of_said (given_to self.old) (some_turns (rounds count))) }
-        ensures taken { IfOk result (λ rule. rule ≡ None → given_to self.new ≡ given_also (given_to self.old) (some_turns (rounds count))) }
+        ensures taken { IfOk result (λ rule.
+            rule ≡ None → given_to self.new ≡ given_also (given_to self.old) (some_turns (rounds count))) }
     {
         self.has_turns = true;
         let harts = self.jobs.len() as u64;
@@ -96,8 +102,10 @@ impl<'a> Reader<'a> {
     /// One turn of each hart, in the order of their numbers.
     fn push_round(&mut self) -> Result<(), AllocError>
         requires room { vec_len self.old.schedule + vec_len self.old.jobs ≤ most_turns }
-        ensures turns { IfOk result (λ _. self.new.schedule.items ≡ self.old.schedule.items ++ range_with_len 0 (vec_len self.old.jobs)) }
-        ensures length { IfOk result (λ _. vec_len self.new.schedule ≡ vec_len self.old.schedule + vec_len self.old.jobs) }
+        ensures turns { IfOk result (λ _.
+            self.new.schedule.items ≡ self.old.schedule.items ++ range_with_len 0 (vec_len self.old.jobs)) }
+        ensures length { IfOk result (λ _.
+            vec_len self.new.schedule ≡ vec_len self.old.schedule + vec_len self.old.jobs) }
         ensures jobs { self.new.jobs ≡ self.old.jobs }
         ensures begun { self.new.has_turns ≡ self.old.has_turns }
     {

@@ -11,9 +11,9 @@ use language::Profile;
 use std::alloc::Global;
 use streams::{Sink, Source, put_all};
 
-/// Compiles the text that a source hands out, for an observer of this profile, and hands its plain or its optimised image to
-/// a sink once that is whole. The text is read to its end, or until it is too long; one that is refused is handed out with its
-/// refusal. No failed call is tried again.
+/// Compiles the text that a source hands out, for an observer of this profile, and hands its plain or its optimised
+/// image to a sink once that is whole. The text is read to its end, or until it is too long; one that is refused is
+/// handed out with its refusal. No failed call is tried again.
 pub fn build_stream_keeping<R: Source, W: Sink>(
     alloc: Global,
     source: &mut R,
@@ -21,8 +21,10 @@ pub fn build_stream_keeping<R: Source, W: Sink>(
     profile: Profile,
     optimisation: Optimisation,
 ) -> Result<(), Unbuilt>
-    ensures written { IsTrue R.TELLS → IsTrue W.TELLS
-        → OnOk result (Writes (IsBuilt optimisation profile (R.coming source.old)) (W.taken sink.old) (W.taken sink.new)) }
+    ensures written { IsTrue R.TELLS
+        → IsTrue W.TELLS
+        → OnOk result (Writes (IsBuilt optimisation profile (R.coming source.old)) (W.taken sink.old)
+        (W.taken sink.new)) }
     ensures beginning { IsTrue R.TELLS → IsTrue W.TELLS → IsErrOf result Unbuilt.Unwritten
         → WritesPart (IsBuilt optimisation profile (R.coming source.old)) (W.taken sink.old) (W.taken sink.new) }
     ensures untouched { IfErr result (λ fault. fault ≢ Unbuilt.Unwritten → sink.new ≡ sink.old) }
@@ -58,8 +60,10 @@ pub fn build_stream_with<R: Source, W: Sink>(
     profile: Profile,
     optimisation: Optimisation,
 ) -> Result<(), BuildFault>
-    ensures written { IsTrue R.TELLS → IsTrue W.TELLS
-        → OnOk result (Writes (IsBuilt optimisation profile (R.coming source.old)) (W.taken sink.old) (W.taken sink.new)) }
+    ensures written { IsTrue R.TELLS
+        → IsTrue W.TELLS
+        → OnOk result (Writes (IsBuilt optimisation profile (R.coming source.old)) (W.taken sink.old)
+        (W.taken sink.new)) }
     ensures beginning { IsTrue R.TELLS → IsTrue W.TELLS → IsErrOf result BuildFault.Write
         → WritesPart (IsBuilt optimisation profile (R.coming source.old)) (W.taken sink.old) (W.taken sink.new) }
     ensures untouched { IfErr result (λ fault. fault ≢ BuildFault.Write → sink.new ≡ sink.old) }
@@ -86,8 +90,10 @@ pub fn build_stream_as<R: Source, W: Sink>(
     sink: &mut W,
     profile: Profile,
 ) -> Result<(), BuildFault>
-    ensures written { IsTrue R.TELLS → IsTrue W.TELLS
-        → OnOk result (Writes (IsBuilt Optimisation.Off profile (R.coming source.old)) (W.taken sink.old) (W.taken sink.new)) }
+    ensures written { IsTrue R.TELLS
+        → IsTrue W.TELLS
+        → OnOk result (Writes (IsBuilt Optimisation.Off profile (R.coming source.old)) (W.taken sink.old)
+        (W.taken sink.new)) }
     ensures beginning { IsTrue R.TELLS → IsTrue W.TELLS → IsErrOf result BuildFault.Write
         → WritesPart (IsBuilt Optimisation.Off profile (R.coming source.old)) (W.taken sink.old) (W.taken sink.new) }
     ensures untouched { IfErr result (λ fault. fault ≢ BuildFault.Write → sink.new ≡ sink.old) }
@@ -108,8 +114,10 @@ pub fn build_stream<R: Source, W: Sink>(
     source: &mut R,
     sink: &mut W,
 ) -> Result<(), BuildFault>
-    ensures written { IsTrue R.TELLS → IsTrue W.TELLS
-        → OnOk result (Writes (IsBuilt Optimisation.Off Profile.P1 (R.coming source.old)) (W.taken sink.old) (W.taken sink.new)) }
+    ensures written { IsTrue R.TELLS
+        → IsTrue W.TELLS
+        → OnOk result (Writes (IsBuilt Optimisation.Off Profile.P1 (R.coming source.old)) (W.taken sink.old)
+        (W.taken sink.new)) }
     ensures beginning { IsTrue R.TELLS → IsTrue W.TELLS → IsErrOf result BuildFault.Write
         → WritesPart (IsBuilt Optimisation.Off Profile.P1 (R.coming source.old)) (W.taken sink.old) (W.taken sink.new) }
     ensures untouched { IfErr result (λ fault. fault ≢ BuildFault.Write → sink.new ≡ sink.old) }

@@ -33,7 +33,9 @@ pub fn read_text<R: Source>(alloc: Global, source: &mut R) -> Result<String, Bui
 /// The text of which these are the first bytes, as many as one that is too long has, or all that there are. Too many of
 /// them are not asked whether they are UTF-8.
 pub fn text_of(bytes: Vec<u8>) -> Result<String, BuildFault>
-    ensures whole { (all : List ℕ) → bytes.items ≡ take (text_limit + 1) all → IfOk result (λ text. string_bytes text ≡ all) }
+    ensures whole { (all : List ℕ)
+        → bytes.items ≡ take (text_limit + 1) all
+        → IfOk result (λ text. string_bytes text ≡ all) }
     ensures within { IfOk result (λ text. length (string_bytes text) ≤ text_limit) }
     ensures fault { (all : List ℕ) → bytes.items ≡ take (text_limit + 1) all → IfErr result (NoText all) }
     ensures unread { result ≢ Err BuildFault.Read }

@@ -3,7 +3,8 @@
 ghost use Rattle.std.specs.Prelude.{◌≡◌, ◌≤◌, ◌*◌, map, length, Some, IfOk, IfErr};
 ghost use Rattle.std.specs.List.{AllByRecursion};
 ghost use Rattle.input_files.specs.Below.{declaration_of, declared_words, HasLength, most_declared_bytes, Param};
-ghost use Rattle.input_files.specs.wrapping.Wrapped.{IsAskedFor, IsWrapped, IsFaultOf, IsUnlessMemory, broken_rule, end_of};
+ghost use Rattle.input_files.specs.wrapping.Wrapped.{IsAskedFor, IsWrapped, IsFaultOf, IsUnlessMemory, broken_rule};
+ghost use Rattle.input_files.specs.wrapping.Wrapped.{end_of};
 
 use crate::wrapping::asked::Asked;
 use crate::wrapping::checking::broken_rule;
@@ -17,8 +18,8 @@ use image::write_fields;
 use language::{Param, Refusal, WordType};
 use std::alloc::Global;
 
-/// The fields of the image that is asked for, of an export with these parameters and this result; or the first rule that is
-/// broken.
+/// The fields of the image that is asked for, of an export with these parameters and this result; or the first rule
+/// that is broken.
 fn fields_for(
     alloc: Global,
     params: &[Param],
@@ -29,7 +30,8 @@ fn fields_for(
     requires lengths { AllByRecursion (λ (parameter : Param). HasLength parameter.form parameter.length) params.now }
     requires given { 4 * declared_words (map declaration_of params.now) ≤ most_declared_bytes }
     ensures fields { IfOk result (IsAskedFor params.now returned code.now asked) }
-    ensures fault { IfErr result (λ fault. IsUnlessMemory fault (λ rule. broken_rule (end_of params.now returned) (length code.now) asked ≡ Some rule)) }
+    ensures fault { IfErr result (λ fault. IsUnlessMemory fault (λ rule.
+        broken_rule (end_of params.now returned) (length code.now) asked ≡ Some rule)) }
 {
     let slots = slots(alloc, params)?;
     let low = slots_end(slots.as_slice());
@@ -53,9 +55,9 @@ fn fields_for(
 /// its parameters lie in the frame from 0 on, one after another, and its result behind them, as `build` lays them out.
 /// Code is words, each with its lowest byte first.
 ///
-/// A text that is not accepted for the observer asked for is refused as by `judge_as`, before the code is looked at. Else
-/// the first rule is named that code (C1), frame (C2) or steps (C3) break: those of a frame that cuts a slot, and of fields
-/// that an image may not have. The code itself is not judged: any word may stand in it.
+/// A text that is not accepted for the observer asked for is refused as by `judge_as`, before the code is looked at.
+/// Else the first rule is named that code (C1), frame (C2) or steps (C3) break: those of a frame that cuts a slot, and
+/// of fields that an image may not have. The code itself is not judged: any word may stand in it.
 pub fn wrap(
     alloc: Global,
     text: &str,
