@@ -127,18 +127,19 @@ pub(crate) static COMMANDS: [CommandRow; 15] = [
     },
     CommandRow {
         name: "pair",
-        about: "Runs an image twice and says whether an observer sees the same in both runs, or where they begin to differ",
+        about: "Runs an image twice and says whether an observer sees the same in both runs, or where they begin to \
+                differ",
         words: &[
             Word::Path("IMAGE", "An image that `build` or `wrap` wrote"),
             Word::Flag(
                 "explain",
-                "If the runs differ, shows the last instruction that both reach before that, the registers that it reads in each \
-                 run, and what each run shows then; must come before IMAGE",
+                "If the runs differ, shows the last instruction that both reach before that, the registers that it \
+                 reads in each run, and what each run shows then; must come before IMAGE",
             ),
             Word::Flag(
                 "progress",
-                "Prints a line to standard error after each 134217728 steps of both runs, as long as both go on; must come before \
-                 IMAGE",
+                "Prints a line to standard error after each 134217728 steps of both runs, as long as both go on; must \
+                 come before IMAGE",
             ),
             Word::Arguments(
                 "Those of the first run, one for each parameter and as for `run`, then those of the second",
@@ -153,7 +154,8 @@ pub(crate) static COMMANDS: [CommandRow; 15] = [
             Word::Path("IMAGE", "An image that `build` or `wrap` wrote"),
             Word::Flag(
                 "shifts",
-                "Counts the amounts of shifts by a register as visible, for cores that shift bit by bit; must come before IMAGE",
+                "Counts the amounts of shifts by a register as visible, for cores that shift bit by bit; must come \
+                 before IMAGE",
             ),
             Word::Flag("progress", PROGRESS),
             Word::Arguments(
@@ -168,8 +170,8 @@ pub(crate) static COMMANDS: [CommandRow; 15] = [
         words: &[
             Word::Path("IMAGE", "An image that `build` or `wrap` wrote"),
             Word::Arguments(
-                "As for `certify`, for a picture of one run, with 0 for each `?`; or as for `pair`, for a picture of two runs, \
-                 one over the other",
+                "As for `certify`, for a picture of one run, with 0 for each `?`; or as for `pair`, for a picture of \
+                 two runs, one over the other",
             ),
         ],
     },
@@ -213,22 +215,22 @@ pub(crate) static COMMANDS: [CommandRow; 15] = [
     },
     CommandRow {
         name: "vectors",
-        about: "Tries test vectors on a source: whether it gives the outcome of each, and whether an observer sees the same for \
-                all secrets",
+        about: "Tries test vectors on a source: whether it gives the outcome of each, and whether an observer sees the \
+                same for all secrets",
         words: &[
             Word::Path("FILE", "The source"),
             Word::Path(
                 "VECTORS",
-                "Lines `NAME: ARG .. = OUTCOME ..`: the arguments as for `run`, and after `=` the result and then each `mut` \
-                 array; bytes may be written `hex:00ff..`",
+                "Lines `NAME: ARG .. = OUTCOME ..`: the arguments as for `run`, and after `=` the result and then each \
+                 `mut` array; bytes may be written `hex:00ff..`",
             ),
             Word::Profile,
         ],
     },
     CommandRow {
         name: "explain",
-        about: "Explains the code of an error, or the name of a stop: the rule, a source that violates it, and the same source \
-                corrected",
+        about: "Explains the code of an error, or the name of a stop: the rule, a source that violates it, and the \
+                same source corrected",
         words: &[Word::Code(
             "CODE",
             "The code that comes after `refused: `, or the name after `stop `",

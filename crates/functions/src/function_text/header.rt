@@ -6,8 +6,10 @@ ghost use Rattle.functions.specs.function_text.Functions.{named, parts_of};
 ghost use Rattle.functions.specs.function_text.Names.{guard_name, stack_name};
 ghost use Rattle.functions.specs.function_text.HeaderText.{type_text, label_text, const_text, length_text};
 ghost use Rattle.functions.specs.function_text.HeaderText.{parameter_text, later_text, parameters_text, result_text};
-ghost use Rattle.functions.specs.function_text.HeaderText.{premise_lines, shown_operations, promise_lines, comment_lines};
-ghost use Rattle.functions.specs.function_text.HeaderText.{guard_lines, include_lines, stack_line, prototype_lines, header_text};
+ghost use Rattle.functions.specs.function_text.HeaderText.{premise_lines, shown_operations, promise_lines};
+ghost use Rattle.functions.specs.function_text.HeaderText.{comment_lines};
+ghost use Rattle.functions.specs.function_text.HeaderText.{guard_lines, include_lines, stack_line, prototype_lines};
+ghost use Rattle.functions.specs.function_text.HeaderText.{header_text};
 
 use crate::function_code::room_of;
 use crate::function_text::assembler::profile_text;
@@ -91,7 +93,8 @@ fn push_later(text: &mut String, later: &[NamedParam]) -> Result<(), AllocError>
 
 /// Parameters, a line each, at the end of a text.
 fn push_parameters(text: &mut String, parameters: &[NamedParam]) -> Result<(), AllocError>
-    ensures { OnOk result (string_bytes text.new ≡ string_bytes text.old ++ parameters_text (map named parameters.now)) }
+    ensures { OnOk result (string_bytes text.new
+        ≡ string_bytes text.old ++ parameters_text (map named parameters.now)) }
 {
     match parameters.split_first() {
         None => text.push_str("void"),
@@ -124,7 +127,8 @@ fn push_premise(text: &mut String, name: &str) -> Result<(), AllocError>
     text.push_str(name)?;
     text.push_str(": made by factc function.\n")?;
     text.push_str(
-        "   Arrays are aligned by their elements, lie outside the stack below the caller, and no two that are not const overlap.\n",
+        "   Arrays are aligned by their elements, lie outside the stack below the caller, and no two that are not \
+         const overlap.\n",
     )
 }
 
@@ -145,7 +149,8 @@ fn push_promise(text: &mut String, profile: Profile) -> Result<(), AllocError>
     text.push_str("   For an observer of profile ")?;
     text.push_str(profile_text(profile))?;
     text.push_str(
-        ": neither the instructions that it executes, nor the addresses of its loads and stores,\n   nor the operands of its ",
+        ": neither the instructions that it executes, nor the addresses of its loads and stores,\n   nor the \
+         operands of its ",
     )?;
     text.push_str(shown_operations(profile))?;
     text.push_str(" depend on secret arguments. Nothing is proved of time. */\n")
@@ -218,8 +223,8 @@ fn push_prototype(text: &mut String, function: &Function) -> Result<(), AllocErr
     text.push_str(");\n#ifdef __cplusplus\n}\n#endif\n#endif\n")
 }
 
-/// The C header of a function: its prototype with the names of the source, the bytes of stack that a call takes, and what
-/// it needs of its caller. It is refused only when out of memory.
+/// The C header of a function: its prototype with the names of the source, the bytes of stack that a call takes, and
+/// what it needs of its caller. It is refused only when out of memory.
 pub fn header_text(alloc: Global, function: &Function) -> Result<String, AllocError>
     ensures { IfOk result (λ text. string_bytes text ≡ header_text (parts_of function.now)) }
 {
