@@ -61,8 +61,8 @@ fn code_in(
     optimisation: Optimisation,
 ) -> Result<Code, Refusal>
     ensures compiled { (profile : Profile) (text : List ℕ) (is : IsFlattened profile text flattened.now)
-        → IfOk result (IsCompilation optimisation profile text (program_tree flattened.now.program) is.before
-        is.export) }
+        → IfOk result
+        (IsCompilation optimisation profile text (program_tree flattened.now.program) is.before is.export) }
     ensures refused { (profile : Profile) (text : List ℕ) → IsFlattened profile text flattened.now
         → IfErr result (IsRefusalOf profile text) }
 {

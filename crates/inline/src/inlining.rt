@@ -78,8 +78,8 @@ fn flat_of(
         → length (size_violations (map procedure_tree earlier.now) (procedure_tree export.now)) ≡ 0) }
     ensures refused { IfErr result (λ refusal. IsRefusedFor
         (size_violations (map procedure_tree earlier.now) (procedure_tree export.now)) refusal.rule refusal.place) }
-    ensures told { IfErr result (IsToldOf
-        (size_violations (map procedure_tree earlier.now) (procedure_tree export.now))) }
+    ensures told { IfErr result
+        (IsToldOf (size_violations (map procedure_tree earlier.now) (procedure_tree export.now))) }
 {
     let nodes = measure(alloc, earlier, export)?;
     Ok(flat_with(alloc, profile, nodes, earlier, export)?)

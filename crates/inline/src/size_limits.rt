@@ -102,8 +102,8 @@ pub fn measure(alloc: Global, earlier: &[Procedure], export: &Procedure) -> Resu
         length (size_violations (map procedure_tree earlier.now) (procedure_tree export.now)) ≡ 0) }
     ensures refused { IfErr result (λ refusal. IsRefusedFor
         (size_violations (map procedure_tree earlier.now) (procedure_tree export.now)) refusal.rule refusal.place) }
-    ensures told { IfErr result (IsToldOf
-        (size_violations (map procedure_tree earlier.now) (procedure_tree export.now))) }
+    ensures told { IfErr result
+        (IsToldOf (size_violations (map procedure_tree earlier.now) (procedure_tree export.now))) }
     ensures memory { earlier.now ≡ [] → IfErr result (λ refusal. IsWantOfMemory refusal.rule refusal.place → ⊥) }
 {
     let known = measured_all(alloc, earlier)?;

@@ -44,7 +44,8 @@ fn note_count(first: &mut First, call: &Call, procedure: &Procedure)
           given = length call.now.arguments.items;
           taken = length procedure.now.parameters.items;
           procedure = procedure.now.place;
-        })) call.now.place (ArgumentCount ∷ [])) }
+        })) call.now.place
+        (ArgumentCount ∷ [])) }
 {
     let counts = ArgumentCounts {
         given: call.arguments.len(),

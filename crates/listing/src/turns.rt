@@ -73,7 +73,8 @@ pub fn write_run<M: Memory, W: Sink>(
         (W.taken sink.new)) }
     ensures beginning { IsTrue W.TELLS
         → OnErr result (WritesPart (λ bytes. (stop : Stop)
-        × IsListing (code_of code.now) budget (state_of hart.old (M.bytes memory.old)) stop bytes) (W.taken sink.old)
+        × IsListing (code_of code.now) budget (state_of hart.old (M.bytes memory.old)) stop bytes)
+        (W.taken sink.old)
         (W.taken sink.new)) }
     ensures calm { OnOk result (W.failures sink.new ≡ W.failures sink.old) }
     ensures counts { OnErr result (W.failures sink.new ≡ one_more (W.failures sink.old)) }

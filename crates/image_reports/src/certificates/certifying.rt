@@ -48,7 +48,8 @@ pub fn certify_telling<E: Sink>(
     ensures told { IsTrue E.TELLS
         → OnOk result (IsTold HasLines
         (GoesOnKnown (code_at code_base image.now) image.now.max_steps
-        (known_at code_base frame_base image.now given.now shifts)) (collected (E.taken err.old) (E.failures err.old))
+        (known_at code_base frame_base image.now given.now shifts))
+        (collected (E.taken err.old) (E.failures err.old))
         (collected (E.taken err.new) (E.failures err.new))) }
     ensures untold { OnErr result (err.new ≡ err.old) }
 {

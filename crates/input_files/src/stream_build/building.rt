@@ -23,8 +23,8 @@ pub fn build_stream_keeping<R: Source, W: Sink>(
 ) -> Result<(), Unbuilt>
     ensures written { IsTrue R.TELLS
         → IsTrue W.TELLS
-        → OnOk result (Writes (IsBuilt optimisation profile (R.coming source.old)) (W.taken sink.old)
-        (W.taken sink.new)) }
+        → OnOk result
+        (Writes (IsBuilt optimisation profile (R.coming source.old)) (W.taken sink.old) (W.taken sink.new)) }
     ensures beginning { IsTrue R.TELLS → IsTrue W.TELLS → IsErrOf result Unbuilt.Unwritten
         → WritesPart (IsBuilt optimisation profile (R.coming source.old)) (W.taken sink.old) (W.taken sink.new) }
     ensures untouched { IfErr result (λ fault. fault ≢ Unbuilt.Unwritten → sink.new ≡ sink.old) }
@@ -62,8 +62,8 @@ pub fn build_stream_with<R: Source, W: Sink>(
 ) -> Result<(), BuildFault>
     ensures written { IsTrue R.TELLS
         → IsTrue W.TELLS
-        → OnOk result (Writes (IsBuilt optimisation profile (R.coming source.old)) (W.taken sink.old)
-        (W.taken sink.new)) }
+        → OnOk result
+        (Writes (IsBuilt optimisation profile (R.coming source.old)) (W.taken sink.old) (W.taken sink.new)) }
     ensures beginning { IsTrue R.TELLS → IsTrue W.TELLS → IsErrOf result BuildFault.Write
         → WritesPart (IsBuilt optimisation profile (R.coming source.old)) (W.taken sink.old) (W.taken sink.new) }
     ensures untouched { IfErr result (λ fault. fault ≢ BuildFault.Write → sink.new ≡ sink.old) }
@@ -92,8 +92,8 @@ pub fn build_stream_as<R: Source, W: Sink>(
 ) -> Result<(), BuildFault>
     ensures written { IsTrue R.TELLS
         → IsTrue W.TELLS
-        → OnOk result (Writes (IsBuilt Optimisation.Off profile (R.coming source.old)) (W.taken sink.old)
-        (W.taken sink.new)) }
+        → OnOk result
+        (Writes (IsBuilt Optimisation.Off profile (R.coming source.old)) (W.taken sink.old) (W.taken sink.new)) }
     ensures beginning { IsTrue R.TELLS → IsTrue W.TELLS → IsErrOf result BuildFault.Write
         → WritesPart (IsBuilt Optimisation.Off profile (R.coming source.old)) (W.taken sink.old) (W.taken sink.new) }
     ensures untouched { IfErr result (λ fault. fault ≢ BuildFault.Write → sink.new ≡ sink.old) }
@@ -116,8 +116,8 @@ pub fn build_stream<R: Source, W: Sink>(
 ) -> Result<(), BuildFault>
     ensures written { IsTrue R.TELLS
         → IsTrue W.TELLS
-        → OnOk result (Writes (IsBuilt Optimisation.Off Profile.P1 (R.coming source.old)) (W.taken sink.old)
-        (W.taken sink.new)) }
+        → OnOk result
+        (Writes (IsBuilt Optimisation.Off Profile.P1 (R.coming source.old)) (W.taken sink.old) (W.taken sink.new)) }
     ensures beginning { IsTrue R.TELLS → IsTrue W.TELLS → IsErrOf result BuildFault.Write
         → WritesPart (IsBuilt Optimisation.Off Profile.P1 (R.coming source.old)) (W.taken sink.old) (W.taken sink.new) }
     ensures untouched { IfErr result (λ fault. fault ≢ BuildFault.Write → sink.new ≡ sink.old) }

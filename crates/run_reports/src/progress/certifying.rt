@@ -57,7 +57,8 @@ pub fn certify_in_pieces<M: Memory, E: Sink>(
         → IsTold HasLines
         (GoesOnKnown (code_of code.now) run.old.turns_left
         (known_of (state_of run.old.hart (M.bytes run.old.memory)) known.old.registers (M.bytes known.old.marks)
-        known.old.shifts)) (collected (E.taken err.old) (E.failures err.old))
+        known.old.shifts))
+        (collected (E.taken err.old) (E.failures err.old))
         (collected (E.taken err.new) (E.failures err.new)) }
 {
     let mut lines = ProgressLines::new();

@@ -30,7 +30,8 @@ pub fn compare_telling<M: Memory, E: Sink>(
     ensures told { IsTrue E.TELLS
         → IsTold HasLines
         (BothGoOn (code_of code.now) one.old.turns_left (state_of one.old.hart (M.bytes one.old.memory))
-        (state_of other.old.hart (M.bytes other.old.memory))) (collected (E.taken err.old) (E.failures err.old))
+        (state_of other.old.hart (M.bytes other.old.memory)))
+        (collected (E.taken err.old) (E.failures err.old))
         (collected (E.taken err.new) (E.failures err.new)) }
 {
     let mut lines = ProgressLines::new();
