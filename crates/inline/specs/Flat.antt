@@ -1,4 +1,5 @@
 -- One body with numbered variables, as values, without where it lies in memory.
+use Rattle.std.specs.Option.{option_map}
 use Rattle.std.specs.Prelude.{ℕ, ◌+◌, Bool, List, [], ◌∷◌, map, Option, None, Some}
 use Rattle.inline.specs.declared.flat.FlatVariable.{FlatVariable}
 use Rattle.inline.specs.declared.flat.Term.{Term, Number, Truth, Variable, Prefix', Binary', Rotate', Convert'}
@@ -142,3 +143,19 @@ abbrev mutual
 abbrev pub flat_block : List FlatStatement → FlatBlock
 flat_block [] = nothing
 flat_block (statement ∷ rest) = first (flat_tree statement) (flat_block rest)
+
+-- the program of parts that lie in memory
+abbrev pub flat_program : Profile → Place → List Param → Option WordType → ℕ → List FlatVariable → List FlatStatement
+    → List Stretch → Option Term → Option Place → FlatProgram
+flat_program profile place parameters returned nodes declared body stretches value return_place = record {
+  profile = profile;
+  place = place;
+  parameters = parameters;
+  returned = returned;
+  nodes = nodes;
+  declared = declared;
+  body = flat_block body;
+  stretches = stretches;
+  value = option_map term_tree value;
+  return_place = return_place;
+}

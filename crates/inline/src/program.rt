@@ -1,6 +1,6 @@
 ghost use Rattle.std.specs.Prelude.{◌≡◌};
 ghost use Rattle.std.specs.Option.{option_map};
-ghost use Rattle.inline.specs.Flat.{FlatProgram, term_tree, flat_block};
+ghost use Rattle.inline.specs.Flat.{term_tree, flat_block, flat_program};
 ghost use Rattle.inline.specs.Kept.{IsFlat};
 
 use crate::{FlatStatement, FlatVariable, Stretch, Term};
@@ -24,40 +24,19 @@ pub struct Flat {
 }
 
 impl Model for Flat {
-    ghost use Rattle.std.specs.Option.{option_map};
     ghost use Rattle.inline.specs.Codes.{coded_program};
-    ghost use Rattle.inline.specs.Flat.{FlatProgram, term_tree, flat_block};
+    ghost use Rattle.inline.specs.Flat.{FlatProgram, flat_program};
     ghost use Rattle.inline.specs.Kept.{IsFlat};
 
     ghost Value = { FlatProgram };
 
     ghost coded = { coded_program };
 
-    ghost view = { λ f. record {
-      profile = f.profile;
-      place = f.place;
-      parameters = f.parameters.items;
-      returned = f.returned;
-      nodes = f.nodes;
-      declared = f.declared.items;
-      body = flat_block f.body.items;
-      stretches = f.stretches.items;
-      value = option_map term_tree f.value;
-      return_place = f.return_place;
-    } };
+    ghost view = { λ f. flat_program f.profile f.place f.parameters.items f.returned f.nodes f.declared.items
+        f.body.items f.stretches.items f.value f.return_place };
 
-    ghost invariant = { λ f. IsFlat (record {
-      profile = f.profile;
-      place = f.place;
-      parameters = f.parameters.items;
-      returned = f.returned;
-      nodes = f.nodes;
-      declared = f.declared.items;
-      body = flat_block f.body.items;
-      stretches = f.stretches.items;
-      value = option_map term_tree f.value;
-      return_place = f.return_place;
-    }) };
+    ghost invariant = { λ f. IsFlat (flat_program f.profile f.place f.parameters.items f.returned f.nodes
+        f.declared.items f.body.items f.stretches.items f.value f.return_place) };
 }
 
 impl Flat {
@@ -74,30 +53,10 @@ impl Flat {
         value: Option<Term>,
         return_place: Option<Place>,
     ) -> Self
-        requires { IsFlat (record {
-          profile = profile;
-          place = place;
-          parameters = parameters.items;
-          returned = returned;
-          nodes = nodes;
-          declared = declared.items;
-          body = flat_block body.items;
-          stretches = stretches.items;
-          value = option_map term_tree value;
-          return_place = return_place;
-        }) }
-        ensures { result ≡ record {
-          profile = profile;
-          place = place;
-          parameters = parameters.items;
-          returned = returned;
-          nodes = nodes;
-          declared = declared.items;
-          body = flat_block body.items;
-          stretches = stretches.items;
-          value = option_map term_tree value;
-          return_place = return_place;
-        } }
+        requires { IsFlat (flat_program profile place parameters.items returned nodes declared.items body.items
+            stretches.items value return_place) }
+        ensures { result ≡ flat_program profile place parameters.items returned nodes declared.items body.items
+            stretches.items value return_place }
     {
         Flat {
             profile,
