@@ -1,12 +1,13 @@
 -- Straight code as values, without where it lies in memory: branches and loops are left only where what decides them
 -- is public.
+use Rattle.std.specs.Option.{option_map}
 use Rattle.std.specs.Prelude.{ℕ, List, [], ◌∷◌, map, Option}
 use Rattle.branch_removal.specs.declared.straight.StraightStatement.{StraightStatement, Set, Array, Put, Take}
 use Rattle.branch_removal.specs.declared.straight.StraightStatement.{Branch', Repeat'}
 use Rattle.branch_removal.specs.declared.straight.StraightStatement.{Row_of-StraightStatement}
 use Rattle.branch_removal.specs.declared.straight.StraightStatement.{end_of-StraightStatement}
 use Rattle.branch_removal.specs.declared.straight.StraightStatement.{more_of-StraightStatement}
-use Rattle.branch_removal.specs.Below.{FlatVariable, Param, Place, Profile, term_tree, TermTree, WordType}
+use Rattle.branch_removal.specs.Below.{FlatVariable, Param, Place, Profile, Term, term_tree, TermTree, WordType}
 
 mutual
   pub data StraightTree : Type 0 where
@@ -101,3 +102,19 @@ abbrev mutual
 abbrev pub straight_block : List StraightStatement → StraightBlock
 straight_block [] = nothing
 straight_block (statement ∷ rest) = first (straight_tree statement) (straight_block rest)
+
+-- the program of parts that lie in memory
+abbrev pub straight_program : Profile → List Param → Option WordType → ℕ → ℕ → List ℕ → List FlatVariable → ℕ
+    → List StraightStatement → Option Term → StraightProgram
+straight_program profile parameters returned nodes work turns declared controls body value = record {
+  profile = profile;
+  parameters = parameters;
+  returned = returned;
+  nodes = nodes;
+  work = work;
+  turns = turns;
+  declared = declared;
+  controls = controls;
+  body = straight_block body;
+  value = option_map term_tree value;
+}

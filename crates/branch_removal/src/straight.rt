@@ -2,7 +2,7 @@ ghost use Rattle.std.specs.Prelude.{◌≡◌, IfSome};
 ghost use Rattle.std.specs.Option.{option_map};
 ghost use Rattle.branch_removal.specs.Below.{term_tree};
 ghost use Rattle.branch_removal.specs.Kept.{IsStraight};
-ghost use Rattle.branch_removal.specs.Straight.{StraightProgram, straight_block, with_variables};
+ghost use Rattle.branch_removal.specs.Straight.{straight_block, straight_program, with_variables};
 ghost use Rattle.branch_removal.specs.Checked.{checked, has_room, is_checked};
 
 use crate::sizes::{all_words_taken, block_size, result_size};
@@ -51,9 +51,7 @@ pub struct StraightCode<'f> {
 }
 
 impl<'f> Model for StraightCode<'f> {
-    ghost use Rattle.std.specs.Option.{option_map};
-    ghost use Rattle.branch_removal.specs.Below.{term_tree};
-    ghost use Rattle.branch_removal.specs.Straight.{StraightProgram, straight_block};
+    ghost use Rattle.branch_removal.specs.Straight.{StraightProgram, straight_program};
     ghost use Rattle.branch_removal.specs.private.StraightCodes.{coded_straight};
     ghost use Rattle.branch_removal.specs.Kept.{IsStraight};
 
@@ -61,31 +59,11 @@ impl<'f> Model for StraightCode<'f> {
 
     ghost coded = { coded_straight };
 
-    ghost view = { λ s. record {
-      profile = s.profile;
-      parameters = s.parameters.now;
-      returned = s.returned;
-      nodes = s.nodes;
-      work = s.work;
-      turns = s.turns.now;
-      declared = s.declared.now;
-      controls = s.controls;
-      body = straight_block s.body.items;
-      value = option_map term_tree s.value;
-    } };
+    ghost view = { λ s. straight_program s.profile s.parameters.now s.returned s.nodes s.work s.turns.now s.declared.now
+        s.controls s.body.items s.value };
 
-    ghost invariant = { λ s. IsStraight (record {
-      profile = s.profile;
-      parameters = s.parameters.now;
-      returned = s.returned;
-      nodes = s.nodes;
-      work = s.work;
-      turns = s.turns.now;
-      declared = s.declared.now;
-      controls = s.controls;
-      body = straight_block s.body.items;
-      value = option_map term_tree s.value;
-    }) };
+    ghost invariant = { λ s. IsStraight (straight_program s.profile s.parameters.now s.returned s.nodes s.work
+        s.turns.now s.declared.now s.controls s.body.items s.value) };
 }
 
 impl<'f> StraightCode<'f> {
@@ -96,30 +74,11 @@ impl<'f> StraightCode<'f> {
         body: Vec<StraightStatement>,
         value: Option<Term>,
     ) -> Self
-        requires { IsStraight (record {
-          profile = ranged.now.flat.profile;
-          parameters = ranged.now.flat.parameters;
-          returned = ranged.now.flat.returned;
-          nodes = ranged.now.flat.nodes;
-          work = ranged.now.work;
-          turns = ranged.now.turns;
-          declared = ranged.now.flat.declared;
-          controls = controls;
-          body = straight_block body.items;
-          value = option_map term_tree value;
-        }) }
-        ensures { result ≡ record {
-          profile = ranged.now.flat.profile;
-          parameters = ranged.now.flat.parameters;
-          returned = ranged.now.flat.returned;
-          nodes = ranged.now.flat.nodes;
-          work = ranged.now.work;
-          turns = ranged.now.turns;
-          declared = ranged.now.flat.declared;
-          controls = controls;
-          body = straight_block body.items;
-          value = option_map term_tree value;
-        } }
+        requires { IsStraight (straight_program ranged.now.flat.profile ranged.now.flat.parameters
+            ranged.now.flat.returned ranged.now.flat.nodes ranged.now.work ranged.now.turns ranged.now.flat.declared
+            controls body.items value) }
+        ensures { result ≡ straight_program ranged.now.flat.profile ranged.now.flat.parameters ranged.now.flat.returned
+            ranged.now.flat.nodes ranged.now.work ranged.now.turns ranged.now.flat.declared controls body.items value }
     {
         let flat = ranged.flat();
         StraightCode {
