@@ -6,6 +6,7 @@ use Rattle.codegen.proofs.ComparedRuns.{condition_runs, passes, test_is}
 use Rattle.codegen.proofs.Language.{HasType, StraightBlock, StraightState, TermTree, WordType, after, after_all, branch}
 use Rattle.codegen.proofs.Language.{path_along, path_at, term_nodes, types_of, value_in}
 use Rattle.codegen.proofs.Logic.{base_of, branching_at, by_mark, condition_kind, gives, Known, Ready, Runs, seq}
+use Rattle.codegen.proofs.Logic.{layout_of}
 use Rattle.codegen.proofs.Logic.{Setting, setting, Still}
 use Rattle.codegen.proofs.Machine.{branch_code, branching_code, condition_code, height_of, Instr, read_code}
 use Rattle.codegen.proofs.Machine.{read_register, slots_to, test_of, unless_code}
@@ -58,7 +59,7 @@ module _ (z : Setting) (depth : ℕ) (condition : TermTree) (word : WordType) (a
   }
 
   -- the condition in a register, and then one of both arms
-  branch_runs : Branches (read_code z.declared z.allocation (base_of z) 5 0 condition
+  branch_runs : Branches (read_code (layout_of z) 5 0 condition
       ++ branch_code (read_register z.allocation 5 condition) xs ys)
   branch_runs =
       let source = read_source z condition 5 (omega arith) (omega arith) in
@@ -77,7 +78,7 @@ module _ (z : Setting) (depth : ℕ) (condition : TermTree) (word : WordType) (a
 
   -- what is tested, and then one of both arms
   unless_runs : length xs < 1000
-      → Branches (condition_code z.declared z.allocation (base_of z) condition
+      → Branches (condition_code (layout_of z) condition
       ++ unless_code (test_of z.allocation condition) xs ys)
   unless_runs short =
       let test = test_of z.allocation condition in
@@ -104,7 +105,7 @@ module _ (z : Setting) (depth : ℕ) (condition : TermTree) (word : WordType) (a
       one two v (λ env s known. known.is)))
       (λ env s t ready done. record { ready = done.ready; decides = done.decides }))
 
-  pub branching_runs : Branches (branching_code z.declared z.allocation (base_of z) condition xs ys)
+  pub branching_runs : Branches (branching_code (layout_of z) condition xs ys)
   branching_runs =
       by_test (z.allocation.immediates && is_short_arm xs)
       (λ is. unless_runs (ltb-true (length xs) 1000 (and_parts _ _ is).1)) (λ is. branch_runs)

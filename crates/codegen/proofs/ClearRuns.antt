@@ -8,6 +8,7 @@ use Rattle.codegen.proofs.Machine.{with_register}
 use Rattle.codegen.proofs.Language.{FlatVariable, array_as, path_of_turns, Path, array, StraightState, with_variable}
 use Rattle.codegen.proofs.Language.{after, IsFilled, Kind, Boolean, array_words, terms_nodes}
 use Rattle.codegen.proofs.Logic.{cases_eq, cases_lt, length-replicate, with_number-suc, with_byte_same, with_byte_other}
+use Rattle.codegen.proofs.Logic.{layout_of}
 use Rattle.codegen.proofs.Logic.{lt-ltb, registers_after, is_free, computing_within, frame_runs, plain_append}
 use Rattle.codegen.proofs.Logic.{after_append, constant_plain, constant_after, constant_length, kind_known, HeldAt}
 use Rattle.codegen.proofs.Logic.{Held, held_regs, frame_there, bytes_of, place_of, place_within, ends_before_result}
@@ -301,7 +302,7 @@ module _ (z : Setting) (depth x size : ℕ) (typed : IsFilled z.code.profile z.d
           (λ (h : place + 4 * count ≤ o). inr (omega (arith, low, h))) side))
 
   pub clear_runs : Runs z (32 * (1 + size + terms_nodes [])) none
-      (statement_code z.declared z.allocation z.controls z.depths depth (array x size [])) (Ready z)
+      (statement_code (layout_of z) depth (array x size [])) (Ready z)
       (Shown z depth (λ env. after env (array x size [])))
   clear_runs =
       let first = ends_before_result z.declared x d typed.known in

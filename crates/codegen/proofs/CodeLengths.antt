@@ -19,6 +19,7 @@ use Rattle.codegen.specs.private.Emitted.{put_under_near_code}
 use Rattle.codegen.specs.private.Erased.{erase_under_code}
 use Rattle.codegen.specs.Below.{depth_in, depth_in_all, height_in, height_in_all, height_of_all}
 use Rattle.codegen.proofs.Machine.{ArePlacedTerms, control_location, HasPlace, HavePlaces, register_of, variable_offset}
+use Rattle.codegen.proofs.Machine.{Frame}
 use Rattle.codegen.proofs.Machine.{next_offset, temporaries_offset, kind_at, near_element, height_of, Instr, slots_to}
 use Rattle.codegen.proofs.Machine.{Allocation, InRegister, InSlot, Location, variable_location, unless_unread}
 use Rattle.codegen.specs.private.Placed.{IsPlaced}
@@ -56,43 +57,43 @@ element_store_length r kind o = one_of (nat_lt o 2048) _ _ 3 (omega arith) (omeg
 clear_length : (o words : ℕ) → length (clear_code o words) ≤ 16
 clear_length o words = simp length-append (omega (arith, constant_length 6 o, constant_length 7 (4 * words)))
 
-into_element_length : (declared : List FlatVariable) (allocation : Allocation) (free : ℕ) (kind : Kind) (o : ℕ)
-    (e : TermTree) → length (into_element_code declared allocation free kind o e) ≤ 16 * term_nodes e + 3
-into_element_length declared allocation free kind o e =
+into_element_length : (layout : Frame) (kind : Kind) (o : ℕ)
+    (e : TermTree) → length (into_element_code layout kind o e) ≤ 16 * term_nodes e + 3
+into_element_length layout kind o e =
     simp length-append (omega (
       arith,
-      stored_length declared allocation free e,
-      element_store_length (stored_register allocation e) kind o,
+      stored_length layout e,
+      element_store_length (stored_register layout.allocation e) kind o,
     ))
 
 -- a value into an element, at an index or at the offset that the store holds
-put_length : (declared : List FlatVariable) (allocation : Allocation) (free : ℕ) (within : Option ℕ) (x : ℕ)
-    (index value : TermTree) → length (put_element_code declared allocation free within x index value)
+put_length : (layout : Frame) (within : Option ℕ) (x : ℕ)
+    (index value : TermTree) → length (put_element_code layout within x index value)
     ≤ 32 * (1 + (1 + term_nodes index) + term_nodes value)
-put_length declared allocation free None x index value =
-    let kind = kind_at declared x in
-    let other = stored_value allocation kind value in
-    let nodes = stored_nodes allocation kind value in
-    code_length (near_element declared allocation x index)
-    (λ o. into_element_code declared allocation free kind o other)
-    (index_code declared allocation free index other
-    ++ put_code (read_register allocation 5 index) (read_register allocation 6 other) kind
-    (variable_offset declared x)) _
-    (λ o. omega (arith, nodes, into_element_length declared allocation free kind o other))
+put_length layout None x index value =
+    let kind = kind_at layout.declared x in
+    let other = stored_value layout.allocation kind value in
+    let nodes = stored_nodes layout.allocation kind value in
+    code_length (near_element layout.declared layout.allocation x index)
+    (λ o. into_element_code layout kind o other)
+    (index_code layout index other
+    ++ put_code (read_register layout.allocation 5 index) (read_register layout.allocation 6 other) kind
+    (variable_offset layout.declared x)) _
+    (λ o. omega (arith, nodes, into_element_length layout kind o other))
     (omega (arith, nodes, length-append {A = Instr}, read_length, address_length))
-put_length declared allocation free (Some c) x index value =
-    let control = control_location declared allocation c in
-    code_length (near_element declared allocation x index)
-    (λ o. put_under_near_code declared allocation free control (kind_at declared x) o value)
-    (index_code declared allocation free index value
-    ++ put_under_code (read_register allocation 5 index) (read_register allocation 6 value) control
-    (kind_at declared x) (variable_offset declared x)) _
+put_length layout (Some c) x index value =
+    let control = control_location layout.declared layout.allocation c in
+    code_length (near_element layout.declared layout.allocation x index)
+    (λ o. put_under_near_code layout control (kind_at layout.declared x) o value)
+    (index_code layout index value
+    ++ put_under_code (read_register layout.allocation 5 index) (read_register layout.allocation 6 value) control
+    (kind_at layout.declared x) (variable_offset layout.declared x)) _
     (λ o. omega (
       arith,
       length-append {A = Instr},
-      read_length declared allocation free 5 0 value,
+      read_length layout 5 0 value,
       fetch_length control 7,
-      element_store_length 5 (kind_at declared x) o,
+      element_store_length 5 (kind_at layout.declared x) o,
     ))
     (omega (arith, length-append {A = Instr}, read_length, fetch_length, address_length))
 
@@ -104,66 +105,68 @@ erase_under_length : (l control : Location) → length (erase_under_code l contr
 erase_under_length (InRegister home) control = simp length-append (omega (arith, fetch_length))
 erase_under_length (InSlot o) control = simp length-append (omega (arith, load_length, fetch_length, store_length))
 
-set_length : (declared : List FlatVariable) (allocation : Allocation) (free : ℕ) (within : Option ℕ) (l : Location)
-    (e : TermTree) → length (set_code declared allocation free within l e) ≤ 32 * (1 + term_nodes e)
-set_length declared allocation free None (InRegister home) e =
-    omega (arith, value_length declared allocation free home 0 e)
-set_length declared allocation free None (InSlot o) e = omega (arith, assign_length declared allocation free e o)
-set_length declared allocation free (Some c) l e =
-    let control = control_location declared allocation c in
-    one_of (gives_zero allocation e) _ _ _
+set_length : (layout : Frame) (within : Option ℕ) (l : Location)
+    (e : TermTree) → length (set_code layout within l e) ≤ 32 * (1 + term_nodes e)
+set_length layout None (InRegister home) e =
+    omega (arith, value_length layout home 0 e)
+set_length layout None (InSlot o) e = omega (arith, assign_length layout e o)
+set_length layout (Some c) l e =
+    let control = control_location layout.declared layout.allocation c in
+    one_of (gives_zero layout.allocation e) _ _ _
     (omega (arith, erase_under_length l control))
-    (omega (arith, length-append {A = Instr}, read_length, set_under_length (read_register allocation 5 e) l control))
+    (omega (
+      arith,
+      length-append {A = Instr},
+      read_length,
+      set_under_length (read_register layout.allocation 5 e) l control,
+    ))
 
-pub fill_length : (declared : List FlatVariable) (allocation : Allocation) (free : ℕ) (kind : Kind) (o : ℕ)
-    (es : List TermTree) → length (fill_code declared allocation free kind o es) ≤ 32 * terms_nodes es
-fill_length declared allocation free kind o [] = omega arith
-fill_length declared allocation free kind o (e ∷ es) =
-    let other = stored_value allocation kind e in
+pub fill_length : (layout : Frame) (kind : Kind) (o : ℕ)
+    (es : List TermTree) → length (fill_code layout kind o es) ≤ 32 * terms_nodes es
+fill_length layout kind o [] = omega arith
+fill_length layout kind o (e ∷ es) =
+    let other = stored_value layout.allocation kind e in
     simp length-append (omega (
       arith,
       height e,
-      stored_nodes allocation kind e,
-      stored_length declared allocation free other,
-      element_store_length (stored_register allocation other) kind o,
-      fill_length declared allocation free kind (o + element_bytes kind) es,
+      stored_nodes layout.allocation kind e,
+      stored_length layout other,
+      element_store_length (stored_register layout.allocation other) kind o,
+      fill_length layout kind (o + element_bytes kind) es,
     ))
 
-array_length : (declared : List FlatVariable) (allocation : Allocation) (free x size : ℕ) (es : List TermTree)
-    → length (array_code declared allocation free x size es) ≤ 32 * (1 + terms_nodes es)
-array_length declared allocation free x size [] =
-    omega (arith, clear_length (variable_offset declared x) (array_words (kind_at declared x) size))
-array_length declared allocation free x size (e ∷ es) =
-    omega (arith, fill_length declared allocation free (kind_at declared x) (variable_offset declared x) (e ∷ es))
+array_length : (layout : Frame) (x size : ℕ) (es : List TermTree)
+    → length (array_code layout x size es) ≤ 32 * (1 + terms_nodes es)
+array_length layout x size [] =
+    omega (arith, clear_length (variable_offset layout.declared x) (array_words (kind_at layout.declared x) size))
+array_length layout x size (e ∷ es) =
+    omega (arith, fill_length layout (kind_at layout.declared x) (variable_offset layout.declared x) (e ∷ es))
 
 -- Statements: at most 32 instructions a node.
-module _ (declared : List FlatVariable) (allocation : Allocation) (controls depths : ℕ) where
-  abbrev free : ℕ
-  free = temporaries_offset declared controls depths
-
+module _ (layout : Frame) where
   mutual
     pub statement_length : (depth : ℕ) (s : StraightTree)
-        → length (statement_code declared allocation controls depths depth s) ≤ 32 * statement_nodes s
+        → length (statement_code layout depth s) ≤ 32 * statement_nodes s
     statement_length depth (set within x value) =
-        set_length declared allocation free within (variable_location declared allocation x) value
-    statement_length depth (array x size values) = array_length declared allocation free x size values
+        set_length layout within (variable_location layout.declared layout.allocation x) value
+    statement_length depth (array x size values) = array_length layout x size values
     statement_length depth (put within place x size index value) =
-        put_length declared allocation free within x index value
+        put_length layout within x index value
     statement_length depth (take control within condition) =
         omega (arith, length-append {A = Instr}, read_length, taken_length, kept_length)
     statement_length depth (branch condition accepted otherwise) =
-        let xs = block_code declared allocation controls depths depth accepted in
-        let ys = block_code declared allocation controls depths depth otherwise in
-        let spans = branching_spans declared allocation free condition xs ys in
+        let xs = block_code layout depth accepted in
+        let ys = block_code layout depth otherwise in
+        let spans = branching_spans layout condition xs ys in
         omega (arith, spans.1, block_length depth accepted, block_length depth otherwise)
     statement_length depth (repeats x low high body) =
-        let ys = block_code declared allocation controls depths (depth + 1) body in
-        let spans = repeat_spans declared allocation (next_offset declared controls depth) free ys
-        (variable_location declared allocation x) low high (any_sets x body) in
+        let ys = block_code layout (depth + 1) body in
+        let spans = repeat_spans layout (next_offset layout depth) ys
+        (variable_location layout.declared layout.allocation x) low high (any_sets x body) in
         omega (arith, spans.1, block_length (depth + 1) body)
 
     pub block_length : (depth : ℕ) (b : StraightBlock)
-        → length (block_code declared allocation controls depths depth b) ≤ 32 * block_nodes b
+        → length (block_code layout depth b) ≤ 32 * block_nodes b
     block_length depth nothing = omega arith
     block_length depth (first s rest) =
         omega (arith, length-append {A = Instr}, statement_length depth s, block_length depth rest)
@@ -180,56 +183,56 @@ values_few : (size : ℕ) (es : List TermTree) → HasCount size es → length e
 values_few size [] count = omega arith
 values_few size (e ∷ es) count = omega (arith, count)
 
-module _ (profile : Profile) (declared : List FlatVariable) (allocation : Allocation) (controls depths : ℕ)
-    (small : 4 * declared_words declared ≤ 40768) where
+module _ (profile : Profile) (layout : Frame) (small : 4 * declared_words layout.declared ≤ 40768) where
   abbrev base : ℕ
-  base = temporaries_offset declared controls depths
+  base = temporaries_offset layout
 
-  term_placed : {e : TermTree} {word : WordType} (place : ℕ) → HasType (types_of profile declared) e word
-      → base + 4 * slots_to allocation.count (height_of e + place) ≤ 65536
-      → IsPlaced (length declared) allocation.count base place e
-  term_placed place has room = (typed_among profile declared has, room)
+  term_placed : {e : TermTree} {word : WordType} (place : ℕ) → HasType (types_of profile layout.declared) e word
+      → base + 4 * slots_to layout.allocation.count (height_of e + place) ≤ 65536
+      → IsPlaced layout place e
+  term_placed place has room = (typed_among profile layout.declared has, room)
 
-  values_placed : (x : ℕ) (word : WordType) (es : List TermTree) → AllSuit (types_but profile declared x) word es
-      → base + 4 * slots_to allocation.count (height_of_all es) ≤ 65536
-      → ArePlacedTerms (length declared) allocation.count base es
+  values_placed : (x : ℕ) (word : WordType) (es : List TermTree) → AllSuit (types_but profile layout.declared x) word es
+      → base + 4 * slots_to layout.allocation.count (height_of_all es) ≤ 65536
+      → ArePlacedTerms layout es
   values_placed x word [] suit room = tt
   values_placed x word (e ∷ es) suit room = (
     (
-      typed_within (length declared) (types_but profile declared x)
-          (λ y d is. slice_get_within declared y d (when_not (y == x) (slice_get declared y) d is)) suit.0.has_type,
+      typed_within (length layout.declared) (types_but profile layout.declared x)
+          (λ y d is. slice_get_within layout.declared y d (when_not (y == x) (slice_get layout.declared y) d is))
+          suit.0.has_type,
       omega (arith, room),
     ),
     values_placed x word es suit.1 (omega (arith, room)),
   )
 
   fits_in_frame : (x size : ℕ) (word : WordType) (mutable : Bool)
-      → slice_get declared x ≡ Some (array_as word mutable size)
-      → (size ≤ 65536) × (variable_offset declared x + 4 * size ≤ 262144)
+      → slice_get layout.declared x ≡ Some (array_as word mutable size)
+      → (size ≤ 65536) × (variable_offset layout.declared x + 4 * size ≤ 262144)
   fits_in_frame x size word mutable known =
-      let e = ends_before_result declared x (array_as word mutable size) known in
+      let e = ends_before_result layout.declared x (array_as word mutable size) known in
       let n = elements_in_words word.kind size in
       (omega (arith, e, n, small), omega (arith, e, n, small))
 
   mutual
-    statement_placed : (depth : ℕ) (s : StraightTree) → IsTyped profile declared controls s
-        → base + 4 * slots_to allocation.count (height_in s) ≤ 65536 → depth + depth_in s ≤ depths
-        → HasPlace declared allocation controls depths depth s
+    statement_placed : (depth : ℕ) (s : StraightTree) → IsTyped profile layout.declared layout.controls s
+        → base + 4 * slots_to layout.allocation.count (height_in s) ≤ 65536 → depth + depth_in s ≤ layout.depths
+        → HasPlace layout depth s
     statement_placed depth (set within x value) typed room deep = (
       typed.0,
-      slice_get_within declared x _ typed.1.known,
+      slice_get_within layout.declared x _ typed.1.known,
       term_placed 0 typed.1.suits.has_type (omega (arith, room)),
     )
     statement_placed depth (array x size values) typed room deep =
         let fits = fits_in_frame x size typed.word typed.mutable typed.known in (
-          slice_get_within declared x _ typed.known,
+          slice_get_within layout.declared x _ typed.known,
           fits.0,
           values_placed x typed.word values typed.suit room,
           omega (arith, fits.1, values_few size values typed.count),
         )
     statement_placed depth (put within place x size index value) typed room deep = (
       typed.0,
-      slice_get_within declared x _ typed.1.known,
+      slice_get_within layout.declared x _ typed.1.known,
       term_placed 0 typed.1.index_type (omega (arith, room)),
       term_placed 1 typed.1.suits.has_type (omega (arith, room)),
     )
@@ -241,16 +244,16 @@ module _ (profile : Profile) (declared : List FlatVariable) (allocation : Alloca
       blocks_placed depth otherwise typed.2 (omega (arith, room)) (omega (arith, deep)),
     )
     statement_placed depth (repeats x low high body) typed room deep = (
-      slice_get_within declared x _ typed.2,
+      slice_get_within layout.declared x _ typed.2,
       omega (arith, deep),
       term_placed 0 typed.0 (omega (arith, room)),
       term_placed 0 typed.1 (omega (arith, room)),
       blocks_placed (depth + 1) body typed.3 (omega (arith, room)) (omega (arith, deep)),
     )
 
-    pub blocks_placed : (depth : ℕ) (b : StraightBlock) → AreTyped profile declared controls b
-        → base + 4 * slots_to allocation.count (height_in_all b) ≤ 65536 → depth + depth_in_all b ≤ depths
-        → HavePlaces declared allocation controls depths depth b
+    pub blocks_placed : (depth : ℕ) (b : StraightBlock) → AreTyped profile layout.declared layout.controls b
+        → base + 4 * slots_to layout.allocation.count (height_in_all b) ≤ 65536 → depth + depth_in_all b ≤ layout.depths
+        → HavePlaces layout depth b
     blocks_placed depth nothing typed room deep = tt
     blocks_placed depth (first s rest) typed room deep = (
       statement_placed depth s typed.0 (omega (arith, room)) (omega (arith, deep)),

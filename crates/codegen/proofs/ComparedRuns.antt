@@ -5,6 +5,7 @@ use Rattle.codegen.proofs.Choices.{choice_of, of_choice}
 use Rattle.codegen.proofs.Language.{HasType, Path, Place, StraightState, TermTree, WordType, path_in, term_nodes}
 use Rattle.codegen.proofs.Language.{types_of, value_in, word_of}
 use Rattle.codegen.proofs.Logic.{along, base_of, cheaper, gives, idle, Kept, kept_then, known, nat_tests, none-some}
+use Rattle.codegen.proofs.Logic.{layout_of}
 use Rattle.codegen.proofs.Logic.{Ready, register-at, Runs, same_Some, seq, Setting, steps_of}
 use Rattle.codegen.proofs.Machine.{between, condition_code, failing, gives_zero, height_of, operands_code, operands_or}
 use Rattle.codegen.proofs.Machine.{read_code, read_register, right_code, right_register, slots_to, test_of, test_or}
@@ -113,13 +114,13 @@ module _ (z : Setting) where
 
   right_runs : (left right : TermTree) {word : WordType} → HasType (types_of z.code.profile z.declared) right word
       → base_of z + 4 * slots_to z.allocation.count (height_of right + 1) ≤ z.size
-      → Runs z (16 * term_nodes right) (steps_of right) (right_code z.declared z.allocation (base_of z) right)
+      → Runs z (16 * term_nodes right) (steps_of right) (right_code (layout_of z) right)
       (FirstRead z left) (AreCompared left right (right_register z.allocation right))
   right_runs left right has room = by_zero (gives_zero z.allocation right) refl
     where
       by_zero : (b : Bool) → gives_zero z.allocation right ≡ b
           → Runs z (16 * term_nodes right) (steps_of right)
-          (cond b [] (read_code z.declared z.allocation (base_of z) 6 1 right)) (FirstRead z left)
+          (cond b [] (read_code (layout_of z) 6 1 right)) (FirstRead z left)
           (AreCompared left right (cond b 0 (read_register z.allocation 6 right)))
       by_zero true is =
           let zero = zero_known z.allocation right is in
@@ -151,7 +152,7 @@ module _ (z : Setting) where
   -- a condition that is read whole
   whole_runs : {e : TermTree} {word : WordType} → HasType (types_of z.code.profile z.declared) e word
       → base_of z + 4 * slots_to z.allocation.count (height_of e) ≤ z.size
-      → Runs z (16 * term_nodes e) (steps_of e) (read_code z.declared z.allocation (base_of z) 5 0 e) (Ready z)
+      → Runs z (16 * term_nodes e) (steps_of e) (read_code (layout_of z) 5 0 e) (Ready z)
       (IsDecided (against_zero (read_register z.allocation 5 e)) e)
   whole_runs {e = e} has room =
       gives
@@ -174,8 +175,8 @@ module _ (z : Setting) where
     decided : {word : WordType} → HasType (types_of z.code.profile z.declared) e word → (c : Option Comparison)
         → failing operator ≡ c
         → Runs z (16 * term_nodes e) (steps_of e)
-        (operands_or c (read_code z.declared z.allocation (base_of z) 5 0 e)
-        (operands_code z.declared z.allocation (base_of z) left right)) (Ready z)
+        (operands_or c (read_code (layout_of z) 5 0 e)
+        (operands_code (layout_of z) left right)) (Ready z)
         (IsDecided
         (test_or c (against_zero 5) (read_register z.allocation 5 left) (right_register z.allocation right)) e)
     decided whole None is = whole_runs whole room
@@ -205,7 +206,7 @@ module _ (z : Setting) where
 
   pub condition_runs : {e : TermTree} {word : WordType} → HasType (types_of z.code.profile z.declared) e word
       → base_of z + 4 * slots_to z.allocation.count (height_of e) ≤ z.size
-      → Runs z (16 * term_nodes e) (steps_of e) (condition_code z.declared z.allocation (base_of z) e) (Ready z)
+      → Runs z (16 * term_nodes e) (steps_of e) (condition_code (layout_of z) e) (Ready z)
       (IsDecided (test_of z.allocation e) e)
   condition_runs (of_binary {place = place} {operator = operator} {width = width} {left = left} {right = right} {one =
       one} {other = other} {whole = word} has more makes same) room =

@@ -10,6 +10,7 @@ use Rattle.codegen.proofs.Language.{term_nodes, types_of, HasType, counter_type,
 use Rattle.codegen.proofs.Language.{counted, after, after_all, path_at, path_along, word_of, Values}
 use Rattle.codegen.proofs.LoopRuns.{AtLoop, bounds_runs, is_left, next, next_inside, test_runs}
 use Rattle.codegen.proofs.Logic.{lt-ltb, nat_tests, none-some, same_Some, HeldAt, Setting, setting, base_of, Known}
+use Rattle.codegen.proofs.Logic.{layout_of}
 use Rattle.codegen.proofs.Logic.{by_bounds, none, Runs, along, along_fit, seq, quietly, weaken, gives, cheaper, never}
 use Rattle.codegen.proofs.Logic.{Ready, HomesKept, home_beside, homes_moved, number_or_zero, take, does, moves_run}
 use Rattle.codegen.proofs.Logic.{kept_less, register-at}
@@ -176,7 +177,7 @@ module _ (z : Setting) (depth x h : ℕ) (within : depth < z.depths)
     -- from any first number on
     read_number_runs : Runs z (16 * term_nodes low + (1 + (2 + (1 + (turns_cost 1 + 1)) + 0)))
         (λ env. path_in env.variables low ++ bounded x (bounds env).0 (bounds env).1 ∷ path_by env (bounds env))
-        (read_code z.declared z.allocation (base_of z) 5 0 low ++ guard_code) (Ready z) Looped
+        (read_code (layout_of z) 5 0 low ++ guard_code) (Ready z) Looped
     read_number_runs =
         read_then z depth (omega (arith, within)) has_low room_low (by_bounds z x bounds guard_at)
 
@@ -243,7 +244,7 @@ module _ (z : Setting) (depth x h : ℕ) (within : depth < z.depths)
 
     pub to_number_runs : Runs z (16 * term_nodes low + (1 + (2 + (1 + (turns_cost 1 + 1)) + 0)))
         (λ env. path_at env (repeats x low high body))
-        (to_number_code z.declared z.allocation (base_of z) h low bound ys) (Ready z)
+        (to_number_code (layout_of z) h low bound ys) (Ready z)
         (Shown z depth (λ env. after env (repeats x low high body)))
     to_number_runs =
         along
@@ -343,7 +344,7 @@ module _ (z : Setting) (depth x h : ℕ) (within : depth < z.depths)
 
     pub to_word_runs : Runs z (16 * term_nodes low + 3 + (16 * term_nodes high + 3)
         + (7 + (2 + (1 + (turns_cost 4 + 1)) + 0))) (λ env. path_at env (repeats x low high body))
-        (bounds_code z.declared z.allocation words (base_of z) low high ++ word_code) (Ready z)
+        (bounds_code (layout_of z) words low high ++ word_code) (Ready z)
         (Shown z depth (λ env. after env (repeats x low high body)))
     to_word_runs =
         gives

@@ -11,6 +11,7 @@ use Rattle.codegen.proofs.Language.{TermTree, array_as, path_in_all, term_nodes,
 use Rattle.codegen.proofs.Language.{value_in, path_in, types_of, AllSuit, indexed, value_at, IsFilled, WordType, Suits}
 use Rattle.codegen.proofs.Language.{array, after, path_at, IsPut, Kind, Place, Profile}
 use Rattle.codegen.proofs.Logic.{eqb-true, nil_from_length, but_among, suits_among, one_path_all, all_values, steps_of}
+use Rattle.codegen.proofs.Logic.{layout_of}
 use Rattle.codegen.proofs.Logic.{kind_known, homes_beside, Held, place_of, place_even, place_before, place_ends}
 use Rattle.codegen.proofs.Logic.{Setting, base_of, none, Runs, seq, quiet, gives, cheaper, beside, along, as_code, idle}
 use Rattle.codegen.proofs.Logic.{height, Ready, Wrote}
@@ -46,7 +47,7 @@ one_at : (z : Setting) (depth : ℕ) → depth ≤ z.depths → (x size : ℕ) (
     → (k : ℕ) (e : TermTree) → k < size → Suits (types_of z.code.profile z.declared) word e
     → base_of z + 4 * slots_to z.allocation.count (height_of e) ≤ z.size
     → Runs z (16 * term_nodes e + 3) (steps_of e)
-    (into_element_code z.declared z.allocation (base_of z) word.kind
+    (into_element_code (layout_of z) word.kind
     (place_of z.declared x (array_as word mutable size) k) (stored_value z.allocation word.kind e))
     (Ready z) (Shown z depth (λ env. with_element env x k (value_in env.variables e)))
 one_at z depth within x size word mutable known k e below suits room =
@@ -113,7 +114,7 @@ module _ (z : Setting) (depth : ℕ) (place : Place) (x size : ℕ) (index value
   nodes = stored_nodes z.allocation kind value
 
   -- where the index is in a register
-  put_far : Puts z access None value (index_code z.declared z.allocation (base_of z) index put_value
+  put_far : Puts z access None value (index_code (layout_of z) index put_value
       ++ put_code index_register value_register kind (variable_offset z.declared x))
   put_far =
       along (λ env. ap (λ p. path_in env.variables index ++ indexed place size (number env) ∷ p)
@@ -141,13 +142,13 @@ module _ (z : Setting) (depth : ℕ) (place : Place) (x size : ℕ) (index value
 
   -- where the store holds the element's offset the value is read as a first temporary
   abbrev near_stored : ℕ → List Instr
-  near_stored o = into_element_code z.declared z.allocation (base_of z) kind o put_value
+  near_stored o = into_element_code (layout_of z) kind o put_value
 
-  pub put_runs : Puts z access None value (statement_code z.declared z.allocation z.controls z.depths depth
+  pub put_runs : Puts z access None value (statement_code (layout_of z) depth
       (straight.put None place x size index value))
   put_runs =
       as_code
-      (ap (λ k. put_value_code z.declared z.allocation (base_of z) k x index (stored_value z.allocation k value))
+      (ap (λ k. put_value_code (layout_of z) k x index (stored_value z.allocation k value))
       (kind_is z access))
       (put_by z access None value (omega arith) near_stored
       (λ i o below is near.
@@ -182,7 +183,7 @@ module _ (z : Setting) (depth : ℕ) (within : depth ≤ z.depths) (x size : ℕ
   one_runs : (k : ℕ) (e : TermTree) → k < size → Suits (types_but z.code.profile z.declared x) word e
       → base_of z + 4 * slots_to z.allocation.count (height_of e) ≤ z.size
       → Runs z (16 * term_nodes e + 3) (steps_of e)
-      (into_element_code z.declared z.allocation (base_of z) word.kind (at k) (stored_value z.allocation word.kind e))
+      (into_element_code (layout_of z) word.kind (at k) (stored_value z.allocation word.kind e))
       (Ready z) (Shown z depth (step k e))
   one_runs k e below suits room =
       let every = suits_among (types_but z.code.profile z.declared x) (types_of z.code.profile z.declared)
@@ -192,7 +193,7 @@ module _ (z : Setting) (depth : ℕ) (within : depth ≤ z.depths) (x size : ℕ
   fill_from : (k o : ℕ) (es : List TermTree) → o ≡ at k → AllSuit (types_but z.code.profile z.declared x) word es
       → k + length es ≤ size → base_of z + 4 * slots_to z.allocation.count (height_of_all es) ≤ z.size
       → Runs z (32 * terms_nodes es) (λ env. path_in_all env.variables es)
-      (fill_code z.declared z.allocation (base_of z) word.kind o es) (Ready z) (Shown z depth (filled k es))
+      (fill_code (layout_of z) word.kind o es) (Ready z) (Shown z depth (filled k es))
   fill_from k o [] is suits few room =
       idle (λ env s ready. assumption)
   fill_from k o (e ∷ es) is suits few room =
@@ -201,7 +202,7 @@ module _ (z : Setting) (depth : ℕ) (within : depth ≤ z.depths) (x size : ℕ
       (λ env s t fine ready done.
       assumption (hidden_then z depth s done.middle t done.first.hidden done.second.hidden))
       (seq
-      (as_code (ap (λ p. into_element_code z.declared z.allocation (base_of z) word.kind p
+      (as_code (ap (λ p. into_element_code (layout_of z) word.kind p
       (stored_value z.allocation word.kind e)) is)
       (one_runs k e (omega arith) suits.0 (omega arith)))
       (along (λ env. one_path_all (types_but z.code.profile z.declared x) env.variables (step k e env).variables
@@ -248,13 +249,13 @@ pub fill_runs : (z : Setting) (depth x size : ℕ) (e : TermTree) (es : List Ter
     → IsFilled z.code.profile z.declared x size (e ∷ es)
     → base_of z + 4 * slots_to z.allocation.count (height_of_all (e ∷ es)) ≤ z.size → depth ≤ z.depths
     → Runs z (32 * (1 + size + terms_nodes (e ∷ es))) (λ env. path_at env (array x size (e ∷ es)))
-    (statement_code z.declared z.allocation z.controls z.depths depth (array x size (e ∷ es))) (Ready z)
+    (statement_code (layout_of z) depth (array x size (e ∷ es))) (Ready z)
     (Shown z depth (λ env. after env (array x size (e ∷ es))))
 fill_runs z depth x size e es typed room within =
     let values = e ∷ es in
     let d : FlatVariable = array_as typed.word typed.mutable size in
     let long : length (e ∷ es) ≡ size = typed.count in
-    as_code (ap (λ k. fill_code z.declared z.allocation (base_of z) k (variable_offset z.declared x) values)
+    as_code (ap (λ k. fill_code (layout_of z) k (variable_offset z.declared x) values)
     (kind_known z.declared x d typed.known))
     (cheaper (omega arith)
     (gives

@@ -4,6 +4,7 @@ use Rattle.std.proofs.Common.{slice_index, refl, sym, ap, ◌∙◌, subst, arit
 use Rattle.codegen.proofs.Language.{FlatVariable, StraightState, with_element, element_bytes, TermTree, array_as}
 use Rattle.codegen.proofs.Language.{term_nodes, value_in, after, IsPut, Kind, bits_of, Place, types_of}
 use Rattle.codegen.proofs.Logic.{lower_fits, steps_of, homes_beside, load_bytes, load_plain, loading, place_of}
+use Rattle.codegen.proofs.Logic.{layout_of}
 use Rattle.codegen.proofs.Logic.{place_even, place_ends, Setting, base_of, none, Runs, gives, cheaper, as_code}
 use Rattle.codegen.proofs.Logic.{number_or_zero, Ready, Wrote, near_address, Fetched, free_from, weaken}
 use Rattle.codegen.proofs.Machine.{code_by, near_element, slots_to, load_by, number_at, sign_extended, sum_of}
@@ -74,7 +75,7 @@ module _ (z : Setting) (depth : ℕ) (place : Place) (x size : ℕ) (index value
       (omega (arith, place_ends z x array i typed.known below)))
 
   -- at an index in a register
-  under_far : Puts z access (Some c) value (index_code z.declared z.allocation (base_of z) index value
+  under_far : Puts z access (Some c) value (index_code (layout_of z) index value
       ++ put_under_code (read_register z.allocation 5 index) (read_register z.allocation 6 value) control_at kind
       offset)
   under_far =
@@ -118,7 +119,7 @@ module _ (z : Setting) (depth : ℕ) (place : Place) (x size : ℕ) (index value
   -- where the load and the store hold the element's offset
   under_near : (i o : ℕ) → i < size → place_at i ≡ o → o < 2048
       → Runs z (16 * term_nodes value + 10) (steps_of value)
-      (put_under_near_code z.declared z.allocation (base_of z) control_at kind o value) (Ready z)
+      (put_under_near_code (layout_of z) control_at kind o value) (Ready z)
       (Shown z depth (λ env. if env.controls c then with_element env x i (new_value env) else env))
   under_near i o below is near =
       let r = read_register z.allocation 5 value in
@@ -153,14 +154,14 @@ module _ (z : Setting) (depth : ℕ) (place : Place) (x size : ℕ) (index value
       (gives (λ env s t fine ready done. (done, tt))
       (read_begun z depth within c among read typed.suits.has_type (omega arith))))
 
-  pub put_under_runs : Puts z access (Some c) value (statement_code z.declared z.allocation z.controls z.depths depth
+  pub put_under_runs : Puts z access (Some c) value (statement_code (layout_of z) depth
       (straight.put (Some c) place x size index value))
   put_under_runs =
       as_code
       (ap (λ k. code_by (near_element z.declared z.allocation x index)
-      (λ o. put_under_near_code z.declared z.allocation (base_of z) control_at k o value)
-      (index_code z.declared z.allocation (base_of z) index value
+      (λ o. put_under_near_code (layout_of z) control_at k o value)
+      (index_code (layout_of z) index value
       ++ put_under_code (read_register z.allocation 5 index) (read_register z.allocation 6 value) control_at k offset))
       (kind_is z access))
       (put_by z access (Some c) value (omega arith)
-      (λ o. put_under_near_code z.declared z.allocation (base_of z) control_at kind o value) under_near under_far)
+      (λ o. put_under_near_code (layout_of z) control_at kind o value) under_near under_far)

@@ -5,6 +5,7 @@ use Rattle.codegen.proofs.Language.{FlatVariable, StraightState, with_element, e
 use Rattle.codegen.proofs.Language.{term_nodes, value_in, path_in, indexed, WordType, Kind, Boolean, bits_of, Place}
 use Rattle.codegen.proofs.Language.{HasType, counter_type, holds, path_at, put, IsPut, types_of}
 use Rattle.codegen.proofs.Logic.{register-at, lower_fits, Addressed, address_runs, steps_of, kind_known, HomesKept}
+use Rattle.codegen.proofs.Logic.{layout_of}
 use Rattle.codegen.proofs.Logic.{homes_by, HeldAt, free_from, storing, place_of, place_even, place_before, place_ends}
 use Rattle.codegen.proofs.Logic.{Setting, setting, base_of, Known, by_index, by_known_index, by_option, none, Runs}
 use Rattle.codegen.proofs.Logic.{quiet, weaken, gives, as_code, Ready, Wrote, NearElement, near_known, known, along}
@@ -157,7 +158,7 @@ module _ (z : Setting) (access : ElementAccess z) where
 
   value_piece : (i : ℕ)
       → Runs z (16 * term_nodes access.value) (steps_of access.value)
-      (read_code z.declared z.allocation (base_of z) 6 1 access.value)
+      (read_code (layout_of z) 6 1 access.value)
       (Known (setting z) ℕ (λ j. j < access.size) (FirstRead z access.index) number_of i)
       (λ env s t. Aimed i env t × Hidden z access.depth s t)
   value_piece i =
@@ -175,11 +176,11 @@ module _ (z : Setting) (access : ElementAccess z) where
       → Runs z (16 * term_nodes access.index + (16 * term_nodes access.value + n))
       (λ env. path_in env.variables access.index ++ indexed access.place access.size (number_of env)
       ∷ path_in env.variables access.value)
-      (index_code z.declared z.allocation (base_of z) access.index access.value ++ tail) (Ready z)
+      (index_code (layout_of z) access.index access.value ++ tail) (Ready z)
       (Shown z access.depth change)
   at_element {tail = tail} change act =
-      as_code (append_assoc (read_code z.declared z.allocation (base_of z) 5 0 access.index)
-      (read_code z.declared z.allocation (base_of z) 6 1 access.value) tail)
+      as_code (append_assoc (read_code (layout_of z) 5 0 access.index)
+      (read_code (layout_of z) 6 1 access.value) tail)
       (read_then z access.depth access.within access.index_type (omega arith)
       (by_index z {P = FirstRead z access.index} access.place access.size number_of
       (λ i below.

@@ -6,7 +6,7 @@ use Rattle.std.proofs.lemmas.Bool.{false_from_ne_true, or_parts, true≢false}
 use Rattle.codegen.proofs.Choices.{of_choice, when_not}
 use Rattle.codegen.proofs.Language.{array, branch, first, FlatVariable, nothing, put, repeats, set, element_bytes}
 use Rattle.codegen.proofs.Language.{StraightBlock, StraightTree, take, TermTree}
-use Rattle.codegen.proofs.Machine.{branching_code, condition_code, failing, home_count, operands_or, right_code}
+use Rattle.codegen.proofs.Machine.{branching_code, condition_code, failing, home_count, operands_or, right_code, Frame}
 use Rattle.codegen.proofs.Machine.{right_register, test_of, test_or, Allocation, at_home, block_code, control_location}
 use Rattle.codegen.proofs.Machine.{home_of, InRegister, InSlot, into_code, Location, next_offset, put_element_code}
 use Rattle.codegen.proofs.Machine.{read_code, read_register, set_code, statement_code, temporaries_offset}
@@ -92,10 +92,20 @@ homes_fewer out k (Some home ∷ homes) =
       ap suc rest.1,
     )
 
-module _ (declared : List FlatVariable) (a : Allocation) (left_out : ℕ → Bool)
-    (variables : (y : ℕ) → left_out y ≡ true → y < length declared) where
+module _ (layout : Frame) (left_out : ℕ → Bool)
+    (variables : (y : ℕ) → left_out y ≡ true → y < length layout.declared) where
+  abbrev declared : List FlatVariable
+  declared = layout.declared
+
+  abbrev a : Allocation
+  a = layout.allocation
+
   abbrev b : Allocation
   b = but a left_out
+
+  -- the same layout, but for those homes
+  abbrev fewer : Frame
+  fewer = record { declared = declared; controls = layout.controls; depths = layout.depths; allocation = b }
 
   -- none of those is named
   abbrev Spares : (ℕ → Bool) → Type 0
@@ -173,29 +183,29 @@ module _ (declared : List FlatVariable) (a : Allocation) (left_out : ℕ → Boo
         into_same free (own (place + 2)) (place + 2) otherwise three,
       )
 
-  read_same : (free r place : ℕ) (e : TermTree) → Spares (λ y. names_in y e)
-      → read_code declared b free r place e ≡ read_code declared a free r place e
-  read_same free r place e spares =
-      ap₂ unless_home (term_home_same e spares) (into_same free r place e spares)
+  read_same : (r place : ℕ) (e : TermTree) → Spares (λ y. names_in y e)
+      → read_code fewer r place e ≡ read_code layout r place e
+  read_same r place e spares =
+      ap₂ unless_home (term_home_same e spares) (into_same (temporaries_offset layout) r place e spares)
 
   register_same : (r : ℕ) (e : TermTree) → Spares (λ y. names_in y e) → read_register b r e ≡ read_register a r e
   register_same r e spares = rw (term_home_same e spares) refl
 
-  assign_same : (free : ℕ) (e : TermTree) (o : ℕ) → Spares (λ y. names_in y e)
-      → assign_code declared b free e o ≡ assign_code declared a free e o
-  assign_same free e o spares = rw (read_same free 5 0 e spares, register_same 5 e spares) refl
+  assign_same : (e : TermTree) (o : ℕ) → Spares (λ y. names_in y e)
+      → assign_code fewer e o ≡ assign_code layout e o
+  assign_same e o spares = rw (read_same 5 0 e spares, register_same 5 e spares) refl
 
-  set_same : (free : ℕ) (within : Option ℕ) (l : Location) (e : TermTree) → Spares (λ y. names_in y e)
-      → set_code declared b free within l e ≡ set_code declared a free within l e
-  set_same free None (InRegister home) e spares = into_same free home 0 e spares
-  set_same free None (InSlot o) e spares = assign_same free e o spares
-  set_same free (Some c) l e spares =
-      rw (control_same c, read_same free 5 0 e spares, register_same 5 e spares) refl
+  set_same : (within : Option ℕ) (l : Location) (e : TermTree) → Spares (λ y. names_in y e)
+      → set_code fewer within l e ≡ set_code layout within l e
+  set_same None (InRegister home) e spares = into_same (temporaries_offset layout) home 0 e spares
+  set_same None (InSlot o) e spares = assign_same e o spares
+  set_same (Some c) l e spares =
+      rw (control_same c, read_same 5 0 e spares, register_same 5 e spares) refl
 
-  pub result_same : (free : ℕ) (value : Option TermTree) → Spares (λ y. names_in_result y value)
-      → result_code declared b free value ≡ result_code declared a free value
-  result_same free None spares = refl
-  result_same free (Some value) spares = assign_same free value (result_offset declared) spares
+  pub result_same : (value : Option TermTree) → Spares (λ y. names_in_result y value)
+      → result_code fewer value ≡ result_code layout value
+  result_same None spares = refl
+  result_same (Some value) spares = assign_same value (result_offset declared) spares
 
   -- what is put into an element names no more than the expression does
   stored_spares : (kind : Kind) (e : TermTree) → Spares (λ y. names_in y e)
@@ -203,27 +213,27 @@ module _ (declared : List FlatVariable) (a : Allocation) (left_out : ℕ → Boo
   stored_spares kind e spares y out =
       stored_alike (names_in y) (λ conversion operand. refl) a kind e ∙ spares y out
 
-  into_element_same : (free : ℕ) (kind : Kind) (o : ℕ) (e : TermTree) → Spares (λ y. names_in y e)
-      → into_element_code declared b free kind o e ≡ into_element_code declared a free kind o e
-  into_element_same free kind o e spares = rw (read_same free 5 0 e spares, register_same 5 e spares) refl
+  into_element_same : (kind : Kind) (o : ℕ) (e : TermTree) → Spares (λ y. names_in y e)
+      → into_element_code fewer kind o e ≡ into_element_code layout kind o e
+  into_element_same kind o e spares = rw (read_same 5 0 e spares, register_same 5 e spares) refl
 
-  fill_same : (free : ℕ) (kind : Kind) (o : ℕ) (es : List TermTree) → Spares (λ y. names_in_any y es)
-      → fill_code declared b free kind o es ≡ fill_code declared a free kind o es
-  fill_same free kind o [] spares = refl
-  fill_same free kind o (e ∷ es) spares =
+  fill_same : (kind : Kind) (o : ℕ) (es : List TermTree) → Spares (λ y. names_in_any y es)
+      → fill_code fewer kind o es ≡ fill_code layout kind o es
+  fill_same kind o [] spares = refl
+  fill_same kind o (e ∷ es) spares =
       let one = λ (y : ℕ) (out : left_out y ≡ true). (or_parts _ _ (spares y out)).0 in
       let two = λ (y : ℕ) (out : left_out y ≡ true). (or_parts _ _ (spares y out)).1 in
-      ap₂ ◌++◌ (into_element_same free kind o (stored_value a kind e) (stored_spares kind e one))
-      (fill_same free kind (o + element_bytes kind) es two)
+      ap₂ ◌++◌ (into_element_same kind o (stored_value a kind e) (stored_spares kind e one))
+      (fill_same kind (o + element_bytes kind) es two)
 
-  put_same : (free : ℕ) (within : Option ℕ) (x : ℕ) (index value : TermTree) → Spares (λ y. names_in y index)
+  put_same : (within : Option ℕ) (x : ℕ) (index value : TermTree) → Spares (λ y. names_in y index)
       → Spares (λ y. names_in y value)
-      → put_element_code declared b free within x index value ≡ put_element_code declared a free within x index value
-  put_same free None x index value one two =
+      → put_element_code fewer within x index value ≡ put_element_code layout within x index value
+  put_same None x index value one two =
       let other = stored_value a (kind_at declared x) value in
       let three : Spares (λ y. names_in y other) = stored_spares (kind_at declared x) value two in
       simp (read_same, register_same)
-  put_same free (Some c) x index value one two =
+  put_same (Some c) x index value one two =
       simp (control_same, read_same, register_same)
 
   taken_same : (x y : Bool) (p q r : ℕ) (within : Option ℕ)
@@ -233,22 +243,22 @@ module _ (declared : List FlatVariable) (a : Allocation) (left_out : ℕ → Boo
 
   -- Branches.
 
-  right_same : (free : ℕ) (e : TermTree) → Spares (λ y. names_in y e)
-      → right_code declared b free e ≡ right_code declared a free e
-  right_same free e spares = rw (read_same free 6 1 e spares) refl
+  right_same : (e : TermTree) → Spares (λ y. names_in y e)
+      → right_code fewer e ≡ right_code layout e
+  right_same e spares = rw (read_same 6 1 e spares) refl
 
   right_register_same : (e : TermTree) → Spares (λ y. names_in y e) → right_register b e ≡ right_register a e
   right_register_same e spares = rw (register_same 6 e spares) refl
 
-  condition_same : (free : ℕ) (e : TermTree) → Spares (λ y. names_in y e)
-      → condition_code declared b free e ≡ condition_code declared a free e
-  condition_same free (flat.binary place operator width left right) spares =
+  condition_same : (e : TermTree) → Spares (λ y. names_in y e)
+      → condition_code fewer e ≡ condition_code layout e
+  condition_same (flat.binary place operator width left right) spares =
       let one = λ (y : ℕ) (out : left_out y ≡ true). (or_parts _ _ (spares y out)).0 in
       let two = λ (y : ℕ) (out : left_out y ≡ true). (or_parts _ _ (spares y out)).1 in
       ap₂ (operands_or (failing operator))
-      (read_same free 5 0 (flat.binary place operator width left right) spares)
-      (ap₂ (λ (front back : List Instr). front ++ back) (read_same free 5 0 left one) (right_same free right two))
-  condition_same free e spares = read_same free 5 0 e spares
+      (read_same 5 0 (flat.binary place operator width left right) spares)
+      (ap₂ (λ (front back : List Instr). front ++ back) (read_same 5 0 left one) (right_same right two))
+  condition_same e spares = read_same 5 0 e spares
 
   test_same : (e : TermTree) → Spares (λ y. names_in y e) → test_of b e ≡ test_of a e
   test_same (flat.binary place operator width left right) spares =
@@ -257,68 +267,64 @@ module _ (declared : List FlatVariable) (a : Allocation) (left_out : ℕ → Boo
       ap₂ (test_or (failing operator) (against_zero 5)) (register_same 5 left one) (right_register_same right two)
   test_same e spares = ap against_zero (register_same 5 e spares)
 
-  branching_same : (free : ℕ) (condition : TermTree) (xs ys : List Instr) → Spares (λ y. names_in y condition)
-      → branching_code declared b free condition xs ys ≡ branching_code declared a free condition xs ys
-  branching_same free condition xs ys spares =
+  branching_same : (condition : TermTree) (xs ys : List Instr) → Spares (λ y. names_in y condition)
+      → branching_code fewer condition xs ys ≡ branching_code layout condition xs ys
+  branching_same condition xs ys spares =
       simp (condition_same, test_same, read_same, register_same)
 
   -- Loops.
 
-  loop_same : (next free : ℕ) (counter : Location) (low high : TermTree) (body : List Instr) (home bound : Option ℕ)
+  loop_same : (next : ℕ) (counter : Location) (low high : TermTree) (body : List Instr) (home bound : Option ℕ)
       → Spares (λ y. names_in y low) → Spares (λ y. names_in y high)
-      → loop_from declared b next free counter low high body home bound
-      ≡ loop_from declared a next free counter low high body home bound
-  loop_same next free counter low high body (Some home) (Some bound) one two =
-      rw (into_same free home 0 low one, read_same free 5 0 low one, register_same 5 low one) refl
-  loop_same next free counter low high body None bound one two =
-      rw (assign_same free low next one, assign_same free high (next + 4) two) refl
-  loop_same next free counter low high body (Some home) None one two =
-      rw (assign_same free low next one, assign_same free high (next + 4) two) refl
+      → loop_from fewer next counter low high body home bound
+      ≡ loop_from layout next counter low high body home bound
+  loop_same next counter low high body (Some home) (Some bound) one two =
+      rw (into_same (temporaries_offset layout) home 0 low one, read_same 5 0 low one, register_same 5 low one) refl
+  loop_same next counter low high body None bound one two =
+      rw (assign_same low next one, assign_same high (next + 4) two) refl
+  loop_same next counter low high body (Some home) None one two =
+      rw (assign_same low next one, assign_same high (next + 4) two) refl
 
   -- Statements.
 
-  module _ (controls depths : ℕ) where
-    mutual
-      pub statement_same : (depth : ℕ) (s : StraightTree) → Spares (λ y. names y s)
-          → statement_code declared b controls depths depth s ≡ statement_code declared a controls depths depth s
-      statement_same depth (set within x value) spares =
-          let one = λ (y : ℕ) (out : left_out y ≡ true). (or_parts _ _ (spares y out)).0 in
-          let two = λ (y : ℕ) (out : left_out y ≡ true). (or_parts _ _ (spares y out)).1 in
-          let free = temporaries_offset declared controls depths in
-          ap (λ l. set_code declared b free within l value) (location_same x one)
-          ∙ set_same free within (variable_location declared a x) value two
-      statement_same depth (array x size []) spares = refl
-      statement_same depth (array x size (e ∷ es)) spares =
-          fill_same (temporaries_offset declared controls depths) (kind_at declared x) (variable_offset declared x)
-          (e ∷ es) (λ y out. (or_parts _ _ (spares y out)).1)
-      statement_same depth (put within place x size index value) spares =
-          let parts = λ (y : ℕ) (out : left_out y ≡ true). neither_of_three _ _ _ (spares y out) in
-          put_same (temporaries_offset declared controls depths) within x index value (λ y out. (parts y out).1)
-          (λ y out. (parts y out).2)
-      statement_same depth (take c within condition) spares =
-          simp (read_same, register_same, control_same, taken_same)
-      statement_same depth (branch condition accepted otherwise) spares =
-          let parts = λ (y : ℕ) (out : left_out y ≡ true). neither_of_three _ _ _ (spares y out) in
-          let free = temporaries_offset declared controls depths in
-          ap₂ (branching_code declared b free condition) (block_same depth accepted (λ y out. (parts y out).1))
-          (block_same depth otherwise (λ y out. (parts y out).2))
-          ∙ branching_same free condition (block_code declared a controls depths depth accepted)
-          (block_code declared a controls depths depth otherwise) (λ y out. (parts y out).0)
-      statement_same depth (repeats x low high body) spares =
-          let parts = λ (y : ℕ) (out : left_out y ≡ true). neither_of_four _ _ _ _ (spares y out) in
-          let free = temporaries_offset declared controls depths in
-          let next = next_offset declared controls depth in
-          let own = block_code declared a controls depths (depth + 1) body in
-          ap₂ (λ l (is : List Instr). repeat_code declared b next free l low high (any_sets x body) is)
-          (location_same x (λ y out. (parts y out).0)) (block_same (depth + 1) body (λ y out. (parts y out).3))
-          ∙ loop_same next free (variable_location declared a x) low high own
-          (counting_home (variable_location declared a x) (any_sets x body) own) (short_number high)
-          (λ y out. (parts y out).1) (λ y out. (parts y out).2)
+  mutual
+    pub statement_same : (depth : ℕ) (s : StraightTree) → Spares (λ y. names y s)
+        → statement_code fewer depth s ≡ statement_code layout depth s
+    statement_same depth (set within x value) spares =
+        let one = λ (y : ℕ) (out : left_out y ≡ true). (or_parts _ _ (spares y out)).0 in
+        let two = λ (y : ℕ) (out : left_out y ≡ true). (or_parts _ _ (spares y out)).1 in
+        ap (λ l. set_code fewer within l value) (location_same x one)
+        ∙ set_same within (variable_location declared a x) value two
+    statement_same depth (array x size []) spares = refl
+    statement_same depth (array x size (e ∷ es)) spares =
+        fill_same (kind_at declared x) (variable_offset declared x)
+        (e ∷ es) (λ y out. (or_parts _ _ (spares y out)).1)
+    statement_same depth (put within place x size index value) spares =
+        let parts = λ (y : ℕ) (out : left_out y ≡ true). neither_of_three _ _ _ (spares y out) in
+        put_same within x index value (λ y out. (parts y out).1)
+        (λ y out. (parts y out).2)
+    statement_same depth (take c within condition) spares =
+        simp (read_same, register_same, control_same, taken_same)
+    statement_same depth (branch condition accepted otherwise) spares =
+        let parts = λ (y : ℕ) (out : left_out y ≡ true). neither_of_three _ _ _ (spares y out) in
+        ap₂ (branching_code fewer condition) (block_same depth accepted (λ y out. (parts y out).1))
+        (block_same depth otherwise (λ y out. (parts y out).2))
+        ∙ branching_same condition (block_code layout depth accepted)
+        (block_code layout depth otherwise) (λ y out. (parts y out).0)
+    statement_same depth (repeats x low high body) spares =
+        let parts = λ (y : ℕ) (out : left_out y ≡ true). neither_of_four _ _ _ _ (spares y out) in
+        let next = next_offset layout depth in
+        let own = block_code layout (depth + 1) body in
+        ap₂ (λ l (is : List Instr). repeat_code fewer next l low high (any_sets x body) is)
+        (location_same x (λ y out. (parts y out).0)) (block_same (depth + 1) body (λ y out. (parts y out).3))
+        ∙ loop_same next (variable_location declared a x) low high own
+        (counting_home (variable_location declared a x) (any_sets x body) own) (short_number high)
+        (λ y out. (parts y out).1) (λ y out. (parts y out).2)
 
-      pub block_same : (depth : ℕ) (s : StraightBlock) → Spares (λ y. any_names y s)
-          → block_code declared b controls depths depth s ≡ block_code declared a controls depths depth s
-      block_same depth nothing spares = refl
-      block_same depth (first s rest) spares =
-          ap₂ (λ (front back : List Instr). front ++ back)
-          (statement_same depth s (λ y out. (or_parts _ _ (spares y out)).0))
-          (block_same depth rest (λ y out. (or_parts _ _ (spares y out)).1))
+    pub block_same : (depth : ℕ) (s : StraightBlock) → Spares (λ y. any_names y s)
+        → block_code fewer depth s ≡ block_code layout depth s
+    block_same depth nothing spares = refl
+    block_same depth (first s rest) spares =
+        ap₂ (λ (front back : List Instr). front ++ back)
+        (statement_same depth s (λ y out. (or_parts _ _ (spares y out)).0))
+        (block_same depth rest (λ y out. (or_parts _ _ (spares y out)).1))

@@ -13,6 +13,7 @@ use Rattle.codegen.proofs.Language.{IsTyped, nothing, numbers_in, path_along, pa
 use Rattle.codegen.proofs.Language.{StraightBlock, StraightState, StraightTree, TermTree, types_of, value_in}
 use Rattle.codegen.proofs.Language.{value_nodes, WordType}
 use Rattle.codegen.proofs.Logic.{After, along, as_code, base_of, Before, beside, bytes_of, cheaper, eqb-false, eqb-true}
+use Rattle.codegen.proofs.Logic.{layout_of}
 use Rattle.codegen.proofs.Logic.{gives, HeldAt, home_beside, kept_less, mask_of, place_of, quietly, Ready, Runs, seq}
 use Rattle.codegen.proofs.Logic.{Setting, Steps, weaken}
 use Rattle.codegen.proofs.Machine.{Allocation, AllReadKept, at_home, block_code, depth_in, depth_in_all, entry_code}
@@ -129,7 +130,7 @@ module _ (z : Setting) where
   base = base_of z
 
   abbrev code_of : StraightTree → List Instr
-  code_of s = statement_code z.declared a z.controls z.depths 0 s
+  code_of s = statement_code (layout_of z) 0 s
 
   -- what one statement makes of a state in which some variables are not at home yet
   abbrev Steps_on : (ℕ → Bool) → (ℕ → Bool) → StraightTree → Type 0
@@ -143,7 +144,7 @@ module _ (z : Setting) where
       → base + 4 * slots_to a.count (height_in s) ≤ z.size → depth_in s ≤ z.depths
       → length (code_of s) < far → Steps_on out out s
   kept_runs out variables s unnamed typed read room within few =
-      let same = statement_same z.declared a out variables z.controls z.depths 0 s unnamed in
+      let same = statement_same (layout_of z) out variables 0 s unnamed in
       as_code (sym same)
       (gives (λ env s' t fine ready done. done.ready)
       (in_all out
@@ -178,9 +179,9 @@ module _ (z : Setting) where
         same_homes y false q = as_before out x y q
     fresh_runs few (Some home) at =
         let is = z.allocated.allowed x home at in
-        let same = into_same z.declared a out variables base home 0 value unread in
+        let same = into_same (layout_of z) out variables base home 0 value unread in
         as_code
-        (ap (λ h. set_code z.declared a base None (at_home h (InSlot (variable_offset z.declared x))) value) at
+        (ap (λ h. set_code (layout_of z) None (at_home h (InSlot (variable_offset z.declared x))) value) at
         ∙ sym same)
         (cheaper (omega (arith, set_cost value))
         (gives
@@ -263,13 +264,13 @@ module _ (z : Setting) where
           stepped_on s rest fresh (λ y on. refl) typed read room within few
 
     abbrev block_of : StraightBlock → List Instr
-    block_of b = block_code z.declared a z.controls z.depths 0 b
+    block_of b = block_code (layout_of z) 0 b
 
     -- a block and the result behind it are run, and these are not at home yet
     abbrev Behind : StraightBlock → (ℕ → Bool) → Type 0
     Behind b out = Runs z (32 * block_work z.counts b + 32 * value_nodes value)
         (λ env. path_along env b ++ steps_of_result value (after_all env b))
-        (block_of b ++ result_code z.declared a base value) (Ready (fewer z out))
+        (block_of b ++ result_code (layout_of z) value) (Ready (fewer z out))
         (λ env s t. Ended value (after_all env b) t)
 
     behind_runs : (b : StraightBlock) (out : ℕ → Bool) → ((y : ℕ) → out y ≡ true → y < length z.declared)
@@ -279,7 +280,7 @@ module _ (z : Setting) where
         → length (block_of b) < far → Behind b out
     behind_runs nothing out variables fresh typed read room within few =
         as_code
-        (sym (result_same z.declared a out variables base value
+        (sym (result_same (layout_of z) out variables value
         (λ y on. not-true (names_in_result y value) (fresh y on))))
         (cheaper (omega arith)
         (gives
@@ -294,7 +295,7 @@ module _ (z : Setting) where
     behind_runs (first s rest) out variables fresh typed read room within few =
         let step = stepped out variables s rest fresh typed.0 read.0 (omega (arith, room)) (omega (arith, within))
         (omega (arith, length-append {A = Instr}, few)) in
-        as_code (append_assoc (code_of s) (block_of rest) (result_code z.declared a base value))
+        as_code (append_assoc (code_of s) (block_of rest) (result_code (layout_of z) value))
         (along (λ env. append_assoc (path_at env s) (path_along (after env s) rest)
         (steps_of_result value (after_all (after env s) rest)))
         (cheaper (omega arith)
@@ -316,7 +317,7 @@ module _ (z : Setting) where
         → length (block_of b) < far
         → Runs z (3 * home_count a.homes + (32 * block_work z.counts b + 32 * value_nodes value))
         (λ env. path_along env b ++ steps_of_result value (after_all env b))
-        (entry_code z.declared 0 (homes_but out 0 a.homes) ++ (block_of b ++ result_code z.declared a base value))
+        (entry_code z.declared 0 (homes_but out 0 a.homes) ++ (block_of b ++ result_code (layout_of z) value))
         (Laid z) (λ env s t. Ended value (after_all env b) t)
     program_runs b out variables fresh few_homes typed read room within few =
         let count = homes_fewer out 0 a.homes in

@@ -1,12 +1,12 @@
 -- The words in the frame of the loops that are around: each next number and each bound.
 use Rattle.std.proofs.Common.{◌≡◌, ℕ, ◌+◌, ◌<◌, ◌≤◌, ap, ◌∙◌, arith}
-use Rattle.codegen.proofs.Logic.{base_of, Kept, number_same, Setting, with_number_above, Wrote, wrote_kept}
+use Rattle.codegen.proofs.Logic.{base_of, Kept, number_same, Setting, with_number_above, Wrote, wrote_kept, layout_of}
 use Rattle.codegen.proofs.Machine.{ByteMap, next_offset, number_at}
 use Rattle.rv_machine.specs.Machine as machine
 
 -- the words of the loops that are around are as they were
 abbrev pub Hidden : Setting → ℕ → machine.State → machine.State → Type 0
-Hidden z depth s t = (o : ℕ) → next_offset z.declared z.controls 0 ≤ o → o < next_offset z.declared z.controls depth
+Hidden z depth s t = (o : ℕ) → next_offset (layout_of z) 0 ≤ o → o < next_offset (layout_of z) depth
     → t.bytes (z.frame + o) ≡ s.bytes (z.frame + o)
 
 pub hidden_then : (z : Setting) (depth : ℕ) (s t u : machine.State) → Hidden z depth s t → Hidden z depth t u
@@ -25,7 +25,7 @@ pub hidden_kept : (z : Setting) (depth : ℕ) (s t : machine.State) → depth �
 hidden_kept z depth s t within kept o low high = kept o (omega (arith, high, within))
 
 -- a number that is written below the loops' words
-pub hidden_wrote : (z : Setting) (depth n o w : ℕ) (s t : machine.State) → o + n ≤ next_offset z.declared z.controls 0
+pub hidden_wrote : (z : Setting) (depth n o w : ℕ) (s t : machine.State) → o + n ≤ next_offset (layout_of z) 0
     → Wrote z n o w s t → Hidden z depth s t
 hidden_wrote z depth n o w s t before wrote x low high =
     ap (λ (b : ByteMap). b (z.frame + x)) wrote.written
@@ -33,12 +33,12 @@ hidden_wrote z depth n o w s t before wrote x low high =
 
 -- or behind them
 pub hidden_beyond : (z : Setting) (depth n o w : ℕ) (s t : machine.State)
-    → next_offset z.declared z.controls depth ≤ o → Wrote z n o w s t → Hidden z depth s t
+    → next_offset (layout_of z) depth ≤ o → Wrote z n o w s t → Hidden z depth s t
 hidden_beyond z depth n o w s t behind wrote x low high = wrote_kept z n o w s t wrote x (omega (arith, behind, high))
 
 -- a loop's word is the number that it was
 pub hidden_number : (z : Setting) (depth : ℕ) (s t : machine.State) → Hidden z depth s t → (o : ℕ)
-    → next_offset z.declared z.controls 0 ≤ o → o + 4 ≤ next_offset z.declared z.controls depth
+    → next_offset (layout_of z) 0 ≤ o → o + 4 ≤ next_offset (layout_of z) depth
     → number_at t.bytes 4 (z.frame + o) ≡ number_at s.bytes 4 (z.frame + o)
 hidden_number z depth s t hidden o low high =
     number_same z s t 4 o (λ b above below. hidden b (omega (arith, above, low)) (omega (arith, below, high)))

@@ -6,9 +6,10 @@ use Rattle.codegen.proofs.Logic.{eq-eqb, le-leb, and_from, length-map, option_ma
 use Rattle.codegen.proofs.Logic.{load_length, none-some, typed_among, same_Some}
 use Rattle.std.specs.List.{AllByRecursion}
 use Rattle.codegen.proofs.Machine.{word_of, IsImage, AreSlots, IsResultSlot, is_length, slot_end, result_end, slots_end}
-use Rattle.codegen.proofs.Machine.{program_base, program_code, program_slots, result_slot, image_of}
+use Rattle.codegen.proofs.Machine.{Frame, temporaries_offset}
+use Rattle.codegen.proofs.Machine.{frame_of, program_code, program_slots, result_slot, image_of}
 use Rattle.codegen.proofs.Machine.{image_within, most_words, Fields, result_code, slots_from, result_offset}
-use Rattle.codegen.proofs.Machine.{HasRoom, Allocation, depth_in_all, entry_code, HavePlaces, home_count, IsAmong}
+use Rattle.codegen.proofs.Machine.{HasRoom, Allocation, entry_code, HavePlaces, home_count, IsAmong}
 use Rattle.codegen.proofs.Machine.{IsFitting, Instr, plain, word_offset}
 use Rattle.codegen.proofs.FewerHomes.{homes_fewer}
 use Rattle.codegen.specs.private.Fresh.{homes_but, starts_fresh}
@@ -105,17 +106,18 @@ returned_inside declared frame None room = tt
 returned_inside declared frame (Some word) room = omega (arith, room)
 
 -- the frame of a program with room
-pub room_frame : (a : Allocation) (p : StraightProgram) → HasRoom p → program_base p + 4 * program_slots a p ≤ 65536
+pub room_frame : (a : Allocation) (p : StraightProgram) → HasRoom p
+    → temporaries_offset (frame_of a p) + 4 * program_slots a p ≤ 65536
 room_frame a p room =
     omega (arith, room.declared, room.nodes, room.frame)
 
 -- How long its code is.
 
-result_length : (declared : List FlatVariable) (allocation : Allocation) (free : ℕ) (value : Option TermTree)
-    → length (result_code declared allocation free value) ≤ 32 * value_nodes value
-result_length declared allocation free None = omega arith
-result_length declared allocation free (Some value) =
-    omega (arith, assign_length declared allocation free value (result_offset declared))
+result_length : (layout : Frame) (value : Option TermTree)
+    → length (result_code layout value) ≤ 32 * value_nodes value
+result_length layout None = omega arith
+result_length layout (Some value) =
+    omega (arith, assign_length layout value (result_offset layout.declared))
 
 entry_length : (declared : List FlatVariable) (x : ℕ) (homes : List (Option ℕ))
     → length (entry_code declared x homes) ≤ 3 * home_count homes
@@ -128,14 +130,14 @@ entry_length declared x (Some home ∷ homes) =
 pub program_length : (a : Allocation) (p : StraightProgram) → IsCounted p → IsFitting p a
     → length (program_code a p) ≤ most_words p.nodes
 program_length a p counted fitting =
-    let body = block_length p.declared a p.controls (depth_in_all p.body) 0 p.body in
+    let body = block_length (frame_of a p) 0 p.body in
     omega (
       arith,
       length-append {A = Instr},
       entry_length p.declared 0 (homes_but (starts_fresh p) 0 a.homes),
       (homes_fewer (starts_fresh p) 0 a.homes).0,
       body,
-      result_length p.declared a (program_base p) p.value,
+      result_length (frame_of a p) p.value,
       counted,
       fitting.few,
     )
@@ -170,8 +172,10 @@ image_allowed a p profile room fitting short fit =
           (omega (arith, end, few)) d;
       frame_aligned = omega arith;
       frame_size = room_frame a p room;
-      slots_inside = slots_inside 0 (program_base p + 4 * program_slots a p) p.parameters (omega (arith, few));
-      returned_inside = returned_inside p.declared (program_base p + 4 * program_slots a p) p.returned (omega arith);
+      slots_inside = slots_inside 0 (temporaries_offset (frame_of a p) + 4 * program_slots a p) p.parameters
+          (omega (arith, few));
+      returned_inside = returned_inside p.declared (temporaries_offset (frame_of a p) + 4 * program_slots a p)
+          p.returned (omega arith);
       some_step = omega arith;
       steps = omega (arith, room.work);
       some_word = simp (length-map, length-append) (omega arith);
@@ -212,10 +216,10 @@ result_among profile declared returned value typed e is = absurd typed
 
 -- the statements have their places
 pub body_placed : (a : Allocation) (p : StraightProgram) → HasRoom p
-    → HavePlaces p.declared a p.controls (depth_in_all p.body) 0 p.body
+    → HavePlaces (frame_of a p) 0 p.body
 body_placed a p room =
     let d = room.declared in
-    blocks_placed p.profile p.declared a p.controls (depth_in_all p.body) d 0 p.body room.typed.body
+    blocks_placed p.profile (frame_of a p) d 0 p.body room.typed.body
     (omega (arith, d, room.nodes, room.frame)) (omega arith)
 
 -- no homes fit any program

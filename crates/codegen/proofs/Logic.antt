@@ -12,8 +12,8 @@ pub use Rattle.codegen.proofs.expression_code_lemmas.Elements.{address_runs, Add
 pub use Rattle.codegen.proofs.expression_code_lemmas.Events.{by_bounds, by_index, by_known_index, condition_kind}
 pub use Rattle.codegen.proofs.expression_code_lemmas.ExpressionRuns.{into_runs}
 pub use Rattle.codegen.proofs.expression_code_lemmas.Frame.{After, base_of, Before, by_option, frame_runs, frame_there}
-pub use Rattle.codegen.proofs.expression_code_lemmas.Frame.{Held, held_regs, HeldAt, Runs, seen_by, Setting, setting}
-pub use Rattle.codegen.proofs.expression_code_lemmas.Frame.{Steps}
+pub use Rattle.codegen.proofs.expression_code_lemmas.Frame.{Held, held_regs, HeldAt, layout_of, Runs, seen_by}
+pub use Rattle.codegen.proofs.expression_code_lemmas.Frame.{Setting, setting, Steps}
 pub use Rattle.codegen.proofs.expression_code_lemmas.Homes.{home_there}
 pub use Rattle.codegen.proofs.expression_code_lemmas.Moves.{computing_within, does, is_free, loading, move_runs}
 pub use Rattle.codegen.proofs.expression_code_lemmas.Moves.{moves_run, none_low, put, register-at, storing, take}

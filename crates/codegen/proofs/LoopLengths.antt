@@ -2,9 +2,9 @@
 use Rattle.std.proofs.Common.{ℕ, ◌+◌, ◌*◌, ◌≤◌, ◌<◌, Bool, List, ◌++◌, length, Option, None, Some, arith}
 use Rattle.std.proofs.Common.{length-append}
 use Rattle.codegen.proofs.Choices.{of_choice}
-use Rattle.codegen.proofs.Language.{FlatVariable, TermTree, term_nodes}
+use Rattle.codegen.proofs.Language.{TermTree, term_nodes}
 use Rattle.codegen.proofs.Logic.{load_length, move_length, store_length}
-use Rattle.codegen.proofs.Machine.{AreNear, far, Allocation, Instr, Location, bounds_code, count_code, read_register}
+use Rattle.codegen.proofs.Machine.{AreNear, far, Instr, Location, bounds_code, count_code, read_register, Frame}
 use Rattle.codegen.proofs.Machine.{test_code}
 use Rattle.codegen.proofs.WordLengths.{assign_length, put_word_length, read_length, value_length}
 use Rattle.codegen.specs.private.Loops.{counting_home, is_below, loop_from, repeat_code, short_number, to_word_code}
@@ -13,26 +13,26 @@ use Rattle.codegen.specs.private.Loops.{counting_home, is_below, loop_from, repe
 abbrev pub Spans : List Instr → ℕ → List Instr → Type 0
 Spans body more code = (length body ≤ length code) × (length code ≤ length body + more)
 
-module _ (declared : List FlatVariable) (allocation : Allocation) (next free : ℕ) (body : List Instr) where
-  bounds_length : (low high : TermTree) → length (bounds_code declared allocation next free low high)
+module _ (layout : Frame) (next : ℕ) (body : List Instr) where
+  bounds_length : (low high : TermTree) → length (bounds_code layout next low high)
       ≤ 16 * term_nodes low + 16 * term_nodes high + 6
   bounds_length low high =
       omega (
         arith,
         length-append {A = Instr},
-        assign_length declared allocation free low next,
-        assign_length declared allocation free high (next + 4),
+        assign_length layout low next,
+        assign_length layout high (next + 4),
       )
 
   from_spans : (counter : Location) (low high : TermTree) (home bound : Option ℕ)
       → Spans body (16 * term_nodes low + 16 * term_nodes high + 26)
-      (loop_from declared allocation next free counter low high body home bound)
+      (loop_from layout next counter low high body home bound)
   from_spans counter low high (Some h) (Some bound) =
       let e = length-append {A = Instr} in
-      let m = move_length h (read_register allocation 5 low) in
+      let m = move_length h (read_register layout.allocation 5 low) in
       of_choice (Spans body (16 * term_nodes low + 16 * term_nodes high + 26)) (is_below bound low)
-      (omega (arith, e), omega (arith, e, value_length declared allocation free h 0 low))
-      (omega (arith, e), omega (arith, e, m, read_length declared allocation free 5 0 low))
+      (omega (arith, e), omega (arith, e, value_length layout h 0 low))
+      (omega (arith, e), omega (arith, e, m, read_length layout 5 0 low))
   from_spans counter low high (Some h) None =
       let e = length-append {A = Instr} in
       let m = move_length h 6 in
@@ -44,7 +44,7 @@ module _ (declared : List FlatVariable) (allocation : Allocation) (next free : �
 
   pub repeat_spans : (counter : Location) (low high : TermTree) (is_set : Bool)
       → Spans body (16 * term_nodes low + 16 * term_nodes high + 26)
-      (repeat_code declared allocation next free counter low high is_set body)
+      (repeat_code layout next counter low high is_set body)
   repeat_spans counter low high is_set =
       from_spans counter low high (counting_home counter is_set body) (short_number high)
 

@@ -14,6 +14,7 @@ use Rattle.codegen.proofs.Machine.{Addi, Sltu, Sw, ByteMap, number_at, with_numb
 use Rattle.rv_code.specs.declared.instructions.Instr.TheVariants as instr
 use Rattle.rv_machine.specs.Machine as machine
 use Rattle.codegen.proofs.Logic.{value_word, HeldAt, held_regs, take, put, does, move_runs, moves_run, number_or_zero}
+use Rattle.codegen.proofs.Logic.{layout_of}
 use Rattle.codegen.proofs.Logic.{Setting, setting, base_of, Known, by_bounds, none, Runs, Still, looping, along_fit}
 use Rattle.codegen.proofs.Logic.{seq, quiet, quietly, weaken, gives, cheaper, beside, Kept, Ready, Wrote, wrote_kept}
 use Rattle.codegen.proofs.Logic.{wrote_there, kept_number, kept_less, kept_then, ready_below, HomesKept, homes_by}
@@ -45,7 +46,7 @@ pub record TestedFor (z : Setting) (left i : ℕ) (env : StraightState) (s t : m
 
 -- what is below a bound is as it was
 pub hidden_below : (z : Setting) (depth free : ℕ) (s t : machine.State)
-    → next_offset z.declared z.controls depth ≤ free → Kept z free s t → Hidden z depth s t
+    → next_offset (layout_of z) depth ≤ free → Kept z free s t → Hidden z depth s t
 hidden_below z depth free s t above kept o low high = kept o (omega (arith, high, above))
 
 pub is_left : (bound i left : ℕ) → bound - i ≡ left → nat_lt i bound ≡ nat_lt 0 left
@@ -56,7 +57,7 @@ some_left left = grind (arith, nat_tests)
 
 module _ (z : Setting) (depth : ℕ) (within : depth < z.depths) where
   abbrev pub next : ℕ
-  next = next_offset z.declared z.controls depth
+  next = next_offset (layout_of z) depth
 
   pub next_inside : next + 8 ≤ z.size
   next_inside = let room = z.room in omega (arith, room, within)
@@ -215,7 +216,7 @@ module _ (z : Setting) (depth : ℕ) (within : depth < z.depths) where
       → base_of z + 4 * slots_to z.allocation.count (height_of e) ≤ z.size → o ≤ base_of z → o % 4 ≡ 0
       → o + 4 ≤ z.size
       → Runs z (16 * term_nodes e + 3) (λ env. path_in env.variables e)
-      (assign_code z.declared z.allocation (base_of z) e o) (Ready z) (Pushed e o)
+      (assign_code (layout_of z) e o) (Ready z) (Pushed e o)
   pushed e o has room below aligned inside =
       gives
       (λ env s t fine ready done.
@@ -241,7 +242,7 @@ module _ (z : Setting) (depth : ℕ) (within : depth < z.depths) where
       → base_of z + 4 * slots_to z.allocation.count (height_of high) ≤ z.size
       → Runs z (16 * term_nodes low + 3 + (16 * term_nodes high + 3))
       (λ env. path_in env.variables low ++ path_in env.variables high)
-      (bounds_code z.declared z.allocation next (base_of z) low high) (Ready z) (Begun low high)
+      (bounds_code (layout_of z) next low high) (Ready z) (Begun low high)
   bounds_runs low high has_low has_high room_low room_high =
       let base : next + 8 ≤ base_of z = omega (arith, within) in
       gives
@@ -375,7 +376,7 @@ module _ (z : Setting) (depth : ℕ) (within : depth < z.depths) where
     -- both bounds, and then the turns
     pub repeats_runs : Runs z (16 * term_nodes low + 3 + (16 * term_nodes high + 3)
         + (slice_index z.counts x + 1) * (7 + (7 + n) + 2)) (λ env. path_at env (repeats x low high body))
-        (bounds_code z.declared z.allocation next (base_of z) low high
+        (bounds_code (layout_of z) next low high
         ++ loop_code (test_code next) (count_code next (variable_location z.declared z.allocation x) ++ ys))
         (Ready z) (Shown z depth (λ env. after env (repeats x low high body)))
     repeats_runs =

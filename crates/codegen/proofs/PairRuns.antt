@@ -2,6 +2,7 @@
 use Rattle.std.proofs.Common.{◌≡◌, ℕ, ◌+◌, ◌*◌, ◌≤◌, false, List, ◌++◌, ⊎_elim, ap, ◌∙◌, arith}
 use Rattle.codegen.proofs.Language.{HasType, StraightState, TermTree, WordType, path_in, term_nodes, types_of, value_in}
 use Rattle.codegen.proofs.Logic.{base_of, home_beside, HomesKept, IsHome, Kept, nat_tests, place_target, Ready, gives}
+use Rattle.codegen.proofs.Logic.{layout_of}
 use Rattle.codegen.proofs.Logic.{ready_after, Runs, seq, Setting, Steps, steps_of, weaken, works_at}
 use Rattle.codegen.proofs.Machine.{height_of, Instr, read_code, read_register, slots_to}
 use Rattle.codegen.proofs.Slots.{hidden_kept, hidden_then, IsSource, read_runs, read_source, reads, ready_valued, Shown}
@@ -23,7 +24,7 @@ pub read_then : (z : Setting) (depth : ℕ) → depth ≤ z.depths → {e : Term
     → base_of z + 4 * slots_to z.allocation.count (height_of e) ≤ z.size
     → Runs z n steps code (FirstRead z e) (Shown z depth change)
     → Runs z (16 * term_nodes e + n) (λ env. path_in env.variables e ++ steps env)
-    (read_code z.declared z.allocation (base_of z) 5 0 e ++ code) (Ready z) (Shown z depth change)
+    (read_code (layout_of z) 5 0 e ++ code) (Ready z) (Shown z depth change)
 read_then z depth within {e = e} has room runs =
     gives
     (λ env s t fine ready done. record {
@@ -58,7 +59,7 @@ module _ (z : Setting) (first second : TermTree) where
 
   pub second_runs : {word : WordType} → HasType (types_of z.code.profile z.declared) second word
       → base_of z + 4 * slots_to z.allocation.count (height_of second + 1) ≤ z.size
-      → Runs z (16 * term_nodes second) (steps_of second) (read_code z.declared z.allocation (base_of z) 6 1 second)
+      → Runs z (16 * term_nodes second) (steps_of second) (read_code (layout_of z) 6 1 second)
       (FirstRead z first) (BothRead z first second)
   second_runs has room =
       let some = z.allocated.some in

@@ -5,7 +5,7 @@ use Rattle.std.proofs.lemmas.Bool.{and_parts, ltb-true, not-true}
 use Rattle.codegen.proofs.CountedLoops.{short_is, to_number_runs, to_word_runs}
 use Rattle.codegen.proofs.Language.{TermTree, word_as, term_nodes, types_of, HasType, counter_type, StraightBlock}
 use Rattle.codegen.proofs.Language.{repeats, after, after_all, path_at, path_along}
-use Rattle.codegen.proofs.Logic.{none-some, Setting, base_of, Runs, cheaper, Ready}
+use Rattle.codegen.proofs.Logic.{none-some, Setting, base_of, Runs, cheaper, Ready, layout_of}
 use Rattle.codegen.proofs.LoopLengths.{turn_near}
 use Rattle.codegen.proofs.LoopRuns.{repeats_runs}
 use Rattle.codegen.proofs.Machine.{at_home, bounds_code, far, height_of, home_of, InSlot, Instr, next_offset, slots_to}
@@ -38,7 +38,7 @@ module _ (z : Setting) (depth x : ℕ) (within : depth < z.depths) (low high : T
     (inner : Runs z n (λ env. path_along env body) ys (Ready z)
     (Shown z (depth + 1) (λ env. after_all env body))) where
   abbrev next : ℕ
-  next = next_offset z.declared z.controls depth
+  next = next_offset (layout_of z) depth
 
   abbrev Loops : List Instr → Type 0
   Loops code = Runs z (16 * term_nodes low + 3 + (16 * term_nodes high + 3)
@@ -48,13 +48,13 @@ module _ (z : Setting) (depth x : ℕ) (within : depth < z.depths) (low high : T
   by_home : (home bound : Option ℕ)
       → counting_home (variable_location z.declared z.allocation x) (any_sets x body) ys ≡ home
       → short_number high ≡ bound
-      → length (loop_from z.declared z.allocation next (base_of z) (variable_location z.declared z.allocation x) low
+      → length (loop_from (layout_of z) next (variable_location z.declared z.allocation x) low
       high ys home bound) < far
-      → Loops (loop_from z.declared z.allocation next (base_of z) (variable_location z.declared z.allocation x) low
+      → Loops (loop_from (layout_of z) next (variable_location z.declared z.allocation x) low
       high ys home bound)
   by_home None bound counts short few =
       repeats_runs z depth within x low high body n known has_low has_high room_low room_high
-      (turn_near next (bounds_code z.declared z.allocation next (base_of z) low high)
+      (turn_near next (bounds_code (layout_of z) next low high)
       (variable_location z.declared z.allocation x) ys few) inner
   by_home (Some h) (Some bound) counts short few =
       let c = counts_by (home_of z.allocation.homes x) (variable_offset z.declared x) (any_sets x body) ys h counts in
@@ -67,9 +67,9 @@ module _ (z : Setting) (depth x : ℕ) (within : depth < z.depths) (low high : T
       (to_word_runs z depth x h within known c.there low high body n has_low room_low c.unset c.short inner has_high
       room_high)
 
-  pub loops_run : length (repeat_code z.declared z.allocation next (base_of z)
+  pub loops_run : length (repeat_code (layout_of z) next
       (variable_location z.declared z.allocation x) low high (any_sets x body) ys) < far
-      → Loops (repeat_code z.declared z.allocation next (base_of z) (variable_location z.declared z.allocation x) low
+      → Loops (repeat_code (layout_of z) next (variable_location z.declared z.allocation x) low
       high (any_sets x body) ys)
   loops_run =
       by_home (counting_home (variable_location z.declared z.allocation x) (any_sets x body) ys) (short_number high)

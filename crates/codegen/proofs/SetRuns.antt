@@ -1,6 +1,7 @@
 -- The code that sets a variable, or gives the result.
 use Rattle.std.proofs.Common.{◌≡◌, ℕ, ◌+◌, ◌*◌, ◌≤◌, ◌-◌, [], ◌∷◌, Option, None, Some, refl, arith}
 use Rattle.codegen.proofs.Logic.{value_word, steps_of, Setting, base_of, Steps, Runs, gives, cheaper, idle, Ready}
+use Rattle.codegen.proofs.Logic.{layout_of}
 use Rattle.codegen.proofs.Logic.{wrote_there, home_beside, kept_less}
 use Rattle.codegen.proofs.Language.{TermTree, set_work, value_in, path_of_result, term_nodes, value_nodes, types_of}
 use Rattle.codegen.proofs.Language.{IsResult, StraightState, with_variable, IsSet, WordType}
@@ -24,7 +25,7 @@ module _ (z : Setting) where
       → base_of z + 4 * slots_to z.allocation.count (height_of value) ≤ z.size → depth ≤ z.depths
       → (h : Option ℕ) → home_of z.allocation.homes x ≡ h
       → Runs z (32 * set_work None value) (steps_of value)
-      (set_code z.declared z.allocation (base_of z) None (at_home h (InSlot (variable_offset z.declared x))) value)
+      (set_code (layout_of z) None (at_home h (InSlot (variable_offset z.declared x))) value)
       (Ready z) (Shown z depth (λ env. with_variable env x (value_in env.variables value ∷ [])))
   set_by depth x value typed room within None away =
       let o = variable_offset z.declared x in
@@ -60,7 +61,7 @@ module _ (z : Setting) where
   pub set_runs : (depth x : ℕ) (value : TermTree) → IsSet z.code.profile z.declared x value
       → base_of z + 4 * slots_to z.allocation.count (height_of value) ≤ z.size → depth ≤ z.depths
       → Runs z (32 * set_work None value) (steps_of value)
-      (set_code z.declared z.allocation (base_of z) None (variable_location z.declared z.allocation x) value)
+      (set_code (layout_of z) None (variable_location z.declared z.allocation x) value)
       (Ready z) (Shown z depth (λ env. with_variable env x (value_in env.variables value ∷ [])))
   set_runs depth x value typed room within =
       set_by depth x value typed room within (home_of z.allocation.homes x) refl
@@ -79,7 +80,7 @@ pub record Given (z : Setting) (value : Option TermTree) (env : StraightState) (
 pub result_runs : (z : Setting) (returned : Option WordType) (value : Option TermTree)
     → IsResult (types_of z.code.profile z.declared) returned value
     → base_of z + 4 * slots_to z.allocation.count (result_height value) ≤ z.size
-    → Runs z (32 * value_nodes value) (steps_of_result value) (result_code z.declared z.allocation (base_of z) value)
+    → Runs z (32 * value_nodes value) (steps_of_result value) (result_code (layout_of z) value)
     (Ready z) (Given z value)
 result_runs z returned None typed room =
     idle (λ env s ready. record { ready = ready; left = tt })

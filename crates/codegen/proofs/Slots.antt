@@ -7,11 +7,12 @@ use Rattle.std.specs.Prelude.{slice_set}
 use Rattle.codegen.proofs.Machine.{variable_offset, control_offset, next_offset, result_offset, ByteMap, number_at}
 use Rattle.codegen.proofs.Machine.{assign_code, byte_count, home_of_term, home_or, read_code, read_register, store_size}
 use Rattle.codegen.proofs.Machine.{stored_code, stored_register, gives_zero, slots_to, height_of, home_of, into_code}
-use Rattle.codegen.proofs.Machine.{store_code, Instr, Sw, State}
+use Rattle.codegen.proofs.Machine.{store_code, Instr, Sw}
 use Rattle.codegen.proofs.Language.{StraightState, with_variable, with_element, FlatVariable, numbers_in, IsWithinKind}
 use Rattle.codegen.proofs.Language.{word_as, TermTree, term_nodes, Boolean, WordType, value_in, types_of, IsHeld, Fits}
 use Rattle.codegen.proofs.Language.{Kind, bits_of, Values, HasType, Suits, Profile}
 use Rattle.codegen.proofs.Logic.{length-set, get_or-set_same, get_or-set_other, set-get_or, All-set, none-some}
+use Rattle.codegen.proofs.Logic.{layout_of}
 use Rattle.codegen.proofs.Logic.{same_Some, eqb-true, controls_kept, number_at_apart, number_at-with_number, HeldAt}
 use Rattle.codegen.proofs.Logic.{mask_of, bytes_by, bytes_of, place_of, place_within, ends_before_result, apart_from}
 use Rattle.codegen.proofs.Logic.{elements_apart, Setting, base_of, Kept, Ready, Wrote, wrote_kept, variables_kept}
@@ -186,7 +187,7 @@ pub record Laid (z : Setting) (env : StraightState) (s : machine.State) : Type 0
       → number_at s.bytes 4 (z.frame + control_offset z.declared c) ≡ Some (mask_of (env.controls c))
 
 -- where the bytes before the temporaries are the same, whatever the registers hold
-pub laid_same : (z : Setting) (free : ℕ) → next_offset z.declared z.controls 0 ≤ free
+pub laid_same : (z : Setting) (free : ℕ) → next_offset (layout_of z) 0 ≤ free
     → (env : StraightState) (s t : machine.State) → Laid z env s → HeldAt z t → Kept z free s t → Laid z env t
 laid_same z free above env s t laid held kept = record {
   held = held;
@@ -261,7 +262,7 @@ module _ (z : Setting) where
   pub reads : {e : TermTree} {word : WordType} (r place : ℕ) → IsTarget z.allocation.count place r
       → HasType (types_of z.code.profile z.declared) e word
       → base_of z + 4 * slots_to z.allocation.count (height_of e + place) ≤ z.size
-      → Runs z (16 * term_nodes e) (steps_of e) (read_code z.declared z.allocation (base_of z) r place e) (Ready z)
+      → Runs z (16 * term_nodes e) (steps_of e) (read_code (layout_of z) r place e) (Ready z)
       (ReadIn e r place (home_of_term z.allocation e))
   reads {e = e} r place target has room =
       elim (cases_Option (home_of_term z.allocation e)) [
@@ -280,7 +281,7 @@ module _ (z : Setting) where
   -- that of an expression that no temporary lives beside
   pub read_runs : {e : TermTree} {word : WordType} → HasType (types_of z.code.profile z.declared) e word
       → base_of z + 4 * slots_to z.allocation.count (height_of e) ≤ z.size
-      → Runs z (16 * term_nodes e) (steps_of e) (read_code z.declared z.allocation (base_of z) 5 0 e) (Ready z)
+      → Runs z (16 * term_nodes e) (steps_of e) (read_code (layout_of z) 5 0 e) (Ready z)
       (Evaluated z e (read_register z.allocation 5 e))
   read_runs has room =
       let count = z.allocation.count in
@@ -318,7 +319,7 @@ module _ (z : Setting) where
       still.bytes (homes_by z s t still.regs)
 
   -- or only a number that lies behind the control values
-  pub ready_behind : (n o w : ℕ) → next_offset z.declared z.controls 0 ≤ o
+  pub ready_behind : (n o w : ℕ) → next_offset (layout_of z) 0 ≤ o
       → (env : StraightState) (s t : machine.State) → Ready z env s → Wrote z n o w s t → Ready z env t
   ready_behind n o w above env s t ready wrote =
       ready_below z o above env s t ready wrote.held (wrote_kept z n o w s t wrote) wrote.homes
@@ -376,7 +377,7 @@ module _ (z : Setting) where
 
   pub offered_runs : {e : TermTree} {word : WordType} → HasType (types_of z.code.profile z.declared) e word
       → base_of z + 4 * slots_to z.allocation.count (height_of e) ≤ z.size
-      → Runs z (16 * term_nodes e) (steps_of e) (stored_code z.declared z.allocation (base_of z) e) (Ready z)
+      → Runs z (16 * term_nodes e) (steps_of e) (stored_code (layout_of z) e) (Ready z)
       (Offered e (stored_register z.allocation e))
   offered_runs {e = e} has room =
       elim (cases_Bool (gives_zero z.allocation e)) [
@@ -407,7 +408,7 @@ module _ (z : Setting) where
   -- an expression's value
   pub assigned : {e : TermTree} {word : WordType} (o : ℕ) → HasType (types_of z.code.profile z.declared) e word
       → base_of z + 4 * slots_to z.allocation.count (height_of e) ≤ z.size → o % 4 ≡ 0 → o + 4 ≤ z.size
-      → Runs z (16 * term_nodes e + 3) (steps_of e) (assign_code z.declared z.allocation (base_of z) e o) (Ready z)
+      → Runs z (16 * term_nodes e + 3) (steps_of e) (assign_code (layout_of z) e o) (Ready z)
       (Then (setting z) (Offered e (stored_register z.allocation e))
       (λ env s t. Wrote z 4 o (value_in env.variables e) s t))
   assigned {e = e} o has room even inside =
@@ -429,7 +430,7 @@ module _ (z : Setting) where
   -- the loops' words are as they were once a value is written before them
   pub hidden_valued : (depth : ℕ) → depth ≤ z.depths
       → (e : TermTree) {r : ℕ} (env : StraightState) (n o w : ℕ) (s m t : machine.State)
-      → o + n ≤ next_offset z.declared z.controls 0
+      → o + n ≤ next_offset (layout_of z) 0
       → Offered e r env s m → Wrote z n o w m t → Hidden z depth s t
   hidden_valued depth within e env n o w s m t before offered wrote =
       hidden_then z depth s m t (hidden_kept z depth s m within offered.kept)

@@ -6,25 +6,22 @@ use Rattle.codegen.proofs.Language.{straight_tree, straight_block, TermTree}
 use Rattle.codegen.proofs.BranchLengths.{branching_spans}
 use Rattle.codegen.proofs.LoopLengths.{repeat_spans}
 use Rattle.codegen.proofs.Machine.{statement_code, block_code, branching_code, variable_location, next_offset}
-use Rattle.codegen.proofs.Machine.{temporaries_offset, Frame, IsFar, Instr}
+use Rattle.codegen.proofs.Machine.{Frame, IsFar, Instr}
 use Rattle.codegen.specs.private.Loops.{any_sets, repeat_code}
 use Rattle.codegen.specs.declared.unemitted.Unemitted.{Unemitted}
 
 -- in a layout, of statements that so many loops are around
 module _ (f : Frame) where
   abbrev code_of : ℕ → StraightTree → List Instr
-  code_of depth s = statement_code f.declared f.allocation f.controls f.depths depth s
+  code_of depth s = statement_code f depth s
 
   abbrev code_of_all : ℕ → StraightBlock → List Instr
-  code_of_all depth b = block_code f.declared f.allocation f.controls f.depths depth b
-
-  abbrev free : ℕ
-  free = temporaries_offset f.declared f.controls f.depths
+  code_of_all depth b = block_code f depth b
 
   module _ (depth : ℕ) {s : StraightTree} {condition : TermTree} {accepted otherwise : StraightBlock}
       (tree : s ≡ branch condition accepted otherwise) {xs ys : List Instr}
       (x : xs ≡ code_of_all depth accepted) (y : ys ≡ code_of_all depth otherwise) where
-    pub branch_is : branching_code f.declared f.allocation free condition xs ys ≡ code_of depth s
+    pub branch_is : branching_code f condition xs ys ≡ code_of depth s
     branch_is = rw (tree, x, y)
 
     -- the arms are no longer than the statement
@@ -32,15 +29,15 @@ module _ (f : Frame) where
     arms_within =
         omega (
           arith,
-          (branching_spans f.declared f.allocation free condition xs ys).0,
+          (branching_spans f condition xs ys).0,
           ap (λ (l : List Instr). length l) branch_is,
         )
 
   module _ (depth x : ℕ) {s : StraightTree} {low high : TermTree} {body : StraightBlock}
       (tree : s ≡ repeats x low high body) {ys : List Instr} (turn : ys ≡ code_of_all (depth + 1) body) where
     pub loop_is : (is_set : Bool) → is_set ≡ any_sets x body
-        → repeat_code f.declared f.allocation (next_offset f.declared f.controls depth) free
-        (variable_location f.declared f.allocation x) low high is_set ys ≡ code_of depth s
+        → repeat_code f (next_offset f depth) (variable_location f.declared f.allocation x) low high is_set ys
+        ≡ code_of depth s
     loop_is is_set set = rw (tree, turn, set)
 
     -- the body is no longer than the statement
@@ -48,8 +45,8 @@ module _ (f : Frame) where
     body_within =
         omega (
           arith,
-          (repeat_spans f.declared f.allocation (next_offset f.declared f.controls depth) free ys
-              (variable_location f.declared f.allocation x) low high (any_sets x body)).0,
+          (repeat_spans f (next_offset f depth) ys (variable_location f.declared f.allocation x) low high
+              (any_sets x body)).0,
           ap (λ (l : List Instr). length l) (loop_is (any_sets x body) refl),
         )
 

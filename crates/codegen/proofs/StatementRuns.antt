@@ -17,7 +17,7 @@ use Rattle.codegen.proofs.Machine.{AreNear}
 use Rattle.codegen.proofs.SetRuns.{set_runs}
 use Rattle.codegen.proofs.TakeRuns.{take_runs}
 use Rattle.codegen.proofs.Slots.{Shown, hidden_then}
-use Rattle.codegen.proofs.Logic.{Setting, base_of, Runs, seq, gives, cheaper, beside, idle, height, Ready}
+use Rattle.codegen.proofs.Logic.{Setting, base_of, Runs, seq, gives, cheaper, beside, idle, height, Ready, layout_of}
 use Rattle.codegen.proofs.UnderRuns.{set_under_runs}
 
 module _ (z : Setting) where
@@ -26,9 +26,9 @@ module _ (z : Setting) where
     pub statement_runs : (depth : ℕ) (s : StraightTree) → IsTyped z.code.profile z.declared z.controls s
         → ReadsKept z.allocation.unread s
         → base_of z + 4 * slots_to z.allocation.count (height_in s) ≤ z.size → depth + depth_in s ≤ z.depths
-        → length (statement_code z.declared z.allocation z.controls z.depths depth s) < far
+        → length (statement_code (layout_of z) depth s) < far
         → Runs z (32 * statement_work z.counts s) (λ env. path_at env s)
-        (statement_code z.declared z.allocation z.controls z.depths depth s) (Ready z)
+        (statement_code (layout_of z) depth s) (Ready z)
         (Shown z depth (λ env. after env s))
     statement_runs depth (set None x value) typed read room within few =
         set_runs z depth x value typed.1 room (omega (arith, within))
@@ -45,9 +45,9 @@ module _ (z : Setting) where
     statement_runs depth (take c enclosing condition) typed read room within few =
         take_runs z depth c enclosing condition typed.2.0 typed.0 typed.2.1 room (omega (arith, within)) typed.1 read
     statement_runs depth (branch condition accepted otherwise) typed read room within few =
-        let xs = block_code z.declared z.allocation z.controls z.depths depth accepted in
-        let ys = block_code z.declared z.allocation z.controls z.depths depth otherwise in
-        let spans = branching_spans z.declared z.allocation (base_of z) condition xs ys in
+        let xs = block_code (layout_of z) depth accepted in
+        let ys = block_code (layout_of z) depth otherwise in
+        let spans = branching_spans (layout_of z) condition xs ys in
         let near : AreNear (length xs) (length ys) = omega (arith, spans.0, few) in
         cheaper (omega arith)
         (branching_runs z depth condition (labelled Boolean Public) accepted otherwise
@@ -57,8 +57,8 @@ module _ (z : Setting) where
         (block_runs depth otherwise typed.2 read.1 (omega (arith, room)) (omega (arith, within))
         (omega (arith, near))))
     statement_runs depth (repeats x low high body) typed read room within few =
-        let ys = block_code z.declared z.allocation z.controls z.depths (depth + 1) body in
-        let spans = repeat_spans z.declared z.allocation (next_offset z.declared z.controls depth) (base_of z) ys
+        let ys = block_code (layout_of z) (depth + 1) body in
+        let spans = repeat_spans (layout_of z) (next_offset (layout_of z) depth) ys
         (variable_location z.declared z.allocation x) low high (any_sets x body) in
         cheaper (omega (arith, height low))
         (loops_run z depth x (omega (arith, within)) low high body (32 * block_work z.counts body)
@@ -71,9 +71,9 @@ module _ (z : Setting) where
     pub block_runs : (depth : ℕ) (b : StraightBlock) → AreTyped z.code.profile z.declared z.controls b
         → AllReadKept z.allocation.unread b
         → base_of z + 4 * slots_to z.allocation.count (height_in_all b) ≤ z.size → depth + depth_in_all b ≤ z.depths
-        → length (block_code z.declared z.allocation z.controls z.depths depth b) < far
+        → length (block_code (layout_of z) depth b) < far
         → Runs z (32 * block_work z.counts b) (λ env. path_along env b)
-        (block_code z.declared z.allocation z.controls z.depths depth b) (Ready z)
+        (block_code (layout_of z) depth b) (Ready z)
         (Shown z depth (λ env. after_all env b))
     block_runs depth nothing typed read room within few =
         idle (λ env s ready. record { ready = ready; hidden = λ o low high. refl })

@@ -3,6 +3,7 @@ use Rattle.std.proofs.Common.{◌≡◌, ℕ, ◌+◌, ◌*◌, ◌<◌, ◌≤�
 use Rattle.std.proofs.Common.{if◌then◌else◌, List, [], ◌∷◌, ◌++◌, Option, None, Some, length, refl, sym, ap, ap₂, ◌∙◌}
 use Rattle.std.proofs.Common.{arith, bit_and, append_assoc, cond}
 use Rattle.codegen.proofs.Logic.{lt-ltb, value_fits, steps_of, mask_of, mask_when, mask_otherwise, masks_join, Setting}
+use Rattle.codegen.proofs.Logic.{layout_of}
 use Rattle.codegen.proofs.Logic.{base_of, Runs, gives, cheaper, as_code, Ready, eqb-true, eqb-false, IsHome, is_free}
 use Rattle.codegen.proofs.Logic.{kept_by, at_control, HeldAt, Kept, kept_then, mask_fits, quiet, ready_after, Held}
 use Rattle.codegen.proofs.Logic.{free_from, none, idle}
@@ -84,7 +85,7 @@ module _ (z : Setting) where
     source = read_source z condition 5 (omega arith) (omega arith)
 
     abbrev tested : List Instr
-    tested = read_code z.declared z.allocation (base_of z) 5 0 condition
+    tested = read_code (layout_of z) 5 0 condition
 
     -- where the masks of both come into: their homes, or two of the first temporaries
     abbrev a : ℕ
@@ -238,7 +239,7 @@ module _ (z : Setting) where
 
     pub take_runs : IsAmong z.controls within → IsKeptWithin z.allocation.unread within
         → Runs z (32 * (1 + term_nodes condition)) (steps_of condition)
-        (statement_code z.declared z.allocation z.controls z.depths depth (straight.take c within condition))
+        (statement_code (layout_of z) depth (straight.take c within condition))
         (Ready z) (Shown z depth (λ env. after env (straight.take c within condition)))
     take_runs among read =
         let when = λ (env : StraightState). holds env within && f env in

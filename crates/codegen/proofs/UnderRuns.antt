@@ -5,6 +5,7 @@ use Rattle.std.proofs.Common.{if◌then◌else◌, List, [], ◌∷◌, ◌++◌
 use Rattle.std.proofs.Common.{ap, ap₂, ◌∙◌, subst, arith, append_assoc, inl, bit_and, bit_xor, ◌⊎◌, slice_get}
 use Rattle.std.proofs.Common.{◌||◌}
 use Rattle.codegen.proofs.Logic.{lt-ltb, steps_of, mask_of, merged, merge, take, place_of, Setting, base_of, Steps}
+use Rattle.codegen.proofs.Logic.{layout_of}
 use Rattle.codegen.proofs.Logic.{Runs, gives, cheaper, as_code, idle, Ready, Wrote, homes_then, kept_by}
 use Rattle.codegen.proofs.Logic.{registers_after, quiet, took, along, known, move_runs, weaken, HeldAt, none}
 use Rattle.codegen.proofs.Logic.{only_computes, computing_within, bytes_of, Fetched, free_from, place_before, Before}
@@ -121,7 +122,7 @@ module _ (z : Setting) (depth : ℕ) (within : depth ≤ z.depths) (c : ℕ) (am
   -- the value of an expression, read where it is
   pub read_begun : {e : TermTree} {word : WordType} → HasType (types_of z.code.profile z.declared) e word
       → base_of z + 4 * slots_to z.allocation.count (height_of e) ≤ z.size
-      → Runs z (16 * term_nodes e) (steps_of e) (read_code z.declared z.allocation (base_of z) 5 0 e) (Ready z)
+      → Runs z (16 * term_nodes e) (steps_of e) (read_code (layout_of z) 5 0 e) (Ready z)
       (Begun (λ regs v. regs (read_register z.allocation 5 e) ≡ v) (λ env. value_in env.variables e))
   read_begun {e = e} has room =
       gives
@@ -392,7 +393,7 @@ module _ (z : Setting) (depth : ℕ) (within : depth ≤ z.depths) (c : ℕ) (am
           (source_apart z source 7 (omega arith) (λ e. omega (arith, e))) ∙ there
 
       merged_at : (h : Option ℕ) → home_of z.allocation.homes x ≡ h
-          → Sets (32 * (1 + term_nodes value)) (steps_of value) (read_code z.declared z.allocation (base_of z) 5 0 value
+          → Sets (32 * (1 + term_nodes value)) (steps_of value) (read_code (layout_of z) 5 0 value
           ++ set_under_code r (at_home h (InSlot (variable_offset z.declared x))) control)
       merged_at None away =
           cheaper (omega arith)
@@ -406,7 +407,7 @@ module _ (z : Setting) (depth : ℕ) (within : depth ≤ z.depths) (c : ℕ) (am
           (home_beside home at) beside r r_free))
 
       pub set_under_runs : Sets (32 * (1 + term_nodes value)) (steps_of value)
-          (statement_code z.declared z.allocation z.controls z.depths depth (set (Some c) x value))
+          (statement_code (layout_of z) depth (set (Some c) x value))
       set_under_runs =
           by_test (gives_zero z.allocation value)
           (λ is.

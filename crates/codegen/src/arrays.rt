@@ -6,7 +6,6 @@ ghost use Rattle.codegen.specs.Below.{Addi, Immediate, IsAmong, Register, Store,
 ghost use Rattle.codegen.specs.private.Emitted.{into_element_code, put_code, put_element_code, put_under_code};
 ghost use Rattle.codegen.specs.private.Emitted.{put_under_near_code, read_register};
 ghost use Rattle.codegen.specs.private.Jumps.{loop_code};
-ghost use Rattle.codegen.specs.expression_code.Layout.{temporaries_offset};
 ghost use Rattle.codegen.specs.expression_code.Registers.{zero_register, value_register, second_register};
 ghost use Rattle.codegen.specs.expression_code.Registers.{third_register};
 ghost use Rattle.codegen.specs.private.Placed.{IsPlaced, ArePlacedTerms};
@@ -98,12 +97,9 @@ fn into_element(
     offset: u32,
     value: &Term,
 ) -> Result<(), AllocError>
-    requires { IsPlaced (length layout.now.declared) layout.now.allocation.count
-        (temporaries_offset layout.now.declared layout.now.controls layout.now.depths) 0 (term_tree value.now) }
+    requires { IsPlaced layout.now 0 (term_tree value.now) }
     ensures { OnOk result (code.new.items ≡ code.old.items
-        ++ into_element_code layout.now.declared layout.now.allocation
-        (temporaries_offset layout.now.declared layout.now.controls layout.now.depths) kind offset
-        (term_tree value.now)) }
+        ++ into_element_code layout.now kind offset (term_tree value.now)) }
 {
     let value = stored(code, layout, value)?;
     store_element(code, value, kind, offset)
@@ -117,13 +113,10 @@ pub fn fill(
     offset: u32,
     values: &[Term],
 ) -> Result<(), AllocError>
-    requires placed { ArePlacedTerms (length layout.now.declared) layout.now.allocation.count
-        (temporaries_offset layout.now.declared layout.now.controls layout.now.depths) (map term_tree values.now) }
+    requires placed { ArePlacedTerms layout.now (map term_tree values.now) }
     requires room { offset + 4 * length values.now ≤ 262144 }
     ensures { OnOk result (code.new.items ≡ code.old.items
-        ++ fill_code layout.now.declared layout.now.allocation
-        (temporaries_offset layout.now.declared layout.now.controls layout.now.depths) kind offset
-        (map term_tree values.now)) }
+        ++ fill_code layout.now kind offset (map term_tree values.now)) }
 {
     let mut place = offset;
     for value in values {
@@ -141,16 +134,14 @@ fn index(
     index: &Term,
     value: &Term,
 ) -> Result<(Reg, Reg), AllocError>
-    requires index { IsPlaced (length layout.now.declared) layout.now.allocation.count
-        (temporaries_offset layout.now.declared layout.now.controls layout.now.depths) 0 (term_tree index.now) }
-    requires value { IsPlaced (length layout.now.declared) layout.now.allocation.count
-        (temporaries_offset layout.now.declared layout.now.controls layout.now.depths) 1 (term_tree value.now) }
+    requires index { IsPlaced layout.now 0 (term_tree index.now) }
+    requires value { IsPlaced layout.now 1 (term_tree value.now) }
     ensures code { OnOk result (code.new.items ≡ code.old.items
-        ++ index_code layout.now.declared layout.now.allocation
-        (temporaries_offset layout.now.declared layout.now.controls layout.now.depths) (term_tree index.now)
-        (term_tree value.now)) }
-    ensures index { IfOk result (λ registers. registers.0 ≡ read_register layout.now.allocation value_register (term_tree index.now)) }
-    ensures value { IfOk result (λ registers. registers.1 ≡ read_register layout.now.allocation second_register (term_tree value.now)) }
+        ++ index_code layout.now (term_tree index.now) (term_tree value.now)) }
+    ensures index { IfOk result (λ registers.
+        registers.0 ≡ read_register layout.now.allocation value_register (term_tree index.now)) }
+    ensures value { IfOk result (λ registers.
+        registers.1 ≡ read_register layout.now.allocation second_register (term_tree value.now)) }
 {
     let index = read(code, layout, Reg::X5, 0, index)?;
     let value = read(code, layout, Reg::X6, 1, value)?;
@@ -203,13 +194,10 @@ fn put_under_near(
     offset: u32,
     value: &Term,
 ) -> Result<(), AllocError>
-    requires value { IsPlaced (length layout.now.declared) layout.now.allocation.count
-        (temporaries_offset layout.now.declared layout.now.controls layout.now.depths) 0 (term_tree value.now) }
+    requires value { IsPlaced layout.now 0 (term_tree value.now) }
     requires near { offset < 2048 }
     ensures { OnOk result (code.new.items ≡ code.old.items
-        ++ put_under_near_code layout.now.declared layout.now.allocation
-        (temporaries_offset layout.now.declared layout.now.controls layout.now.depths) control.now kind offset
-        (term_tree value.now)) }
+        ++ put_under_near_code layout.now control.now kind offset (term_tree value.now)) }
 {
     let value = read(code, layout, Reg::X5, 0, value)?;
     near(code, Reg::X6, kind, offset)?;
@@ -231,14 +219,10 @@ pub fn put(
 ) -> Result<(), AllocError>
     requires control { IsAmong layout.now.controls within }
     requires array { array < length layout.now.declared }
-    requires index { IsPlaced (length layout.now.declared) layout.now.allocation.count
-        (temporaries_offset layout.now.declared layout.now.controls layout.now.depths) 0 (term_tree place.now) }
-    requires value { IsPlaced (length layout.now.declared) layout.now.allocation.count
-        (temporaries_offset layout.now.declared layout.now.controls layout.now.depths) 1 (term_tree value.now) }
+    requires index { IsPlaced layout.now 0 (term_tree place.now) }
+    requires value { IsPlaced layout.now 1 (term_tree value.now) }
     ensures { OnOk result (code.new.items ≡ code.old.items
-        ++ put_element_code layout.now.declared layout.now.allocation
-        (temporaries_offset layout.now.declared layout.now.controls layout.now.depths) within array
-        (term_tree place.now) (term_tree value.now)) }
+        ++ put_element_code layout.now within array (term_tree place.now) (term_tree value.now)) }
 {
     let kind = layout.kind(array);
     let known = layout.near_element(array, place);

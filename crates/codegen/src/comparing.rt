@@ -1,12 +1,11 @@
 // Conditions that a branch tests: a comparison between its operands, read where they are, and any other condition
 // against 0.
 
-ghost use Rattle.std.specs.Prelude.{◌≡◌, ◌++◌, length, IfOk, OnOk};
+ghost use Rattle.std.specs.Prelude.{◌≡◌, ◌++◌, IfOk, OnOk};
 ghost use Rattle.codegen.specs.private.Compared.{against_zero, between, condition_code, failing, operands_code};
 ghost use Rattle.codegen.specs.private.Compared.{right_code, right_register, test_of};
 ghost use Rattle.codegen.specs.private.Placed.{IsPlaced};
 ghost use Rattle.codegen.specs.private.Words.{read_code, read_register};
-ghost use Rattle.codegen.specs.expression_code.Layout.{temporaries_offset};
 ghost use Rattle.codegen.specs.expression_code.Registers.{value_register};
 ghost use Rattle.codegen.specs.Below.{term_tree};
 
@@ -59,11 +58,8 @@ fn between(comparison: Comparison, left: Reg, right: Reg) -> Test
 
 /// A right operand, and its register: x0 where it is 0.
 fn right_operand(code: &mut Vec<Instr>, layout: &Layout<'_>, term: &Term) -> Result<Reg, AllocError>
-    requires { IsPlaced (length layout.now.declared) layout.now.allocation.count
-        (temporaries_offset layout.now.declared layout.now.controls layout.now.depths) 1 (term_tree term.now) }
-    ensures code { OnOk result (code.new.items ≡ code.old.items
-        ++ right_code layout.now.declared layout.now.allocation
-        (temporaries_offset layout.now.declared layout.now.controls layout.now.depths) (term_tree term.now)) }
+    requires { IsPlaced layout.now 1 (term_tree term.now) }
+    ensures code { OnOk result (code.new.items ≡ code.old.items ++ right_code layout.now (term_tree term.now)) }
     ensures register { IfOk result (λ r. r ≡ right_register layout.now.allocation (term_tree term.now)) }
 {
     if gives_zero(layout, term) {
@@ -80,14 +76,10 @@ fn compared(
     left: &Term,
     right: &Term,
 ) -> Result<Test, AllocError>
-    requires left { IsPlaced (length layout.now.declared) layout.now.allocation.count
-        (temporaries_offset layout.now.declared layout.now.controls layout.now.depths) 0 (term_tree left.now) }
-    requires right { IsPlaced (length layout.now.declared) layout.now.allocation.count
-        (temporaries_offset layout.now.declared layout.now.controls layout.now.depths) 1 (term_tree right.now) }
+    requires left { IsPlaced layout.now 0 (term_tree left.now) }
+    requires right { IsPlaced layout.now 1 (term_tree right.now) }
     ensures code { OnOk result (code.new.items ≡ code.old.items
-        ++ operands_code layout.now.declared layout.now.allocation
-        (temporaries_offset layout.now.declared layout.now.controls layout.now.depths) (term_tree left.now)
-        (term_tree right.now)) }
+        ++ operands_code layout.now (term_tree left.now) (term_tree right.now)) }
     ensures test { IfOk result (λ t. t ≡ between comparison
         (read_register layout.now.allocation value_register (term_tree left.now))
         (right_register layout.now.allocation (term_tree right.now))) }
@@ -99,13 +91,11 @@ fn compared(
 
 /// A condition that is no comparison, and the test that its register passes where it does not hold.
 fn whole(code: &mut Vec<Instr>, layout: &Layout<'_>, condition: &Term) -> Result<Test, AllocError>
-    requires { IsPlaced (length layout.now.declared) layout.now.allocation.count
-        (temporaries_offset layout.now.declared layout.now.controls layout.now.depths) 0 (term_tree condition.now) }
+    requires { IsPlaced layout.now 0 (term_tree condition.now) }
     ensures code { OnOk result (code.new.items ≡ code.old.items
-        ++ read_code layout.now.declared layout.now.allocation
-        (temporaries_offset layout.now.declared layout.now.controls layout.now.depths) value_register 0
-        (term_tree condition.now)) }
-    ensures test { IfOk result (λ t. t ≡ against_zero (read_register layout.now.allocation value_register (term_tree condition.now))) }
+        ++ read_code layout.now value_register 0 (term_tree condition.now)) }
+    ensures test { IfOk result (λ t. t ≡ against_zero
+        (read_register layout.now.allocation value_register (term_tree condition.now))) }
 {
     let left = read(code, layout, Reg::X5, 0, condition)?;
     Ok(Test {
@@ -121,11 +111,9 @@ pub fn condition(
     layout: &Layout<'_>,
     condition: &Term,
 ) -> Result<Test, AllocError>
-    requires { IsPlaced (length layout.now.declared) layout.now.allocation.count
-        (temporaries_offset layout.now.declared layout.now.controls layout.now.depths) 0 (term_tree condition.now) }
+    requires { IsPlaced layout.now 0 (term_tree condition.now) }
     ensures code { OnOk result (code.new.items ≡ code.old.items
-        ++ condition_code layout.now.declared layout.now.allocation
-        (temporaries_offset layout.now.declared layout.now.controls layout.now.depths) (term_tree condition.now)) }
+        ++ condition_code layout.now (term_tree condition.now)) }
     ensures test { IfOk result (λ t. t ≡ test_of layout.now.allocation (term_tree condition.now)) }
 {
     match condition {

@@ -94,7 +94,8 @@ fn sets_fresh(statement: &StraightStatement, variable: usize) -> bool
 
 /// Whether the first of some statements that names a variable sets it so, or neither one nor the result names it.
 fn is_fresh(statements: &[StraightStatement], value: Option<&Term>, variable: usize) -> bool
-    ensures { result ≡ is_fresh variable (straight_block statements.now) (option_map (λ term. term_tree term.now) value.entry) }
+    ensures { result ≡ is_fresh variable (straight_block statements.now)
+        (option_map (λ term. term_tree term.now) value.entry) }
 {
     for statement in statements {
         if sets_fresh(statement, variable) {

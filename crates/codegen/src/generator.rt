@@ -52,7 +52,8 @@ fn enter(
     layout: &Layout<'_>,
 ) -> Result<(), AllocError>
     requires { length layout.now.allocation.homes ≤ length layout.now.declared + layout.now.controls }
-    ensures { OnOk result (code.new.items ≡ code.old.items ++ entry_code layout.now.declared 0 (homes_but (starts_fresh straight.now) 0 layout.now.allocation.homes)) }
+    ensures { OnOk result (code.new.items ≡ code.old.items
+        ++ entry_code layout.now.declared 0 (homes_but (starts_fresh straight.now) 0 layout.now.allocation.homes)) }
 {
     for (number, home) in layout.homes().iter().enumerate() {
         if let Some(register) = home {
@@ -111,9 +112,11 @@ fn code_within(
     requires room { HasRoom straight.now }
     requires fitting { IsFitting straight.now layout.now.allocation }
     requires frame { layout.now ≡ frame_of layout.now.allocation straight.now }
-    ensures code { IfOk result (λ made. IfSome made (λ code. code.items ≡ program_code layout.now.allocation straight.now)) }
+    ensures code { IfOk result (λ made. IfSome made
+        (λ code. code.items ≡ program_code layout.now.allocation straight.now)) }
     ensures within { IfOk result (λ made. IfSome made (λ code. length code.items ≤ most_words straight.now.nodes)) }
-    ensures beyond { IfOk result (λ made. IfNone made (most_words straight.now.nodes < length (program_code layout.now.allocation straight.now))) }
+    ensures beyond { IfOk result (λ made. IfNone made
+        (most_words straight.now.nodes < length (program_code layout.now.allocation straight.now))) }
     ensures memory { IfErr result (λ refusal. IsWantOfMemory refusal.rule refusal.place) }
 {
     let limit = most_words(straight.nodes()) as usize;

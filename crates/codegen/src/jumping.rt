@@ -2,7 +2,8 @@
 
 ghost use Rattle.std.specs.Prelude.{◌≡◌, ◌++◌, ◌+◌, ◌*◌, ◌^◌, ◌<◌, ◌≤◌, length, IfErr, OnOk};
 ghost use Rattle.codegen.specs.declared.unemitted.Unemitted.TheVariants.{TooFar};
-ghost use Rattle.codegen.specs.private.Jumps.{skip, over, back, leave, branch_code, unless_code, loop_code, again_code, AreNear, IsFar};
+ghost use Rattle.codegen.specs.private.Jumps.{skip, over, back, leave, branch_code, unless_code, loop_code};
+ghost use Rattle.codegen.specs.private.Jumps.{again_code, AreNear, IsFar};
 
 use crate::unemitted::Unemitted;
 use rv_code::{BranchOffset, BranchTest, Instr, JumpOffset, Reg};

@@ -7,7 +7,7 @@ ghost use Rattle.codegen.specs.private.Loops.{counting_home, guarded_code, is_be
 ghost use Rattle.codegen.specs.private.Loops.{to_number_code, to_word_code, turns_code};
 ghost use Rattle.codegen.specs.private.Jumps.{IsFar};
 ghost use Rattle.codegen.specs.private.Placed.{IsPlaced};
-ghost use Rattle.codegen.specs.expression_code.Layout.{next_offset, temporaries_offset, variable_location};
+ghost use Rattle.codegen.specs.expression_code.Layout.{next_offset, variable_location};
 ghost use Rattle.codegen.specs.Below.{Addi, Immediate, term_tree};
 
 use crate::expression_code::emit::{MINUS_ONE, NEAR, load, store};
@@ -114,7 +114,8 @@ fn turns(
 ) -> Result<(), AllocError>
     requires test { length test.now ≤ 4 }
     requires body { length counting.now.body.now < 1000 }
-    ensures { OnOk result (code.new.items ≡ code.old.items ++ turns_code counting.now.home test.now counting.now.body.now) }
+    ensures { OnOk result (code.new.items ≡ code.old.items
+        ++ turns_code counting.now.home test.now counting.now.body.now) }
 {
     let home = counting.home;
     let mut round = Vec::new(alloc);
@@ -136,7 +137,8 @@ fn guarded(
 ) -> Result<(), AllocError>
     requires test { length test.now ≤ 4 }
     requires body { length counting.now.body.now < 1000 }
-    ensures { OnOk result (code.new.items ≡ code.old.items ++ guarded_code below counting.now.home start test.now counting.now.body.now) }
+    ensures { OnOk result (code.new.items ≡ code.old.items
+        ++ guarded_code below counting.now.home start test.now counting.now.body.now) }
 {
     let mut arm = Vec::new(alloc);
     move_register(&mut arm, counting.home, start)?;
@@ -153,10 +155,11 @@ fn to_number(
     bound: u32,
     counting: &Counting<'_>,
 ) -> Result<(), AllocError>
-    requires low { IsPlaced (length layout.now.declared) layout.now.allocation.count (temporaries_offset layout.now.declared layout.now.controls layout.now.depths) 0 (term_tree low.now) }
+    requires low { IsPlaced layout.now 0 (term_tree low.now) }
     requires bound { bound < 2048 }
     requires body { length counting.now.body.now < 1000 }
-    ensures { OnOk result (code.new.items ≡ code.old.items ++ to_number_code layout.now.declared layout.now.allocation (temporaries_offset layout.now.declared layout.now.controls layout.now.depths) counting.now.home (term_tree low.now) bound counting.now.body.now) }
+    ensures { OnOk result (code.new.items ≡ code.old.items
+        ++ to_number_code layout.now counting.now.home (term_tree low.now) bound counting.now.body.now) }
 {
     let home = counting.home;
     let mut test = Vec::new(alloc);
@@ -178,10 +181,11 @@ fn bounds(
     low: &Term,
     high: &Term,
 ) -> Result<(), AllocError>
-    requires low { IsPlaced (length layout.now.declared) layout.now.allocation.count (temporaries_offset layout.now.declared layout.now.controls layout.now.depths) 0 (term_tree low.now) }
-    requires high { IsPlaced (length layout.now.declared) layout.now.allocation.count (temporaries_offset layout.now.declared layout.now.controls layout.now.depths) 0 (term_tree high.now) }
+    requires low { IsPlaced layout.now 0 (term_tree low.now) }
+    requires high { IsPlaced layout.now 0 (term_tree high.now) }
     requires next { next ≤ 65536 }
-    ensures { OnOk result (code.new.items ≡ code.old.items ++ bounds_code layout.now.declared layout.now.allocation next (temporaries_offset layout.now.declared layout.now.controls layout.now.depths) (term_tree low.now) (term_tree high.now)) }
+    ensures { OnOk result (code.new.items ≡ code.old.items
+        ++ bounds_code layout.now next (term_tree low.now) (term_tree high.now)) }
 {
     assign(code, layout, low, next)?;
     assign(code, layout, high, next + WORD_BYTES)
@@ -243,7 +247,8 @@ fn to_word(
 ) -> Result<(), AllocError>
     requires next { next ≤ 65536 }
     requires body { length counting.now.body.now < 1000 }
-    ensures { OnOk result (code.new.items ≡ code.old.items ++ to_word_code next counter.now counting.now.body.now (Some counting.now.home)) }
+    ensures { OnOk result (code.new.items ≡ code.old.items
+        ++ to_word_code next counter.now counting.now.body.now (Some counting.now.home)) }
 {
     test(code, next)?;
     let mut below = Vec::new(alloc);
@@ -263,10 +268,15 @@ pub fn repeat(
 ) -> Result<(), Unemitted>
     requires counter { repeat.now.counter < length layout.now.declared }
     requires depth { depth < layout.now.depths }
-    requires low { IsPlaced (length layout.now.declared) layout.now.allocation.count (temporaries_offset layout.now.declared layout.now.controls layout.now.depths) 0 (term_tree repeat.now.low.now) }
-    requires high { IsPlaced (length layout.now.declared) layout.now.allocation.count (temporaries_offset layout.now.declared layout.now.controls layout.now.depths) 0 (term_tree repeat.now.high.now) }
-    ensures code { OnOk result (code.new.items ≡ code.old.items ++ repeat_code layout.now.declared layout.now.allocation (next_offset layout.now.declared layout.now.controls depth) (temporaries_offset layout.now.declared layout.now.controls layout.now.depths) (variable_location layout.now.declared layout.now.allocation repeat.now.counter) (term_tree repeat.now.low.now) (term_tree repeat.now.high.now) repeat.now.is_set body.now) }
-    ensures far { IfErr result (IsFar (length (repeat_code layout.now.declared layout.now.allocation (next_offset layout.now.declared layout.now.controls depth) (temporaries_offset layout.now.declared layout.now.controls layout.now.depths) (variable_location layout.now.declared layout.now.allocation repeat.now.counter) (term_tree repeat.now.low.now) (term_tree repeat.now.high.now) repeat.now.is_set body.now))) }
+    requires low { IsPlaced layout.now 0 (term_tree repeat.now.low.now) }
+    requires high { IsPlaced layout.now 0 (term_tree repeat.now.high.now) }
+    ensures code { OnOk result (code.new.items ≡ code.old.items
+        ++ repeat_code layout.now (next_offset layout.now depth)
+        (variable_location layout.now.declared layout.now.allocation repeat.now.counter) (term_tree repeat.now.low.now)
+        (term_tree repeat.now.high.now) repeat.now.is_set body.now) }
+    ensures far { IfErr result (IsFar (length (repeat_code layout.now (next_offset layout.now depth)
+        (variable_location layout.now.declared layout.now.allocation repeat.now.counter) (term_tree repeat.now.low.now)
+        (term_tree repeat.now.high.now) repeat.now.is_set body.now))) }
 {
     let next = layout.next(depth);
     let counter = layout.variable_location(repeat.counter);

@@ -23,7 +23,10 @@ pub struct Target {
 /// Where a control value comes into: its home, or a spare register.
 pub fn target_of(layout: &Layout<'_>, control: u32, spare: Reg) -> Target
     requires { control < layout.now.controls }
-    ensures { result ≡ record { register = register_of (control_location layout.now.declared layout.now.allocation control) spare; is_unread = is_unread layout.now.allocation control } }
+    ensures { result ≡ record {
+      register = register_of (control_location layout.now.declared layout.now.allocation control) spare;
+      is_unread = is_unread layout.now.allocation control;
+    } }
 {
     Target {
         register: layout.control_location(control).register(spare),
@@ -39,7 +42,9 @@ fn masks(
     otherwise: &Target,
     condition: Reg,
 ) -> Result<(), AllocError>
-    ensures { OnOk result (code.new.items ≡ code.old.items ++ masks_code accepted.now.is_unread otherwise.now.is_unread accepted.now.register otherwise.now.register condition) }
+    ensures { OnOk result (code.new.items ≡ code.old.items
+        ++ masks_code accepted.now.is_unread otherwise.now.is_unread accepted.now.register otherwise.now.register
+        condition) }
 {
     let less_one = Immediate12::from_bits(MINUS_ONE);
     let one = Instr::Register(
@@ -80,7 +85,8 @@ fn join(
     otherwise: &Target,
     mask: Reg,
 ) -> Result<(), AllocError>
-    ensures { OnOk result (code.new.items ≡ code.old.items ++ join_code accepted.now.is_unread otherwise.now.is_unread accepted.now.register otherwise.now.register mask) }
+    ensures { OnOk result (code.new.items ≡ code.old.items
+        ++ join_code accepted.now.is_unread otherwise.now.is_unread accepted.now.register otherwise.now.register mask) }
 {
     let one = Instr::Register(RegisterOperation::And, accepted.register, Reg::X7, mask);
     let other = Instr::Register(RegisterOperation::And, otherwise.register, Reg::X5, mask);
@@ -104,7 +110,9 @@ pub fn taken(
     within: Option<u32>,
 ) -> Result<(), AllocError>
     requires { IsAmong layout.now.controls within }
-    ensures { OnOk result (code.new.items ≡ code.old.items ++ taken_code layout.now.declared layout.now.allocation accepted.now.is_unread otherwise.now.is_unread accepted.now.register otherwise.now.register condition within) }
+    ensures { OnOk result (code.new.items ≡ code.old.items
+        ++ taken_code layout.now.declared layout.now.allocation accepted.now.is_unread otherwise.now.is_unread
+        accepted.now.register otherwise.now.register condition within) }
 {
     let Some(enclosing) = within else {
         return masks(code, accepted, otherwise, condition);
@@ -131,7 +139,9 @@ pub fn keep(
     register: Reg,
 ) -> Result<(), AllocError>
     requires { control < layout.now.controls }
-    ensures { OnOk result (code.new.items ≡ code.old.items ++ unless_unread (is_unread layout.now.allocation control) (kept_code (control_location layout.now.declared layout.now.allocation control) register)) }
+    ensures { OnOk result (code.new.items ≡ code.old.items
+        ++ unless_unread (is_unread layout.now.allocation control)
+        (kept_code (control_location layout.now.declared layout.now.allocation control) register)) }
 {
     if layout.is_unread(control) {
         return Ok(());

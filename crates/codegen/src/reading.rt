@@ -23,8 +23,10 @@ pub fn read(
     term: &Term,
 ) -> Result<Reg, AllocError>
     requires among { IsAmong (length layout.now.declared) (term_tree term.now) }
-    requires room { temporaries_offset layout.now.declared layout.now.controls layout.now.depths + 4 * slots_to layout.now.allocation.count (height_of (term_tree term.now) + place) ≤ 65536 }
-    ensures code { OnOk result (code.new.items ≡ code.old.items ++ read_code layout.now.declared layout.now.allocation (temporaries_offset layout.now.declared layout.now.controls layout.now.depths) register place (term_tree term.now)) }
+    requires room { temporaries_offset layout.now
+        + 4 * slots_to layout.now.allocation.count (height_of (term_tree term.now) + place) ≤ 65536 }
+    ensures code { OnOk result (code.new.items ≡ code.old.items
+        ++ read_code layout.now register place (term_tree term.now)) }
     ensures register { IfOk result (λ r. r ≡ read_register layout.now.allocation register (term_tree term.now)) }
 {
     match layout.home_of_term(term) {
@@ -46,8 +48,9 @@ pub fn gives_zero(layout: &Layout<'_>, term: &Term) -> bool
 /// An expression that is stored: its register, once its code is there. x0 has 0 without any.
 pub fn stored(code: &mut Vec<Instr>, layout: &Layout<'_>, term: &Term) -> Result<Reg, AllocError>
     requires among { IsAmong (length layout.now.declared) (term_tree term.now) }
-    requires room { temporaries_offset layout.now.declared layout.now.controls layout.now.depths + 4 * slots_to layout.now.allocation.count (height_of (term_tree term.now)) ≤ 65536 }
-    ensures code { OnOk result (code.new.items ≡ code.old.items ++ stored_code layout.now.declared layout.now.allocation (temporaries_offset layout.now.declared layout.now.controls layout.now.depths) (term_tree term.now)) }
+    requires room { temporaries_offset layout.now
+        + 4 * slots_to layout.now.allocation.count (height_of (term_tree term.now)) ≤ 65536 }
+    ensures code { OnOk result (code.new.items ≡ code.old.items ++ stored_code layout.now (term_tree term.now)) }
     ensures register { IfOk result (λ r. r ≡ stored_register layout.now.allocation (term_tree term.now)) }
 {
     if gives_zero(layout, term) {
@@ -64,8 +67,9 @@ pub fn assign(
     offset: u32,
 ) -> Result<(), AllocError>
     requires among { IsAmong (length layout.now.declared) (term_tree term.now) }
-    requires room { temporaries_offset layout.now.declared layout.now.controls layout.now.depths + 4 * slots_to layout.now.allocation.count (height_of (term_tree term.now)) ≤ 65536 }
-    ensures { OnOk result (code.new.items ≡ code.old.items ++ assign_code layout.now.declared layout.now.allocation (temporaries_offset layout.now.declared layout.now.controls layout.now.depths) (term_tree term.now) offset) }
+    requires room { temporaries_offset layout.now
+        + 4 * slots_to layout.now.allocation.count (height_of (term_tree term.now)) ≤ 65536 }
+    ensures { OnOk result (code.new.items ≡ code.old.items ++ assign_code layout.now (term_tree term.now) offset) }
 {
     let register = stored(code, layout, term)?;
     emit::store(code, register, offset)

@@ -1,11 +1,9 @@
 // A statement's code, and how many slots and how many loops in one another statements take.
 
 ghost use Rattle.std.specs.Prelude.{◌≡◌, ◌++◌, ◌+◌, ◌*◌, ◌<◌, ◌≤◌, map, length, IfErr, OnOk};
-ghost use Rattle.codegen.specs.Below.{array_words, depth_in, depth_in_all, height_in, height_in_all, height_of};
-ghost use Rattle.codegen.specs.Below.{height_of_all, straight_block, straight_tree, term_tree};
+ghost use Rattle.codegen.specs.Below.{array_words, straight_block, straight_tree, term_tree};
 ghost use Rattle.branch_removal.specs.Straight as straight;
 ghost use Rattle.codegen.specs.private.Emitted.{branching_code, statement_code, block_code};
-ghost use Rattle.codegen.specs.expression_code.Layout.{temporaries_offset};
 ghost use Rattle.codegen.specs.private.Jumps.{AreNear, IsFar};
 ghost use Rattle.codegen.specs.private.Placed.{IsPlaced, HasPlace, HavePlaces};
 
@@ -41,11 +39,9 @@ fn set(
     variable: u32,
     value: &Term,
 ) -> Result<(), AllocError>
-    requires { HasPlace layout.now.declared layout.now.allocation layout.now.controls layout.now.depths 0
-        (straight.set within variable (term_tree value.now)) }
+    requires { HasPlace layout.now 0 (straight.set within variable (term_tree value.now)) }
     ensures { OnOk result (code.new.items ≡ code.old.items
-        ++ statement_code layout.now.declared layout.now.allocation layout.now.controls layout.now.depths 0
-        (straight.set within variable (term_tree value.now))) }
+        ++ statement_code layout.now 0 (straight.set within variable (term_tree value.now))) }
 {
     let variable = layout.variable_location(variable);
     let Some(control) = within else {
@@ -83,11 +79,9 @@ fn array(
     size: u32,
     values: &[Term],
 ) -> Result<(), AllocError>
-    requires { HasPlace layout.now.declared layout.now.allocation layout.now.controls layout.now.depths 0
-        (straight.array variable size (map term_tree values.now)) }
+    requires { HasPlace layout.now 0 (straight.array variable size (map term_tree values.now)) }
     ensures { OnOk result (code.new.items ≡ code.old.items
-        ++ statement_code layout.now.declared layout.now.allocation layout.now.controls layout.now.depths 0
-        (straight.array variable size (map term_tree values.now))) }
+        ++ statement_code layout.now 0 (straight.array variable size (map term_tree values.now))) }
 {
     let kind = layout.kind(variable);
     let offset = layout.variable(variable);
@@ -105,11 +99,9 @@ fn take(
     within: Option<u32>,
     condition: &Term,
 ) -> Result<(), AllocError>
-    requires { HasPlace layout.now.declared layout.now.allocation layout.now.controls layout.now.depths 0
-        (straight.take control within (term_tree condition.now)) }
+    requires { HasPlace layout.now 0 (straight.take control within (term_tree condition.now)) }
     ensures { OnOk result (code.new.items ≡ code.old.items
-        ++ statement_code layout.now.declared layout.now.allocation layout.now.controls layout.now.depths 0
-        (straight.take control within (term_tree condition.now))) }
+        ++ statement_code layout.now 0 (straight.take control within (term_tree condition.now))) }
 {
     let condition = read(code, layout, Reg::X5, 0, condition)?;
     let accepted = masking::target_of(layout, control, Reg::X7);
@@ -127,13 +119,10 @@ fn branch(
     accepted: &[Instr],
     otherwise: &[Instr],
 ) -> Result<(), AllocError>
-    requires condition { IsPlaced (length layout.now.declared) layout.now.allocation.count
-        (temporaries_offset layout.now.declared layout.now.controls layout.now.depths) 0 (term_tree condition.now) }
+    requires condition { IsPlaced layout.now 0 (term_tree condition.now) }
     requires near { AreNear (length accepted.now) (length otherwise.now) }
     ensures { OnOk result (code.new.items ≡ code.old.items
-        ++ branching_code layout.now.declared layout.now.allocation
-        (temporaries_offset layout.now.declared layout.now.controls layout.now.depths) (term_tree condition.now)
-        accepted.now otherwise.now) }
+        ++ branching_code layout.now (term_tree condition.now) accepted.now otherwise.now) }
 {
     if layout.immediates() && accepted.len() < SHORT_ARM {
         let test = comparing::condition(code, layout, condition)?;
@@ -152,14 +141,10 @@ fn statement(
     depth: u32,
     statement: &StraightStatement,
 ) -> Result<(), Unemitted>
-    requires placed { HasPlace layout.now.declared layout.now.allocation layout.now.controls layout.now.depths depth
-        (straight_tree statement.now) }
+    requires placed { HasPlace layout.now depth (straight_tree statement.now) }
     ensures code { OnOk result (code.new.items ≡ code.old.items
-        ++ statement_code layout.now.declared layout.now.allocation layout.now.controls layout.now.depths depth
-        (straight_tree statement.now)) }
-    ensures far { IfErr result (IsFar (length
-        (statement_code layout.now.declared layout.now.allocation layout.now.controls layout.now.depths depth
-        (straight_tree statement.now)))) }
+        ++ statement_code layout.now depth (straight_tree statement.now)) }
+    ensures far { IfErr result (IsFar (length (statement_code layout.now depth (straight_tree statement.now)))) }
 {
     match statement {
         StraightStatement::Set(within, variable, value) => {
@@ -206,14 +191,10 @@ pub fn statements(
     depth: u32,
     statements: &[StraightStatement],
 ) -> Result<(), Unemitted>
-    requires placed { HavePlaces layout.now.declared layout.now.allocation layout.now.controls layout.now.depths depth
-        (straight_block statements.now) }
+    requires placed { HavePlaces layout.now depth (straight_block statements.now) }
     ensures code { OnOk result (code.new.items ≡ code.old.items
-        ++ block_code layout.now.declared layout.now.allocation layout.now.controls layout.now.depths depth
-        (straight_block statements.now)) }
-    ensures far { IfErr result (IsFar (length
-        (block_code layout.now.declared layout.now.allocation layout.now.controls layout.now.depths depth
-        (straight_block statements.now)))) }
+        ++ block_code layout.now depth (straight_block statements.now)) }
+    ensures far { IfErr result (IsFar (length (block_code layout.now depth (straight_block statements.now)))) }
 {
     for each in statements {
         statement(alloc, code, layout, depth, each)?;

@@ -3,6 +3,7 @@
 ghost use Rattle.std.specs.Prelude.{◌≡◌, ℕ};
 ghost use Rattle.codegen.specs.private.Emitted.{cuts, stored_value, uncut};
 ghost use Rattle.codegen.specs.private.Placed.{IsPlaced};
+ghost use Rattle.codegen.specs.expression_code.Layout.{Frame};
 ghost use Rattle.codegen.specs.Below.{term_tree};
 
 use crate::expression_code::Layout;
@@ -35,9 +36,8 @@ fn uncut(element: Kind, value: &Term) -> &Term
 /// What is put into an element of a kind for an expression: in optimised code it is not cut twice.
 pub fn stored_value<'a>(layout: &Layout<'_>, element: Kind, value: &'a Term) -> &'a Term
     ensures value { term_tree result.now ≡ stored_value layout.now.allocation element (term_tree value.now) }
-    ensures placed { (known count free place : ℕ)
-        → IsPlaced known count free place (term_tree value.now)
-        → IsPlaced known count free place (term_tree result.now) }
+    ensures placed { (frame : Frame) (place : ℕ) → IsPlaced frame place (term_tree value.now)
+        → IsPlaced frame place (term_tree result.now) }
 {
     if layout.immediates() {
         uncut(element, value)

@@ -8,6 +8,7 @@ use Rattle.codegen.proofs.expression_code_lemmas.Below.{number_at-suc, number_at
 use Rattle.codegen.proofs.expression_code_lemmas.Below.{StraightState, temporaries_offset, with_number}
 use Rattle.codegen.proofs.expression_code_lemmas.Below.{with_number_above, with_number_below}
 use Rattle.codegen.specs.Below.{seen as seen_of}
+use Rattle.codegen.specs.expression_code.Layout.{Frame}
 use Rattle.codegen.proofs.program_logic_lemmas.Face as logic
 use Rattle.rv_machine.specs.declared.observation.Event.TheVariants as event
 
@@ -25,11 +26,20 @@ pub record Setting : Type 0 where
   pub allocated : IsAllocation declared allocation
   pub even : frame % 4 ≡ 0
   pub ends : frame + size < 2 ^ 32
-  pub room : temporaries_offset declared controls depths ≤ size
+  pub room : temporaries_offset (record {
+    declared = declared;
+    controls = controls;
+    depths = depths;
+    allocation = allocation;
+  }) ≤ size
+
+-- how the frame is laid out
+abbrev pub layout_of : Setting → Frame
+layout_of z = record { declared = z.declared; controls = z.controls; depths = z.depths; allocation = z.allocation }
 
 -- where the temporaries begin
 abbrev pub base_of : Setting → ℕ
-base_of z = temporaries_offset z.declared z.controls z.depths
+base_of z = temporaries_offset (layout_of z)
 
 -- what the observer of the code sees of a path
 abbrev pub seen_by : Setting → Path → Path

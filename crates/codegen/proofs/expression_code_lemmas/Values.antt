@@ -10,7 +10,7 @@ use Rattle.codegen.proofs.expression_code_lemmas.Below.{TermTree, types_of, valu
 use Rattle.codegen.proofs.expression_code_lemmas.Below.{with_number_below, WordType}
 use Rattle.std.proofs.lemmas.Bool.{cond_both}
 use Rattle.codegen.specs.Below.{Uint32}
-use Rattle.codegen.proofs.expression_code_lemmas.Frame.{Setting, base_of, HeldAt, Held}
+use Rattle.codegen.proofs.expression_code_lemmas.Frame.{Setting, base_of, HeldAt, Held, layout_of}
 use Rattle.codegen.proofs.expression_code_lemmas.Arithmetic.{mask_of}
 use Rattle.codegen.proofs.expression_code_lemmas.WorkRegisters.{IsHome, works_in, works_at, home_stays, lower_stays}
 use Rattle.codegen.proofs.expression_code_lemmas.WorkRegisters.{stays_spare, at_operand, cases_Option}
@@ -174,7 +174,7 @@ variables_kept z free env s t above ready kept x d i is away below =
     (omega (arith, place_before z x d i is below, above)) ∙ ready.variables_there x d i is away below
 
 -- what is shown stays shown where nothing before the loops' words is
-pub ready_below : (z : Setting) (free : ℕ) → next_offset z.declared z.controls 0 ≤ free
+pub ready_below : (z : Setting) (free : ℕ) → next_offset (layout_of z) 0 ≤ free
     → (env : StraightState) (s t : State) → Ready z env s → HeldAt z t → Kept z free s t → HomesKept z s t
     → Ready z env t
 ready_below z free above env s t ready held kept homes = record {

@@ -53,13 +53,13 @@ abbrev pub word_offset : List FlatVariable → ℕ → ℕ
 word_offset declared number = if nat_lt number (length declared) then variable_offset declared number
     else control_offset declared (number - length declared)
 
--- behind so many control values, for the loop that so many others are around: the number that its counter is next
-abbrev pub next_offset : List FlatVariable → ℕ → ℕ → ℕ
-next_offset declared controls depth = result_offset declared + 4 + 4 * controls + 8 * depth
+-- behind all control values, for the loop that so many others are around: the number that its counter is next
+abbrev pub next_offset : Frame → ℕ → ℕ
+next_offset layout depth = result_offset layout.declared + 4 + 4 * layout.controls + 8 * depth
 
--- behind so many control values and loops
-abbrev pub temporaries_offset : List FlatVariable → ℕ → ℕ → ℕ
-temporaries_offset declared controls depths = result_offset declared + 4 + 4 * controls + 8 * depths
+-- behind all control values and loops, where the slots of temporaries begin
+abbrev pub temporaries_offset : Frame → ℕ
+temporaries_offset layout = result_offset layout.declared + 4 + 4 * layout.controls + 8 * layout.depths
 
 -- the parameters with their slots, the first at `low`
 abbrev pub slots_from : ℕ → List Param → List Slot

@@ -263,7 +263,9 @@ kind_at (d ∷ ds) (suc x) = kind_at ds x
 -- the offset of an array's element at an index that is known, where its access holds that
 abbrev pub near_offset : ℕ → Kind → Option ℕ → Option ℕ
 near_offset base kind None = None
-near_offset base kind (Some i) = let offset = base + element_bytes kind * i in if is_near offset then Some offset else None
+near_offset base kind (Some i) =
+    let offset = base + element_bytes kind * i in
+    if is_near offset then Some offset else None
 
 -- the same of an index that is this expression, where numbers go into instructions
 abbrev pub near_element : List FlatVariable → Allocation → ℕ → TermTree → Option ℕ

@@ -7,8 +7,9 @@ use Rattle.codegen.specs.declared.jumping.Test.{Test}
 use Rattle.codegen.specs.private.Jumps.{branch_code, unless_code}
 use Rattle.codegen.specs.private.Words.{gives_zero, read_code, read_register}
 use Rattle.codegen.specs.expression_code.Allocation.{Allocation}
+use Rattle.codegen.specs.expression_code.Layout.{Frame}
 use Rattle.codegen.specs.expression_code.Registers.{zero_register, value_register, second_register}
-use Rattle.codegen.specs.Below.{Beq, Bgeu, binary, BinaryOperator, Bltu, Bne, Equal, FlatVariable, Greater}
+use Rattle.codegen.specs.Below.{Beq, Bgeu, binary, BinaryOperator, Bltu, Bne, Equal, Greater}
 use Rattle.codegen.specs.Below.{GreaterOrEqual, Instr, Less, LessOrEqual, TermTree, Unequal}
 
 -- Comparisons.
@@ -32,17 +33,17 @@ between comparison left right =
 
 -- Operands: the first two temporaries where they are not at home. A right one that is 0 needs no code: x0 has it.
 
-abbrev pub right_code : List FlatVariable → Allocation → ℕ → TermTree → List Instr
-right_code declared allocation free e =
-    if gives_zero allocation e then [] else read_code declared allocation free second_register 1 e
+abbrev pub right_code : Frame → TermTree → List Instr
+right_code layout e =
+    if gives_zero layout.allocation e then [] else read_code layout second_register 1 e
 
 abbrev pub right_register : Allocation → TermTree → ℕ
 right_register allocation e =
     if gives_zero allocation e then zero_register else read_register allocation second_register e
 
-abbrev pub operands_code : List FlatVariable → Allocation → ℕ → TermTree → TermTree → List Instr
-operands_code declared allocation free left right =
-    read_code declared allocation free value_register 0 left ++ right_code declared allocation free right
+abbrev pub operands_code : Frame → TermTree → TermTree → List Instr
+operands_code layout left right =
+    read_code layout value_register 0 left ++ right_code layout right
 
 -- Conditions.
 
@@ -51,12 +52,12 @@ abbrev pub operands_or : Option Comparison → List Instr → List Instr → Lis
 operands_or None whole operands = whole
 operands_or (Some comparison) whole operands = operands
 
-abbrev pub condition_code : List FlatVariable → Allocation → ℕ → TermTree → List Instr
-condition_code declared allocation free (binary place operator width left right) =
+abbrev pub condition_code : Frame → TermTree → List Instr
+condition_code layout (binary place operator width left right) =
     operands_or (failing operator)
-    (read_code declared allocation free value_register 0 (binary place operator width left right))
-    (operands_code declared allocation free left right)
-condition_code declared allocation free e = read_code declared allocation free value_register 0 e
+    (read_code layout value_register 0 (binary place operator width left right))
+    (operands_code layout left right)
+condition_code layout e = read_code layout value_register 0 e
 
 -- the test that registers pass then where the condition does not hold
 abbrev pub test_or : Option Comparison → Test → ℕ → ℕ → Test
@@ -80,10 +81,10 @@ abbrev pub is_short_arm : List Instr → Bool
 is_short_arm arm = nat_lt (length arm) 1000
 
 -- of the code of two arms one, by a condition
-abbrev pub branching_code : List FlatVariable → Allocation → ℕ → TermTree → List Instr → List Instr → List Instr
-branching_code declared allocation free condition accepted otherwise =
-    if allocation.immediates && is_short_arm accepted
-    then condition_code declared allocation free condition
-    ++ unless_code (test_of allocation condition) accepted otherwise
-    else read_code declared allocation free value_register 0 condition
-    ++ branch_code (read_register allocation value_register condition) accepted otherwise
+abbrev pub branching_code : Frame → TermTree → List Instr → List Instr → List Instr
+branching_code layout condition accepted otherwise =
+    if layout.allocation.immediates && is_short_arm accepted
+    then condition_code layout condition
+    ++ unless_code (test_of layout.allocation condition) accepted otherwise
+    else read_code layout value_register 0 condition
+    ++ branch_code (read_register layout.allocation value_register condition) accepted otherwise

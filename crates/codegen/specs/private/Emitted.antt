@@ -14,8 +14,8 @@ pub use Rattle.codegen.specs.private.Words.{assign_code, home_of_term, home_or, 
 pub use Rattle.codegen.specs.private.Words.{gives_zero, read_register, stored_code, stored_register}
 pub use Rattle.codegen.specs.private.Words.{unless_home}
 use Rattle.codegen.specs.expression_code.Allocation.{Allocation, is_unread, register_of}
-use Rattle.codegen.specs.expression_code.Layout.{variable_offset, variable_location, control_location, next_offset}
-use Rattle.codegen.specs.expression_code.Layout.{temporaries_offset}
+use Rattle.codegen.specs.expression_code.Layout.{Frame, variable_offset, variable_location, control_location}
+use Rattle.codegen.specs.expression_code.Layout.{next_offset, temporaries_offset}
 use Rattle.codegen.specs.expression_code.Registers.{zero_register, frame_register, value_register, second_register}
 use Rattle.codegen.specs.expression_code.Registers.{third_register, address_register, first_spare}
 use Rattle.codegen.specs.expression_code.TermCode.{is_near, upper_part, lower_part, load_code, store_code}
@@ -84,14 +84,16 @@ set_under_code value (InSlot offset) control =
     ++ store_code value_register offset
 
 -- the value of an expression into a variable; within a control value where that is true, and else the old one
-abbrev pub set_code : List FlatVariable → Allocation → ℕ → Option ℕ → Location → TermTree → List Instr
-set_code declared allocation free None (InRegister home) e = into_code declared allocation free home 0 e
-set_code declared allocation free None (InSlot offset) e = assign_code declared allocation free e offset
-set_code declared allocation free (Some control) variable e =
-    if gives_zero allocation e then erase_under_code variable (control_location declared allocation control)
-    else read_code declared allocation free value_register 0 e
-    ++ set_under_code (read_register allocation value_register e) variable
-    (control_location declared allocation control)
+abbrev pub set_code : Frame → Option ℕ → Location → TermTree → List Instr
+set_code layout None (InRegister home) e =
+    into_code layout.declared layout.allocation (temporaries_offset layout) home 0 e
+set_code layout None (InSlot offset) e = assign_code layout e offset
+set_code layout (Some control) variable e =
+    if gives_zero layout.allocation e
+    then erase_under_code variable (control_location layout.declared layout.allocation control)
+    else read_code layout value_register 0 e
+    ++ set_under_code (read_register layout.allocation value_register e) variable
+    (control_location layout.declared layout.allocation control)
 
 -- Arrays.
 
@@ -123,29 +125,28 @@ clear_code offset words =
     (Store Sw zero_register second_register 0 ∷ Immediate Addi second_register second_register 4 ∷ [])
 
 -- the value of an expression into an element of a fixed place
-abbrev pub into_element_code : List FlatVariable → Allocation → ℕ → Kind → ℕ → TermTree → List Instr
-into_element_code declared allocation free kind offset e =
-    stored_code declared allocation free e ++ element_store_code (stored_register allocation e) kind offset
+abbrev pub into_element_code : Frame → Kind → ℕ → TermTree → List Instr
+into_element_code layout kind offset e =
+    stored_code layout e ++ element_store_code (stored_register layout.allocation e) kind offset
 
 -- values into the elements from this one on
-abbrev pub fill_code : List FlatVariable → Allocation → ℕ → Kind → ℕ → List TermTree → List Instr
-fill_code declared allocation free kind offset [] = []
-fill_code declared allocation free kind offset (e ∷ es) =
-    into_element_code declared allocation free kind offset (stored_value allocation kind e)
-    ++ fill_code declared allocation free kind (offset + element_bytes kind) es
+abbrev pub fill_code : Frame → Kind → ℕ → List TermTree → List Instr
+fill_code layout kind offset [] = []
+fill_code layout kind offset (e ∷ es) =
+    into_element_code layout kind offset (stored_value layout.allocation kind e)
+    ++ fill_code layout kind (offset + element_bytes kind) es
 
 -- the first values of an array of so many elements, or zeros where none are given
-abbrev pub array_code : List FlatVariable → Allocation → ℕ → ℕ → ℕ → List TermTree → List Instr
-array_code declared allocation free x size [] =
-    clear_code (variable_offset declared x) (array_words (kind_at declared x) size)
-array_code declared allocation free x size (e ∷ es) =
-    fill_code declared allocation free (kind_at declared x) (variable_offset declared x) (e ∷ es)
+abbrev pub array_code : Frame → ℕ → ℕ → List TermTree → List Instr
+array_code layout x size [] =
+    clear_code (variable_offset layout.declared x) (array_words (kind_at layout.declared x) size)
+array_code layout x size (e ∷ es) =
+    fill_code layout (kind_at layout.declared x) (variable_offset layout.declared x) (e ∷ es)
 
 -- an index and a value, the first two temporaries where they are not at home
-abbrev pub index_code : List FlatVariable → Allocation → ℕ → TermTree → TermTree → List Instr
-index_code declared allocation free index value =
-    read_code declared allocation free value_register 0 index
-    ++ read_code declared allocation free second_register 1 value
+abbrev pub index_code : Frame → TermTree → TermTree → List Instr
+index_code layout index value =
+    read_code layout value_register 0 index ++ read_code layout second_register 1 value
 
 -- of an index and a value in registers, the value into the element at the index
 abbrev pub put_code : ℕ → ℕ → Kind → ℕ → List Instr
@@ -154,13 +155,13 @@ put_code index value kind offset =
     ++ Store (store_by kind) value value_register (lower_part offset) ∷ []
 
 -- the value of an expression into the element of a kind at an index, of which the store may hold the offset
-abbrev pub put_value_code : List FlatVariable → Allocation → ℕ → Kind → ℕ → TermTree → TermTree → List Instr
-put_value_code declared allocation free kind x index value =
-    code_by (near_element declared allocation x index)
-    (λ offset. into_element_code declared allocation free kind offset value)
-    (index_code declared allocation free index value
-    ++ put_code (read_register allocation value_register index) (read_register allocation second_register value) kind
-    (variable_offset declared x))
+abbrev pub put_value_code : Frame → Kind → ℕ → TermTree → TermTree → List Instr
+put_value_code layout kind x index value =
+    code_by (near_element layout.declared layout.allocation x index)
+    (λ offset. into_element_code layout kind offset value)
+    (index_code layout index value
+    ++ put_code (read_register layout.allocation value_register index)
+    (read_register layout.allocation second_register value) kind (variable_offset layout.declared x))
 
 -- the value where the control value is true, and else the old one, into the element
 abbrev pub put_under_code : ℕ → ℕ → Location → Kind → ℕ → List Instr
@@ -172,63 +173,61 @@ put_under_code index value control kind offset =
     ++ Store (store_by kind) second_register value_register (lower_part offset) ∷ []
 
 -- the same of the value of an expression, into the element at an offset that its load and its store hold
-abbrev pub put_under_near_code : List FlatVariable → Allocation → ℕ → Location → Kind → ℕ → TermTree → List Instr
-put_under_near_code declared allocation free control kind offset value =
-    read_code declared allocation free value_register 0 value ++ near_code second_register kind offset
+abbrev pub put_under_near_code : Frame → Location → Kind → ℕ → TermTree → List Instr
+put_under_near_code layout control kind offset value =
+    read_code layout value_register 0 value ++ near_code second_register kind offset
     ++ fetch_code control third_register
-    ++ merge_code value_register value_register (read_register allocation value_register value) second_register
+    ++ merge_code value_register value_register (read_register layout.allocation value_register value) second_register
     (register_of control third_register)
     ++ element_store_code value_register kind offset
 
 -- what is put into the element at an index for an expression; within a control value where that is true, and else the
 -- old one
-abbrev pub put_element_code : List FlatVariable → Allocation → ℕ → Option ℕ → ℕ → TermTree → TermTree → List Instr
-put_element_code declared allocation free None x index value =
-    put_value_code declared allocation free (kind_at declared x) x index
-    (stored_value allocation (kind_at declared x) value)
-put_element_code declared allocation free (Some control) x index value =
-    code_by (near_element declared allocation x index)
-    (λ offset. put_under_near_code declared allocation free (control_location declared allocation control)
-    (kind_at declared x) offset value)
-    (index_code declared allocation free index value
-    ++ put_under_code (read_register allocation value_register index) (read_register allocation second_register value)
-    (control_location declared allocation control) (kind_at declared x) (variable_offset declared x))
+abbrev pub put_element_code : Frame → Option ℕ → ℕ → TermTree → TermTree → List Instr
+put_element_code layout None x index value =
+    put_value_code layout (kind_at layout.declared x) x index
+    (stored_value layout.allocation (kind_at layout.declared x) value)
+put_element_code layout (Some control) x index value =
+    code_by (near_element layout.declared layout.allocation x index)
+    (λ offset. put_under_near_code layout (control_location layout.declared layout.allocation control)
+    (kind_at layout.declared x) offset value)
+    (index_code layout index value
+    ++ put_under_code (read_register layout.allocation value_register index)
+    (read_register layout.allocation second_register value)
+    (control_location layout.declared layout.allocation control) (kind_at layout.declared x)
+    (variable_offset layout.declared x))
 
--- Statements of a program with these variables, with registers given out so, so many control values, and room for so
--- many loops, one in the other.
-module _ (declared : List FlatVariable) (allocation : Allocation) (controls depths : ℕ) where
+-- Statements of a program that is laid out so.
+module _ (layout : Frame) where
   -- where a variable is
   abbrev pub location : ℕ → Location
-  location x = variable_location declared allocation x
+  location x = variable_location layout.declared layout.allocation x
 
   -- where a control value is
   abbrev pub control_at : ℕ → Location
-  control_at control = control_location declared allocation control
-
-  -- where the slots of temporaries begin
-  abbrev pub free_slots : ℕ
-  free_slots = temporaries_offset declared controls depths
+  control_at control = control_location layout.declared layout.allocation control
 
   abbrev mutual
     -- of a statement that so many loops are around
     pub statement_code : ℕ → StraightTree → List Instr
-    statement_code depth (set within x value) = set_code declared allocation free_slots within (location x) value
-    statement_code depth (array x size values) = array_code declared allocation free_slots x size values
+    statement_code depth (set within x value) = set_code layout within (location x) value
+    statement_code depth (array x size values) = array_code layout x size values
     statement_code depth (put within place x size index value) =
-        put_element_code declared allocation free_slots within x index value
+        put_element_code layout within x index value
     statement_code depth (take control within condition) =
-        read_code declared allocation free_slots value_register 0 condition
-        ++ taken_code declared allocation (is_unread allocation control) (is_unread allocation (control + 1))
+        read_code layout value_register 0 condition
+        ++ taken_code layout.declared layout.allocation (is_unread layout.allocation control)
+        (is_unread layout.allocation (control + 1))
         (register_of (control_at control) third_register) (register_of (control_at (control + 1)) value_register)
-        (read_register allocation value_register condition) within
-        ++ unless_unread (is_unread allocation control) (kept_code (control_at control) third_register)
-        ++ unless_unread (is_unread allocation (control + 1)) (kept_code (control_at (control + 1)) value_register)
+        (read_register layout.allocation value_register condition) within
+        ++ unless_unread (is_unread layout.allocation control) (kept_code (control_at control) third_register)
+        ++ unless_unread (is_unread layout.allocation (control + 1))
+        (kept_code (control_at (control + 1)) value_register)
     statement_code depth (branch condition accepted otherwise) =
-        branching_code declared allocation free_slots condition (block_code depth accepted)
-        (block_code depth otherwise)
+        branching_code layout condition (block_code depth accepted) (block_code depth otherwise)
     statement_code depth (repeats x low high body) =
-        repeat_code declared allocation (next_offset declared controls depth) free_slots (location x) low high
-        (any_sets x body) (block_code (depth + 1) body)
+        repeat_code layout (next_offset layout depth) (location x) low high (any_sets x body)
+        (block_code (depth + 1) body)
 
     -- of statements, one after the other
     pub block_code : ℕ → StraightBlock → List Instr

@@ -8,18 +8,17 @@ use Rattle.codegen.specs.declared.image_fields.slot.ResultSlot.{ResultSlot}
 use Rattle.codegen.specs.private.Emitted.{block_code, assign_code}
 use Rattle.codegen.specs.private.Fresh.{homes_but, starts_fresh}
 use Rattle.codegen.specs.expression_code.Allocation.{Allocation, slots_to}
-use Rattle.codegen.specs.expression_code.Layout.{slots_from, result_offset, temporaries_offset, word_offset}
+use Rattle.codegen.specs.expression_code.Layout.{Frame, slots_from, result_offset, temporaries_offset, word_offset}
 use Rattle.codegen.specs.expression_code.TermCode.{load_code}
 
 -- the value into the result's slot, where there is one
-abbrev pub result_code : List FlatVariable → Allocation → ℕ → Option TermTree → List Instr
-result_code declared allocation free None = []
-result_code declared allocation free (Some value) =
-    assign_code declared allocation free value (result_offset declared)
+abbrev pub result_code : Frame → Option TermTree → List Instr
+result_code layout None = []
+result_code layout (Some value) = assign_code layout value (result_offset layout.declared)
 
--- where the temporaries of a program begin
-abbrev pub program_base : StraightProgram → ℕ
-program_base p = temporaries_offset p.declared p.controls (depth_in_all p.body)
+-- how a program is laid out
+abbrev pub frame_of : Allocation → StraightProgram → Frame
+frame_of a p = record { declared = p.declared; controls = p.controls; depths = depth_in_all p.body; allocation = a }
 
 -- words that have homes, from their slots into these: the word x and those behind it
 abbrev pub entry_code : List FlatVariable → ℕ → List (Option ℕ) → List Instr
@@ -37,8 +36,7 @@ home_count (Some home ∷ homes) = 1 + home_count homes
 abbrev pub body_of : Allocation → StraightProgram → List Instr
 body_of a p =
     entry_code p.declared 0 (homes_but (starts_fresh p) 0 a.homes)
-    ++ (block_code p.declared a p.controls (depth_in_all p.body) 0 p.body
-    ++ result_code p.declared a (program_base p) p.value)
+    ++ (block_code (frame_of a p) 0 p.body ++ result_code (frame_of a p) p.value)
 
 -- and the end
 abbrev pub program_code : Allocation → StraightProgram → List Instr
@@ -65,7 +63,7 @@ image_of a p = record {
   profile = p.profile;
   slots = slots_from 0 p.parameters;
   returned = option_map (result_slot p.declared) p.returned;
-  frame_bytes = program_base p + 4 * program_slots a p;
+  frame_bytes = temporaries_offset (frame_of a p) + 4 * program_slots a p;
   max_steps = step_limit p.work;
   words = map word_of (program_code a p);
 }

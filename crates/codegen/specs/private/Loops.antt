@@ -3,11 +3,11 @@
 -- next number lies in the frame, and the test comes first.
 use Rattle.std.specs.Prelude.{ℕ, ◌+◌, ◌==◌, ◌&&◌, ◌||◌, Bool, false, not, nat_lt, List, [], ◌∷◌, ◌++◌, length}
 use Rattle.std.specs.Prelude.{Option, None, Some, if◌then◌else◌}
-use Rattle.codegen.specs.Below.{Addi, array, branch, first, FlatVariable, Immediate, Instr, nothing, number, put}
+use Rattle.codegen.specs.Below.{Addi, array, branch, first, Immediate, Instr, nothing, number, put}
 use Rattle.codegen.specs.Below.{Register, repeats, set, Sltiu, Sltu, StraightBlock, StraightTree, take, TermTree}
 use Rattle.codegen.specs.private.Jumps.{again_code, branch_code, loop_code}
 use Rattle.codegen.specs.private.Words.{assign_code, put_word_code, read_code, read_register}
-use Rattle.codegen.specs.expression_code.Allocation.{Allocation}
+use Rattle.codegen.specs.expression_code.Layout.{Frame, temporaries_offset}
 use Rattle.codegen.specs.expression_code.Registers.{value_register, second_register}
 use Rattle.codegen.specs.expression_code.TermCode.{into_code, is_near, load_code, move_code, store_code}
 use Rattle.codegen.specs.declared.expression_code.locations.Location.{Location}
@@ -69,22 +69,22 @@ below_word_code home next =
     load_code value_register (next + 4) ++ Register Sltu value_register home value_register ∷ []
 
 -- up to a number
-abbrev pub to_number_code : List FlatVariable → Allocation → ℕ → ℕ → TermTree → ℕ → List Instr → List Instr
-to_number_code declared allocation free home low bound body =
+abbrev pub to_number_code : Frame → ℕ → TermTree → ℕ → List Instr → List Instr
+to_number_code layout home low bound body =
     if is_below bound low
-    then into_code declared allocation free home 0 low
+    then into_code layout.declared layout.allocation (temporaries_offset layout) home 0 low
     ++ turns_code home (below_number_code value_register home bound) body
-    else read_code declared allocation free value_register 0 low
-    ++ (below_number_code second_register (read_register allocation value_register low) bound
-    ++ guarded_code second_register home (read_register allocation value_register low)
+    else read_code layout value_register 0 low
+    ++ (below_number_code second_register (read_register layout.allocation value_register low) bound
+    ++ guarded_code second_register home (read_register layout.allocation value_register low)
     (below_number_code value_register home bound) body)
 
 -- Bounds in the frame.
 
 -- both bounds into the loop's words, the first one first
-abbrev pub bounds_code : List FlatVariable → Allocation → ℕ → ℕ → TermTree → TermTree → List Instr
-bounds_code declared allocation next free low high =
-    assign_code declared allocation free low next ++ assign_code declared allocation free high (next + 4)
+abbrev pub bounds_code : Frame → ℕ → TermTree → TermTree → List Instr
+bounds_code layout next low high =
+    assign_code layout low next ++ assign_code layout high (next + 4)
 
 -- whether the next number is below the bound
 abbrev pub test_code : ℕ → List Instr
@@ -107,16 +107,13 @@ to_word_code next counter body (Some home) =
 
 -- A loop.
 
-abbrev pub loop_from : List FlatVariable → Allocation → ℕ → ℕ → Location → TermTree → TermTree → List Instr → Option ℕ
-    → Option ℕ → List Instr
-loop_from declared allocation next free counter low high body (Some home) (Some bound) =
-    to_number_code declared allocation free home low bound body
-loop_from declared allocation next free counter low high body home bound =
-    bounds_code declared allocation next free low high ++ to_word_code next counter body home
+abbrev pub loop_from : Frame → ℕ → Location → TermTree → TermTree → List Instr → Option ℕ → Option ℕ → List Instr
+loop_from layout next counter low high body (Some home) (Some bound) =
+    to_number_code layout home low bound body
+loop_from layout next counter low high body home bound =
+    bounds_code layout next low high ++ to_word_code next counter body home
 
 -- from one expression up to another, with the code of its body, which sets the counter or does not
-abbrev pub repeat_code : List FlatVariable → Allocation → ℕ → ℕ → Location → TermTree → TermTree → Bool → List Instr
-    → List Instr
-repeat_code declared allocation next free counter low high is_set body =
-    loop_from declared allocation next free counter low high body (counting_home counter is_set body)
-    (short_number high)
+abbrev pub repeat_code : Frame → ℕ → Location → TermTree → TermTree → Bool → List Instr → List Instr
+repeat_code layout next counter low high is_set body =
+    loop_from layout next counter low high body (counting_home counter is_set body) (short_number high)

@@ -1,47 +1,38 @@
 -- Statements whose variables and control values are there, and whose temporaries lie in the frame.
 use Rattle.std.specs.Prelude.{ℕ, ◌+◌, ◌*◌, ◌<◌, ◌≤◌, List, [], ◌∷◌, length}
-use Rattle.codegen.specs.Below.{array, branch, first, FlatVariable, height_of, IsAmong as IsControl, nothing, put}
+use Rattle.codegen.specs.Below.{array, branch, first, height_of, IsAmong as IsControl, nothing, put}
 use Rattle.codegen.specs.Below.{repeats, set, StraightBlock, StraightTree, take, TermTree}
-use Rattle.codegen.specs.expression_code.Allocation.{Allocation, slots_to}
-use Rattle.codegen.specs.expression_code.Layout.{variable_offset, temporaries_offset}
+use Rattle.codegen.specs.expression_code.Allocation.{slots_to}
+use Rattle.codegen.specs.expression_code.Layout.{Frame, variable_offset, temporaries_offset}
 use Rattle.codegen.specs.expression_code.TermCode.{IsAmong}
 
--- an expression over the first so many variables into a place, where so many temporaries have registers, and the
--- slots of the others begin at an offset
-abbrev pub IsPlaced : ℕ → ℕ → ℕ → ℕ → TermTree → Type 0
-IsPlaced known count free place e = IsAmong known e × (free + 4 * slots_to count (height_of e + place) ≤ 65536)
+-- in a layout, an expression over its variables into a place
+abbrev pub IsPlaced : Frame → ℕ → TermTree → Type 0
+IsPlaced layout place e = IsAmong (length layout.declared) e
+    × (temporaries_offset layout + 4 * slots_to layout.allocation.count (height_of e + place) ≤ 65536)
 
-abbrev pub ArePlacedTerms : ℕ → ℕ → ℕ → List TermTree → Type 0
-ArePlacedTerms known count free [] = Unit {0}
-ArePlacedTerms known count free (e ∷ es) = IsPlaced known count free 0 e × ArePlacedTerms known count free es
+abbrev pub ArePlacedTerms : Frame → List TermTree → Type 0
+ArePlacedTerms layout [] = Unit {0}
+ArePlacedTerms layout (e ∷ es) = IsPlaced layout 0 e × ArePlacedTerms layout es
 
-module _ (declared : List FlatVariable) (allocation : Allocation) (controls depths : ℕ) where
-  -- where the slots of temporaries lie
-  abbrev pub free_from : ℕ
-  free_from = temporaries_offset declared controls depths
-
+module _ (layout : Frame) where
   abbrev mutual
     -- a statement that so many loops are around
     pub HasPlace : ℕ → StraightTree → Type 0
     HasPlace depth (set within x value) =
-        IsControl controls within × (x < length declared)
-        × IsPlaced (length declared) allocation.count free_from 0 value
+        IsControl layout.controls within × (x < length layout.declared) × IsPlaced layout 0 value
     HasPlace depth (array x size values) =
-        (x < length declared) × (size ≤ 65536) × ArePlacedTerms (length declared) allocation.count free_from values
-        × (variable_offset declared x + 4 * length values ≤ 262144)
+        (x < length layout.declared) × (size ≤ 65536) × ArePlacedTerms layout values
+        × (variable_offset layout.declared x + 4 * length values ≤ 262144)
     HasPlace depth (put within place x size index value) =
-        IsControl controls within × (x < length declared)
-        × IsPlaced (length declared) allocation.count free_from 0 index
-        × IsPlaced (length declared) allocation.count free_from 1 value
+        IsControl layout.controls within × (x < length layout.declared) × IsPlaced layout 0 index
+        × IsPlaced layout 1 value
     HasPlace depth (take control within condition) =
-        (control + 1 < controls) × IsControl controls within
-        × IsPlaced (length declared) allocation.count free_from 0 condition
+        (control + 1 < layout.controls) × IsControl layout.controls within × IsPlaced layout 0 condition
     HasPlace depth (branch condition accepted otherwise) =
-        IsPlaced (length declared) allocation.count free_from 0 condition × HavePlaces depth accepted
-        × HavePlaces depth otherwise
+        IsPlaced layout 0 condition × HavePlaces depth accepted × HavePlaces depth otherwise
     HasPlace depth (repeats x low high body) =
-        (x < length declared) × (depth < depths) × IsPlaced (length declared) allocation.count free_from 0 low
-        × IsPlaced (length declared) allocation.count free_from 0 high
+        (x < length layout.declared) × (depth < layout.depths) × IsPlaced layout 0 low × IsPlaced layout 0 high
         × HavePlaces (depth + 1) body
 
     pub HavePlaces : ℕ → StraightBlock → Type 0

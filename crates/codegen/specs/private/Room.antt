@@ -5,10 +5,10 @@ use Rattle.branch_removal.specs.Bounds.{block_work}
 use Rattle.codegen.specs.Below.{declaration_of, declared_words, depth_in_all, HasLength, IsTypedStraight}
 use Rattle.codegen.specs.Below.{most_declared_bytes, most_nodes, most_work, Param, program_height, StraightProgram}
 use Rattle.codegen.specs.Below.{value_nodes}
+pub use Rattle.codegen.specs.private.Generated.{frame_of}
 use Rattle.codegen.specs.private.Generated.{home_count}
 use Rattle.codegen.specs.private.Reads.{AllReadKept}
 use Rattle.codegen.specs.expression_code.Allocation.{Allocation, IsAllocation}
-use Rattle.codegen.specs.expression_code.Layout.{Frame}
 use Rattle.inline.specs.Limits.{most_variable_bytes}
 
 pub record HasRoom (p : StraightProgram) : Type 0 where
@@ -30,7 +30,3 @@ pub record IsFitting (p : StraightProgram) (a : Allocation) : Type 0 where
   pub within : length a.homes ≤ length p.declared + p.controls
   pub few : home_count a.homes ≤ 20
   pub read : AllReadKept a.unread p.body
-
--- how a program is laid out
-abbrev pub frame_of : Allocation → StraightProgram → Frame
-frame_of a p = record { declared = p.declared; controls = p.controls; depths = depth_in_all p.body; allocation = a }

@@ -1,13 +1,14 @@
 -- The instructions that are emitted for words: an expression's value is read where it is, and put where it belongs.
 use Rattle.std.specs.Prelude.{ℕ, Bool, List, [], ◌++◌, Option, None, Some, if◌then◌else◌}
 use Rattle.codegen.specs.expression_code.Allocation.{Allocation}
+use Rattle.codegen.specs.expression_code.Layout.{Frame, temporaries_offset}
 use Rattle.codegen.specs.expression_code.NumberRows.{chooses_zero}
 use Rattle.codegen.specs.expression_code.Registers.{zero_register, value_register}
 pub use Rattle.codegen.specs.expression_code.TermCode.{home_of_term}
 use Rattle.codegen.specs.expression_code.TermCode.{into_code, move_code, store_code}
 use Rattle.codegen.specs.declared.expression_code.locations.Location.{Location}
 use Rattle.codegen.specs.declared.expression_code.locations.Location.TheVariants.{InRegister, InSlot}
-use Rattle.codegen.specs.Below.{FlatVariable, Instr, TermTree}
+use Rattle.codegen.specs.Below.{Instr, TermTree}
 
 -- The value of an expression, read where it is: in its home, where it has one, and else in the register that it is
 -- brought into.
@@ -21,10 +22,11 @@ abbrev pub home_or : Option ℕ → ℕ → ℕ
 home_or None register = register
 home_or (Some home) register = home
 
--- an expression, with its temporaries in the places from this one on, into a register
-abbrev pub read_code : List FlatVariable → Allocation → ℕ → ℕ → ℕ → TermTree → List Instr
-read_code declared allocation free register place e =
-    unless_home (home_of_term allocation e) (into_code declared allocation free register place e)
+-- in a layout, an expression, with its temporaries in the places from this one on, into a register
+abbrev pub read_code : Frame → ℕ → ℕ → TermTree → List Instr
+read_code layout register place e =
+    unless_home (home_of_term layout.allocation e)
+    (into_code layout.declared layout.allocation (temporaries_offset layout) register place e)
 
 -- and the register where it is then
 abbrev pub read_register : Allocation → ℕ → TermTree → ℕ
@@ -36,9 +38,9 @@ read_register allocation register e = home_or (home_of_term allocation e) regist
 abbrev pub gives_zero : Allocation → TermTree → Bool
 gives_zero allocation e = chooses_zero allocation e
 
-abbrev pub stored_code : List FlatVariable → Allocation → ℕ → TermTree → List Instr
-stored_code declared allocation free e =
-    if gives_zero allocation e then [] else read_code declared allocation free value_register 0 e
+abbrev pub stored_code : Frame → TermTree → List Instr
+stored_code layout e =
+    if gives_zero layout.allocation e then [] else read_code layout value_register 0 e
 
 -- and the register where it is then
 abbrev pub stored_register : Allocation → TermTree → ℕ
@@ -46,9 +48,9 @@ stored_register allocation e =
     if gives_zero allocation e then zero_register else read_register allocation value_register e
 
 -- the value of an expression into a slot
-abbrev pub assign_code : List FlatVariable → Allocation → ℕ → TermTree → ℕ → List Instr
-assign_code declared allocation free e offset =
-    stored_code declared allocation free e ++ store_code (stored_register allocation e) offset
+abbrev pub assign_code : Frame → TermTree → ℕ → List Instr
+assign_code layout e offset =
+    stored_code layout e ++ store_code (stored_register layout.allocation e) offset
 
 -- a register into a variable: its home, or its slot
 abbrev pub put_word_code : ℕ → Location → List Instr

@@ -25,7 +25,12 @@ impl<'f> Model for Allocation<'f> {
 
     ghost Value = { Allocation };
 
-    ghost view = { λ a. record { count = a.count; homes = a.homes.now; immediates = a.immediates; unread = a.unread.now } };
+    ghost view = { λ a. record {
+      count = a.count;
+      homes = a.homes.now;
+      immediates = a.immediates;
+      unread = a.unread.now;
+    } };
 
     ghost invariant = { λ a. a.count ≤ 16 };
 }
@@ -47,7 +52,12 @@ impl<'f> Allocation<'f> {
 
     /// The same registers, with numbers in the instructions that hold them, where nothing reads these control values.
     pub fn with_immediates(self, unread: &'f [bool]) -> Self
-        ensures { result ≡ record { count = self.entry.count; homes = self.entry.homes; immediates = true; unread = unread.now } }
+        ensures { result ≡ record {
+          count = self.entry.count;
+          homes = self.entry.homes;
+          immediates = true;
+          unread = unread.now;
+        } }
     {
         Allocation {
             count: self.count,

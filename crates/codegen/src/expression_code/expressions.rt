@@ -53,9 +53,11 @@ fn fetched(
     term: &Term,
     spare: Reg,
 ) -> Result<Reg, AllocError>
-    requires { temporaries_offset layout.now.declared layout.now.controls layout.now.depths + 4 * slots_to layout.now.allocation.count place ≤ 65536 }
-    ensures code { OnOk result (code.new.items ≡ code.old.items ++ fetch_code (operand layout.now.allocation (temporaries_offset layout.now.declared layout.now.controls layout.now.depths) place (term_tree term.now)) spare) }
-    ensures register { IfOk result (λ r. r ≡ register_of (operand layout.now.allocation (temporaries_offset layout.now.declared layout.now.controls layout.now.depths) place (term_tree term.now)) spare) }
+    requires { temporaries_offset layout.now + 4 * slots_to layout.now.allocation.count place ≤ 65536 }
+    ensures code { OnOk result (code.new.items ≡ code.old.items ++ fetch_code
+        (operand layout.now.allocation (temporaries_offset layout.now) place (term_tree term.now)) spare) }
+    ensures register { IfOk result (λ r. r ≡ register_of
+        (operand layout.now.allocation (temporaries_offset layout.now) place (term_tree term.now)) spare) }
 {
     let operand = layout.operand(place, term);
     fetch(code, &operand, spare)?;
@@ -71,9 +73,22 @@ fn fetched_choice(
     accepted: &Term,
     otherwise: &Term,
 ) -> Result<ChoiceOperands, AllocError>
-    requires { temporaries_offset layout.now.declared layout.now.controls layout.now.depths + 4 * slots_to layout.now.allocation.count (place + 2) ≤ 65536 }
-    ensures code { let free = temporaries_offset layout.now.declared layout.now.controls layout.now.depths in let a = layout.now.allocation in OnOk result (code.new.items ≡ code.old.items ++ fetch_code (operand a free place (term_tree condition.now)) first_spare ++ fetch_code (operand a free (place + 1) (term_tree accepted.now)) second_spare ++ fetch_code (operand a free (place + 2) (term_tree otherwise.now)) third_spare) }
-    ensures registers { let free = temporaries_offset layout.now.declared layout.now.controls layout.now.depths in let a = layout.now.allocation in IfOk result (λ registers. registers ≡ record { mask = working_register a.count place first_spare; scratch = working_register a.count (place + 1) second_spare; condition = register_of (operand a free place (term_tree condition.now)) first_spare; accepted = register_of (operand a free (place + 1) (term_tree accepted.now)) second_spare; otherwise = register_of (operand a free (place + 2) (term_tree otherwise.now)) third_spare }) }
+    requires { temporaries_offset layout.now + 4 * slots_to layout.now.allocation.count (place + 2) ≤ 65536 }
+    ensures code { let free = temporaries_offset layout.now in
+        let a = layout.now.allocation in
+        OnOk result (code.new.items ≡ code.old.items
+        ++ fetch_code (operand a free place (term_tree condition.now)) first_spare
+        ++ fetch_code (operand a free (place + 1) (term_tree accepted.now)) second_spare
+        ++ fetch_code (operand a free (place + 2) (term_tree otherwise.now)) third_spare) }
+    ensures registers { let free = temporaries_offset layout.now in
+        let a = layout.now.allocation in
+        IfOk result (λ registers. registers ≡ record {
+          mask = working_register a.count place first_spare;
+          scratch = working_register a.count (place + 1) second_spare;
+          condition = register_of (operand a free place (term_tree condition.now)) first_spare;
+          accepted = register_of (operand a free (place + 1) (term_tree accepted.now)) second_spare;
+          otherwise = register_of (operand a free (place + 2) (term_tree otherwise.now)) third_spare;
+        }) }
 {
     let second = layout.place_behind(place, 1);
     let third = layout.place_behind(place, 2);
@@ -98,21 +113,18 @@ fn fetched_operands(
     left: &Term,
     right: &Term,
 ) -> Result<Operands, AllocError>
-    requires { temporaries_offset layout.now.declared layout.now.controls layout.now.depths
-        + 4 * slots_to layout.now.allocation.count (place + 1) ≤ 65536 }
-    ensures code { let free = temporaries_offset layout.now.declared layout.now.controls layout.now.depths in
+    requires { temporaries_offset layout.now + 4 * slots_to layout.now.allocation.count (place + 1) ≤ 65536 }
+    ensures code { let free = temporaries_offset layout.now in
         let a = layout.now.allocation in
         OnOk result (code.new.items ≡ code.old.items ++ fetch_code (operand a free place (term_tree left.now))
         first_spare ++ fetch_code (operand a free (place + 1) (term_tree right.now)) second_spare) }
-    ensures registers { let free = temporaries_offset layout.now.declared layout.now.controls layout.now.depths in
+    ensures registers { let free = temporaries_offset layout.now in
         let a = layout.now.allocation in
         IfOk result (λ registers. registers ≡ record {
           target = target;
           scratch = working_register a.count (place + 1) second_spare;
-          left = register_of
-              (operand a free place (term_tree left.now)) first_spare;
-          right = register_of
-              (operand a free (place + 1) (term_tree right.now)) second_spare;
+          left = register_of (operand a free place (term_tree left.now)) first_spare;
+          right = register_of (operand a free (place + 1) (term_tree right.now)) second_spare;
         }) }
 {
     let next = layout.place_behind(place, 1);
@@ -137,9 +149,8 @@ fn fetched_or_zero(
     condition: &Term,
     accepted: &Term,
 ) -> Result<(), AllocError>
-    requires { temporaries_offset layout.now.declared layout.now.controls layout.now.depths
-        + 4 * slots_to layout.now.allocation.count (place + 1) ≤ 65536 }
-    ensures { let free = temporaries_offset layout.now.declared layout.now.controls layout.now.depths in
+    requires { temporaries_offset layout.now + 4 * slots_to layout.now.allocation.count (place + 1) ≤ 65536 }
+    ensures { let free = temporaries_offset layout.now in
         let a = layout.now.allocation in
         let c = operand a free place (term_tree condition.now) in
         let l = operand a free (place + 1) (term_tree accepted.now) in
@@ -163,9 +174,14 @@ fn evaluated(
     term: &Term,
 ) -> Result<Reg, AllocError>
     requires among { IsAmong (length layout.now.declared) (term_tree term.now) }
-    requires room { temporaries_offset layout.now.declared layout.now.controls layout.now.depths + 4 * slots_to layout.now.allocation.count (height_of (term_tree term.now) + place) ≤ 65536 }
-    ensures code { let free = temporaries_offset layout.now.declared layout.now.controls layout.now.depths in let a = layout.now.allocation in OnOk result (code.new.items ≡ code.old.items ++ expr_code layout.now.declared a free place (term_tree term.now) ++ fetch_code (operand a free place (term_tree term.now)) first_spare) }
-    ensures register { IfOk result (λ r. r ≡ register_of (operand layout.now.allocation (temporaries_offset layout.now.declared layout.now.controls layout.now.depths) place (term_tree term.now)) first_spare) }
+    requires room { temporaries_offset layout.now
+        + 4 * slots_to layout.now.allocation.count (height_of (term_tree term.now) + place) ≤ 65536 }
+    ensures code { let free = temporaries_offset layout.now in
+        let a = layout.now.allocation in
+        OnOk result (code.new.items ≡ code.old.items ++ expr_code layout.now.declared a free place (term_tree term.now)
+        ++ fetch_code (operand a free place (term_tree term.now)) first_spare) }
+    ensures register { IfOk result (λ r. r ≡ register_of
+        (operand layout.now.allocation (temporaries_offset layout.now) place (term_tree term.now)) first_spare) }
 {
     expression(layout, code, place, term)?;
     fetched(layout, code, place, term, FIRST_SPARE)
@@ -182,8 +198,11 @@ pub fn into(
     term: &Term,
 ) -> Result<(), AllocError>
     requires among { IsAmong (length layout.now.declared) (term_tree term.now) }
-    requires room { temporaries_offset layout.now.declared layout.now.controls layout.now.depths + 4 * slots_to layout.now.allocation.count (height_of (term_tree term.now) + place) ≤ 65536 }
-    ensures { OnOk result (code.new.items ≡ code.old.items ++ into_code layout.now.declared layout.now.allocation (temporaries_offset layout.now.declared layout.now.controls layout.now.depths) target place (term_tree term.now)) }
+    requires room { temporaries_offset layout.now
+        + 4 * slots_to layout.now.allocation.count (height_of (term_tree term.now) + place) ≤ 65536 }
+    ensures { OnOk result (code.new.items ≡ code.old.items
+        ++ into_code layout.now.declared layout.now.allocation (temporaries_offset layout.now) target place
+        (term_tree term.now)) }
 {
     match term {
         Term::Number(value, _) => emit::constant(code, target, *value),
@@ -256,8 +275,11 @@ pub fn expression(
     term: &Term,
 ) -> Result<(), AllocError>
     requires among { IsAmong (length layout.now.declared) (term_tree term.now) }
-    requires room { temporaries_offset layout.now.declared layout.now.controls layout.now.depths + 4 * slots_to layout.now.allocation.count (height_of (term_tree term.now) + place) ≤ 65536 }
-    ensures { OnOk result (code.new.items ≡ code.old.items ++ expr_code layout.now.declared layout.now.allocation (temporaries_offset layout.now.declared layout.now.controls layout.now.depths) place (term_tree term.now)) }
+    requires room { temporaries_offset layout.now
+        + 4 * slots_to layout.now.allocation.count (height_of (term_tree term.now) + place) ≤ 65536 }
+    ensures { OnOk result (code.new.items ≡ code.old.items
+        ++ expr_code layout.now.declared layout.now.allocation (temporaries_offset layout.now) place
+        (term_tree term.now)) }
 {
     if layout.is_at_home(term) {
         return Ok(());

@@ -48,9 +48,20 @@ impl<'f> Model for Layout<'f> {
 
     ghost Value = { Frame };
 
-    ghost view = { λ l. record { declared = l.declared.now; controls = l.controls; depths = l.depths; allocation = l.allocation } };
+    ghost view = { λ l. record {
+      declared = l.declared.now;
+      controls = l.controls;
+      depths = l.depths;
+      allocation = l.allocation;
+    } };
 
-    ghost invariant = { λ l. (l.offsets.now ≡ offsets_from 0 l.declared.now) × (temporaries_offset l.declared.now l.controls l.depths ≤ 65536) };
+    ghost invariant = { λ l. (l.offsets.now ≡ offsets_from 0 l.declared.now)
+        × (temporaries_offset (record {
+          declared = l.declared.now;
+          controls = l.controls;
+          depths = l.depths;
+          allocation = l.allocation;
+        }) ≤ 65536) };
 }
 
 impl<'f> Layout<'f> {
@@ -63,8 +74,18 @@ impl<'f> Layout<'f> {
         allocation: Allocation<'f>,
     ) -> Self
         requires offsets { offsets.now ≡ offsets_from 0 declared.now }
-        requires room { temporaries_offset declared.now controls depths ≤ 65536 }
-        ensures { result ≡ record { declared = declared.now; controls = controls; depths = depths; allocation = allocation.entry } }
+        requires room { temporaries_offset (record {
+          declared = declared.now;
+          controls = controls;
+          depths = depths;
+          allocation = allocation.entry;
+        }) ≤ 65536 }
+        ensures { result ≡ record {
+          declared = declared.now;
+          controls = controls;
+          depths = depths;
+          allocation = allocation.entry;
+        } }
     {
         Layout {
             declared,
@@ -102,7 +123,7 @@ impl<'f> Layout<'f> {
     /// The result's slot, behind the variables.
     pub fn result(&self) -> u32
         ensures place { result ≡ result_offset self.now.declared }
-        ensures room { temporaries_offset self.now.declared self.now.controls self.now.depths ≤ 65536 }
+        ensures room { temporaries_offset self.now ≤ 65536 }
     {
         self.offsets[self.declared.len()]
     }
@@ -131,14 +152,14 @@ impl<'f> Layout<'f> {
     /// The two words of a loop that so many others are around, behind the control values.
     pub fn next(&self, depth: u32) -> u32
         requires { depth ≤ self.now.depths }
-        ensures { result ≡ next_offset self.now.declared self.now.controls depth }
+        ensures { result ≡ next_offset self.now depth }
     {
         self.control(self.controls) + LOOP_BYTES * depth
     }
 
     /// Where the slots of temporaries lie, behind the loops.
     pub fn temporaries(&self) -> u32
-        ensures { result ≡ temporaries_offset self.now.declared self.now.controls self.now.depths }
+        ensures { result ≡ temporaries_offset self.now }
     {
         self.next(self.depths)
     }
@@ -203,8 +224,8 @@ impl<'f> Layout<'f> {
 
     /// Where the temporary of a place is.
     pub fn temporary(&self, place: u32) -> Location
-        requires { temporaries_offset self.now.declared self.now.controls self.now.depths + 4 * slots_to self.now.allocation.count place ≤ 65536 }
-        ensures { result ≡ temporary self.now.allocation.count (temporaries_offset self.now.declared self.now.controls self.now.depths) place }
+        requires { temporaries_offset self.now + 4 * slots_to self.now.allocation.count place ≤ 65536 }
+        ensures { result ≡ temporary self.now.allocation.count (temporaries_offset self.now) place }
     {
         let count = self.allocation.count();
         if place < count {
@@ -217,7 +238,7 @@ impl<'f> Layout<'f> {
     /// The place so many behind one.
     pub fn place_behind(&self, place: u32, distance: u32) -> u32
         requires near { distance ≤ 2 }
-        requires room { temporaries_offset self.now.declared self.now.controls self.now.depths + 4 * slots_to self.now.allocation.count place ≤ 65536 }
+        requires room { temporaries_offset self.now + 4 * slots_to self.now.allocation.count place ≤ 65536 }
         ensures { result ≡ place + distance }
     {
         // Few temporaries have registers, so the number of this one is not large.
@@ -275,8 +296,8 @@ impl<'f> Layout<'f> {
 
     /// Where the value of an expression is behind its code.
     pub fn operand(&self, place: u32, term: &Term) -> Location
-        requires { temporaries_offset self.now.declared self.now.controls self.now.depths + 4 * slots_to self.now.allocation.count place ≤ 65536 }
-        ensures { result ≡ operand self.now.allocation (temporaries_offset self.now.declared self.now.controls self.now.depths) place (term_tree term.now) }
+        requires { temporaries_offset self.now + 4 * slots_to self.now.allocation.count place ≤ 65536 }
+        ensures { result ≡ operand self.now.allocation (temporaries_offset self.now) place (term_tree term.now) }
     {
         self.temporary(place).unless_home(self.home_of_term(term))
     }

@@ -33,14 +33,16 @@ pub struct Operands {
 impl Operands {
     /// An instruction between both operands.
     fn between(&self, operation: Operation) -> Instr
-        ensures { result ∷ [] ≡ step_code self.now.target self.now.scratch self.now.left self.now.right (terms.between operation) }
+        ensures { result ∷ [] ≡ step_code self.now.target self.now.scratch self.now.left self.now.right
+            (terms.between operation) }
     {
         Instr::Register(operation, self.target, self.left, self.right)
     }
 
     /// An instruction between both operands, turned round.
     fn turned(&self, operation: Operation) -> Instr
-        ensures { result ∷ [] ≡ step_code self.now.target self.now.scratch self.now.left self.now.right (terms.turned operation) }
+        ensures { result ∷ [] ≡ step_code self.now.target self.now.scratch self.now.left self.now.right
+            (terms.turned operation) }
     {
         Instr::Register(operation, self.target, self.right, self.left)
     }
@@ -54,14 +56,16 @@ impl Operands {
 
     /// The quotient or the remainder of the first operand by the second.
     fn division(&self, operation: DivideOperation) -> Instr
-        ensures { result ∷ [] ≡ step_code self.now.target self.now.scratch self.now.left self.now.right (terms.division operation) }
+        ensures { result ∷ [] ≡ step_code self.now.target self.now.scratch self.now.left self.now.right
+            (terms.division operation) }
     {
         Instr::Divide(operation, self.target, self.left, self.right)
     }
 
     /// An instruction between two bools, each of which is 0 where its operand is 0, and else 1.
     fn of_truths(&self, code: &mut Vec<Instr>, operation: Operation) -> Result<(), AllocError>
-        ensures { OnOk result (code.new.items ≡ code.old.items ++ step_code self.now.target self.now.scratch self.now.left self.now.right (terms.of_truths operation)) }
+        ensures { OnOk result (code.new.items ≡ code.old.items
+            ++ step_code self.now.target self.now.scratch self.now.left self.now.right (terms.of_truths operation)) }
     {
         let right = Instr::Register(Operation::Sltu, self.scratch, Reg::X0, self.right);
         let left = Instr::Register(Operation::Sltu, self.target, Reg::X0, self.left);
@@ -222,7 +226,8 @@ pub fn operator(
     operator: BinaryOperator,
     width: Width,
 ) -> Result<(), AllocError>
-    ensures { OnOk result (code.new.items ≡ code.old.items ++ operator_code o.now.target o.now.scratch o.now.left o.now.right operator width) }
+    ensures { OnOk result (code.new.items ≡ code.old.items
+        ++ operator_code o.now.target o.now.scratch o.now.left o.now.right operator width) }
 {
     match operator {
         BinaryOperator::Either => o.of_truths(code, Operation::Or),
@@ -325,7 +330,8 @@ pub fn convert(code: &mut Vec<Instr>, d: Reg, r: Reg, kind: Kind) -> Result<(), 
 
 /// Of three operands, the second where the first is 1 and the third where it is 0, into a register.
 pub fn choice(code: &mut Vec<Instr>, target: Reg, c: &ChoiceOperands) -> Result<(), AllocError>
-    ensures { OnOk result (code.new.items ≡ code.old.items ++ choice_code target c.now.mask c.now.scratch c.now.condition c.now.accepted c.now.otherwise) }
+    ensures { OnOk result (code.new.items ≡ code.old.items
+        ++ choice_code target c.now.mask c.now.scratch c.now.condition c.now.accepted c.now.otherwise) }
 {
     let mask = Instr::Register(Operation::Sub, c.mask, Reg::X0, c.condition);
     let differing = Instr::Register(Operation::Xor, c.scratch, c.accepted, c.otherwise);

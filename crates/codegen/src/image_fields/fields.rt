@@ -21,9 +21,23 @@ impl Model for ImageFields {
 
     ghost Value = { Fields };
 
-    ghost view = { λ i. record { profile = i.profile; slots = i.slots.items; returned = i.returned; frame_bytes = i.frame_bytes; max_steps = i.max_steps; words = i.words.items } };
+    ghost view = { λ i. record {
+      profile = i.profile;
+      slots = i.slots.items;
+      returned = i.returned;
+      frame_bytes = i.frame_bytes;
+      max_steps = i.max_steps;
+      words = i.words.items;
+    } };
 
-    ghost invariant = { λ i. IsImage (record { profile = i.profile; slots = i.slots.items; returned = i.returned; frame_bytes = i.frame_bytes; max_steps = i.max_steps; words = i.words.items }) };
+    ghost invariant = { λ i. IsImage (record {
+      profile = i.profile;
+      slots = i.slots.items;
+      returned = i.returned;
+      frame_bytes = i.frame_bytes;
+      max_steps = i.max_steps;
+      words = i.words.items;
+    }) };
 }
 
 impl ImageFields {
@@ -36,8 +50,22 @@ impl ImageFields {
         max_steps: u64,
         words: Vec<u32>,
     ) -> Self
-        requires { IsImage (record { profile = profile; slots = slots.items; returned = returned; frame_bytes = frame_bytes; max_steps = max_steps; words = words.items }) }
-        ensures fields { result ≡ record { profile = profile; slots = slots.items; returned = returned; frame_bytes = frame_bytes; max_steps = max_steps; words = words.items } }
+        requires { IsImage (record {
+          profile = profile;
+          slots = slots.items;
+          returned = returned;
+          frame_bytes = frame_bytes;
+          max_steps = max_steps;
+          words = words.items;
+        }) }
+        ensures fields { result ≡ record {
+          profile = profile;
+          slots = slots.items;
+          returned = returned;
+          frame_bytes = frame_bytes;
+          max_steps = max_steps;
+          words = words.items;
+        } }
         ensures allowed { IsImage result }
     {
         ImageFields {

@@ -13,5 +13,6 @@ pub fn straight_code_is_run()
     ensures { (works : ℕ → Bool) (code : Code) (p : ℕ) (instructions : List Instr) (places : List ℕ) (c : Contents)
         → are_straight works instructions ≡ true → Placed code p instructions
         → AreFit (λ (e : Option Event). Unit {0}) instructions places → AreMet instructions places c
-        → Leads code (length instructions) (state_at p c) (shown_by p instructions places) (state_at (p + 4 * length instructions) (after_all instructions places c)) }
+        → Leads code (length instructions) (state_at p c) (shown_by p instructions places)
+        (state_at (p + 4 * length instructions) (after_all instructions places c)) }
 {}

@@ -1,5 +1,5 @@
 use Rattle.std.proofs.Common.{◌≡◌, ◌++◌, ◌+◌, ◌*◌, ◌≤◌, drop, map, length}
-use Rattle.codegen.proofs.Machine.{fill_code, ArePlacedTerms, temporaries_offset}
+use Rattle.codegen.proofs.Machine.{fill_code, ArePlacedTerms}
 use Rattle.codegen.specs.Below.{term_tree}
 use Rattle.codegen.proofs.arrays.fill.Given as goal
 
@@ -8,13 +8,8 @@ abbrev pub invariant-loop-value : goal.invariant-loop-value
 invariant-loop-value l =
     let rest = drop l.value-index l.values in
     record {
-      code : l.code.items ++ fill_code l.layout.declared l.layout.allocation
-          (temporaries_offset l.layout.declared l.layout.controls l.layout.depths) l.kind l.place
-          (map term_tree rest) ≡ l.fn.code.items
-          ++ fill_code l.fn.layout.declared l.fn.layout.allocation
-          (temporaries_offset l.fn.layout.declared l.fn.layout.controls l.fn.layout.depths) l.fn.kind l.fn.offset
-          (map term_tree l.fn.values);
-      placed : ArePlacedTerms (length l.layout.declared) l.layout.allocation.count
-          (temporaries_offset l.layout.declared l.layout.controls l.layout.depths) (map term_tree rest);
+      code : l.code.items ++ fill_code l.layout l.kind l.place (map term_tree rest)
+          ≡ l.fn.code.items ++ fill_code l.fn.layout l.fn.kind l.fn.offset (map term_tree l.fn.values);
+      placed : ArePlacedTerms l.layout (map term_tree rest);
       room : l.place + 4 * length rest ≤ 262144;
     }

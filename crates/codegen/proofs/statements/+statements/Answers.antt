@@ -61,7 +61,7 @@ statements-statement-requires t c =
     let l = c.loop-each in
     let here = item_here c.args.statements.now l.each-index s c.loop-each-test.true c.each-item.is in (
       search (rules, smaller_here c.args.statements.now l.each-index s here),
-      (subst (λ xs. HavePlaces f.declared f.allocation f.controls f.depths c.args.depth (straight_block xs)) here
+      (subst (λ xs. HavePlaces f c.args.depth (straight_block xs)) here
           l.invariant.placed).0,
     )
 

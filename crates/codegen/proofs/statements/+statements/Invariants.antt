@@ -8,10 +8,9 @@ abbrev pub invariant-statements-loop-each : goal.invariant-statements-loop-each
 invariant-statements-loop-each l =
     let rest = straight_block (drop l.each-index l.statements) in
     record {
-      code : l.code.items ++ block_code l.layout.declared l.layout.allocation l.layout.controls l.layout.depths
-          l.depth rest ≡ l.fn.code.items ++ block_code l.fn.layout.declared l.fn.layout.allocation
-          l.fn.layout.controls l.fn.layout.depths l.fn.depth (straight_block l.fn.statements);
-      placed : HavePlaces l.layout.declared l.layout.allocation l.layout.controls l.layout.depths l.depth rest;
+      code : l.code.items ++ block_code l.layout l.depth rest
+          ≡ l.fn.code.items ++ block_code l.fn.layout l.fn.depth (straight_block l.fn.statements);
+      placed : HavePlaces l.layout l.depth rest;
       layout : l.layout ≡ l.fn.layout;
       depth : l.depth ≡ l.fn.depth;
     }
