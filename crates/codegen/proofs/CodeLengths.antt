@@ -2,7 +2,7 @@
 use Rattle.std.proofs.Common.{ℕ, ◌+◌, ◌*◌, ◌≤◌, nat_lt, List, [], ◌∷◌, ◌++◌, length, Option, None, Some, arith}
 use Rattle.std.proofs.Common.{length-append, ◌≡◌, ◌==◌, Bool, true, false, slice_get}
 use Rattle.codegen.proofs.Language.{statement_nodes, block_nodes, StraightTree, set, array, put, take, branch, repeats}
-use Rattle.codegen.proofs.Language.{StraightBlock, nothing, first, FlatVariable, TermTree, array_as, term_nodes}
+use Rattle.codegen.proofs.Language.{StraightBlock, nothing, first, TermTree, array_as, term_nodes}
 use Rattle.codegen.proofs.Language.{terms_nodes, declared_words, Kind, element_bytes, array_words, IsTyped, AreTyped}
 use Rattle.codegen.proofs.Language.{types_but, types_of, AllSuit, HasCount, HasType, Boolean, WordType, Profile}
 use Rattle.codegen.proofs.Choices.{when_not}
@@ -21,7 +21,7 @@ use Rattle.codegen.specs.Below.{depth_in, depth_in_all, height_in, height_in_all
 use Rattle.codegen.proofs.Machine.{ArePlacedTerms, control_location, HasPlace, HavePlaces, register_of, variable_offset}
 use Rattle.codegen.proofs.Machine.{Frame}
 use Rattle.codegen.proofs.Machine.{next_offset, temporaries_offset, kind_at, near_element, height_of, Instr, slots_to}
-use Rattle.codegen.proofs.Machine.{Allocation, InRegister, InSlot, Location, variable_location, unless_unread}
+use Rattle.codegen.proofs.Machine.{InRegister, InSlot, Location, variable_location, unless_unread}
 use Rattle.codegen.specs.private.Placed.{IsPlaced}
 use Rattle.codegen.proofs.StoredValues.{stored_nodes}
 use Rattle.codegen.proofs.Logic.{code_length, fetch_length, height, one_of, load_length, store_length, constant_length}
@@ -39,11 +39,11 @@ join_length x y a b k =
     let e = length-append {A = Instr} in
     one_of (a == k) _ _ 2 (omega (arith, e, unless_length)) (omega (arith, e, unless_length))
 
-taken_length : (declared : List FlatVariable) (allocation : Allocation) (x y : Bool) (a b r : ℕ) (within : Option ℕ)
-    → length (taken_code declared allocation x y a b r within) ≤ 7
-taken_length declared allocation x y a b r None = omega (arith, length-append {A = Instr}, unless_length)
-taken_length declared allocation x y a b r (Some control) =
-    let l = control_location declared allocation control in
+taken_length : (layout : Frame) (x y : Bool) (a b r : ℕ) (within : Option ℕ)
+    → length (taken_code layout x y a b r within) ≤ 7
+taken_length layout x y a b r None = omega (arith, length-append {A = Instr}, unless_length)
+taken_length layout x y a b r (Some control) =
+    let l = control_location layout control in
     omega (arith, length-append {A = Instr}, unless_length, fetch_length l 6, join_length x y a b (register_of l 6))
 
 kept_length : (x : Bool) (l : Location) (r : ℕ) → length (unless_unread x (kept_code l r)) ≤ 3
@@ -82,7 +82,7 @@ put_length layout None x index value =
     (λ o. omega (arith, nodes, into_element_length layout kind o other))
     (omega (arith, nodes, length-append {A = Instr}, read_length, address_length))
 put_length layout (Some c) x index value =
-    let control = control_location layout.declared layout.allocation c in
+    let control = control_location layout c in
     code_length (near_element layout.declared layout.allocation x index)
     (λ o. put_under_near_code layout control (kind_at layout.declared x) o value)
     (index_code layout index value
@@ -111,7 +111,7 @@ set_length layout None (InRegister home) e =
     omega (arith, value_length layout home 0 e)
 set_length layout None (InSlot o) e = omega (arith, assign_length layout e o)
 set_length layout (Some c) l e =
-    let control = control_location layout.declared layout.allocation c in
+    let control = control_location layout c in
     one_of (gives_zero layout.allocation e) _ _ _
     (omega (arith, erase_under_length l control))
     (omega (

@@ -51,7 +51,7 @@ module _ (z : Setting) (depth : ℕ) (place : Place) (x size : ℕ) (index value
 
   -- where the mask is
   abbrev control_at : Location
-  control_at = control_location z.declared z.allocation c
+  control_at = control_location (layout_of z) c
 
   -- an element comes into a register, from an address that is in another
   old_runs : (i rs field q : ℕ) → i < size → rs < 32 → field < 4096 → 4 < q → q < 32

@@ -117,7 +117,7 @@ module _ (layout : Frame) (left_out : ℕ → Bool)
   same_home : (x : ℕ) → Spares (λ y. x == y) → home_of b.homes x ≡ home_of a.homes x
   same_home x spares = home_kept a left_out x (stays x spares)
 
-  pub control_same : (c : ℕ) → control_location declared b c ≡ control_location declared a c
+  pub control_same : (c : ℕ) → control_location fewer c ≡ control_location layout c
   control_same c =
       let x = length declared + c in
       rw (home_kept a left_out x (false_from_ne_true (left_out x) (λ is. omega (arith, variables x is)))) refl
@@ -237,7 +237,7 @@ module _ (layout : Frame) (left_out : ℕ → Bool)
       simp (control_same, read_same, register_same)
 
   taken_same : (x y : Bool) (p q r : ℕ) (within : Option ℕ)
-      → taken_code declared b x y p q r within ≡ taken_code declared a x y p q r within
+      → taken_code fewer x y p q r within ≡ taken_code layout x y p q r within
   taken_same x y p q r None = refl
   taken_same x y p q r (Some c) = rw (control_same c) refl
 

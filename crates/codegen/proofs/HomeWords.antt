@@ -5,7 +5,7 @@ use Rattle.std.proofs.lemmas.Bool.{cond_both}
 use Rattle.codegen.proofs.Machine.{control_offset, number_at, Allocation, control_location, home_of, at_home, InSlot}
 use Rattle.codegen.proofs.Language.{StraightState, with_variable, word_as, WordType, types_of}
 use Rattle.codegen.proofs.Language.{bits_of}
-use Rattle.codegen.proofs.Logic.{none-some, same_Some, eqb-true, eqb-false, fits_assigned, one_held, Holds}
+use Rattle.codegen.proofs.Logic.{none-some, same_Some, eqb-true, eqb-false, fits_assigned, one_held, Holds, layout_of}
 use Rattle.codegen.proofs.Logic.{slice_get_within, HeldAt, mask_of, bytes_of, place_of, Setting, base_of, Kept, Ready}
 use Rattle.codegen.proofs.Logic.{variables_kept, IsHome, kept_number, at_control}
 use Rattle.rv_machine.specs.Machine as machine
@@ -35,8 +35,8 @@ module _ (z : Setting) where
       → ((home : ℕ) → home_of z.allocation.homes (length z.declared + c) ≡ Some home → t.regs home ≡ s.regs home)
       → number_at t.bytes 4 (z.frame + control_offset z.declared c)
       ≡ number_at s.bytes 4 (z.frame + control_offset z.declared c)
-      → Holds (with_homes z a allocated) (control_location z.declared a c) s v
-      → Holds z (control_location z.declared z.allocation c) t v
+      → Holds (with_homes z a allocated) (control_location (layout_of (with_homes z a allocated)) c) s v
+      → Holds z (control_location (layout_of z) c) t v
   control_alike a allocated c v s t same homes slot there =
       let o = control_offset z.declared c in
       let was = λ (h : Option ℕ). Holds (with_homes z a allocated) (at_home h (InSlot o)) s v in

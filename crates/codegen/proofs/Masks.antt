@@ -8,6 +8,7 @@ use Rattle.codegen.proofs.Machine.{kept_code, read_register, register_of, unless
 use Rattle.codegen.proofs.Machine.{Sw}
 use Rattle.codegen.proofs.Language.{StraightState, with_controls, TermTree, WordType, types_of, HasType}
 use Rattle.codegen.proofs.Logic.{free_from, none-some, at_control, control_stays, Fetched, fetch_runs, HasRoom, Holds}
+use Rattle.codegen.proofs.Logic.{layout_of}
 use Rattle.codegen.proofs.Logic.{move_runs, none, slice_get_within, weaken, HeldAt, mask_of, apart, Setting, base_of}
 use Rattle.codegen.proofs.Logic.{Kept, Ready, Wrote, wrote_kept, wrote_there, variables_kept, HomesKept, IsHome}
 use Rattle.codegen.proofs.Logic.{kept_number, home_there, is_free, idle, put, Runs, kept_less, kept_then}
@@ -25,7 +26,7 @@ module _ (z : Setting) where
 
   -- the register of a control value's mask: its home, or a spare one
   abbrev pub mask_register : ℕ → ℕ → ℕ
-  mask_register c spare = register_of (control_location z.declared z.allocation c) spare
+  mask_register c spare = register_of (control_location (layout_of z) c) spare
 
   -- it is no other one of the first three temporaries
   pub mask_apart : (c spare q : ℕ) → q < 8 → spare ≢ q → mask_register c spare ≢ q
@@ -52,13 +53,13 @@ module _ (z : Setting) where
 
   -- The mask of a control value in its register.
   pub mask_runs : (c spare : ℕ) → c < z.controls → is_unread z.allocation c ≡ false → 4 < spare → spare < 32
-      → Runs z 3 none (fetch_code (control_location z.declared z.allocation c) spare) (Ready z)
+      → Runs z 3 none (fetch_code (control_location (layout_of z) c) spare) (Ready z)
       (λ env s t. Fetched z (mask_register c spare) spare (mask_of (env.controls c)) s t)
   mask_runs c spare among read low high =
       weaken
       (λ env s fine ready. (ready.held, ready.controls_there c among read))
       (λ env s t fine ready done. done)
-      (fetch_runs z spare low high (λ env. mask_of (env.controls c)) (control_location z.declared z.allocation c)
+      (fetch_runs z spare low high (λ env. mask_of (env.controls c)) (control_location (layout_of z) c)
       (at_control z c (HasRoom z) (λ home at. tt) (λ away. (omega arith, omega arith))))
 
   -- none of the first three temporaries is a home
@@ -116,7 +117,7 @@ module _ (z : Setting) where
         stays home (z.allocated.allowed (n + d) home at) ∙ (ap m.regs (sym same) ∙ is)
 
     control_there : (y : ℕ) → y < z.controls → is_unread z.allocation y ≡ false
-        → Holds z (control_location z.declared z.allocation y) u
+        → Holds z (control_location (layout_of z) y) u
         (mask_of (cond (y == c) f (cond (y == c + 1) g (env.controls y))))
     control_there y below read =
         elim (cases_eq y c) [
@@ -169,7 +170,7 @@ module _ (z : Setting) where
   pub mask_put : (c r : ℕ) (v : StraightState → ℕ) → c < z.controls
       → (is_free r && (nat_lt r 32 && not (r == 28))) ≡ true
       → PutsMask c r v
-      (unless_unread (is_unread z.allocation c) (kept_code (control_location z.declared z.allocation c) r))
+      (unless_unread (is_unread z.allocation c) (kept_code (control_location (layout_of z) c) r))
   mask_put c r v among ok = by_test (is_unread z.allocation c) refl
     where
       untouched : (env : StraightState) (s : machine.State) → HeldAt z s
@@ -179,7 +180,7 @@ module _ (z : Setting) where
       untouched env s held there = assumption
 
       by_test : (b : Bool) → is_unread z.allocation c ≡ b
-          → PutsMask c r v (unless_unread b (kept_code (control_location z.declared z.allocation c) r))
+          → PutsMask c r v (unless_unread b (kept_code (control_location (layout_of z) c) r))
       by_test true unread =
           idle (λ env s given. untouched env s given.0 (λ read away. absurd (true≢false (sym unread ∙ read))))
       by_test false read =

@@ -192,7 +192,7 @@ module _ (z : Setting) where
 
     masked_runs : (enclosing : Option ℕ) → IsAmong z.controls enclosing → IsKeptWithin z.allocation.unread enclosing
         → Runs z (16 * term_nodes condition + 7) (steps_of condition)
-        (tested ++ taken_code z.declared z.allocation unread unread' a b r enclosing) (Ready z) (MasksIn a b enclosing)
+        (tested ++ taken_code (layout_of z) unread unread' a b r enclosing) (Ready z) (MasksIn a b enclosing)
     masked_runs None among read = cheaper (omega arith) (masks_in a b a_free b_free a_beside (read_beside z c has))
     masked_runs (Some d) among read =
         let k = mask_register z d 6 in

@@ -163,7 +163,7 @@ module _ (z : Setting) (depth : ℕ) (within : depth ≤ z.depths) (c : ℕ) (am
       pub number_under : {l : ℕ} {steps : Steps} {front : List Instr} {P : Before}
           → Runs z l steps front P (λ env s t. Begun New new env s t × Aims t.regs)
           → Runs z (l + m + 3 + length combine + n) steps
-          ((((front ++ loads) ++ fetch_code (control_location z.declared z.allocation c) spare) ++ combine) ++ stores) P
+          ((((front ++ loads) ++ fetch_code (control_location (layout_of z) c) spare) ++ combine) ++ stores) P
           (Shown z depth (λ env. if env.controls c then with_element env x i (new env) else env))
       number_under begins =
           gives
@@ -232,7 +232,7 @@ module _ (z : Setting) (depth : ℕ) (within : depth ≤ z.depths) (c : ℕ) (am
     new env = value_in env.variables value
 
     abbrev control : Location
-    control = control_location z.declared z.allocation c
+    control = control_location (layout_of z) c
 
     abbrev Sets : ℕ → Steps → List Instr → Type 0
     Sets n steps code = Runs z n steps code (Ready z) (Shown z depth (λ env. after env (set (Some c) x value)))

@@ -24,7 +24,7 @@ pub struct Target {
 pub fn target_of(layout: &Layout<'_>, control: u32, spare: Reg) -> Target
     requires { control < layout.now.controls }
     ensures { result ≡ record {
-      register = register_of (control_location layout.now.declared layout.now.allocation control) spare;
+      register = register_of (control_location layout.now control) spare;
       is_unread = is_unread layout.now.allocation control;
     } }
 {
@@ -111,8 +111,8 @@ pub fn taken(
 ) -> Result<(), AllocError>
     requires { IsAmong layout.now.controls within }
     ensures { OnOk result (code.new.items ≡ code.old.items
-        ++ taken_code layout.now.declared layout.now.allocation accepted.now.is_unread otherwise.now.is_unread
-        accepted.now.register otherwise.now.register condition within) }
+        ++ taken_code layout.now accepted.now.is_unread otherwise.now.is_unread accepted.now.register
+        otherwise.now.register condition within) }
 {
     let Some(enclosing) = within else {
         return masks(code, accepted, otherwise, condition);
@@ -141,7 +141,7 @@ pub fn keep(
     requires { control < layout.now.controls }
     ensures { OnOk result (code.new.items ≡ code.old.items
         ++ unless_unread (is_unread layout.now.allocation control)
-        (kept_code (control_location layout.now.declared layout.now.allocation control) register)) }
+        (kept_code (control_location layout.now control) register)) }
 {
     if layout.is_unread(control) {
         return Ok(());

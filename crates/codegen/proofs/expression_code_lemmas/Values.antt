@@ -37,7 +37,7 @@ pub record Ready (z : Setting) (env : StraightState) (s : State) : Type 0 where
       → home_of z.allocation.homes x ≡ None → i < numbers_in d.elements
       → number_at s.bytes (bytes_of d) (z.frame + place_of z.declared x d i) ≡ Some (slice_index (env.variables x) i)
   pub controls_there : (c : ℕ) → c < z.controls → is_unread z.allocation c ≡ false
-      → Holds z (control_location z.declared z.allocation c) s (mask_of (env.controls c))
+      → Holds z (control_location (layout_of z) c) s (mask_of (env.controls c))
 
 -- registers that do not work are as they were
 abbrev pub Leaves : (ℕ → Bool) → State → State → Type 0
@@ -134,7 +134,7 @@ variables_home z env s t ready homes x home d is at = homes home (z.allocated.al
 pub at_control : (z : Setting) (c : ℕ) (P : Location → Type 0)
     → ((home : ℕ) → home_of z.allocation.homes (length z.declared + c) ≡ Some home → P (InRegister home))
     → (home_of z.allocation.homes (length z.declared + c) ≡ None → P (InSlot (control_offset z.declared c)))
-    → P (control_location z.declared z.allocation c)
+    → P (control_location (layout_of z) c)
 at_control z c P in_home in_slot =
     elim (cases_Option (home_of z.allocation.homes (length z.declared + c))) [
       | inl found ↦ rw found.1 (in_home found.0 found.1)
@@ -146,8 +146,8 @@ pub control_stays : (z : Setting) (c v : ℕ) (s t : State)
     → ((home : ℕ) → home_of z.allocation.homes (length z.declared + c) ≡ Some home → t.regs home ≡ s.regs home)
     → number_at t.bytes 4 (z.frame + control_offset z.declared c)
     ≡ number_at s.bytes 4 (z.frame + control_offset z.declared c)
-    → Holds z (control_location z.declared z.allocation c) s v
-    → Holds z (control_location z.declared z.allocation c) t v
+    → Holds z (control_location (layout_of z) c) s v
+    → Holds z (control_location (layout_of z) c) t v
 control_stays z c v s t homes slot =
     at_control z c (λ l. Holds z l s v → Holds z l t v) (λ home at there. homes home at ∙ there)
     (λ away there. slot ∙ there)
@@ -157,7 +157,7 @@ pub controls_kept : (z : Setting) (env : StraightState) (s t : State) → Ready 
     → (c : ℕ) → c < z.controls → is_unread z.allocation c ≡ false
     → number_at t.bytes 4 (z.frame + control_offset z.declared c)
     ≡ number_at s.bytes 4 (z.frame + control_offset z.declared c)
-    → Holds z (control_location z.declared z.allocation c) t (mask_of (env.controls c))
+    → Holds z (control_location (layout_of z) c) t (mask_of (env.controls c))
 controls_kept z env s t ready homes c among read slot =
     control_stays z c (mask_of (env.controls c)) s t
     (λ home at. homes home (z.allocated.allowed (length z.declared + c) home at)) slot

@@ -44,9 +44,10 @@ abbrev pub control_offset : List FlatVariable → ℕ → ℕ
 control_offset declared control = result_offset declared + 4 + 4 * control
 
 -- where a control value is
-abbrev pub control_location : List FlatVariable → Allocation → ℕ → Location
-control_location declared allocation control =
-    at_home (home_of allocation.homes (length declared + control)) (InSlot (control_offset declared control))
+abbrev pub control_location : Frame → ℕ → Location
+control_location layout control =
+    at_home (home_of layout.allocation.homes (length layout.declared + control))
+    (InSlot (control_offset layout.declared control))
 
 -- the slot of a word that may have a home: a variable, and behind all variables a control value
 abbrev pub word_offset : List FlatVariable → ℕ → ℕ

@@ -1,7 +1,7 @@
 -- The instructions that are emitted for statements.
 use Rattle.std.specs.Prelude.{ℕ, ◌+◌, ◌*◌, ◌==◌, Bool, true, false, List, [], ◌∷◌, ◌++◌, Option, None, Some}
 use Rattle.std.specs.Prelude.{if◌then◌else◌}
-use Rattle.codegen.specs.Below.{Add, Addi, And, array, array_words, Boolean, branch, element_bytes, first, FlatVariable}
+use Rattle.codegen.specs.Below.{Add, Addi, And, array, array_words, Boolean, branch, element_bytes, first}
 use Rattle.codegen.specs.Below.{Immediate, Instr, Kind, Load, Lui, nothing, put, Register, repeats, Sb, set, Sh, Store}
 use Rattle.codegen.specs.Below.{StoreOperation, StraightBlock, StraightTree, Sub, Sw, take, TermTree, Uint16, Uint32}
 use Rattle.codegen.specs.Below.{Uint8, Upper, Xor}
@@ -13,7 +13,7 @@ pub use Rattle.codegen.specs.private.StoredValues.{cuts, stored_value, uncut}
 pub use Rattle.codegen.specs.private.Words.{assign_code, home_of_term, home_or, put_word_code, read_code}
 pub use Rattle.codegen.specs.private.Words.{gives_zero, read_register, stored_code, stored_register}
 pub use Rattle.codegen.specs.private.Words.{unless_home}
-use Rattle.codegen.specs.expression_code.Allocation.{Allocation, is_unread, register_of}
+use Rattle.codegen.specs.expression_code.Allocation.{is_unread, register_of}
 use Rattle.codegen.specs.expression_code.Layout.{Frame, variable_offset, variable_location, control_location}
 use Rattle.codegen.specs.expression_code.Layout.{next_offset, temporaries_offset}
 use Rattle.codegen.specs.expression_code.Registers.{zero_register, frame_register, value_register, second_register}
@@ -52,14 +52,14 @@ join_code unread unread' accepted otherwise mask =
 
 -- the masks of a condition in a register, of which some are unread, into two registers, joined with the enclosing
 -- control value, where there is one
-abbrev pub taken_code : List FlatVariable → Allocation → Bool → Bool → ℕ → ℕ → ℕ → Option ℕ → List Instr
-taken_code declared allocation unread unread' accepted otherwise condition None =
+abbrev pub taken_code : Frame → Bool → Bool → ℕ → ℕ → ℕ → Option ℕ → List Instr
+taken_code layout unread unread' accepted otherwise condition None =
     masks_code unread unread' accepted otherwise condition
-taken_code declared allocation unread unread' accepted otherwise condition (Some control) =
+taken_code layout unread unread' accepted otherwise condition (Some control) =
     masks_code unread unread' third_register value_register condition
-    ++ fetch_code (control_location declared allocation control) second_register
+    ++ fetch_code (control_location layout control) second_register
     ++ join_code unread unread' accepted otherwise
-    (register_of (control_location declared allocation control) second_register)
+    (register_of (control_location layout control) second_register)
 
 -- a register into the slot of a word that has no home
 abbrev pub kept_code : Location → ℕ → List Instr
@@ -89,11 +89,9 @@ set_code layout None (InRegister home) e =
     into_code layout.declared layout.allocation (temporaries_offset layout) home 0 e
 set_code layout None (InSlot offset) e = assign_code layout e offset
 set_code layout (Some control) variable e =
-    if gives_zero layout.allocation e
-    then erase_under_code variable (control_location layout.declared layout.allocation control)
+    if gives_zero layout.allocation e then erase_under_code variable (control_location layout control)
     else read_code layout value_register 0 e
-    ++ set_under_code (read_register layout.allocation value_register e) variable
-    (control_location layout.declared layout.allocation control)
+    ++ set_under_code (read_register layout.allocation value_register e) variable (control_location layout control)
 
 -- Arrays.
 
@@ -189,13 +187,11 @@ put_element_code layout None x index value =
     (stored_value layout.allocation (kind_at layout.declared x) value)
 put_element_code layout (Some control) x index value =
     code_by (near_element layout.declared layout.allocation x index)
-    (λ offset. put_under_near_code layout (control_location layout.declared layout.allocation control)
-    (kind_at layout.declared x) offset value)
+    (λ offset. put_under_near_code layout (control_location layout control) (kind_at layout.declared x) offset value)
     (index_code layout index value
     ++ put_under_code (read_register layout.allocation value_register index)
-    (read_register layout.allocation second_register value)
-    (control_location layout.declared layout.allocation control) (kind_at layout.declared x)
-    (variable_offset layout.declared x))
+    (read_register layout.allocation second_register value) (control_location layout control)
+    (kind_at layout.declared x) (variable_offset layout.declared x))
 
 -- Statements of a program that is laid out so.
 module _ (layout : Frame) where
@@ -205,19 +201,17 @@ module _ (layout : Frame) where
 
   -- where a control value is
   abbrev pub control_at : ℕ → Location
-  control_at control = control_location layout.declared layout.allocation control
+  control_at control = control_location layout control
 
   abbrev mutual
     -- of a statement that so many loops are around
     pub statement_code : ℕ → StraightTree → List Instr
     statement_code depth (set within x value) = set_code layout within (location x) value
     statement_code depth (array x size values) = array_code layout x size values
-    statement_code depth (put within place x size index value) =
-        put_element_code layout within x index value
+    statement_code depth (put within place x size index value) = put_element_code layout within x index value
     statement_code depth (take control within condition) =
         read_code layout value_register 0 condition
-        ++ taken_code layout.declared layout.allocation (is_unread layout.allocation control)
-        (is_unread layout.allocation (control + 1))
+        ++ taken_code layout (is_unread layout.allocation control) (is_unread layout.allocation (control + 1))
         (register_of (control_at control) third_register) (register_of (control_at (control + 1)) value_register)
         (read_register layout.allocation value_register condition) within
         ++ unless_unread (is_unread layout.allocation control) (kept_code (control_at control) third_register)

@@ -209,7 +209,7 @@ impl<'f> Layout<'f> {
     /// Where a control value is: in its home, or in its slot.
     pub fn control_location(&self, number: u32) -> Location
         requires { number < self.now.controls }
-        ensures { result ≡ control_location self.now.declared self.now.allocation number }
+        ensures { result ≡ control_location self.now number }
     {
         let home = self.allocation.control_home(self.declared.len(), number);
         Location::InSlot(self.control(number)).unless_home(home)
