@@ -20,7 +20,7 @@ use Rattle.codegen.specs.private.Erased.{erase_under_code}
 use Rattle.codegen.specs.Below.{depth_in, depth_in_all, height_in, height_in_all, height_of_all}
 use Rattle.codegen.proofs.Machine.{ArePlacedTerms, control_location, HasPlace, HavePlaces, register_of, variable_offset}
 use Rattle.codegen.proofs.Machine.{Frame}
-use Rattle.codegen.proofs.Machine.{next_offset, temporaries_offset, kind_at, near_element, height_of, Instr, slots_to}
+use Rattle.codegen.proofs.Machine.{temporaries_offset, kind_at, near_element, height_of, Instr, slots_to}
 use Rattle.codegen.proofs.Machine.{InRegister, InSlot, Location, variable_location, unless_unread}
 use Rattle.codegen.specs.private.Placed.{IsPlaced}
 use Rattle.codegen.proofs.StoredValues.{stored_nodes}
@@ -161,8 +161,7 @@ module _ (layout : Frame) where
         omega (arith, spans.1, block_length depth accepted, block_length depth otherwise)
     statement_length depth (repeats x low high body) =
         let ys = block_code layout (depth + 1) body in
-        let spans = repeat_spans layout (next_offset layout depth) ys
-        (variable_location layout.declared layout.allocation x) low high (any_sets x body) in
+        let spans = repeat_spans layout depth x ys low high (any_sets x body) in
         omega (arith, spans.1, block_length (depth + 1) body)
 
     pub block_length : (depth : ℕ) (b : StraightBlock)

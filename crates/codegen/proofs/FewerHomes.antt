@@ -16,7 +16,7 @@ use Rattle.codegen.specs.private.Compared.{against_zero}
 use Rattle.codegen.specs.private.Fresh.{any_names, homes_but, names, names_in, names_in_any, names_in_result}
 use Rattle.codegen.proofs.StoredValues.{stored_alike}
 use Rattle.codegen.specs.private.Emitted.{into_element_code, stored_value}
-use Rattle.codegen.specs.private.Loops.{any_sets, counting_home, loop_from, repeat_code, short_number}
+use Rattle.codegen.specs.private.Loops.{any_sets, counting_home, loop_from, short_number}
 use Rattle.codegen.specs.expression_code.Allocation.{temporary, working_register}
 use Rattle.codegen.specs.expression_code.TermCode.{is_at_home, keeps_words, operand}
 use Rattle.inline.specs.Flat as flat
@@ -315,7 +315,9 @@ module _ (layout : Frame) (left_out : ℕ → Bool)
         let parts = λ (y : ℕ) (out : left_out y ≡ true). neither_of_four _ _ _ _ (spares y out) in
         let next = next_offset layout depth in
         let own = block_code layout (depth + 1) body in
-        ap₂ (λ l (is : List Instr). repeat_code fewer next l low high (any_sets x body) is)
+        ap₂
+        (λ l (is : List Instr).
+        loop_from fewer next l low high is (counting_home l (any_sets x body) is) (short_number high))
         (location_same x (λ y out. (parts y out).0)) (block_same (depth + 1) body (λ y out. (parts y out).3))
         ∙ loop_same next (variable_location declared a x) low high own
         (counting_home (variable_location declared a x) (any_sets x body) own) (short_number high)

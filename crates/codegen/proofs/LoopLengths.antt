@@ -5,7 +5,7 @@ use Rattle.codegen.proofs.Choices.{of_choice}
 use Rattle.codegen.proofs.Language.{TermTree, term_nodes}
 use Rattle.codegen.proofs.Logic.{load_length, move_length, store_length}
 use Rattle.codegen.proofs.Machine.{AreNear, far, Instr, Location, bounds_code, count_code, read_register, Frame}
-use Rattle.codegen.proofs.Machine.{test_code}
+use Rattle.codegen.proofs.Machine.{test_code, next_offset, variable_location}
 use Rattle.codegen.proofs.WordLengths.{assign_length, put_word_length, read_length, value_length}
 use Rattle.codegen.specs.private.Loops.{counting_home, is_below, loop_from, repeat_code, short_number, to_word_code}
 
@@ -42,11 +42,13 @@ module _ (layout : Frame) (next : ℕ) (body : List Instr) where
       let p = put_word_length 6 counter in
       (omega (arith, e), omega (arith, e, bounds_length low high, load_length, store_length, p))
 
-  pub repeat_spans : (counter : Location) (low high : TermTree) (is_set : Bool)
-      → Spans body (16 * term_nodes low + 16 * term_nodes high + 26)
-      (repeat_code layout next counter low high is_set body)
-  repeat_spans counter low high is_set =
-      from_spans counter low high (counting_home counter is_set body) (short_number high)
+pub repeat_spans : (layout : Frame) (depth x : ℕ) (body : List Instr) (low high : TermTree) (is_set : Bool)
+    → Spans body (16 * term_nodes low + 16 * term_nodes high + 26)
+    (repeat_code layout depth x low high is_set body)
+repeat_spans layout depth x body low high is_set =
+    let counter = variable_location layout.declared layout.allocation x in
+    from_spans layout (next_offset layout depth) body counter low high (counting_home counter is_set body)
+    (short_number high)
 
 -- so the turns of a loop that does not count are no farther than a jump goes, where the loop is not too long
 pub turn_near : (next : ℕ) (bounds : List Instr) (counter : Location) (body : List Instr)

@@ -67,10 +67,8 @@ module _ (z : Setting) (depth x : ℕ) (within : depth < z.depths) (low high : T
       (to_word_runs z depth x h within known c.there low high body n has_low room_low c.unset c.short inner has_high
       room_high)
 
-  pub loops_run : length (repeat_code (layout_of z) next
-      (variable_location z.declared z.allocation x) low high (any_sets x body) ys) < far
-      → Loops (repeat_code (layout_of z) next (variable_location z.declared z.allocation x) low
-      high (any_sets x body) ys)
+  pub loops_run : length (repeat_code (layout_of z) depth x low high (any_sets x body) ys) < far
+      → Loops (repeat_code (layout_of z) depth x low high (any_sets x body) ys)
   loops_run =
       by_home (counting_home (variable_location z.declared z.allocation x) (any_sets x body) ys) (short_number high)
       refl refl

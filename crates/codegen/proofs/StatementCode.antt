@@ -5,7 +5,7 @@ use Rattle.codegen.proofs.Language.{StraightStatement, StraightTree, StraightBlo
 use Rattle.codegen.proofs.Language.{straight_tree, straight_block, TermTree}
 use Rattle.codegen.proofs.BranchLengths.{branching_spans}
 use Rattle.codegen.proofs.LoopLengths.{repeat_spans}
-use Rattle.codegen.proofs.Machine.{statement_code, block_code, branching_code, variable_location, next_offset}
+use Rattle.codegen.proofs.Machine.{statement_code, block_code, branching_code}
 use Rattle.codegen.proofs.Machine.{Frame, IsFar, Instr}
 use Rattle.codegen.specs.private.Loops.{any_sets, repeat_code}
 use Rattle.codegen.specs.declared.unemitted.Unemitted.{Unemitted}
@@ -36,8 +36,7 @@ module _ (f : Frame) where
   module _ (depth x : ℕ) {s : StraightTree} {low high : TermTree} {body : StraightBlock}
       (tree : s ≡ repeats x low high body) {ys : List Instr} (turn : ys ≡ code_of_all (depth + 1) body) where
     pub loop_is : (is_set : Bool) → is_set ≡ any_sets x body
-        → repeat_code f (next_offset f depth) (variable_location f.declared f.allocation x) low high is_set ys
-        ≡ code_of depth s
+        → repeat_code f depth x low high is_set ys ≡ code_of depth s
     loop_is is_set set = rw (tree, turn, set)
 
     -- the body is no longer than the statement
@@ -45,8 +44,7 @@ module _ (f : Frame) where
     body_within =
         omega (
           arith,
-          (repeat_spans f (next_offset f depth) ys (variable_location f.declared f.allocation x) low high
-              (any_sets x body)).0,
+          (repeat_spans f depth x ys low high (any_sets x body)).0,
           ap (λ (l : List Instr). length l) (loop_is (any_sets x body) refl),
         )
 

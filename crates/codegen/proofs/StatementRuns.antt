@@ -4,7 +4,7 @@ use Rattle.codegen.proofs.Language.{statement_work, block_work, StraightTree, se
 use Rattle.codegen.proofs.Language.{StraightBlock, nothing, first, after, after_all, path_at, path_along, IsTyped}
 use Rattle.codegen.proofs.Language.{AreTyped, labelled, Boolean, Public}
 use Rattle.codegen.proofs.Machine.{AllReadKept, ReadsKept, statement_code, block_code, height_in, height_in_all}
-use Rattle.codegen.proofs.Machine.{depth_in, depth_in_all, far, next_offset, slots_to, Instr, variable_location}
+use Rattle.codegen.proofs.Machine.{depth_in, depth_in_all, far, slots_to, Instr}
 use Rattle.codegen.proofs.ElementRuns.{put_runs, fill_runs}
 use Rattle.codegen.proofs.ElementUnderRuns.{put_under_runs}
 use Rattle.codegen.proofs.LoopLengths.{repeat_spans}
@@ -58,8 +58,7 @@ module _ (z : Setting) where
         (omega (arith, near))))
     statement_runs depth (repeats x low high body) typed read room within few =
         let ys = block_code (layout_of z) (depth + 1) body in
-        let spans = repeat_spans (layout_of z) (next_offset (layout_of z) depth) ys
-        (variable_location z.declared z.allocation x) low high (any_sets x body) in
+        let spans = repeat_spans (layout_of z) depth x ys low high (any_sets x body) in
         cheaper (omega (arith, height low))
         (loops_run z depth x (omega (arith, within)) low high body (32 * block_work z.counts body)
         typed.2 typed.0 typed.1 (omega (arith, room)) (omega (arith, room))

@@ -7,7 +7,6 @@ ghost use Rattle.codegen.specs.private.Loops.{counting_home, guarded_code, is_be
 ghost use Rattle.codegen.specs.private.Loops.{to_number_code, to_word_code, turns_code};
 ghost use Rattle.codegen.specs.private.Jumps.{IsFar};
 ghost use Rattle.codegen.specs.private.Placed.{IsPlaced};
-ghost use Rattle.codegen.specs.expression_code.Layout.{next_offset, variable_location};
 ghost use Rattle.codegen.specs.Below.{Addi, Immediate, term_tree};
 
 use crate::expression_code::emit::{MINUS_ONE, NEAR, load, store};
@@ -271,11 +270,10 @@ pub fn repeat(
     requires low { IsPlaced layout.now 0 (term_tree repeat.now.low.now) }
     requires high { IsPlaced layout.now 0 (term_tree repeat.now.high.now) }
     ensures code { OnOk result (code.new.items ≡ code.old.items
-        ++ repeat_code layout.now (next_offset layout.now depth)
-        (variable_location layout.now.declared layout.now.allocation repeat.now.counter) (term_tree repeat.now.low.now)
+        ++ repeat_code layout.now depth repeat.now.counter (term_tree repeat.now.low.now)
         (term_tree repeat.now.high.now) repeat.now.is_set body.now) }
-    ensures far { IfErr result (IsFar (length (repeat_code layout.now (next_offset layout.now depth)
-        (variable_location layout.now.declared layout.now.allocation repeat.now.counter) (term_tree repeat.now.low.now)
+    ensures far { IfErr result (IsFar (length
+        (repeat_code layout.now depth repeat.now.counter (term_tree repeat.now.low.now)
         (term_tree repeat.now.high.now) repeat.now.is_set body.now))) }
 {
     let next = layout.next(depth);

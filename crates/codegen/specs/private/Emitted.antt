@@ -15,7 +15,7 @@ pub use Rattle.codegen.specs.private.Words.{gives_zero, read_register, stored_co
 pub use Rattle.codegen.specs.private.Words.{unless_home}
 use Rattle.codegen.specs.expression_code.Allocation.{is_unread, register_of}
 use Rattle.codegen.specs.expression_code.Layout.{Frame, variable_offset, variable_location, control_location}
-use Rattle.codegen.specs.expression_code.Layout.{next_offset, temporaries_offset}
+use Rattle.codegen.specs.expression_code.Layout.{temporaries_offset}
 use Rattle.codegen.specs.expression_code.Registers.{zero_register, frame_register, value_register, second_register}
 use Rattle.codegen.specs.expression_code.Registers.{third_register, address_register, first_spare}
 use Rattle.codegen.specs.expression_code.TermCode.{is_near, upper_part, lower_part, load_code, store_code}
@@ -220,8 +220,7 @@ module _ (layout : Frame) where
     statement_code depth (branch condition accepted otherwise) =
         branching_code layout condition (block_code depth accepted) (block_code depth otherwise)
     statement_code depth (repeats x low high body) =
-        repeat_code layout (next_offset layout depth) (location x) low high (any_sets x body)
-        (block_code (depth + 1) body)
+        repeat_code layout depth x low high (any_sets x body) (block_code (depth + 1) body)
 
     -- of statements, one after the other
     pub block_code : ℕ → StraightBlock → List Instr

@@ -7,7 +7,7 @@ use Rattle.codegen.specs.Below.{Addi, array, branch, first, Immediate, Instr, no
 use Rattle.codegen.specs.Below.{Register, repeats, set, Sltiu, Sltu, StraightBlock, StraightTree, take, TermTree}
 use Rattle.codegen.specs.private.Jumps.{again_code, branch_code, loop_code}
 use Rattle.codegen.specs.private.Words.{assign_code, put_word_code, read_code, read_register}
-use Rattle.codegen.specs.expression_code.Layout.{Frame, temporaries_offset}
+use Rattle.codegen.specs.expression_code.Layout.{Frame, next_offset, temporaries_offset, variable_location}
 use Rattle.codegen.specs.expression_code.Registers.{value_register, second_register}
 use Rattle.codegen.specs.expression_code.TermCode.{into_code, is_near, load_code, move_code, store_code}
 use Rattle.codegen.specs.declared.expression_code.locations.Location.{Location}
@@ -113,7 +113,9 @@ loop_from layout next counter low high body (Some home) (Some bound) =
 loop_from layout next counter low high body home bound =
     bounds_code layout next low high ++ to_word_code next counter body home
 
--- from one expression up to another, with the code of its body, which sets the counter or does not
-abbrev pub repeat_code : Frame → ℕ → Location → TermTree → TermTree → Bool → List Instr → List Instr
-repeat_code layout next counter low high is_set body =
-    loop_from layout next counter low high body (counting_home counter is_set body) (short_number high)
+-- that so many others are around, of a variable from one expression up to another, with the code of its body, which
+-- sets the variable or does not
+abbrev pub repeat_code : Frame → ℕ → ℕ → TermTree → TermTree → Bool → List Instr → List Instr
+repeat_code layout depth x low high is_set body =
+    loop_from layout (next_offset layout depth) (variable_location layout.declared layout.allocation x) low high body
+    (counting_home (variable_location layout.declared layout.allocation x) is_set body) (short_number high)

@@ -78,7 +78,7 @@ impl<'f> Layout<'f> {
           declared = declared.now;
           controls = controls;
           depths = depths;
-          allocation = allocation.entry;
+          allocation = allocation;
         }) ≤ 65536 }
         ensures { result ≡ record {
           declared = declared.now;
