@@ -150,7 +150,7 @@ class Call:
                 return f"byte {address - at} of parameter {number}"
         return f"the byte at sp {address - self.sp:+}"
 
-    def on_our_machine(self, words, most_turns, watch=None):
+    def on_our_machine(self, words, most_steps, watch=None):
         """Makes the call on a machine that has the room, the arguments on the stack and the arrays for its data, and nothing else."""
         arena, rom = bytearray(self.arena), bytearray(self.rom)
         ranges = [(self.sp - self.function.room, self.function.room, True), *self.parts]
@@ -160,15 +160,15 @@ class Call:
             parts.append(Part(base, bytearray(memory[at : at + count]), stores))
         machine = Machine(words, CODE, self.registers, parts, self.function.profile)
         back = self.registers[1] & ~1
-        turns = 0
+        steps = 0
         while machine.pc != back:
-            if turns == most_turns:
-                raise Stopped(f"no way back after {turns} turns")
+            if steps == most_steps:
+                raise Stopped(f"no way back after {steps} steps")
             if watch:
                 watch(machine)
-            machine.turn()
-            turns += 1
+            machine.step()
+            steps += 1
         for part in parts:
             memory, base = (rom, ROM) if part.base >= ROM else (arena, ARENA)
             memory[part.base - base : part.base - base + len(part.data)] = part.data
-        return turns, machine, arena, rom
+        return steps, machine, arena, rom

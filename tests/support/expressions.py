@@ -78,10 +78,10 @@ def prefixed(sign, operand):
 
 
 def rotated(operand, amount):
-    def turn(a):
+    def rotated(a):
         return (a << amount | a >> 32 - amount) % WORD
 
-    return f"({operand[0]}) <<< {amount}", lambda env: turn(operand[1](env))
+    return f"({operand[0]}) <<< {amount}", lambda env: rotated(operand[1](env))
 
 
 def cut(kind, operand):

@@ -83,20 +83,20 @@ def near(number):
     return number < 2_048
 
 
-def wrapper_turns(parameters, offsets, frame, result):
-    """The turns of the code around a body, by the sizes of what it moves: parameters are pairs of a form and a type, in which an
+def wrapper_steps(parameters, offsets, frame, result):
+    """The steps of the code around a body, by the sizes of what it moves: parameters are pairs of a form and a type, in which an
     array's type has a length behind it, and offsets are those of their slots, and of the result's where there is one."""
     low = (frame + 15) // 16 * 16
-    turns = 21 + (constant(low) + 1 + 6 * low // 16 if low else 0)
+    steps = 21 + (constant(low) + 1 + 6 * low // 16 if low else 0)
     for number, (form, kind, length) in enumerate(parameters):
         place = load(low + 48 + 4 * number)
         if form == "word":
-            turns += place + {"bool": 1, "uint8": 1, "uint16": 2, "uint32": 0}[kind] + load(offsets[number])
+            steps += place + {"bool": 1, "uint8": 1, "uint16": 2, "uint32": 0}[kind] + load(offsets[number])
         else:
             head = place + constant(offsets[number]) + constant(SIZES[kind] * length) + 2
-            turns += head + (6 if kind == "bool" else 5) * length + (head + 5 * length if form == "mut" else 0)
-    turns += load(result) if result is not None else 1
-    return turns + constant(low) + 14 + 6 * (low + ABOVE_FRAME) // 16 + 15
+            steps += head + (6 if kind == "bool" else 5) * length + (head + 5 * length if form == "mut" else 0)
+    steps += load(result) if result is not None else 1
+    return steps + constant(low) + 14 + 6 * (low + ABOVE_FRAME) // 16 + 15
 
 
 def load(offset):

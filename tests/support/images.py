@@ -10,7 +10,7 @@ FOREVER = 0x0000006F  # jal x0, 0
 ECALL = 0x00000073
 
 # Loops without end. One works on registers alone, one keeps its counter in the frame, and one loads and stores
-# in half of its turns, words, halves and bytes.
+# in half of its steps, words, halves and bytes.
 COUNT_IN_REGISTERS = [
     0x00128293,  # addi x5, x5, 1
     0x0055C5B3,  # xor x11, x11, x5
@@ -48,9 +48,9 @@ def image(parameters=(), returned=b"\0", frame=0, steps=2, words=(ADD_ONE, ECALL
     return head + b"".join(parameters) + returned + tail + struct.pack(f"<{len(words)}I", *words)
 
 
-def looping(words, turns):
-    """An image without arguments that loops for so many turns; then its budget is used up."""
-    return image(frame=4, steps=turns, words=words)
+def looping(words, steps):
+    """An image without arguments that loops for so many steps; then its budget is used up."""
+    return image(frame=4, steps=steps, words=words)
 
 
 class Fields:

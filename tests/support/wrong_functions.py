@@ -97,7 +97,7 @@ def zeros_are_skipped(function):
 
 
 def a_const_array_is_copied_back(function):
-    """The code that copies it in, with its load and its store turned round, once more behind the result."""
+    """The code that copies it in, with its load and its store swapped, once more behind the result."""
     sections = function.copies()
     words = list(titled(sections, "parameter 1: an array").words)
     exchange_in(words, immediate_word(LOAD, 0, 5, 2, 28), immediate_word(LOAD, 0, 6, 2, 28))

@@ -109,11 +109,11 @@ module _ (most : List ℕ) where
         let inner = fits_all within control body in
         let few = inner.few_nodes in
         let some = inner.few_work in
-        let turns : (slice_index most x + 1) * (1 + block_work most (removed_all within control body))
+        let iterations : (slice_index most x + 1) * (1 + block_work most (removed_all within control body))
         ≤ (slice_index most x + 1) * (1 + body_work most body) =
         mul-le-mul_left (slice_index most x + 1) (omega (arith, some)) in
         let taken = inner.taken in
-        record { few_nodes = omega (arith, few); few_work = omega (arith, turns); taken = omega (arith, taken) }
+        record { few_nodes = omega (arith, few); few_work = omega (arith, iterations); taken = omega (arith, taken) }
     fits within control other = record { few_nodes = omega arith; few_work = omega arith; taken = omega arith }
 
     fits_all : (within : Option ℕ) (control : ℕ) (b : FlatBlock)
@@ -171,7 +171,7 @@ counted p sized = let few = (fits_all [] None 0 p.body).few_nodes in omega (arit
 
 pub bounded : (p : FlatProgram) → IsSized p → (ranged p).work ≤ most_work → IsBounded (straightened (ranged p))
 bounded p sized fits =
-    let body = fits_all (ranged p).turns None 0 p.body in
+    let body = fits_all (ranged p).iterations None 0 p.body in
     let work = body.few_work in
     let taken = body.taken in
     record {

@@ -24,7 +24,7 @@ module _ (p : StraightProgram) (declared : List FlatVariable) (body : StraightBl
       let all = both (both (both (they_come_first parameters declared) (all_fit p.profile declared p.controls body))
       (it_results (types_of p.profile declared) p.returned value))
       (both (both (leb-true (4 * declared_words declared) most_variable_bytes)
-      (leb-true (block_work p.turns body + value_nodes value) p.work))
+      (leb-true (block_work p.iterations body + value_nodes value) p.work))
       (leb-true (p.controls + 2 * depth_in_all body + program_height made) p.nodes)) h in
       let code = all.0.0.1 in
       record {

@@ -20,9 +20,9 @@ within count n limit is few = alike count limit n limit (λ h. omega (arith, h))
 pub words_within : (count n : ℕ) → count ≡ counted n → nat_le count 10192 ≡ nat_le (4 * n) 40768
 words_within count n is = alike count 10192 (4 * n) 40768 (λ h. omega (arith, h)) (λ h. omega (arith, h))
 
--- the turns of a loop, whose body's work is a count
-pub turns_counted : (a t w : ℕ) → counted (a + (t + 1) * counted (1 + counted w)) ≡ counted (a + (t + 1) * (1 + w))
-turns_counted a t w = elim (leb_tells (1 + w) (2 ^ 64 - 1)) [
+-- the iterations of a loop, whose body's work is a count
+pub iterations_counted : (a t w : ℕ) → counted (a + (t + 1) * counted (1 + counted w)) ≡ counted (a + (t + 1) * (1 + w))
+iterations_counted a t w = elim (leb_tells (1 + w) (2 ^ 64 - 1)) [
   | inl less ↦
       let same : counted (1 + counted w) ≡ 1 + w = omega (arith, less.1) in
       ap (λ n. counted (a + (t + 1) * n)) same

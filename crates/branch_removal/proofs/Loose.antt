@@ -4,14 +4,14 @@
 use Rattle.std.proofs.Common.{◌≡◌, ℕ, zero, suc, ◌+◌, ◌-◌, ◌<◌, ◌==◌, Bool, true, false, cond, if◌then◌else◌, List}
 use Rattle.std.proofs.Common.{[], ◌∷◌, ◌++◌, map, replicate, Option, None, Some, slice_set, refl, sym, ap, ap₂, ◌∙◌}
 use Rattle.std.proofs.Common.{subst, arith}
-use Rattle.branch_removal.specs.Below.{a_turn, AreFine, AreTyped, array, array_as, assign, assigns, Boolean, bounded}
-use Rattle.branch_removal.specs.Below.{branch, chooses, counter_type, declare, declares, declares_array, ends, first}
-use Rattle.branch_removal.specs.Below.{FlatBlock, FlatTree, FlatVariable, goes_on, HasType, hold, holds, indexed, IsPut}
-use Rattle.branch_removal.specs.Below.{IsTyped, Label, labelled, LeadAll, Leads, loop, no_turn, none_left, nothing}
-use Rattle.branch_removal.specs.Below.{Path, path_in, path_in_all, path_of_turns, Place, Profile, Public, put, puts}
-use Rattle.branch_removal.specs.Below.{repeats, Secret, skip, skips, TermTree, to_anything, Turns, turns, Types}
-use Rattle.branch_removal.specs.Below.{types_after, types_after_all, types_of, value_in, Values, with_type, with_value}
-use Rattle.branch_removal.specs.Below.{word_as, WordType}
+use Rattle.branch_removal.specs.Below.{an_iteration, AreFine, AreTyped, array, array_as, assign, assigns, Boolean}
+use Rattle.branch_removal.specs.Below.{bounded, branch, chooses, counter_type, declare, declares, declares_array, ends}
+use Rattle.branch_removal.specs.Below.{first, FlatBlock, FlatTree, FlatVariable, goes_on, HasType, hold, holds, indexed}
+use Rattle.branch_removal.specs.Below.{IsPut, IsTyped, Label, labelled, LeadAll, Leads, loop, no_iteration, none_left}
+use Rattle.branch_removal.specs.Below.{nothing, Path, path_in, path_in_all, path_of_iterations, Place, Profile, Public}
+use Rattle.branch_removal.specs.Below.{put, puts, repeats, Secret, skip, skips, TermTree, to_anything, Iterations}
+use Rattle.branch_removal.specs.Below.{iterations, Types, types_after, types_after_all, types_of, value_in, Values}
+use Rattle.branch_removal.specs.Below.{with_type, with_value, word_as, WordType}
 use Rattle.inline.proofs.Face.{types_kept}
 use Rattle.intervals.proofs.StrictRuns.{comes, come_all}
 use Rattle.branch_removal.specs.private.Removal.{take_within, removed, removed_all}
@@ -92,21 +92,22 @@ module _ (profile : Profile) (declared : List FlatVariable) (most : List ℕ) wh
     fine = λ safe. fine_alone most (path_at s code) (fine (safe end path runs));
   }
 
-  -- where each turn has a loose run beside it, so have all turns
-  follow_turns : (types : Types) (x : ℕ) (body : FlatBlock) (turn : ℕ → StraightState → StraightState)
+  -- where each iteration has a loose run beside it, so have all iterations
+  follow_iterations : (types : Types) (x : ℕ) (body : FlatBlock) (iteration : ℕ → StraightState → StraightState)
       (along : ℕ → StraightState → Path)
       → ((i : ℕ) (s : StraightState) (m : Values) → Agree what_is_public types s.variables m
-      → Beside (LeadAll all (with_value m x (i ∷ [])) body) types (turn i s) (along i s))
+      → Beside (LeadAll all (with_value m x (i ∷ [])) body) types (iteration i s) (along i s))
       → (n i : ℕ) (s : StraightState) (m : Values) → Agree what_is_public types s.variables m
-      → Beside (Turns all x body n i m) types (turns n i turn s) (path_of_turns n i turn along s)
-  follow_turns types x body turn along step zero i s m agree =
-      record { end = m; path = []; runs = no_turn; agree = agree; fine = λ safe. tt }
-  follow_turns types x body turn along step (suc n) i s m agree =
-      let more = follow_turns types x body turn along step n (i + 1) in
+      → Beside (Iterations all x body n i m) types (iterations n i iteration s)
+      (path_of_iterations n i iteration along s)
+  follow_iterations types x body iteration along step zero i s m agree =
+      record { end = m; path = []; runs = no_iteration; agree = agree; fine = λ safe. tt }
+  follow_iterations types x body iteration along step (suc n) i s m agree =
+      let more = follow_iterations types x body iteration along step n (i + 1) in
       let one = step i s m agree in
-      both_beside {Rest = λ t. Turns all x body n (i + 1) t} (λ t o p q run rest. a_turn run rest)
+      both_beside {Rest = λ t. Iterations all x body n (i + 1) t} (λ t o p q run rest. an_iteration run rest)
       (λ t. let next = more (holding t) t (λ y d known public. refl) in (next.end, next.path, next.runs))
-      one (more (turn i s) one.end one.agree)
+      one (more (iteration i s) one.end one.agree)
 
   -- a secret that is set or kept in the straight run, and set in the loose one
   set_beside : (types : Types) (label : Label) (c x : ℕ) (v w : List ℕ) (new : FlatVariable) → types.at x ≡ Some new
@@ -282,10 +283,10 @@ module _ (profile : Profile) (declared : List FlatVariable) (most : List ℕ) wh
         let inner = with_type types x (word_as counter_type false) in
         let from = public_value types s.variables m agree typed.0 refl in
         let to = public_value types s.variables m agree typed.1 refl in
-        let turn : ℕ → StraightState → StraightState =
+        let iteration : ℕ → StraightState → StraightState =
         λ i t. after_all (counted x i t) (removed_all within control body) in
         let along : ℕ → StraightState → Path = λ i t. path_along (counted x i t) (removed_all within control body) in
-        let made = follow_turns types x body turn along
+        let made = follow_iterations types x body iteration along
         (λ i t n so_far. narrowed types _
         (λ y d known. types_kept declared inner label body typed.3 y d (stays_beside types x _ typed.2.new y d known))
         (follow_all inner label body typed.3 (among_beside profile declared types x _ typed.2.listed among)
@@ -299,7 +300,7 @@ module _ (profile : Profile) (declared : List FlatVariable) (most : List ℕ) wh
           end = made.end;
           path = bounds ++ mark ∷ made.path;
           runs = repeats (comes all m low) (comes all m high) made.runs;
-          agree = rw (sym (ap₂ (λ l h. turns (h - l) l turn s) from to)) at made.agree;
+          agree = rw (sym (ap₂ (λ l h. iterations (h - l) l iteration s) from to)) at made.agree;
           fine = λ safe.
               let whole = safe made.end _ (repeats (comes all m low) (comes all m high) made.runs) in
               let ends = fine_front most bounds (mark ∷ made.path) whole in
@@ -308,7 +309,8 @@ module _ (profile : Profile) (declared : List FlatVariable) (most : List ℕ) wh
               (fine_both most (path_in s.variables low) (path_in s.variables high)
               (fine_term types s m agree low typed.0 (fine_front most (path_in m low) (path_in m high) ends))
               (fine_term types s m agree high typed.1 (fine_back most (path_in m low) (path_in m high) ends)))
-              (subst (AreFine most) (sym (ap₂ (λ (l h : ℕ). bounded x l h ∷ path_of_turns (h - l) l turn along s)
+              (subst (AreFine most) (sym (ap₂ (λ (l h : ℕ). bounded x l h ∷ path_of_iterations
+              (h - l) l iteration along s)
               from to)) (
                 (fine_back most bounds (mark ∷ made.path) whole).0,
                 made.fine (λ t q run. (fine_back most bounds (mark ∷ q)

@@ -4,8 +4,8 @@ use Rattle.std.proofs.Common.{◌≡◌, ℕ, zero, suc, ◌+◌, ◌-◌, ◌==
 use Rattle.std.proofs.Common.{inl, inr, slice_set, slice_get, refl, sym, ap, ap₂, ◌∙◌}
 use Rattle.std.proofs.lemmas.Bool.{cases_Bool}
 use Rattle.branch_removal.specs.Below.{AllSuit, array_as, Boolean, bounded, decided, FlatVariable, HasType, indexed}
-use Rattle.branch_removal.specs.Below.{labelled, Path, path_in, path_of_turns, Profile, Public, Secret, seen, TermTree}
-use Rattle.branch_removal.specs.Below.{turns, Types, types_of, WordType}
+use Rattle.branch_removal.specs.Below.{labelled, Path, path_in, path_of_iterations, Profile, Public, Secret, seen}
+use Rattle.branch_removal.specs.Below.{TermTree, iterations, Types, types_of, WordType}
 use Rattle.branch_removal.specs.Straight.{StraightTree, set, array, put, take, branch}
 use Rattle.branch_removal.specs.Straight.{repeats, StraightBlock, nothing, first}
 use Rattle.branch_removal.specs.StraightMeaning.{StraightState, holds, with_variable, value_at, counted, after}
@@ -43,16 +43,17 @@ module _ (profile : Profile) (declared : List FlatVariable) (controls : ℕ) whe
   both_alike a b c d one other =
       record { state = other.state; shown = both_seen profile a b c d one.shown other.shown }
 
-  -- turns of which each keeps both in step
-  turns_alike : (turn : ℕ → StraightState → StraightState) (along : ℕ → StraightState → Path)
-      → ((i : ℕ) (s t : StraightState) → InStep s t → Alike (turn i s) (turn i t) (along i s) (along i t))
+  -- iterations of which each keeps both in step
+  iterations_alike : (iteration : ℕ → StraightState → StraightState) (along : ℕ → StraightState → Path)
+      → ((i : ℕ) (s t : StraightState) → InStep s t → Alike (iteration i s) (iteration i t) (along i s) (along i t))
       → (n i : ℕ) (s t : StraightState) → InStep s t
-      → Alike (turns n i turn s) (turns n i turn t) (path_of_turns n i turn along s) (path_of_turns n i turn along t)
-  turns_alike turn along each zero i s t agree = record { state = agree; shown = refl }
-  turns_alike turn along each (suc n) i s t agree =
+      → Alike (iterations n i iteration s) (iterations n i iteration t) (path_of_iterations n i iteration along s)
+      (path_of_iterations n i iteration along t)
+  iterations_alike iteration along each zero i s t agree = record { state = agree; shown = refl }
+  iterations_alike iteration along each (suc n) i s t agree =
       let one = each i s t agree in
       both_alike (along i s) _ (along i t) _ one
-      (turns_alike turn along each n (i + 1) (turn i s) (turn i t) one.state)
+      (iterations_alike iteration along each n (i + 1) (iteration i s) (iteration i t) one.state)
 
   module _ (s t : StraightState) (agree : InStep s t) where
     value : {e : TermTree} {word : WordType} → HasType all e word → word.label ≡ Public → value_at s e ≡ value_at t e
@@ -141,17 +142,18 @@ module _ (profile : Profile) (declared : List FlatVariable) (controls : ℕ) whe
         branch_alike s t agree condition accepted otherwise is.0 (in_step_all accepted is.1 apart.0 s t agree)
         (in_step_all otherwise is.2 apart.1 s t agree)
     in_step (repeats x low high body) is apart s t agree =
-        let turn : ℕ → StraightState → StraightState = λ i u. after_all (counted x i u) body in
+        let iteration : ℕ → StraightState → StraightState = λ i u. after_all (counted x i u) body in
         let along : ℕ → StraightState → Path = λ i u. path_along (counted x i u) body in
         let from = value_at t low in
         let to = value_at t high in
-        let run = turns_alike turn along (λ i u v so_far. in_step_all body is.3 apart (counted x i u) (counted x i v)
+        let run = iterations_alike iteration along
+        (λ i u v so_far. in_step_all body is.3 apart (counted x i u) (counted x i v)
         (set_both u v so_far x (i ∷ []) (i ∷ []) _ is.2 (λ public. refl))) (to - from) from s t agree in
         rw (value s t agree is.0 refl, value s t agree is.1 refl)
         (both_alike (path_in s.variables low ++ path_in s.variables high)
-        (bounded x from to ∷ path_of_turns (to - from) from turn along s)
+        (bounded x from to ∷ path_of_iterations (to - from) from iteration along s)
         (path_in t.variables low ++ path_in t.variables high)
-        (bounded x from to ∷ path_of_turns (to - from) from turn along t)
+        (bounded x from to ∷ path_of_iterations (to - from) from iteration along t)
         (both_alike (path_in s.variables low) (path_in s.variables high) (path_in t.variables low)
         (path_in t.variables high) (term_alike s t agree is.0) (term_alike s t agree is.1))
         (record { state = run.state; shown = ap (λ (p : Path). bounded x from to ∷ p) run.shown }))

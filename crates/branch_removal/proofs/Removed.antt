@@ -67,17 +67,18 @@ module _ (p : FlatProgram) (typed : IsTypedProgram p) where
         (all_arrays p.parameters _ _ (λ k parameter there.
         same_end k (declaration_of parameter) (parameter_stays k parameter there) tt))
 
-    fine_path : (turns : List ℕ) → IsSafe p turns → AreWithin p.parameters args
-        → AreFine turns (path_of (straightened (ranged p)) args)
-    fine_path turns safe within =
+    fine_path : (iterations : List ℕ) → IsSafe p iterations → AreWithin p.parameters args
+        → AreFine iterations (path_of (straightened (ranged p)) args)
+    fine_path iterations safe within =
         let s = start (straightened (ranged p)) args in
         let types = types_of p.profile p.declared in
-        let run = follow_all p.profile p.declared turns (parameter_types p.profile p.parameters) Public p.body typed.body
+        let run = follow_all p.profile p.declared iterations
+        (parameter_types p.profile p.parameters) Public p.body typed.body
         first_among None 0 tt s (given p.declared args) (λ y d known public. refl) in
-        fine_both turns (path_along s (removed_all None 0 p.body))
+        fine_both iterations (path_along s (removed_all None 0 p.body))
         (path_of_result (end_of (straightened (ranged p)) args) p.value)
         (run.fine
-        (λ t q leads. fine_front turns q (path_of_result t p.value)
+        (λ t q leads. fine_front iterations q (path_of_result t p.value)
         (safe args _ within (record {
           end = t;
           front = q;
@@ -86,10 +87,10 @@ module _ (p : FlatProgram) (typed : IsTypedProgram p) where
           result = result_comes types t p.value;
           whole = refl;
         }))))
-        (fine_alike turns (end_types p).profile (path_of_result (end_of (straightened (ranged p)) args) p.value)
+        (fine_alike iterations (end_types p).profile (path_of_result (end_of (straightened (ranged p)) args) p.value)
         (path_of_result run.end p.value)
         (result_seen (end_types p) _ _ run.agree p.returned p.value typed.result)
-        (fine_back turns run.path (path_of_result run.end p.value)
+        (fine_back iterations run.path (path_of_result run.end p.value)
         (safe args _ within (record {
           end = run.end;
           front = run.path;
@@ -99,7 +100,7 @@ module _ (p : FlatProgram) (typed : IsTypedProgram p) where
           whole = refl;
         }))))
 
-is_removed : (p : FlatProgram) → IsTypedProgram p → IsSized p → IsSafe p (ranged p).turns
+is_removed : (p : FlatProgram) → IsTypedProgram p → IsSized p → IsSafe p (ranged p).iterations
     → (ranged p).work ≤ most_work → IsRemoved (ranged p) (straightened (ranged p))
 is_removed p typed sized safe fits = record {
   profile = refl;
@@ -107,11 +108,11 @@ is_removed p typed sized safe fits = record {
   returned = refl;
   nodes = refl;
   work = refl;
-  turns = refl;
+  iterations = refl;
   bounded = bounded p sized fits;
   typed = typed_straight p typed;
   outcome = λ args within. same_outcome p typed args;
-  fine = λ args within. fine_path p typed args (ranged p).turns safe within;
+  fine = λ args within. fine_path p typed args (ranged p).iterations safe within;
   paths = λ one other agree. same_paths (straightened (ranged p)) (typed_straight p typed) one other agree;
   public = λ one other agree. same_public (straightened (ranged p)) (typed_straight p typed) one other agree;
 }
@@ -127,7 +128,7 @@ pub as_listed : (r : RangedProgram) (flat : FlatProgram) (read : FlatBlock) (con
       returned = r.flat.returned;
       nodes = r.flat.nodes;
       work = r.work;
-      turns = r.turns;
+      iterations = r.iterations;
       declared = r.flat.declared;
       controls = controls;
       body = body;
@@ -148,7 +149,7 @@ pub removed_as_promised : (r : RangedProgram) → IsFlat r.flat → IsRanged r �
 removed_as_promised r flat kept =
     subst (λ (q : RangedProgram). IsRemoved q (straightened q)) (sym kept.counted)
     (is_removed r.flat flat.typed flat.sized
-    (subst (λ (q : RangedProgram). IsSafe r.flat q.turns) kept.counted kept.safe)
+    (subst (λ (q : RangedProgram). IsSafe r.flat q.iterations) kept.counted kept.safe)
     (subst (λ (q : RangedProgram). q.work ≤ most_work) kept.counted kept.worked))
 
 pub removed_counted : (r : RangedProgram) → IsFlat r.flat → IsRanged r → IsCounted (straightened r)

@@ -1,32 +1,32 @@
--- Runs of straight code one after the other, turns of loops, and the control values that statements leave alone.
+-- Runs of straight code one after the other, iterations of loops, and the control values that statements leave alone.
 use Rattle.std.proofs.Common.{◌≡◌, ℕ, zero, suc, ◌+◌, ◌-◌, ◌<◌, ◌==◌, Bool, true, false, cond, List, [], ◌∷◌}
 use Rattle.std.proofs.Common.{Option, Some, slice_set, refl, ap, ◌∙◌, subst, arith}
 use Rattle.std.proofs.lemmas.Bool.{cond-false, cond-true, cond_both, ne_eqb, eq-eqb}
-use Rattle.inline.proofs.Face.{turns_keep}
+use Rattle.inline.proofs.Face.{iterations_keep}
 use Rattle.branch_removal.specs.Below.{assign, branch, first, FlatBlock, FlatTree, loop, nothing, Public, put, Secret}
-use Rattle.branch_removal.specs.Below.{turns}
+use Rattle.branch_removal.specs.Below.{iterations}
 use Rattle.branch_removal.specs.private.Removal.{take_within, removed, removed_all}
 use Rattle.branch_removal.specs.Straight.{StraightBlock}
 use Rattle.branch_removal.specs.StraightMeaning.{StraightState, holds, with_variable, with_controls, value_at, counted}
 use Rattle.branch_removal.specs.StraightMeaning.{after, after_all}
 use Rattle.branch_removal.proofs.Sequences.{after-chain}
 
--- Turns.
+-- Iterations.
 
--- what each turn of two loops keeps, both loops keep
-pub turns_relate : {S T : Type 0} (R : S → T → Type 0) (f : ℕ → S → S) (g : ℕ → T → T)
+-- what each iteration of two loops keeps, both loops keep
+pub iterations_relate : {S T : Type 0} (R : S → T → Type 0) (f : ℕ → S → S) (g : ℕ → T → T)
     → ((i : ℕ) (s : S) (t : T) → R s t → R (f i s) (g i t))
-    → (n i : ℕ) (s : S) (t : T) → R s t → R (turns n i f s) (turns n i g t)
-turns_relate R f g keep zero i s t r = r
-turns_relate R f g keep (suc n) i s t r = turns_relate R f g keep n (i + 1) (f i s) (g i t) (keep i s t r)
+    → (n i : ℕ) (s : S) (t : T) → R s t → R (iterations n i f s) (iterations n i g t)
+iterations_relate R f g keep zero i s t r = r
+iterations_relate R f g keep (suc n) i s t r = iterations_relate R f g keep n (i + 1) (f i s) (g i t) (keep i s t r)
 
--- also where they make as many turns, from the same number on
-pub turns_relate_from : {S T : Type 0} (R : S → T → Type 0) (f : ℕ → S → S) (g : ℕ → T → T)
+-- also where they make as many iterations, from the same number on
+pub iterations_relate_from : {S T : Type 0} (R : S → T → Type 0) (f : ℕ → S → S) (g : ℕ → T → T)
     → ((i : ℕ) (s : S) (t : T) → R s t → R (f i s) (g i t))
-    → (n k i j : ℕ) → n ≡ k → i ≡ j → (s : S) (t : T) → R s t → R (turns n i f s) (turns k j g t)
-turns_relate_from R f g keep n k i j many from s t r =
-    subst (λ l. R (turns n i f s) (turns l j g t)) many
-    (subst (λ l. R (turns n i f s) (turns n l g t)) from (turns_relate R f g keep n i s t r))
+    → (n k i j : ℕ) → n ≡ k → i ≡ j → (s : S) (t : T) → R s t → R (iterations n i f s) (iterations k j g t)
+iterations_relate_from R f g keep n k i j many from s t r =
+    subst (λ l. R (iterations n i f s) (iterations l j g t)) many
+    (subst (λ l. R (iterations n i f s) (iterations n l g t)) from (iterations_relate R f g keep n i s t r))
 
 -- Control values.
 
@@ -76,7 +76,7 @@ mutual
       (λ zero. controls_stay_all within control otherwise s c below)
       (λ nonzero. controls_stay_all within control accepted s c below)
   controls_stay within control (loop x low high body) s c below =
-      turns_keep (λ (t : StraightState). t.controls c ≡ s.controls c)
+      iterations_keep (λ (t : StraightState). t.controls c ≡ s.controls c)
       (λ i t. after_all (counted x i t) (removed_all within control body)) (value_at s high)
       (λ i t few same. controls_stay_all within control body (counted x i t) c below ∙ same)
       (value_at s high - value_at s low) (value_at s low) s refl refl

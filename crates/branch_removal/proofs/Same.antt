@@ -13,7 +13,7 @@ use Rattle.branch_removal.specs.StraightMeaning.{StraightState, holds, with_vari
 use Rattle.branch_removal.specs.StraightMeaning.{after, after_all}
 use Rattle.branch_removal.proofs.Agreement.{Sees, Agree, everything, set_in_both, declared_in_both}
 use Rattle.branch_removal.proofs.Sequences.{after-chain}
-use Rattle.branch_removal.proofs.Runs.{turns_relate_from, first_control, second_control, controls_stay}
+use Rattle.branch_removal.proofs.Runs.{iterations_relate_from, first_control, second_control, controls_stay}
 use Rattle.branch_removal.proofs.Runs.{controls_stay_all}
 use Rattle.inline.proofs.Face.{types_kept}
 use Rattle.branch_removal.proofs.Scopes.{stays_beside}
@@ -144,7 +144,7 @@ module _ (declared : List FlatVariable) where
         let low_value = one_value types s.variables m agree typed.0 in
         let high_value = one_value types s.variables m agree typed.1 in
         let counter : FlatVariable = word_as counter_type false in
-        (turns_relate_from (λ (t : StraightState) (n : Values). (holds t within ≡ true)
+        (iterations_relate_from (λ (t : StraightState) (n : Values). (holds t within ≡ true)
         × Agree everything types t.variables n)
         (λ i t. after_all (counted x i t) (removed_all within control body))
         (λ i n. flat.after_all (with_value n x (i ∷ [])) body)

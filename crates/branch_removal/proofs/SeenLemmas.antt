@@ -16,29 +16,29 @@ pub both_seen : (profile : Profile) (a b c d : Path) → seen profile a ≡ seen
 both_seen profile a b c d one other =
     seen-append profile a b ∙ (ap₂ (λ (p q : Path). p ++ q) one other ∙ sym (seen-append profile c d))
 
-module _ (turns : List ℕ) (profile : Profile) where
+module _ (iterations : List ℕ) (profile : Profile) where
   -- what is seen of a fine path is fine
-  pub fine_seen : (path : Path) → AreFine turns path → AreFine turns (seen profile path)
+  pub fine_seen : (path : Path) → AreFine iterations path → AreFine iterations (seen profile path)
   fine_seen [] fine = tt
   fine_seen (multiplied left right ∷ rest) fine = by_profile profile (fine_seen rest fine.1)
     where
-      by_profile : (p : Profile) → AreFine turns (seen profile rest)
-          → AreFine turns (shown_of p (multiplied left right) ++ seen profile rest)
+      by_profile : (p : Profile) → AreFine iterations (seen profile rest)
+          → AreFine iterations (shown_of p (multiplied left right) ++ seen profile rest)
       by_profile P1 more = more
       by_profile P2 more = (tt, more)
   fine_seen (mark ∷ rest) fine = (fine.0, fine_seen rest fine.1)
 
   -- and a path is fine where what is seen of it is: a multiplication is no fault
-  pub seen_fine : (path : Path) → AreFine turns (seen profile path) → AreFine turns path
+  pub seen_fine : (path : Path) → AreFine iterations (seen profile path) → AreFine iterations path
   seen_fine [] fine = tt
   seen_fine (multiplied left right ∷ rest) fine = (tt, seen_fine rest (by_profile profile fine))
     where
-      by_profile : (p : Profile) → AreFine turns (shown_of p (multiplied left right) ++ seen profile rest)
-          → AreFine turns (seen profile rest)
+      by_profile : (p : Profile) → AreFine iterations (shown_of p (multiplied left right) ++ seen profile rest)
+          → AreFine iterations (seen profile rest)
       by_profile P1 more = more
       by_profile P2 more = more.1
   seen_fine (mark ∷ rest) fine = (fine.0, seen_fine rest fine.1)
 
   -- so of two paths of which the same is seen
-  pub fine_alike : (a b : Path) → seen profile a ≡ seen profile b → AreFine turns b → AreFine turns a
-  fine_alike a b same fine = seen_fine a (subst (AreFine turns) (sym same) (fine_seen b fine))
+  pub fine_alike : (a b : Path) → seen profile a ≡ seen profile b → AreFine iterations b → AreFine iterations a
+  fine_alike a b same fine = seen_fine a (subst (AreFine iterations) (sym same) (fine_seen b fine))

@@ -63,7 +63,7 @@ module _ (ranged : RangedProgram) (before after : StraightProgram) (removed : Is
     returned = replaced.returned ∙ removed.returned;
     nodes = replaced.nodes ∙ removed.nodes;
     work = replaced.work ∙ removed.work;
-    turns = replaced.turns ∙ removed.turns;
+    iterations = replaced.iterations ∙ removed.iterations;
     bounded = replaced.straight.bounded;
     typed = replaced.straight.typed;
     outcome = λ args fits. replaced.outcome args (within args fits) ∙ removed.outcome args (within args fits);

@@ -156,12 +156,12 @@ module _ (statement : FlatStatement) (x : ℕ) (low high : Term) (body : Vec Fla
       → body_nodes (flat_block inner) < tree_nodes (flat_tree statement)
   body_smaller inner items = omega (arith, ap tree_nodes (tree_of_loop inner items))
 
-  pub code_of_loop : (within : Option ℕ) (control : ℕ) (turn : StraightBlock) (one : StraightTree)
+  pub code_of_loop : (within : Option ℕ) (control : ℕ) (iteration : StraightBlock) (one : StraightTree)
       (inner : List FlatStatement)
       → inner ≡ body.items
-      → turn ≡ removed_all within control (flat_block inner)
-      → one ≡ repeats x (term_tree low) (term_tree high) turn
+      → iteration ≡ removed_all within control (flat_block inner)
+      → one ≡ repeats x (term_tree low) (term_tree high) iteration
       → single one ≡ removed within control (flat_tree statement)
-  code_of_loop within control turn one inner items t o =
+  code_of_loop within control iteration one inner items t o =
       ap (λ s. single s) (o ∙ ap (repeats x (term_tree low) (term_tree high)) t)
       ∙ sym (ap (removed within control) (tree_of_loop inner items))

@@ -16,7 +16,7 @@ use Rattle.branch_removal.proofs.Sequences.{after-chain}
 use Rattle.branch_removal.proofs.Runs.{first_control, second_control, controls_stay}
 use Rattle.branch_removal.proofs.Runs.{controls_stay_all}
 use Rattle.branch_removal.proofs.Scopes.{apart, stays_beside}
-use Rattle.inline.proofs.Face.{turns_keep, type_kept}
+use Rattle.inline.proofs.Face.{iterations_keep, type_kept}
 use Rattle.branch_removal.proofs.Values.{secret≢public}
 
 -- why nothing that is looked at changes: the enclosing control value is false, or only what is public is looked at
@@ -106,7 +106,7 @@ module _ (declared : List FlatVariable) (sees : Sees) where
         (λ zero. unchanged_all types label otherwise typed.2 within control s quiet y d known seen)
         (λ nonzero. unchanged_all types label accepted typed.1 within control s quiet y d known seen)
     unchanged types label (loop x low high body) typed within control s quiet y d known seen =
-        (turns_keep (λ (t : StraightState). Quiet sees label within control t × (t.variables y ≡ s.variables y))
+        (iterations_keep (λ (t : StraightState). Quiet sees label within control t × (t.variables y ≡ s.variables y))
         (λ i t. after_all (counted x i t) (removed_all within control body)) (value_at s high)
         (λ i t below so_far. (
           quiet_after sees label within control t _

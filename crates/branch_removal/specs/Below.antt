@@ -32,8 +32,8 @@ pub use Rattle.inline.specs.Flat.{first, flat_block, flat_tree, FlatBlock, FlatP
 pub use Rattle.inline.specs.Flat.{number, prefix, put, rotate, select, skip, term_tree, TermTree, truth, variable}
 pub use Rattle.inline.specs.Flat.{word_as}
 pub use Rattle.inline.specs.FlatMeaning.{array_of, arrays_from, elements, given, marks_of, outcome_of, path_in}
-pub use Rattle.inline.specs.FlatMeaning.{path_in_all, path_of_result, path_of_turns, results_of, turns, value_in}
-pub use Rattle.inline.specs.FlatMeaning.{Values, with_value}
+pub use Rattle.inline.specs.FlatMeaning.{path_in_all, path_of_result, path_of_iterations, results_of, iterations}
+pub use Rattle.inline.specs.FlatMeaning.{value_in, Values, with_value}
 pub use Rattle.inline.specs.FlatSize.{body_nodes, declared_words, HasLength, IsSized, term_nodes, terms_nodes}
 pub use Rattle.inline.specs.FlatSize.{tree_nodes, value_nodes, words_of}
 pub use Rattle.inline.specs.FlatTyping.{AllSuit, AreTyped, counter_type, end_types, HasCount, HasType, IsPut, IsResult}
@@ -47,7 +47,8 @@ pub use Rattle.inline.specs.declared.flat.FlatStatement.{Branch, FlatStatement, 
 pub use Rattle.inline.specs.declared.flat.FlatVariable.{FlatVariable}
 pub use Rattle.inline.specs.declared.flat.Term.{Term}
 pub use Rattle.intervals.specs.Limits.{most_work}
-pub use Rattle.intervals.specs.Loose.{a_turn, assigns, chooses, declares, declares_array, ends, goes_on, holds, IsSafe}
-pub use Rattle.intervals.specs.Loose.{LeadAll, Leads, no_turn, none_left, puts, repeats, skips, to_anything, Turns}
+pub use Rattle.intervals.specs.Loose.{an_iteration, assigns, chooses, declares, declares_array, ends, goes_on, holds}
+pub use Rattle.intervals.specs.Loose.{IsSafe, LeadAll, Leads, no_iteration, none_left, puts, repeats, skips}
+pub use Rattle.intervals.specs.Loose.{to_anything, Iterations}
 pub use Rattle.intervals.specs.Ranged.{RangedProgram}
 pub use Rattle.intervals.specs.Work.{body_work, ranged, tree_work}

@@ -29,20 +29,20 @@ set_work None (number value kind) = 1
 set_work within value = 1 + term_nodes value
 
 abbrev mutual
-  -- the work of a statement, with the turns that are counted for each counter: an array is as much as its elements
+  -- the work of a statement, with the iterations that are counted for each counter: an array is as much as its elements
   pub statement_work : List ℕ → StraightTree → ℕ
-  statement_work turns (set within x value) = set_work within value
-  statement_work turns (array x size values) = 1 + size + terms_nodes values
-  statement_work turns (put within place x size index value) = 1 + (1 + term_nodes index) + term_nodes value
-  statement_work turns (take control within condition) = 1 + term_nodes condition
-  statement_work turns (branch condition accepted otherwise) =
-      1 + term_nodes condition + block_work turns accepted + block_work turns otherwise
-  statement_work turns (repeats x low high body) =
-      term_nodes low + term_nodes high + (slice_index turns x + 1) * (1 + block_work turns body)
+  statement_work iterations (set within x value) = set_work within value
+  statement_work iterations (array x size values) = 1 + size + terms_nodes values
+  statement_work iterations (put within place x size index value) = 1 + (1 + term_nodes index) + term_nodes value
+  statement_work iterations (take control within condition) = 1 + term_nodes condition
+  statement_work iterations (branch condition accepted otherwise) =
+      1 + term_nodes condition + block_work iterations accepted + block_work iterations otherwise
+  statement_work iterations (repeats x low high body) =
+      term_nodes low + term_nodes high + (slice_index iterations x + 1) * (1 + block_work iterations body)
 
   pub block_work : List ℕ → StraightBlock → ℕ
-  block_work turns nothing = 0
-  block_work turns (first statement rest) = statement_work turns statement + block_work turns rest
+  block_work iterations nothing = 0
+  block_work iterations (first statement rest) = statement_work iterations statement + block_work iterations rest
 
 -- a program within the limits on size
 pub record IsBounded (p : StraightProgram) : Type 0 where
@@ -51,7 +51,7 @@ pub record IsBounded (p : StraightProgram) : Type 0 where
   pub declared : 4 * declared_words p.declared ≤ most_variable_bytes
   -- the source's nodes are within the limit, and the code is no more work than the source
   pub nodes : p.nodes ≤ most_nodes
-  pub worked : block_work p.turns p.body + value_nodes p.value ≤ p.work
+  pub worked : block_work p.iterations p.body + value_nodes p.value ≤ p.work
   pub work_fits : p.work ≤ most_work
   -- a frame has no more words behind the variables than the source has nodes: the control values, two words for each
   -- level of loops, and the values that are needed at once

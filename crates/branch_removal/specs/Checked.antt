@@ -11,7 +11,7 @@ use Rattle.branch_removal.specs.private.Checks.{are_typed, come_first, is_result
 abbrev pub has_room : StraightProgram → Bool
 has_room p =
     nat_le (4 * declared_words p.declared) most_variable_bytes
-    && nat_le (block_work p.turns p.body + value_nodes p.value) p.work
+    && nat_le (block_work p.iterations p.body + value_nodes p.value) p.work
     && nat_le (p.controls + 2 * depth_in_all p.body + program_height p) p.nodes
 
 -- well typed, and within the limits on size

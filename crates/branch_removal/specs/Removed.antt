@@ -14,8 +14,8 @@ pub record IsRemoved (ranged : RangedProgram) (straight : StraightProgram) : Typ
   pub returned : straight.returned ≡ ranged.flat.returned
   pub nodes : straight.nodes ≡ ranged.flat.nodes
   pub work : straight.work ≡ ranged.work
-  -- how many turns each loop makes at most
-  pub turns : straight.turns ≡ ranged.turns
+  -- how many iterations each loop makes at most
+  pub iterations : straight.iterations ≡ ranged.iterations
   -- the limits on size are kept
   pub bounded : IsBounded straight
   -- it is well typed: what branches, bounds, indices and divisions go by is public, and so is what the observer sees
@@ -24,8 +24,9 @@ pub record IsRemoved (ranged : RangedProgram) (straight : StraightProgram) : Typ
   -- the outcome is that of the body with real branches
   pub outcome : (args : List Arg) → AreWithin straight.parameters args
       → outcome_of straight args ≡ outcome_of_flat ranged.flat args
-  -- no fault is met, and no loop makes more turns than are counted
-  pub fine : (args : List Arg) → AreWithin straight.parameters args → AreFine straight.turns (path_of straight args)
+  -- no fault is met, and no loop makes more iterations than are counted
+  pub fine : (args : List Arg) → AreWithin straight.parameters args → AreFine straight.iterations
+      (path_of straight args)
   -- on arguments that are equal where they are public, what the observer sees of the path is one and the same
   pub paths : (one other : List Arg) → Agree straight.parameters one other
       → seen straight.profile (path_of straight one) ≡ seen straight.profile (path_of straight other)

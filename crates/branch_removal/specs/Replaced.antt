@@ -12,11 +12,11 @@ pub record IsReplaced (before after : StraightProgram) : Type 0 where
   pub returned : after.returned ≡ before.returned
   pub nodes : after.nodes ≡ before.nodes
   pub work : after.work ≡ before.work
-  pub turns : after.turns ≡ before.turns
+  pub iterations : after.iterations ≡ before.iterations
   -- it is well typed, and the limits on size are kept
   pub straight : IsStraight after
   -- the outcome is what it was
   pub outcome : (args : List Arg) → AreWithin before.parameters args → outcome_of after args ≡ outcome_of before args
-  -- where no fault was met, and no loop made more turns than are counted, it is so still
-  pub fine : (args : List Arg) → AreWithin before.parameters args → AreFine before.turns (path_of before args)
-      → AreFine after.turns (path_of after args)
+  -- where no fault was met, and no loop made more iterations than are counted, it is so still
+  pub fine : (args : List Arg) → AreWithin before.parameters args → AreFine before.iterations (path_of before args)
+      → AreFine after.iterations (path_of after args)

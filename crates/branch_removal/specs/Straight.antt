@@ -40,10 +40,10 @@ pub record StraightProgram : Type 0 where
   pub parameters : List Param
   -- the type of its result, where it has one
   pub returned : Option WordType
-  -- how many nodes the source has, its work, and how many turns are counted for the loop of each counter
+  -- how many nodes the source has, its work, and how many iterations are counted for the loop of each counter
   pub nodes : ℕ
   pub work : ℕ
-  pub turns : List ℕ
+  pub iterations : List ℕ
   -- its variables, each at its number, the parameters first
   pub declared : List FlatVariable
   -- how many control values there are
@@ -60,7 +60,7 @@ with_body p body value = record {
   returned = p.returned;
   nodes = p.nodes;
   work = p.work;
-  turns = p.turns;
+  iterations = p.iterations;
   declared = p.declared;
   controls = p.controls;
   body = body;
@@ -75,7 +75,7 @@ with_variables p declared body value = record {
   returned = p.returned;
   nodes = p.nodes;
   work = p.work;
-  turns = p.turns;
+  iterations = p.iterations;
   declared = declared;
   controls = p.controls;
   body = body;
@@ -106,13 +106,13 @@ straight_block (statement ∷ rest) = first (straight_tree statement) (straight_
 -- the program of parts that lie in memory
 abbrev pub straight_program : Profile → List Param → Option WordType → ℕ → ℕ → List ℕ → List FlatVariable → ℕ
     → List StraightStatement → Option Term → StraightProgram
-straight_program profile parameters returned nodes work turns declared controls body value = record {
+straight_program profile parameters returned nodes work iterations declared controls body value = record {
   profile = profile;
   parameters = parameters;
   returned = returned;
   nodes = nodes;
   work = work;
-  turns = turns;
+  iterations = iterations;
   declared = declared;
   controls = controls;
   body = straight_block body;

@@ -4,8 +4,8 @@
 use Rattle.std.specs.Prelude.{ℕ, ◌+◌, ◌-◌, ◌==◌, Bool, true, false, not, ◌&&◌, List, [], ◌∷◌, ◌++◌}
 use Rattle.std.specs.Prelude.{Option, None, Some, if◌then◌else◌, slice_set}
 use Rattle.branch_removal.specs.Below.{Arg, bounded, decided, elements, given, indexed, Path, path_in, path_in_all}
-use Rattle.branch_removal.specs.Below.{path_of_result, path_of_turns, results_of, TermTree, turns, value_in, Values}
-use Rattle.branch_removal.specs.Below.{with_value}
+use Rattle.branch_removal.specs.Below.{path_of_result, path_of_iterations, results_of, TermTree, iterations, value_in}
+use Rattle.branch_removal.specs.Below.{Values, with_value}
 use Rattle.branch_removal.specs.Straight.{StraightTree, set, array, put, take, branch, repeats}
 use Rattle.branch_removal.specs.Straight.{StraightBlock, nothing, first, StraightProgram}
 use Rattle.language.specs.Results.{Results}
@@ -57,7 +57,7 @@ abbrev mutual
   after s (branch condition accepted otherwise) = if value_at s condition == 0 then after_all s otherwise
       else after_all s accepted
   after s (repeats x low high body) =
-      turns (value_at s high - value_at s low) (value_at s low) (λ i t. after_all (counted x i t) body) s
+      iterations (value_at s high - value_at s low) (value_at s low) (λ i t. after_all (counted x i t) body) s
 
   pub after_all : StraightState → StraightBlock → StraightState
   after_all s nothing = s
@@ -76,7 +76,7 @@ abbrev mutual
       ∷ (if value_at s condition == 0 then path_along s otherwise else path_along s accepted)
   path_at s (repeats x low high body) =
       path_in s.variables low ++ path_in s.variables high ++ bounded x (value_at s low) (value_at s high)
-      ∷ path_of_turns (value_at s high - value_at s low) (value_at s low) (λ i t. after_all (counted x i t) body)
+      ∷ path_of_iterations (value_at s high - value_at s low) (value_at s low) (λ i t. after_all (counted x i t) body)
       (λ i t. path_along (counted x i t) body) s
 
   pub path_along : StraightState → StraightBlock → Path

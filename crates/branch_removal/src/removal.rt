@@ -76,14 +76,14 @@ fn repeat(
     counter: u32,
     low: &Term,
     high: &Term,
-    turn: Vec<StraightStatement>,
+    iteration: Vec<StraightStatement>,
 ) -> Result<StraightStatement, AllocError>
     ensures { IfOk result (λ one. straight_tree one
-        ≡ repeats counter (term_tree low.now) (term_tree high.now) (straight_block turn.items)) }
+        ≡ repeats counter (term_tree low.now) (term_tree high.now) (straight_block iteration.items)) }
 {
     let low = copied(alloc, low)?;
     let high = copied(alloc, high)?;
-    Ok(loop_of(counter, low, high, turn))
+    Ok(loop_of(counter, low, high, iteration))
 }
 
 /// Puts a statement's straight code behind what there is. Its own control values are from `control` on.
@@ -126,8 +126,8 @@ fn push_removed(
             }
         },
         FlatStatement::Loop(counter, low, high, body) => {
-            let turn = part(alloc, within, control, body)?;
-            push(code, repeat(alloc, *counter, low, high, turn)?)
+            let iteration = part(alloc, within, control, body)?;
+            push(code, repeat(alloc, *counter, low, high, iteration)?)
         }
     }
 }

@@ -122,11 +122,11 @@ fn set_work(within: Option<u32>, value: &Term) -> u64
     }
 }
 
-/// How many turns are counted for the loop of a counter.
-fn turns_of(turns: &[u32], counter: u32) -> u64
-    ensures { result ≡ slice_index turns.now counter }
+/// How many iterations are counted for the loop of a counter.
+fn iterations_of(iterations: &[u32], counter: u32) -> u64
+    ensures { result ≡ slice_index iterations.now counter }
 {
-    u64::from(turns.get(counter as usize).copied().unwrap_or(0))
+    u64::from(iterations.get(counter as usize).copied().unwrap_or(0))
 }
 
 /// How large a branch is, by its condition and its arms.
@@ -146,30 +146,33 @@ fn branch_size(condition: &Term, accepted: Size, otherwise: Size) -> Size
     }
 }
 
-/// How large a loop of so many turns is, by its bounds and its body.
-fn loop_size(turns: u64, low: &Term, high: &Term, turn: Size) -> Size
-    requires { turns < 2 ^ 32 }
+/// How large a loop of so many iterations is, by its bounds and its body.
+fn loop_size(iterations: u64, low: &Term, high: &Term, iteration: Size) -> Size
+    requires { iterations < 2 ^ 32 }
     ensures work { result.work
         ≡ counted
-        (term_nodes (term_tree low.now) + term_nodes (term_tree high.now) + (turns + 1) * counted (1 + turn.work)) }
+        (term_nodes (term_tree low.now) + term_nodes (term_tree high.now) + (iterations + 1) * counted (1 + iteration.work)) }
     ensures height { result.height
-        ≡ max (max (counted (height_of (term_tree low.now))) (counted (height_of (term_tree high.now)))) turn.height }
-    ensures depth { result.depth ≡ counted (1 + turn.depth) }
+        ≡ max (max (counted (height_of (term_tree low.now))) (counted (height_of (term_tree high.now)))) iteration.height }
+    ensures depth { result.depth ≡ counted (1 + iteration.depth) }
 {
-    let all = turn.work.saturating_add(1).saturating_mul(turns + 1);
+    let all = iteration
+        .work
+        .saturating_add(1)
+        .saturating_mul(iterations + 1);
     Size {
         work: term_nodes(low)
             .saturating_add(term_nodes(high))
             .saturating_add(all),
-        height: height(low).max(height(high)).max(turn.height),
-        depth: turn.depth.saturating_add(1),
+        height: height(low).max(height(high)).max(iteration.height),
+        depth: iteration.depth.saturating_add(1),
     }
 }
 
-/// How large a statement is, with so many turns for the loop of each counter.
+/// How large a statement is, with so many iterations for the loop of each counter.
 #[cycle(sizes)]
-fn statement_size(turns: &[u32], statement: &StraightStatement) -> Size
-    ensures work { result.work ≡ counted (statement_work turns.now (straight_tree statement.now)) }
+fn statement_size(iterations: &[u32], statement: &StraightStatement) -> Size
+    ensures work { result.work ≡ counted (statement_work iterations.now (straight_tree statement.now)) }
     ensures height { result.height ≡ counted (height_in (straight_tree statement.now)) }
     ensures depth { result.depth ≡ counted (depth_in (straight_tree statement.now)) }
 {
@@ -200,21 +203,21 @@ fn statement_size(turns: &[u32], statement: &StraightStatement) -> Size
             depth: 0,
         },
         StraightStatement::Branch(condition, accepted, otherwise) => {
-            let one = block_size(turns, accepted);
-            let other = block_size(turns, otherwise);
+            let one = block_size(iterations, accepted);
+            let other = block_size(iterations, otherwise);
             branch_size(condition, one, other)
         }
         StraightStatement::Repeat(counter, low, high, body) => {
-            let turn = block_size(turns, body);
-            loop_size(turns_of(turns, *counter), low, high, turn)
+            let iteration = block_size(iterations, body);
+            loop_size(iterations_of(iterations, *counter), low, high, iteration)
         }
     }
 }
 
 /// How large statements are, one after the other.
 #[cycle(sizes)]
-pub fn block_size(turns: &[u32], statements: &[StraightStatement]) -> Size
-    ensures work { result.work ≡ counted (block_work turns.now (straight_block statements.now)) }
+pub fn block_size(iterations: &[u32], statements: &[StraightStatement]) -> Size
+    ensures work { result.work ≡ counted (block_work iterations.now (straight_block statements.now)) }
     ensures height { result.height ≡ counted (height_in_all (straight_block statements.now)) }
     ensures depth { result.depth ≡ counted (depth_in_all (straight_block statements.now)) }
 {
@@ -222,7 +225,7 @@ pub fn block_size(turns: &[u32], statements: &[StraightStatement]) -> Size
     let mut height = 0u64;
     let mut depth = 0u64;
     for statement in statements {
-        let one = statement_size(turns, statement);
+        let one = statement_size(iterations, statement);
         work = work.saturating_add(one.work);
         height = one.height.max(height);
         depth = one.depth.max(depth);

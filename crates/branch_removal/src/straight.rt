@@ -43,7 +43,7 @@ pub struct StraightCode<'f> {
     returned: Option<WordType>,
     nodes: u32,
     work: u64,
-    turns: &'f [u32],
+    iterations: &'f [u32],
     declared: &'f [FlatVariable],
     controls: u32,
     body: Vec<StraightStatement>,
@@ -59,11 +59,11 @@ impl<'f> Model for StraightCode<'f> {
 
     ghost coded = { coded_straight };
 
-    ghost view = { λ s. straight_program s.profile s.parameters.now s.returned s.nodes s.work s.turns.now s.declared.now
+    ghost view = { λ s. straight_program s.profile s.parameters.now s.returned s.nodes s.work s.iterations.now s.declared.now
         s.controls s.body.items s.value };
 
     ghost invariant = { λ s. IsStraight (straight_program s.profile s.parameters.now s.returned s.nodes s.work
-        s.turns.now s.declared.now s.controls s.body.items s.value) };
+        s.iterations.now s.declared.now s.controls s.body.items s.value) };
 }
 
 impl<'f> StraightCode<'f> {
@@ -75,10 +75,10 @@ impl<'f> StraightCode<'f> {
         value: Option<Term>,
     ) -> Self
         requires { IsStraight (straight_program ranged.now.flat.profile ranged.now.flat.parameters
-            ranged.now.flat.returned ranged.now.flat.nodes ranged.now.work ranged.now.turns ranged.now.flat.declared
+            ranged.now.flat.returned ranged.now.flat.nodes ranged.now.work ranged.now.iterations ranged.now.flat.declared
             controls body.items value) }
         ensures { result ≡ straight_program ranged.now.flat.profile ranged.now.flat.parameters ranged.now.flat.returned
-            ranged.now.flat.nodes ranged.now.work ranged.now.turns ranged.now.flat.declared controls body.items value }
+            ranged.now.flat.nodes ranged.now.work ranged.now.iterations ranged.now.flat.declared controls body.items value }
     {
         let flat = ranged.flat();
         StraightCode {
@@ -87,7 +87,7 @@ impl<'f> StraightCode<'f> {
             returned: flat.returned(),
             nodes: flat.nodes(),
             work: ranged.work(),
-            turns: ranged.turns(),
+            iterations: ranged.iterations(),
             declared: flat.declared(),
             controls,
             body,
@@ -122,7 +122,7 @@ impl<'f> StraightCode<'f> {
         ensures { result ≡ has_room (with_variables self.now declared.now (straight_block body.now)
             (option_map (λ term. term_tree term.now) value.entry)) }
     {
-        let code = block_size(self.turns, body);
+        let code = block_size(self.iterations, body);
         let last = result_size(value);
         let frame = u64::from(self.controls)
             .saturating_add(code.depth.saturating_mul(2))
@@ -155,7 +155,7 @@ impl<'f> StraightCode<'f> {
             returned: self.returned,
             nodes: self.nodes,
             work: self.work,
-            turns: self.turns,
+            iterations: self.iterations,
             declared,
             controls: self.controls,
             body,
@@ -198,11 +198,11 @@ impl<'f> StraightCode<'f> {
         self.work
     }
 
-    /// How many turns the loop of each counter makes at most, at the counter's number.
-    pub fn turns(&self) -> &'f [u32]
-        ensures { result.now ≡ self.now.turns }
+    /// How many iterations the loop of each counter makes at most, at the counter's number.
+    pub fn iterations(&self) -> &'f [u32]
+        ensures { result.now ≡ self.now.iterations }
     {
-        self.turns
+        self.iterations
     }
 
     /// The variables, each at its number, the parameters first.

@@ -192,9 +192,9 @@ fn is_typed(
         StraightStatement::Repeat(counter, low, high, body) => {
             let from = counts(type_of(profile, declared, None, low));
             let to = counts(type_of(profile, declared, None, high));
-            let turn = are_typed(profile, declared, controls, body);
+            let iteration = are_typed(profile, declared, controls, body);
             let counts = is_loop_counter(variable_at(declared, None, *counter));
-            both(both(both(counts, from), to), turn)
+            both(both(both(counts, from), to), iteration)
         }
     }
 }

@@ -3,14 +3,14 @@ use Rattle.std.specs.Prelude.{◌||◌, not, if◌then◌else◌}
 use Rattle.std.proofs.Common.{◌≡◌, ℕ, zero, suc, ◌%◌, Bool, true, false, List, [], ◌∷◌, ◌++◌, refl, sym, ap₂, ◌∙◌}
 use Rattle.certified_runs.specs.Below.{Code, Ending, executes, goes_on, Instr, IsAt, no_instruction, not_code}
 use Rattle.certified_runs.specs.Below.{Observation, pc_misaligned, Profile, Register, register, State, Stop, stops}
-use Rattle.certified_runs.specs.Below.{Turn}
-use Rattle.certified_runs.proofs.Below.{goes_on-determined, goes_on≢stops, turn_of_state}
-use Rattle.certified_runs.specs.Amounts.{is_shift, amounts_of, ShiftsBy, spent, halts, turns}
+use Rattle.certified_runs.specs.Below.{Step}
+use Rattle.certified_runs.proofs.Below.{goes_on-determined, goes_on≢stops, step_of_state}
+use Rattle.certified_runs.specs.Amounts.{is_shift, amounts_of, ShiftsBy, spent, halts, steps_on}
 use Rattle.certified_runs.specs.Known.{Known, knows, Covers}
 use Rattle.certified_runs.specs.Certified as certified
-use Rattle.certified_runs.specs.Certified.{decides, known_after, KnownTurn, leads_on, decided, same, CertifiedRun}
+use Rattle.certified_runs.specs.Certified.{decides, known_after, KnownStep, leads_on, decided, same, CertifiedRun}
 use Rattle.certified_runs.specs.declared.shifts.Shifts.TheVariants.{Seen}
-use Rattle.certified_runs.proofs.KnownTurns.{one_instruction}
+use Rattle.certified_runs.proofs.KnownSteps.{one_instruction}
 use Rattle.certified_runs.proofs.Runs.{leads_kept, stop_kept}
 
 -- A run has one list of amounts.
@@ -18,12 +18,12 @@ use Rattle.certified_runs.proofs.Runs.{leads_kept, stop_kept}
 pub amounts_determined : {code : Code} {budget : ℕ} {s : State} {amounts others : List ℕ}
     → ShiftsBy code budget s amounts → ShiftsBy code budget s others → amounts ≡ others
 amounts_determined spent spent = refl
-amounts_determined (halts turn) (halts turn') = refl
-amounts_determined (halts turn) (turns i at turn' rest) = absurd (goes_on≢stops turn' turn)
-amounts_determined (turns i at turn rest) (halts turn') = absurd (goes_on≢stops turn turn')
-amounts_determined {s = s} (turns i at turn rest) (turns j at' turn' rest') =
+amounts_determined (halts step) (halts step') = refl
+amounts_determined (halts step) (steps_on i at step' rest) = absurd (goes_on≢stops step' step)
+amounts_determined (steps_on i at step rest) (halts step') = absurd (goes_on≢stops step step')
+amounts_determined {s = s} (steps_on i at step rest) (steps_on j at' step' rest') =
     ap₂ (λ x xs. amounts_of x s.regs ++ xs) (one_instruction at at')
-    (amounts_determined rest (rw (goes_on-determined turn' turn).1 at rest'))
+    (amounts_determined rest (rw (goes_on-determined step' step).1 at rest'))
 
 -- Each run has such a list.
 
@@ -31,11 +31,11 @@ abbrev pub HasAmounts : Code → ℕ → State → Type 0
 HasAmounts code n s = (amounts : List ℕ) × ShiftsBy code n s amounts
 
 module _ (code : Code) (n : ℕ) (s : State) (after : (t : State) → HasAmounts code n t) where
-  executed : (ending : Ending) (i : Instr) → IsAt code s.pc i → Turn code s ending → HasAmounts code (suc n) s
-  executed (goes_on o t) i at turn = let rest = after t in (amounts_of i s.regs ++ rest.0, turns i at turn rest.1)
-  executed (stops seen stop) i at turn = ([], halts turn)
+  executed : (ending : Ending) (i : Instr) → IsAt code s.pc i → Step code s ending → HasAmounts code (suc n) s
+  executed (goes_on o t) i at step = let rest = after t in (amounts_of i s.regs ++ rest.0, steps_on i at step rest.1)
+  executed (stops seen stop) i at step = ([], halts step)
 
-  amounts_from : {ending : Ending} → Turn code s ending → HasAmounts code (suc n) s
+  amounts_from : {ending : Ending} → Step code s ending → HasAmounts code (suc n) s
   amounts_from (pc_misaligned odd) = ([], halts (pc_misaligned odd))
   amounts_from (not_code even none) = ([], halts (not_code even none))
   amounts_from (no_instruction even is misfit) = ([], halts (no_instruction even is misfit))
@@ -44,7 +44,7 @@ module _ (code : Code) (n : ℕ) (s : State) (after : (t : State) → HasAmounts
 
 pub some_amounts : (code : Code) (budget : ℕ) (s : State) → HasAmounts code budget s
 some_amounts code zero s = ([], spent)
-some_amounts code (suc n) s = amounts_from code n s (λ t. some_amounts code n t) (turn_of_state code s).1
+some_amounts code (suc n) s = amounts_from code n s (λ t. some_amounts code n t) (step_of_state code s).1
 
 -- Where shifts are seen, what decides an instruction decides its amount.
 
@@ -66,31 +66,31 @@ module _ (k : Known) (s : State) (covers : Covers k s) where
 abbrev pub AllShiftBy : Code → ℕ → Known → List ℕ → Type 0
 AllShiftBy code budget k amounts = (s : State) → Covers k s → ShiftsBy code budget s amounts
 
-all_turn : {code : Code} {n : ℕ} {k next : Known} {o : Observation} {amounts : List ℕ} → k.shifts ≡ Seen
-    → KnownTurn code k (leads_on o next) → AllShiftBy code n next amounts
+all_step : {code : Code} {n : ℕ} {k next : Known} {o : Observation} {amounts : List ℕ} → k.shifts ≡ Seen
+    → KnownStep code k (leads_on o next) → AllShiftBy code n next amounts
     → (more : List ℕ) × AllShiftBy code (suc n) k (more ++ amounts)
-all_turn {code} {k = k} {o = o} shown (decided {t = t} i at sure turn) rest = (
+all_step {code} {k = k} {o = o} shown (decided {t = t} i at sure step) rest = (
   amounts_of i k.state.regs,
   λ s covers.
-      let first = leads_kept code k s covers o (known_after i k t) (decided i at sure turn) in
+      let first = leads_kept code k s covers o (known_after i k t) (decided i at sure step) in
       let there : IsAt code s.pc i = rw covers.pc at in
       rw (sym (amounts_same k s covers code.profile i (rw shown at sure)))
-      (turns i there first.1 (rest first.0 first.2)),
+      (steps_on i there first.1 (rest first.0 first.2)),
 )
 
-kept_shifts : {code : Code} {k next : Known} {o : Observation} → KnownTurn code k (leads_on o next)
+kept_shifts : {code : Code} {k next : Known} {o : Observation} → KnownStep code k (leads_on o next)
     → next.shifts ≡ k.shifts
-kept_shifts (decided i at sure turn) = refl
+kept_shifts (decided i at sure step) = refl
 
 pub all_shift_alike : {code : Code} {budget : ℕ} {k : Known} {seen : List Observation} {stop : Stop}
     → CertifiedRun code budget k seen (same stop) → k.shifts ≡ Seen
     → (amounts : List ℕ) × AllShiftBy code budget k amounts
 all_shift_alike certified.spent shown = ([], λ s covers. spent)
-all_shift_alike {code} (certified.halts {k = k} {seen = seen} {stop = stop} turn) shown =
-    ([], λ s covers. halts (stop_kept code k s covers seen stop turn))
-all_shift_alike (certified.turns turn rest) shown =
-    let after = all_shift_alike rest (kept_shifts turn ∙ shown) in
-    let first = all_turn shown turn after.1 in
+all_shift_alike {code} (certified.halts {k = k} {seen = seen} {stop = stop} step) shown =
+    ([], λ s covers. halts (stop_kept code k s covers seen stop step))
+all_shift_alike (certified.steps_on step rest) shown =
+    let after = all_shift_alike rest (kept_shifts step ∙ shown) in
+    let first = all_step shown step after.1 in
     (first.0 ++ after.0, first.1)
 
 pub shifts_agree : {code : Code} {budget : ℕ} {k : Known} {s t : State} {seen : List Observation} {stop : Stop}

@@ -1,11 +1,11 @@
 -- What these proofs take from the proofs of the crates below, in one place.
 pub use Rattle.rv_machine.proofs.Face.{
   IsOwn,
-  IsSameTurn,
+  IsSameStep,
   Runs-determined,
   Runs-more,
   Runs-stop,
-  Turn-determined,
+  Step-determined,
   both_go,
   count-few,
   effect_own,
@@ -20,9 +20,9 @@ pub use Rattle.rv_machine.proofs.Face.{
   place,
   run_of_state,
   stops_own,
-  turn_of_state,
-  turn_same,
-  turn_stops,
+  step_of_state,
+  step_same,
+  step_stops,
   with_number_inside,
   with_number_outside,
 }

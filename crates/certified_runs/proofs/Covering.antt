@@ -1,4 +1,4 @@
--- What is known keeps covering: registers, bytes, and the turn of each kind of instruction.
+-- What is known keeps covering: registers, bytes, and the step of each kind of instruction.
 use Rattle.std.specs.Prelude.{nat_eq, is_some, ◌&&◌}
 use Rattle.std.proofs.Common.{◌≡◌, ℕ, zero, suc, ◌+◌, ◌%◌, Bool, true, false, cond, List, Option, Some, None, refl, sym}
 use Rattle.std.proofs.Common.{ap, ◌∙◌}
@@ -63,9 +63,9 @@ put_known known now old new same n a v v' value x h = elim (place a n x) [
       with_number_outside new n a v' x out ∙ same x (rw is at h) ∙ sym (with_number_outside old n a v x out)
 ]
 
--- Turns.
+-- Steps.
 
--- a turn of the state and one of a covered state show the same, and what is known after the one covers where the
+-- a step of the state and one of a covered state show the same, and what is known after the one covers where the
 -- other leads
 pub data IsKept (i : Instr) (k : Known) : Ending → Ending → Type 0 where
   goes_alike : {o : Observation} {t t' : State} → Covers (known_after i k t) t'
@@ -167,7 +167,7 @@ module _ (k : Known) (regs : ℕ → ℕ) (bytes : ByteMap) (covers : Covers k (
   both_same r1 r2 h = let both = and_parts (knows k.registers r1) (knows k.registers r2) h in
       (covers.registers r1 both.0, covers.registers r2 both.1)
 
-  -- the turn of an instruction of which all is known that decides
+  -- the step of an instruction of which all is known that decides
   effect_kept : (profile : Profile) (i : Instr) → decides profile k.shifts i k.registers ≡ true
       → IsKept i k (ending_of profile (effect_of i k.state.pc k.state.regs) k.state)
       (ending_of profile (effect_of i k.state.pc regs) (at_same_place k regs bytes))
@@ -218,11 +218,11 @@ module _ (k : Known) (regs : ℕ → ℕ) (bytes : ByteMap) (covers : Covers k (
   effect_kept profile Ebreak h = stops_alike
 
 -- of any covered state
-pub turn_kept : (k : Known) (s : State) → Covers k s → (profile : Profile) (i : Instr)
+pub step_kept : (k : Known) (s : State) → Covers k s → (profile : Profile) (i : Instr)
     → decides profile k.shifts i k.registers ≡ true
     → IsKept i k (ending_of profile (effect_of i k.state.pc k.state.regs) k.state)
     (ending_of profile (effect_of i s.pc s.regs) s)
-turn_kept k s covers profile i h =
+step_kept k s covers profile i h =
     let same : s ≡ at_same_place k s.regs s.bytes = rw (sym covers.pc) in
     let there : Covers k (at_same_place k s.regs s.bytes) =
     record { pc = refl; registers = covers.registers; extent = covers.extent; bytes = covers.bytes } in

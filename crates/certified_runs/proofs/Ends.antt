@@ -1,23 +1,23 @@
--- Certified runs in progress: turns that have been made, and how the run ends after them.
+-- Certified runs in progress: steps that have been made, and how the run ends after them.
 use Rattle.std.proofs.Common.{◌≡◌, ℕ, suc, ◌+◌, ◌-◌, ◌<◌, ◌≤◌, List, [], ◌∷◌, ◌++◌, length, zero-add, suc-add, refl}
 use Rattle.std.proofs.Common.{sym, ap, arith}
 use Rattle.certified_runs.specs.Below.{Budget, Code, entries_of, Observation, Stop}
 use Rattle.certified_runs.proofs.Below.{entry_count-append}
-use Rattle.certified_runs.specs.Certified.{KnownTurn, leads_on, ends, depends, RunEnding, same, may_differ}
-use Rattle.certified_runs.specs.Certified.{CertifiedRun, spent, halts, cut, turns, KnownEnding, KnownLeads, stays}
+use Rattle.certified_runs.specs.Certified.{KnownStep, leads_on, ends, depends, RunEnding, same, may_differ}
+use Rattle.certified_runs.specs.Certified.{CertifiedRun, spent, halts, cut, steps_on, KnownEnding, KnownLeads, stays}
 use Rattle.certified_runs.specs.Certified.{leads}
-use Rattle.certified_runs.proofs.OneEnd.{KnownTurn-determined}
+use Rattle.certified_runs.proofs.OneEnd.{KnownStep-determined}
 use Rattle.certified_runs.specs.End.{end_of}
 use Rattle.certified_runs.specs.Known.{Known}
 use Rattle.certified_runs.specs.declared.certifying.CertifiedEnd.{CertifiedEnd}
 use Rattle.certified_runs.specs.declared.certifying.CertifiedEnd.TheVariants.{Same, MayDiffer}
 
--- turns that lead on, and then a run
+-- steps that lead on, and then a run
 pub run_after : {code : Code} {m n budget : ℕ} {k now : Known} {seen more : List Observation} {ending : RunEnding}
     → KnownLeads code m k seen now → CertifiedRun code n now more ending → m + n ≡ budget
     → CertifiedRun code budget k (seen ++ more) ending
 run_after stays run all = rw (sym all, zero-add) run
-run_after (leads first rest) run all = rw (sym all, suc-add) (turns first (run_after rest run refl))
+run_after (leads first rest) run all = rw (sym all, suc-add) (steps_on first (run_after rest run refl))
 
 -- how the certified run is answered
 abbrev pub IsEnd : Code → ℕ → Known → CertifiedEnd → Type 0
@@ -25,7 +25,7 @@ IsEnd code m k answer =
     (seen : List Observation) × (ending : RunEnding) × CertifiedRun code m k seen ending
     × (answer ≡ end_of seen ending)
 
--- so many turns, of as many as this and those that are left, have shown so many entries
+-- so many steps, of as many as this and those that are left, have shown so many entries
 abbrev pub HasMade : Code → ℕ → Known → ℕ → Known → ℕ → Type 0
 HasMade code m k left now entries =
     (n : ℕ) × (seen : List Observation) × KnownLeads code n k seen now × (n + left ≡ m)
@@ -36,20 +36,20 @@ none_made code m k = (0, [], stays, omega arith, refl)
 
 module _ {code : Code} {m : ℕ} {k : Known} {left : ℕ} {now : Known} {entries : ℕ}
     (made : HasMade code m k left now entries) where
-  pub ends_by : {more : List Observation} {stop : Stop} (others : ℕ) → 0 < left → KnownTurn code now (ends more stop)
+  pub ends_by : {more : List Observation} {stop : Stop} (others : ℕ) → 0 < left → KnownStep code now (ends more stop)
       → length (entries_of more) ≡ others → IsEnd code m k (Same stop (entries + others))
-  ends_by {more} {stop} others some turn many = (
+  ends_by {more} {stop} others some step many = (
     made.1 ++ more,
     same stop,
-    run_after made.2 (halts {n = left - 1} turn) (omega (arith, made.3, some)),
+    run_after made.2 (halts {n = left - 1} step) (omega (arith, made.3, some)),
     ap (Same stop) (omega (arith, entry_count-append made.1 more, made.4, many)),
   )
 
-  pub ends_open : 0 < left → KnownTurn code now depends → IsEnd code m k (MayDiffer (entries + 1) now.state.pc)
-  ends_open some turn = (
+  pub ends_open : 0 < left → KnownStep code now depends → IsEnd code m k (MayDiffer (entries + 1) now.state.pc)
+  ends_open some step = (
     made.1 ++ [],
     may_differ now.state.pc,
-    run_after made.2 (cut {n = left - 1} turn) (omega (arith, made.3, some)),
+    run_after made.2 (cut {n = left - 1} step) (omega (arith, made.3, some)),
     ap (λ j. MayDiffer j now.state.pc) (omega (arith, entry_count-append made.1 [], made.4)),
   )
 
@@ -61,20 +61,20 @@ module _ {code : Code} {m : ℕ} {k : Known} {left : ℕ} {now : Known} {entries
     ap (Same Budget) (omega (arith, entry_count-append made.1 [], made.4)),
   )
 
--- one more turn
+-- one more step
 pub KnownLeads-more : {code : Code} {n : ℕ} {k now next : Known} {seen : List Observation} {o : Observation}
-    → KnownLeads code n k seen now → KnownTurn code now (leads_on o next)
+    → KnownLeads code n k seen now → KnownStep code now (leads_on o next)
     → KnownLeads code (suc n) k (seen ++ o ∷ []) next
-KnownLeads-more stays turn = leads turn stays
-KnownLeads-more (leads first rest) turn = leads first (KnownLeads-more rest turn)
+KnownLeads-more stays step = leads step stays
+KnownLeads-more (leads first rest) step = leads first (KnownLeads-more rest step)
 
 pub one_more_made : {code : Code} {m left left' entries : ℕ} {k now next : Known} {o : Observation} (more : ℕ)
-    → HasMade code m k left now entries → suc left' ≡ left → KnownTurn code now (leads_on o next)
+    → HasMade code m k left now entries → suc left' ≡ left → KnownStep code now (leads_on o next)
     → length (entries_of (o ∷ [])) ≡ more → HasMade code m k left' next (entries + more)
-one_more_made {entries = entries} {o = o} more made fewer turn many = (
+one_more_made {entries = entries} {o = o} more made fewer step many = (
   suc made.0,
   made.1 ++ o ∷ [],
-  KnownLeads-more made.2 turn,
+  KnownLeads-more made.2 step,
   omega (arith, made.3, fewer),
   omega (arith, entry_count-append made.1 (o ∷ []), made.4, many),
 )
@@ -87,22 +87,22 @@ all_made {m = m} made none =
     let all : made.0 ≡ m = omega (arith, made.3, none) in
     (made.1, rw all at made.2, ap (Same Budget) (sym made.4))
 
--- a turn that does not lead on is the last
+-- a step that does not lead on is the last
 abbrev IsLast : KnownEnding → Type 0
 IsLast (leads_on o next) = ⊥
 IsLast (ends seen stop) = Unit {0}
 IsLast depends = Unit {0}
 
 no_longer : {code : Code} {m n : ℕ} {k now later : Known} {seen more : List Observation} {e : KnownEnding}
-    → KnownLeads code m k seen now → KnownTurn code now e → IsLast e → KnownLeads code n k more later → n ≤ m
+    → KnownLeads code m k seen now → KnownStep code now e → IsLast e → KnownLeads code n k more later → n ≤ m
 no_longer first end last stays = omega arith
-no_longer stays end last (leads other rest) = absurd (rw (KnownTurn-determined end other) at last)
+no_longer stays end last (leads other rest) = absurd (rw (KnownStep-determined end other) at last)
 no_longer (leads {next = next} first rest) end last (leads {next = next'} other then) =
-    let e = KnownTurn-determined first other in
+    let e = KnownStep-determined first other in
     let same : next' ≡ next = cc in
     omega (arith, no_longer rest end last (rw same at then))
 
 pub not_all : {code : Code} {m left entries : ℕ} {k now later : Known} {seen : List Observation} {e : KnownEnding}
-    → HasMade code m k left now entries → 0 < left → KnownTurn code now e → IsLast e
+    → HasMade code m k left now entries → 0 < left → KnownStep code now e → IsLast e
     → KnownLeads code m k seen later → ⊥
 not_all made some end last all = omega (arith, made.3, some, no_longer made.2 end last all)

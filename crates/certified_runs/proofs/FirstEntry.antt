@@ -1,12 +1,12 @@
--- The turn that may differ shows its program counter first, whatever is unknown.
+-- The step that may differ shows its program counter first, whatever is unknown.
 use Rattle.std.proofs.Common.{◌≡◌, ◌≢◌, ℕ, suc, List, [], ◌∷◌, ◌++◌, None, refl, ap, ◌∙◌, subst}
 use Rattle.certified_runs.specs.Below.{Code, effect_of, Ending, entries_of, Entry, events_of, Observation, observed}
-use Rattle.certified_runs.specs.Below.{program_counter, RecorderRefused, Runs, State, Stop, Turn}
+use Rattle.certified_runs.specs.Below.{program_counter, RecorderRefused, Runs, State, Stop, Step}
 use Rattle.certified_runs.proofs.Below.{IsOwn, goes_own, stops_own, effect_own, Runs-determined, entries_of-append}
 use Rattle.certified_runs.proofs.Below.{Runs-more, Runs-stop, run_of_state}
 use Rattle.certified_runs.specs.Known.{Known, Covers}
-use Rattle.certified_runs.specs.Certified.{undecided, may_differ, CertifiedRun, cut, turns}
-use Rattle.certified_runs.proofs.Runs.{turn_at, leads_kept}
+use Rattle.certified_runs.specs.Certified.{undecided, may_differ, CertifiedRun, cut, steps_on}
+use Rattle.certified_runs.proofs.Runs.{step_at, leads_kept}
 
 -- a run that shows this list, and then an observation with this program counter
 abbrev pub RunsPast : Code → ℕ → State → List Observation → ℕ → Type 0
@@ -14,21 +14,21 @@ RunsPast code budget s seen pc =
     (o : Observation) × (rest : List Observation) × (stop : Stop) × (t : State) × (o.pc ≡ pc)
     × Runs code budget s (seen ++ o ∷ rest) stop t × (stop ≢ RecorderRefused)
 
-begins_run : {code : Code} {s : State} {ending : Ending} (n : ℕ) → Turn code s ending → IsOwn s ending
+begins_run : {code : Code} {s : State} {ending : Ending} (n : ℕ) → Step code s ending → IsOwn s ending
     → RunsPast code (suc n) s [] s.pc
-begins_run {code} {s} n turn (goes_own {shown = shown} {t = t}) =
+begins_run {code} {s} n step (goes_own {shown = shown} {t = t}) =
     let rest = run_of_state code n t in
-    (observed s shown, rest.0, rest.1, rest.2, refl, Runs-more turn rest.3, rest.4)
-begins_run {s = s} n turn (stops_own {stop = stop} calm more) =
-    (observed s None, [], stop, s, refl, Runs-stop turn, calm)
+    (observed s shown, rest.0, rest.1, rest.2, refl, Runs-more step rest.3, rest.4)
+begins_run {s = s} n step (stops_own {stop = stop} calm more) =
+    (observed s None, [], stop, s, refl, Runs-stop step, calm)
 
 pub runs_past : {code : Code} {budget : ℕ} {k : Known} {s : State} {seen : List Observation} {pc : ℕ}
     → CertifiedRun code budget k seen (may_differ pc) → Covers k s → RunsPast code budget s seen pc
 runs_past {code} {s = s} (cut {n = n} {k = k} (undecided i at unknown)) covers =
     subst (RunsPast code (suc n) s []) covers.pc
-    (begins_run n (turn_at code k s covers i at) (effect_own code.profile (effect_of i s.pc s.regs) s))
-runs_past {code} {s = s} (turns {k = k} {next = next} {o = o} turn rest) covers =
-    let first = leads_kept code k s covers o next turn in
+    (begins_run n (step_at code k s covers i at) (effect_own code.profile (effect_of i s.pc s.regs) s))
+runs_past {code} {s = s} (steps_on {k = k} {next = next} {o = o} step rest) covers =
+    let first = leads_kept code k s covers o next step in
     let then = runs_past rest first.2 in
     (then.0, then.1, then.2, then.3, then.4, Runs-more first.1 then.5, then.6)
 

@@ -3,7 +3,7 @@ mod Below
 pub mod Covering
 pub mod Ends
 pub mod FirstEntry
-pub mod KnownTurns
+pub mod KnownSteps
 pub mod Marks
 pub mod OneEnd
 pub mod Runs

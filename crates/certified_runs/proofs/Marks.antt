@@ -12,7 +12,7 @@ use Rattle.certified_runs.proofs.Below.{is_inside, is_outside, place, with_numbe
 use Rattle.certified_runs.specs.Known.{knows_bytes, with_bytes_known}
 use Rattle.certified_runs.specs.Parts.{known_registers, all_registers, is_known_mark, known_bytes}
 use Rattle.certified_runs.specs.private.Changes.{mark_of}
-use Rattle.certified_runs.specs.private.Turned.{HaveOneExtent}
+use Rattle.certified_runs.specs.private.Stepped.{HaveOneExtent}
 
 -- Registers.
 

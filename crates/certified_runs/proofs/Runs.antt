@@ -1,50 +1,50 @@
--- Turns and runs of covered states.
+-- Steps and runs of covered states.
 use Rattle.std.proofs.Common.{◌≡◌, ◌≢◌, ℕ, suc, ◌<◌, List, refl, sym, arith}
 use Rattle.certified_runs.specs.Below.{Code, effect_of, Ending, ending_of, executes, goes_on, Instr, IsAt, Leads}
 use Rattle.certified_runs.specs.Below.{no_instruction, not_code, Observation, pc_misaligned, RecorderRefused, Runs}
-use Rattle.certified_runs.specs.Below.{spent, State, stays, Stop, stops, Turn, turns}
-use Rattle.certified_runs.proofs.Below.{Turn-determined, Runs-determined, turn_stops, Runs-more, Runs-stop}
+use Rattle.certified_runs.specs.Below.{spent, State, stays, Stop, stops, Step, steps_on}
+use Rattle.certified_runs.proofs.Below.{Step-determined, Runs-determined, step_stops, Runs-more, Runs-stop}
 use Rattle.certified_runs.specs.Known.{Known, Covers}
 use Rattle.certified_runs.specs.Certified as certified
-use Rattle.certified_runs.specs.Certified.{known_after, KnownTurn, CertifiedRun, decided, leads_on, ends, same}
+use Rattle.certified_runs.specs.Certified.{known_after, KnownStep, CertifiedRun, decided, leads_on, ends, same}
 use Rattle.certified_runs.specs.Certified.{may_differ}
-use Rattle.certified_runs.proofs.Covering.{IsKept, goes_alike, stops_alike, turn_kept}
+use Rattle.certified_runs.proofs.Covering.{IsKept, goes_alike, stops_alike, step_kept}
 
 -- the state itself is covered
 pub itself : (k : Known) → Covers k k.state
 itself k = record { pc = refl; registers = λ r h. refl; extent = λ a. refl; bytes = λ a h. refl }
 
 module _ (code : Code) (k : Known) (s : State) (covers : Covers k s) where
-  -- the turn of an instruction at the program counter
-  pub turn_at : (i : Instr) → IsAt code k.state.pc i
-      → Turn code s (ending_of code.profile (effect_of i s.pc s.regs) s)
-  turn_at i at =
+  -- the step of an instruction at the program counter
+  pub step_at : (i : Instr) → IsAt code k.state.pc i
+      → Step code s (ending_of code.profile (effect_of i s.pc s.regs) s)
+  step_at i at =
       let there : IsAt code s.pc i = rw covers.pc at in
       executes i there.aligned there.word there.in_range refl
 
-  is_turn : (i : Instr) → IsAt code k.state.pc i
-      → Turn code k.state (ending_of code.profile (effect_of i k.state.pc k.state.regs) k.state)
-  is_turn i at = executes i at.aligned at.word at.in_range refl
+  is_step : (i : Instr) → IsAt code k.state.pc i
+      → Step code k.state (ending_of code.profile (effect_of i k.state.pc k.state.regs) k.state)
+  is_step i at = executes i at.aligned at.word at.in_range refl
 
-  goes_on_kept : {i : Instr} {o : Observation} {t : State} {e' : Ending} → Turn code s e'
-      → IsKept i k (goes_on o t) e' → (t' : State) × Turn code s (goes_on o t') × Covers (known_after i k t) t'
-  goes_on_kept turn (goes_alike covered) = (_, turn, covered)
+  goes_on_kept : {i : Instr} {o : Observation} {t : State} {e' : Ending} → Step code s e'
+      → IsKept i k (goes_on o t) e' → (t' : State) × Step code s (goes_on o t') × Covers (known_after i k t) t'
+  goes_on_kept step (goes_alike covered) = (_, step, covered)
 
-  stops_kept : {i : Instr} {seen : List Observation} {stop : Stop} {e' : Ending} → Turn code s e'
-      → IsKept i k (stops seen stop) e' → Turn code s (stops seen stop)
-  stops_kept turn stops_alike = turn
+  stops_kept : {i : Instr} {seen : List Observation} {stop : Stop} {e' : Ending} → Step code s e'
+      → IsKept i k (stops seen stop) e' → Step code s (stops seen stop)
+  stops_kept step stops_alike = step
 
-  pub leads_kept : (o : Observation) (next : Known) → KnownTurn code k (leads_on o next)
-      → (t : State) × Turn code s (goes_on o t) × Covers next t
-  leads_kept o next (decided i at known turn) =
-      goes_on_kept (turn_at i at)
-      (rw (Turn-determined (is_turn i at) turn) at (turn_kept k s covers code.profile i known))
+  pub leads_kept : (o : Observation) (next : Known) → KnownStep code k (leads_on o next)
+      → (t : State) × Step code s (goes_on o t) × Covers next t
+  leads_kept o next (decided i at known step) =
+      goes_on_kept (step_at i at)
+      (rw (Step-determined (is_step i at) step) at (step_kept k s covers code.profile i known))
 
-  pub stop_kept : (seen : List Observation) (stop : Stop) → KnownTurn code k (ends seen stop)
-      → Turn code s (stops seen stop)
+  pub stop_kept : (seen : List Observation) (stop : Stop) → KnownStep code k (ends seen stop)
+      → Step code s (stops seen stop)
   stop_kept seen stop (certified.stopped known (executes i even word ok is)) =
       let at : IsAt code k.state.pc i = record { aligned = even; word = word; in_range = ok } in
-      stops_kept (turn_at i at) (rw (sym is) at (turn_kept k s covers code.profile i (known i at)))
+      stops_kept (step_at i at) (rw (sym is) at (step_kept k s covers code.profile i (known i at)))
   stop_kept seen stop (certified.stopped known (pc_misaligned odd)) =
       pc_misaligned (λ even. odd (rw covers.pc at even))
   stop_kept seen stop (certified.stopped known (not_code even none)) =
@@ -56,10 +56,10 @@ module _ (code : Code) (k : Known) (s : State) (covers : Covers k s) where
 pub same_run : {code : Code} {budget : ℕ} {k : Known} {s : State} {seen : List Observation} {stop : Stop}
     → CertifiedRun code budget k seen (same stop) → Covers k s → (t : State) × Runs code budget s seen stop t
 same_run {s = s} certified.spent covers = (s, spent stays)
-same_run {code} {s = s} (certified.halts {k = k} {seen = seen} {stop = stop} turn) covers =
-    (s, Runs-stop (stop_kept code k s covers seen stop turn))
-same_run {code} {s = s} (certified.turns {k = k} {next = next} {o = o} turn rest) covers =
-    let first = leads_kept code k s covers o next turn in
+same_run {code} {s = s} (certified.halts {k = k} {seen = seen} {stop = stop} step) covers =
+    (s, Runs-stop (stop_kept code k s covers seen stop step))
+same_run {code} {s = s} (certified.steps_on {k = k} {next = next} {o = o} step rest) covers =
+    let first = leads_kept code k s covers o next step in
     let then = same_run rest first.2 in
     (then.0, Runs-more first.1 then.1)
 
@@ -67,9 +67,9 @@ same_run {code} {s = s} (certified.turns {k = k} {next = next} {o = o} turn rest
 pub calm : {code : Code} {budget : ℕ} {k : Known} {seen : List Observation} {stop : Stop}
     → CertifiedRun code budget k seen (same stop) → stop ≢ RecorderRefused
 calm certified.spent = λ e. cc
-calm {code} (certified.halts {k = k} {seen = seen} {stop = stop} turn) =
-    (turn_stops code k.state seen stop (stop_kept code k k.state (itself k) seen stop turn)).0
-calm (certified.turns turn rest) = calm rest
+calm {code} (certified.halts {k = k} {seen = seen} {stop = stop} step) =
+    (step_stops code k.state seen stop (stop_kept code k k.state (itself k) seen stop step)).0
+calm (certified.steps_on step rest) = calm rest
 
 pub every_run : {code : Code} {budget : ℕ} {k : Known} {s t : State} {seen shown : List Observation}
     {stop other : Stop} → CertifiedRun code budget k seen (same stop) → Covers k s
@@ -79,12 +79,12 @@ every_run run covers ran quiet =
     let both = Runs-determined ran ours.1 quiet (calm run) in
     (both.0, both.1)
 
--- the turns before one that may differ
-pub turns_before : {code : Code} {budget : ℕ} {k : Known} {s : State} {seen : List Observation} {pc : ℕ}
+-- the steps before one that may differ
+pub steps_before : {code : Code} {budget : ℕ} {k : Known} {s : State} {seen : List Observation} {pc : ℕ}
     → CertifiedRun code budget k seen (may_differ pc) → Covers k s
     → (n : ℕ) × (t : State) × (n < budget) × Leads code n s seen t × (t.pc ≡ pc)
-turns_before {s = s} (certified.cut turn) covers = (0, s, omega arith, stays, covers.pc)
-turns_before {code} {s = s} (certified.turns {k = k} {next = next} {o = o} turn rest) covers =
-    let first = leads_kept code k s covers o next turn in
-    let then = turns_before rest first.2 in
-    (suc then.0, then.1, omega (arith, then.2), turns first.1 then.3, then.4)
+steps_before {s = s} (certified.cut step) covers = (0, s, omega arith, stays, covers.pc)
+steps_before {code} {s = s} (certified.steps_on {k = k} {next = next} {o = o} step rest) covers =
+    let first = leads_kept code k s covers o next step in
+    let then = steps_before rest first.2 in
+    (suc then.0, then.1, omega (arith, then.2), steps_on first.1 then.3, then.4)

@@ -2,9 +2,9 @@
 use Rattle.std.proofs.Common.{◌≡◌, ℕ, true, List, refl, sym, subst}
 use Rattle.certified_runs.specs.Below.{Code, Instr, IsAt, Load, Observation, Profile, State, Store}
 use Rattle.certified_runs.specs.Known.{Known, Covers}
-use Rattle.certified_runs.specs.Certified.{decides, registers_after, bytes_after, known_after, KnownTurn, leads_on}
+use Rattle.certified_runs.specs.Certified.{decides, registers_after, bytes_after, known_after, KnownStep, leads_on}
 use Rattle.certified_runs.specs.Certified.{decided, stopped, undecided, RunEnding, CertifiedRun, spent, halts, cut}
-use Rattle.certified_runs.specs.Certified.{turns}
+use Rattle.certified_runs.specs.Certified.{steps_on}
 use Rattle.certified_runs.proofs.Runs.{leads_kept, stop_kept}
 
 -- as much is known, of another state
@@ -35,10 +35,10 @@ module _ (k : Known) (s : State) (covers : Covers k s) where
   moved_back : (code : Code) (i : Instr) → IsAt code s.pc i → IsAt code k.state.pc i
   moved_back code i = subst (λ pc. IsAt code pc i) covers.pc
 
-  leads_alike : {code : Code} {o : Observation} {next : Known} → KnownTurn code k (leads_on o next)
-      → (u : State) × KnownTurn code (of_state s k) (leads_on o (of_state u next)) × Covers next u
-  leads_alike {code} {o} (decided {t = t} i at sure turn) =
-      let there = leads_kept code k s covers o (known_after i k t) (decided i at sure turn) in (
+  leads_alike : {code : Code} {o : Observation} {next : Known} → KnownStep code k (leads_on o next)
+      → (u : State) × KnownStep code (of_state s k) (leads_on o (of_state u next)) × Covers next u
+  leads_alike {code} {o} (decided {t = t} i at sure step) =
+      let there = leads_kept code k s covers o (known_after i k t) (decided i at sure step) in (
         there.0,
         rw (after_same code.profile i t there.0 sure) (decided i (moved code i at) sure there.1),
         there.2,
@@ -47,14 +47,14 @@ module _ (k : Known) (s : State) (covers : Covers k s) where
 pub run_alike : {code : Code} {budget : ℕ} {k : Known} {s : State} {seen : List Observation} {ending : RunEnding}
     → CertifiedRun code budget k seen ending → Covers k s → CertifiedRun code budget (of_state s k) seen ending
 run_alike spent covers = spent
-run_alike {code} {s = s} (halts {k = k} {seen = seen} {stop = stop} (stopped known turn)) covers =
+run_alike {code} {s = s} (halts {k = k} {seen = seen} {stop = stop} (stopped known step)) covers =
     halts (stopped (λ i at. known i (moved_back k s covers code i at))
-    (stop_kept code k s covers seen stop (stopped known turn)))
+    (stop_kept code k s covers seen stop (stopped known step)))
 run_alike {code} {s = s} (cut {k = k} (undecided i at unknown)) covers =
     rw (sym covers.pc) (cut (undecided i (moved k s covers code i at) unknown))
-run_alike {s = s} (turns {k = k} turn rest) covers =
-    let first = leads_alike k s covers turn in
-    turns first.1 (run_alike rest first.2)
+run_alike {s = s} (steps_on {k = k} step rest) covers =
+    let first = leads_alike k s covers step in
+    steps_on first.1 (run_alike rest first.2)
 
 -- of two states of which the same is known
 pub known_alone : {code : Code} {budget : ℕ} {k other : Known} {seen : List Observation} {ending : RunEnding}

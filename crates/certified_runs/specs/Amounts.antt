@@ -1,7 +1,7 @@
 -- By how much registers are shifted: of an instruction, and of a whole run.
 use Rattle.std.specs.Prelude.{ℕ, zero, suc, ◌%◌, ◌||◌, Bool, true, false, not, List, [], ◌∷◌, ◌++◌, if◌then◌else◌}
 use Rattle.certified_runs.specs.Below.{Code, goes_on, Instr, IsAt, Observation, Register, register, State, Stop, stops}
-use Rattle.certified_runs.specs.Below.{Turn}
+use Rattle.certified_runs.specs.Below.{Step}
 use Rattle.rv_code.specs.declared.operations.RegisterOperation.{RegisterOperation}
 use Rattle.rv_code.specs.declared.operations.RegisterOperation.TheVariants.{Sll, Srl, Sra}
 use Rattle.certified_runs.specs.declared.shifts.Shifts.{Shifts}
@@ -24,12 +24,12 @@ abbrev pub amounts_of : Instr → (ℕ → ℕ) → List ℕ
 amounts_of (Register operation rd rs1 rs2) regs = if is_shift operation then register regs rs2 % 32 ∷ [] else []
 amounts_of _ regs = []
 
--- in a run of at most so many turns that no recorder cuts short, the shifts by registers go by these amounts, one
+-- in a run of at most so many steps that no recorder cuts short, the shifts by registers go by these amounts, one
 -- after another
 pub data ShiftsBy (code : Code) : ℕ → State → List ℕ → Type 0 where
   spent : {s : State} → ShiftsBy code zero s []
-  halts : {n : ℕ} {s : State} {seen : List Observation} {stop : Stop} → Turn code s (stops seen stop)
+  halts : {n : ℕ} {s : State} {seen : List Observation} {stop : Stop} → Step code s (stops seen stop)
       → ShiftsBy code (suc n) s []
-  turns : {n : ℕ} {s t : State} {o : Observation} {amounts : List ℕ} (i : Instr) → IsAt code s.pc i
-      → Turn code s (goes_on o t) → ShiftsBy code n t amounts
+  steps_on : {n : ℕ} {s t : State} {o : Observation} {amounts : List ℕ} (i : Instr) → IsAt code s.pc i
+      → Step code s (goes_on o t) → ShiftsBy code n t amounts
       → ShiftsBy code (suc n) s (amounts_of i s.regs ++ amounts)

@@ -1,10 +1,10 @@
--- A turn and a run of what is known of a state. What instructions compute, and how turns end, is the machine's own.
+-- A step and a run of what is known of a state. What instructions compute, and how steps end, is the machine's own.
 use Rattle.std.specs.Prelude.{◌≡◌, ℕ, Bool, true, false, List, [], ◌∷◌}
 use Rattle.std.proofs.Common.{zero, suc}
 use Rattle.certified_runs.specs.Below.{address_of, Branch, Budget, byte_count, Code, Divide, Ebreak, Ecall, Fence}
 use Rattle.certified_runs.specs.Below.{goes_on, Immediate, Instr, IsAt, Jump, JumpRegister, Load, load_size, Multiply}
 use Rattle.certified_runs.specs.Below.{Observation, P1, P2, Profile, Register, Shift, State, Stop, stops, Store}
-use Rattle.certified_runs.specs.Below.{store_size, Turn, Upper}
+use Rattle.certified_runs.specs.Below.{store_size, Step, Upper}
 use Rattle.certified_runs.specs.Amounts.{decides_amount}
 use Rattle.certified_runs.specs.declared.shifts.Shifts.{Shifts}
 use Rattle.certified_runs.specs.Known.{Known, knows, knows_both, knows_bytes, with_register_known, with_bytes_known}
@@ -65,43 +65,43 @@ bytes_after _ k = k.bytes
 abbrev pub known_after : Instr → Known → State → Known
 known_after i k t = record { state = t; registers = registers_after i k; bytes = bytes_after i k; shifts = k.shifts }
 
--- how a turn ends: it shows an observation and goes on, or it stops, having shown at most one, or what it shows may
+-- how a step ends: it shows an observation and goes on, or it stops, having shown at most one, or what it shows may
 -- depend on what is unknown
 pub data KnownEnding : Type 0 where
   leads_on : Observation → Known → KnownEnding
   ends : List Observation → Stop → KnownEnding
   depends : KnownEnding
 
--- one turn of what is known
-pub data KnownTurn (code : Code) (k : Known) : KnownEnding → Type 0 where
+-- one step of what is known
+pub data KnownStep (code : Code) (k : Known) : KnownEnding → Type 0 where
   decided : {o : Observation} {t : State} (i : Instr) → IsAt code k.state.pc i
-      → decides code.profile k.shifts i k.registers ≡ true → Turn code k.state (goes_on o t)
-      → KnownTurn code k (leads_on o (known_after i k t))
+      → decides code.profile k.shifts i k.registers ≡ true → Step code k.state (goes_on o t)
+      → KnownStep code k (leads_on o (known_after i k t))
   stopped : {seen : List Observation} {stop : Stop}
       → ((i : Instr) → IsAt code k.state.pc i → decides code.profile k.shifts i k.registers ≡ true)
-      → Turn code k.state (stops seen stop) → KnownTurn code k (ends seen stop)
+      → Step code k.state (stops seen stop) → KnownStep code k (ends seen stop)
   undecided : (i : Instr) → IsAt code k.state.pc i → decides code.profile k.shifts i k.registers ≡ false
-      → KnownTurn code k depends
+      → KnownStep code k depends
 
--- how a run ends: it is the same for all that is unknown and stops so, or the turn at this program counter may depend
+-- how a run ends: it is the same for all that is unknown and stops so, or the step at this program counter may depend
 -- on it
 pub data RunEnding : Type 0 where
   same : Stop → RunEnding
   may_differ : ℕ → RunEnding
 
--- turns until one stops or depends, or as many as the budget; what they show
+-- steps until one stops or depends, or as many as the budget; what they show
 pub data CertifiedRun (code : Code) : ℕ → Known → List Observation → RunEnding → Type 0 where
   spent : {k : Known} → CertifiedRun code zero k [] (same Budget)
-  halts : {n : ℕ} {k : Known} {seen : List Observation} {stop : Stop} → KnownTurn code k (ends seen stop)
+  halts : {n : ℕ} {k : Known} {seen : List Observation} {stop : Stop} → KnownStep code k (ends seen stop)
       → CertifiedRun code (suc n) k seen (same stop)
-  cut : {n : ℕ} {k : Known} → KnownTurn code k depends → CertifiedRun code (suc n) k [] (may_differ k.state.pc)
-  turns : {n : ℕ} {k next : Known} {o : Observation} {seen : List Observation} {ending : RunEnding}
-      → KnownTurn code k (leads_on o next) → CertifiedRun code n next seen ending
+  cut : {n : ℕ} {k : Known} → KnownStep code k depends → CertifiedRun code (suc n) k [] (may_differ k.state.pc)
+  steps_on : {n : ℕ} {k next : Known} {o : Observation} {seen : List Observation} {ending : RunEnding}
+      → KnownStep code k (leads_on o next) → CertifiedRun code n next seen ending
       → CertifiedRun code (suc n) k (o ∷ seen) ending
 
--- so many turns of what is known, of which none stops or depends, lead to what is known then; what they show
+-- so many steps of what is known, of which none stops or depends, lead to what is known then; what they show
 pub data KnownLeads (code : Code) : ℕ → Known → List Observation → Known → Type 0 where
   stays : {k : Known} → KnownLeads code zero k [] k
   leads : {n : ℕ} {k next later : Known} {o : Observation} {seen : List Observation}
-      → KnownTurn code k (leads_on o next) → KnownLeads code n next seen later
+      → KnownStep code k (leads_on o next) → KnownLeads code n next seen later
       → KnownLeads code (suc n) k (o ∷ seen) later

@@ -1,4 +1,4 @@
-// Certified runs: turns of what is known until one stops, or may depend on what is unknown.
+// Certified runs: steps of what is known until one stops, or may depend on what is unknown.
 
 ghost use Rattle.std.specs.Prelude.{◌≡◌, ℕ, ◌<◌, ◌^◌, List, length, is_some};
 ghost use Rattle.certified_runs.specs.Below.{code_of, entries_of, Observation, state_of};
@@ -8,11 +8,11 @@ ghost use Rattle.certified_runs.specs.Known.{Known};
 ghost use Rattle.certified_runs.specs.Parts.{known_of};
 
 use crate::known_parts::KnownParts;
-use crate::turns::{TurnEnd, turn};
+use crate::steps::{StepEnd, known_step};
 use rv_machine::{CodeRegion, Memory, Running, Stop};
 
 /// How a certified run ends. Entries are what an observer sees, one by one: each program counter, and
-/// after it what that turn loads, stores, divides or multiplies.
+/// after it what that step loads, stores, divides or multiplies.
 #[derive(Clone, Copy, Debug, PartialEq, Eq)]
 pub enum CertifiedEnd {
     /// All that is unknown makes no difference: so many entries are shown, and then the run stops so.
@@ -23,57 +23,57 @@ pub enum CertifiedEnd {
     MayDiffer { entry: u64, pc: u32 },
 }
 
-/// Makes turns of a run of which these parts are known, until one stops, or until what it shows may
-/// depend on what is unknown. It makes no more turns than the run may still make, and takes no memory.
-/// A run of which no turn is left can be given more of them, and goes on from there.
-// It is never compiled in line: beside a caller's own values, those of the turns do not fit the registers.
+/// Makes steps of a run of which these parts are known, until one stops, or until what it shows may
+/// depend on what is unknown. It makes no more steps than the run may still make, and takes no memory.
+/// A run of which no step is left can be given more of them, and goes on from there.
+// It is never compiled in line: beside a caller's own values, those of the steps do not fit the registers.
 #[inline(never)]
 pub fn certify<M: Memory>(
     code: &CodeRegion,
     run: &mut Running<M>,
     known: &mut KnownParts<M>,
 ) -> CertifiedEnd
-    requires few { run.old.turns_left < 2 ^ 63 }
+    requires few { run.old.steps_left < 2 ^ 63 }
     requires extent { (a : ℕ) → is_some (M.bytes known.old.marks a) ≡ is_some (M.bytes run.old.memory a) }
     ensures certified { (seen : List Observation) × (ending : RunEnding)
-        × CertifiedRun (code_of code.now) run.old.turns_left
+        × CertifiedRun (code_of code.now) run.old.steps_left
         (known_of (state_of run.old.hart (M.bytes run.old.memory)) known.old.registers (M.bytes known.old.marks)
         known.old.shifts) seen ending
         × (result ≡ end_of seen ending) }
-    ensures spent { run.new.turns_left ≡ 0
+    ensures spent { run.new.steps_left ≡ 0
         → (seen : List Observation)
-        × KnownLeads (code_of code.now) run.old.turns_left
+        × KnownLeads (code_of code.now) run.old.steps_left
         (known_of (state_of run.old.hart (M.bytes run.old.memory)) known.old.registers (M.bytes known.old.marks)
         known.old.shifts) seen
         (known_of (state_of run.new.hart (M.bytes run.new.memory)) known.new.registers (M.bytes known.new.marks)
         known.new.shifts)
         × (result ≡ CertifiedEnd.Same Stop.Budget (length (entries_of seen))) }
     ensures ended { (seen : List Observation) (later : Known)
-        → 0 < run.new.turns_left
-        → KnownLeads (code_of code.now) run.old.turns_left
+        → 0 < run.new.steps_left
+        → KnownLeads (code_of code.now) run.old.steps_left
         (known_of (state_of run.old.hart (M.bytes run.old.memory)) known.old.registers (M.bytes known.old.marks)
         known.old.shifts) seen later
         → ⊥ }
     ensures extent { (a : ℕ) → is_some (M.bytes known.new.marks a) ≡ is_some (M.bytes run.new.memory a) }
 {
     let mut entries = 0;
-    while run.turns_left > 0 {
-        match turn(code, &mut run.hart, &mut run.memory, known) {
-            TurnEnd::LeadsOn(more) => entries += more,
-            TurnEnd::Ends(more, stop) => {
+    while run.steps_left > 0 {
+        match known_step(code, &mut run.hart, &mut run.memory, known) {
+            StepEnd::LeadsOn(more) => entries += more,
+            StepEnd::Ends(more, stop) => {
                 return CertifiedEnd::Same {
                     stop,
                     entries: entries + more,
                 };
             }
-            TurnEnd::Depends => {
+            StepEnd::Depends => {
                 return CertifiedEnd::MayDiffer {
                     entry: entries + 1,
                     pc: run.hart.pc(),
                 };
             }
         }
-        run.turns_left -= 1;
+        run.steps_left -= 1;
     }
     CertifiedEnd::Same {
         stop: Stop::Budget,

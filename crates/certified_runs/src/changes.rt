@@ -5,7 +5,7 @@ ghost use Rattle.certified_runs.specs.Below.{Profile, regs_of, State};
 ghost use Rattle.certified_runs.specs.Certified.{decides, decides_product, registers_after, bytes_after};
 ghost use Rattle.certified_runs.specs.Parts.{known_registers, known_bytes, known_of};
 ghost use Rattle.certified_runs.specs.private.Changes.{accessed, StoresData};
-ghost use Rattle.certified_runs.specs.private.Turned.{HaveOneExtent};
+ghost use Rattle.certified_runs.specs.private.Stepped.{HaveOneExtent};
 
 use crate::known_parts::KnownParts;
 use crate::shifts::decides_amount;
@@ -60,7 +60,7 @@ pub(crate) fn accessed(instr: &Instr, hart: &Hart) -> u32
     }
 }
 
-/// Changes what is known as an instruction does that accesses this address, and whose turn goes on.
+/// Changes what is known as an instruction does that accesses this address, and whose step goes on.
 #[inline(always)]
 pub(crate) fn change<M: Memory>(instr: &Instr, a: u32, known: &mut KnownParts<M>)
     requires { StoresData (M.bytes known.old.marks) instr.now a }

@@ -2,9 +2,9 @@
 
 ghost use Rattle.std.specs.Prelude.{◌≡◌, ◌≢◌, ℕ, ◌<◌, ◌∷◌, ◌++◌, List};
 ghost use Rattle.certified_runs.specs.Below.{Code, Ending, entries_of, Entry, Leads, Observation, Runs, State, Stop};
-ghost use Rattle.certified_runs.specs.Below.{Turn};
+ghost use Rattle.certified_runs.specs.Below.{Step};
 ghost use Rattle.certified_runs.specs.Amounts.{ShiftsBy};
-ghost use Rattle.certified_runs.specs.Certified.{KnownEnding, KnownTurn, RunEnding, CertifiedRun};
+ghost use Rattle.certified_runs.specs.Certified.{KnownEnding, KnownStep, RunEnding, CertifiedRun};
 ghost use Rattle.certified_runs.specs.Known.{Known, Covers};
 
 use crate::shifts::Shifts;
@@ -15,14 +15,14 @@ pub fn what_is_known_covers()
     ensures { (k : Known) → Covers k k.state }
 {}
 
-/// A turn of what is known is a turn of each covered state: it shows the same and covers where that leads, or it stops
+/// A step of what is known is a step of each covered state: it shows the same and covers where that leads, or it stops
 /// alike.
-pub fn turns_keep_covering()
+pub fn steps_keep_covering()
     ensures leads_on { (code : Code) (k next : Known) (s : State) (o : Observation)
-        → KnownTurn code k (KnownEnding.leads_on o next) → Covers k s
-        → (t : State) × Turn code s (Ending.goes_on o t) × Covers next t }
+        → KnownStep code k (KnownEnding.leads_on o next) → Covers k s
+        → (t : State) × Step code s (Ending.goes_on o t) × Covers next t }
     ensures ends { (code : Code) (k : Known) (s : State) (seen : List Observation) (stop : Stop)
-        → KnownTurn code k (KnownEnding.ends seen stop) → Covers k s → Turn code s (Ending.stops seen stop) }
+        → KnownStep code k (KnownEnding.ends seen stop) → Covers k s → Step code s (Ending.stops seen stop) }
 {}
 
 /// Where a certified run is the same for all that is unknown, every run from a covered state with its budget, cut short
@@ -56,8 +56,8 @@ pub fn certified_runs_depend_on_what_is_known()
         → CertifiedRun code budget k seen ending → CertifiedRun code budget other seen ending }
 {}
 
-/// Where a certified run may differ, each covered state makes turns that show its list, fewer than the budget, up to
-/// the program counter of the turn that may differ.
+/// Where a certified run may differ, each covered state makes steps that show its list, fewer than the budget, up to
+/// the program counter of the step that may differ.
 pub fn certified_runs_cut_short_agree()
     ensures { (code : Code) (budget : ℕ) (k : Known) (s : State) (seen : List Observation) (pc : ℕ)
         → CertifiedRun code budget k seen (RunEnding.may_differ pc) → Covers k s

@@ -18,8 +18,8 @@ use Rattle.codegen.proofs.Arguments.{loaded, arrays_are, returned_is}
 use Rattle.codegen.proofs.SetRuns.{steps_of_result}
 use Rattle.codegen.proofs.Standing.{words_alone, body_words_before, placed_alone, leads_among, stand_placed, placed}
 use Rattle.codegen.proofs.Standing.{within_among as words_within_among}
-use Rattle.codegen.proofs.program_logic_lemmas.TurnLaws.{leads_kept, still_there}
-use Rattle.codegen.specs.program_logic.Turns.{LeadsWithin}
+use Rattle.codegen.proofs.program_logic_lemmas.StepLaws.{leads_kept, still_there}
+use Rattle.codegen.specs.program_logic.MachineSteps.{LeadsWithin}
 use Rattle.codegen.proofs.FreshRuns.{Ended, program_runs}
 use Rattle.codegen.specs.private.Fresh.{starts_fresh}
 use Rattle.std.proofs.lemmas.Bool.{and_parts, ltb-true}
@@ -59,7 +59,7 @@ module _ (a : Allocation) (p : StraightProgram) (room : HasRoom p) (fitting : Is
     code = words_alone p.profile start (map word_of (body_code a p));
     frame = frame;
     size = (image_of a p).frame_bytes;
-    counts = p.turns;
+    counts = p.iterations;
     declared = p.declared;
     controls = p.controls;
     depths = depth_in_all p.body;
@@ -142,7 +142,7 @@ module _ (a : Allocation) (p : StraightProgram) (room : HasRoom p) (fitting : Is
       LeadsWithin (words_alone profile start (map word_of (body_code a p))) Allowed n s seen t) same leads)
 
   runs_behind : (args : List Arg) (s : machine.State) → s.pc ≡ start → IsLoaded (image_of a p) frame args s
-      → AreWithin p.parameters args → AreFine p.turns (path_of p args)
+      → AreWithin p.parameters args → AreFine p.iterations (path_of p args)
       → RunsBehind p (image_of a p) code start frame args s
       ((straight.leak (seen_by setting (path_of p args) ++ [])).0)
   unfolding steps Finished
@@ -153,7 +153,7 @@ module _ (a : Allocation) (p : StraightProgram) (room : HasRoom p) (fitting : Is
       subst (λ (seen : List Observation). RunsBehind p (image_of a p) code start frame args s seen) (sym same)
       (record {
         run = record {
-          turns = done.turns;
+          step_count = done.step_count;
           end = done.end;
           leads = among (leads_kept done.leads);
           at_base = within_among (still_there frame (λ t u kept. kept.regs 2 (omega arith)) laid.base done.leads);
@@ -226,7 +226,7 @@ module _ (a : Allocation) (p : StraightProgram) (code frame : ℕ) (bases : AreB
         let run = follows.run in
         let Inside = λ (o : Observation). IsInside frame (image_of a p).frame_bytes o.event in
         record {
-          turns = run.turns + 1;
+          step_count = run.step_count + 1;
           end = run.end;
           halts = Halts-after run.leads (ends_there run.end run.behind);
           within_steps = omega (arith, run.within_steps);

@@ -5,8 +5,8 @@ use Rattle.std.proofs.Common.{length-append}
 use Rattle.codegen.proofs.Machine.{clear_code, statement_code, loop_code, with_numbers, variable_offset, constant_code}
 use Rattle.codegen.proofs.Machine.{Instr, Addi, Add, Sub, Sw, ByteMap, number_at, with_number, sum_of, difference_of}
 use Rattle.codegen.proofs.Machine.{with_register}
-use Rattle.codegen.proofs.Language.{FlatVariable, array_as, path_of_turns, Path, array, StraightState, with_variable}
-use Rattle.codegen.proofs.Language.{after, IsFilled, Kind, Boolean, array_words, terms_nodes}
+use Rattle.codegen.proofs.Language.{FlatVariable, array_as, path_of_iterations, Path, array, StraightState}
+use Rattle.codegen.proofs.Language.{with_variable, after, IsFilled, Kind, Boolean, array_words, terms_nodes}
 use Rattle.codegen.proofs.Logic.{cases_eq, cases_lt, length-replicate, with_number-suc, with_byte_same, with_byte_other}
 use Rattle.codegen.proofs.Logic.{layout_of}
 use Rattle.codegen.proofs.Logic.{lt-ltb, registers_after, is_free, computing_within, frame_runs, plain_append}
@@ -22,7 +22,7 @@ use Rattle.inline.proofs.FittingBodies.{held_zeros}
 use Rattle.codegen.proofs.Numbers.{numbers_beside, zero_number}
 use Rattle.codegen.proofs.Slots.{Shown, ready_changed}
 
--- No turn changes the state of straight code, or puts anything on the path.
+-- No iteration changes the state of straight code, or puts anything on the path.
 
 abbrev as_before : ℕ → StraightState → StraightState
 as_before i env = env
@@ -30,7 +30,7 @@ as_before i env = env
 abbrev nothing_more : ℕ → StraightState → Path
 nothing_more i env = []
 
-path_none : (n i : ℕ) (env : StraightState) → path_of_turns n i as_before nothing_more env ≡ []
+path_none : (n i : ℕ) (env : StraightState) → path_of_iterations n i as_before nothing_more env ≡ []
 path_none zero i env = refl
 path_none (suc n) i env = path_none n (i + 1) env
 
@@ -133,23 +133,23 @@ module _ (z : Setting) (offset words : ℕ) (aligned : offset % 4 ≡ 0) (inside
   abbrev test : List Instr
   test = instr.Register Sub 5 7 6 ∷ []
 
-  abbrev turn : List Instr
-  turn = instr.Store Sw 0 6 0 ∷ instr.Immediate Addi 6 6 4 ∷ []
+  abbrev iteration : List Instr
+  iteration = instr.Store Sw 0 6 0 ∷ instr.Immediate Addi 6 6 4 ∷ []
 
   -- so many words are left
-  abbrev Turning : ℕ → ℕ → StraightState → machine.State → Type 0
-  Turning left i env s = Bounded i env s × (i + left ≡ words)
+  abbrev Iterating : ℕ → ℕ → StraightState → machine.State → Type 0
+  Iterating left i env s = Bounded i env s × (i + left ≡ words)
 
   abbrev Tested : ℕ → ℕ → StraightState → machine.State → machine.State → Type 0
   Tested left i env s t = Bounded i env t × (t.regs 5 ≡ 4 * left) × (t.bytes ≡ s.bytes) × HomesKept z s t
 
-  abbrev Turned : ℕ → StraightState → machine.State → machine.State → Type 0
-  Turned i env u v = Bounded (i + 1) env v × (v.bytes ≡ with_number u.bytes 4 (z.frame + (offset + 4 * i)) 0)
+  abbrev Iterated : ℕ → StraightState → machine.State → machine.State → Type 0
+  Iterated i env u v = Bounded (i + 1) env v × (v.bytes ≡ with_number u.bytes 4 (z.frame + (offset + 4 * i)) 0)
       × HomesKept z u v
 
-  test_runs : (left i : ℕ) → Runs z 1 none test (Turning left i) (Tested left i)
+  test_runs : (left i : ℕ) → Runs z 1 none test (Iterating left i) (Tested left i)
   test_runs left i =
-      weaken {P' = Turning left i}
+      weaken {P' = Iterating left i}
       (λ env s fine given. given.0.held)
       (λ env s t fine given done.
       let count = given.1 in (
@@ -165,8 +165,8 @@ module _ (z : Setting) (offset words : ℕ) (aligned : offset % 4 ≡ 0) (inside
       ))
       (computing_within z is_free test refl none_low)
 
-  turn_below : (left i : ℕ) → i < words → Runs z 2 none turn (Turning (suc left) i) (Turned i)
-  turn_below left i below =
+  iteration_below : (left i : ℕ) → i < words → Runs z 2 none iteration (Iterating (suc left) i) (Iterated i)
+  iteration_below left i below =
       gives
       (λ env s t fine given done. (
         record {
@@ -179,7 +179,7 @@ module _ (z : Setting) (offset words : ℕ) (aligned : offset % 4 ≡ 0) (inside
         λ r home. let some = z.allocated.some in ap (λ (regs : ℕ → ℕ). regs r) done.1.regs
             ∙ unwritten s.regs 6 _ r (λ e. omega (arith, some, home.0, e)),
       ))
-      (frame_runs z {P = Turning (suc left) i} is_free turn ((z.frame + (offset + 4 * i)) ∷ []) refl none_low
+      (frame_runs z {P = Iterating (suc left) i} is_free iteration ((z.frame + (offset + 4 * i)) ∷ []) refl none_low
       (record { even = omega (arith, z.even, aligned); allowed = (omega arith, omega (arith, inside, below)) }, tt)
       (λ env s given. (
         given.0.held,
@@ -192,14 +192,14 @@ module _ (z : Setting) (offset words : ℕ) (aligned : offset % 4 ≡ 0) (inside
         ),
       )))
 
-  turn_runs : (left i : ℕ) → Runs z 2 none turn (Turning (suc left) i) (Turned i)
-  turn_runs left i =
-      ⊎_elim (λ (below : i < words). turn_below left i below)
+  iteration_runs : (left i : ℕ) → Runs z 2 none iteration (Iterating (suc left) i) (Iterated i)
+  iteration_runs left i =
+      ⊎_elim (λ (below : i < words). iteration_below left i below)
       (λ (beyond : words ≤ i). never (λ env s given. omega (arith, given.1, beyond))) (cases_lt i words)
 
   -- the words before the next are 0
   abbrev Inv : ℕ → ℕ → StraightState → machine.State → machine.State → Type 0
-  Inv left i env o s = Turning left i env s × (s.bytes ≡ zeroed o.bytes start i) × HomesKept z o s
+  Inv left i env o s = Iterating left i env s × (s.bytes ≡ zeroed o.bytes start i) × HomesKept z o s
 
   abbrev Over : StraightState → machine.State → machine.State → Type 0
   Over env o u = HeldAt z u × (u.bytes ≡ zeroed o.bytes start words) × HomesKept z o u
@@ -219,15 +219,15 @@ module _ (z : Setting) (offset words : ℕ) (aligned : offset % 4 ≡ 0) (inside
       ap₂ (λ (b : ByteMap) a. with_number b 4 a 0) is at
       ∙ (one_more bytes start i ∙ ap (λ n. zeroed bytes start n) count)
 
-  zeros_runs : Runs z ((words + 1) * 5) none (loop_code test turn) (Bounded 0) (λ env s t. Over env s t)
+  zeros_runs : Runs z ((words + 1) * 5) none (loop_code test iteration) (Bounded 0) (λ env s t. Over env s t)
   zeros_runs =
       cheaper (omega arith)
       (along (λ env. sym (path_none words 0 env))
       (weaken
       (λ env s fine given. ((given, omega arith), refl, λ r home. refl))
       (λ env s t fine given over. over)
-      (looping {z = setting z} 5 (omega arith) (λ e. omega arith) {A = Turning} {B = Tested} {C =
-      λ left i. Turning (suc left) i} {D = λ left i. Turned i}
+      (looping {z = setting z} 5 (omega arith) (λ e. omega arith) {A = Iterating} {B = Tested} {C =
+      λ left i. Iterating (suc left) i} {D = λ left i. Iterated i}
       nothing_more as_before Inv Over (omega arith)
       (λ left i env o s inv. inv.0)
       (λ left i env o s t inv tested e. let f = tested.1 in omega (arith, e, f))
@@ -247,7 +247,7 @@ module _ (z : Setting) (offset words : ℕ) (aligned : offset % 4 ≡ 0) (inside
         still.bytes ∙ (tested.2 ∙ (inv.1 ∙ ap (λ n. zeroed o.bytes start n) count)),
         homes_then z o s u inv.2 (homes_then z s t u tested.3 (homes_by z t u still.regs)),
       ))
-      test_runs turn_runs words 0)))
+      test_runs iteration_runs words 0)))
 
   pub clear_bytes : Runs z (6 + (words + 1) * 5) none (clear_code offset words) (Held z) (λ env s t. HeldAt z t
       × (t.bytes ≡ zeroed s.bytes start words) × HomesKept z s t)

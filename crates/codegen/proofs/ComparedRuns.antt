@@ -23,7 +23,7 @@ use Rattle.codegen.proofs.expression_code_lemmas.NumberCode.{zero_known}
 
 -- whether two operands pass the test of a comparison
 abbrev are_passing : Comparison → ℕ → ℕ → Bool
-are_passing c a b = if c.is_turned then holds c.test b a else holds c.test a b
+are_passing c a b = if c.is_swapped then holds c.test b a else holds c.test a b
 
 -- they do where it does not hold, and a comparison puts nothing on the path
 record Fails (operator : BinaryOperator) (c : Comparison) : Type 0 where
@@ -67,7 +67,7 @@ passes test regs = holds test.test (register regs test.left) (register regs test
 
 between_passes : (c : Comparison) (l r : ℕ) (regs : ℕ → ℕ)
     → passes (between c l r) regs ≡ are_passing c (register regs l) (register regs r)
-between_passes c l r regs = choice_of (λ test. passes test regs) c.is_turned _ _
+between_passes c l r regs = choice_of (λ test. passes test regs) c.is_swapped _ _
 
 -- a test of registers that there are
 pub record IsTest (test : Test) : Type 0 where
@@ -76,7 +76,7 @@ pub record IsTest (test : Test) : Type 0 where
 
 between_is : (c : Comparison) (l r : ℕ) → l < 32 → r < 32 → IsTest (between c l r)
 between_is c l r low low' =
-    of_choice IsTest c.is_turned (record { left = low'; right = low }) (record { left = low; right = low' })
+    of_choice IsTest c.is_swapped (record { left = low'; right = low }) (record { left = low; right = low' })
 
 module _ (z : Setting) where
   read_small : (e : TermTree) (asked : ℕ) → 4 < asked → asked < 28 → read_register z.allocation asked e < 32

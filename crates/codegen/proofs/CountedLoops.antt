@@ -4,8 +4,9 @@ use Rattle.std.proofs.Common.{nat_lt, List, [], ◌∷◌, ◌++◌, length, Som
 use Rattle.std.proofs.Common.{◌∙◌, ap₂, subst, arith, ne_eqb, length-append, append-nil}
 use Rattle.std.proofs.lemmas.Bool.{ltb-true}
 use Rattle.std.proofs.lemmas.Nat.{mul-le}
-use Rattle.codegen.proofs.CountingRuns.{Guarded, Numbered, guarded_runs, home_high, home_low, one_computed, turns_runs}
-use Rattle.codegen.proofs.Language.{TermTree, word_as, value_in, path_in, turns, path_of_turns, Path, bounded}
+use Rattle.codegen.proofs.CountingRuns.{Guarded, Numbered, guarded_runs, home_high, home_low, one_computed}
+use Rattle.codegen.proofs.CountingRuns.{iterations_runs}
+use Rattle.codegen.proofs.Language.{TermTree, word_as, value_in, path_in, iterations, path_of_iterations, Path, bounded}
 use Rattle.codegen.proofs.Language.{term_nodes, types_of, HasType, counter_type, StraightBlock, repeats, StraightState}
 use Rattle.codegen.proofs.Language.{counted, after, after_all, path_at, path_along, word_of, Values}
 use Rattle.codegen.proofs.LoopRuns.{AtLoop, bounds_runs, is_left, next, next_inside, test_runs}
@@ -21,7 +22,7 @@ use Rattle.codegen.proofs.PairRuns.{FirstRead, read_then}
 use Rattle.codegen.proofs.Slots.{Shown, Hidden, hidden_then, hidden_by, hidden_kept, hidden_number, ready_with}
 use Rattle.codegen.proofs.Slots.{read_source, source_apart, homed_runs}
 use Rattle.codegen.specs.private.Loops.{any_sets, below_number_code, below_word_code, guarded_code, is_below}
-use Rattle.codegen.specs.private.Loops.{short_number, to_number_code, turns_code}
+use Rattle.codegen.specs.private.Loops.{short_number, to_number_code, iterations_code}
 use Rattle.codegen.specs.Below.{Addi, number, sign_extended, Sltiu}
 use Rattle.rv_code.specs.declared.instructions.Instr.TheVariants as instr
 use Rattle.rv_machine.specs.Machine as machine
@@ -73,38 +74,38 @@ module _ (z : Setting) (depth x h : ℕ) (within : depth < z.depths)
     (unset : any_sets x body ≡ false) (short : length ys < 1000)
     (inner : Runs z n (λ env. path_along env body) ys (Ready z)
     (Shown z (depth + 1) (λ env. after_all env body))) where
-  abbrev one_turn : ℕ → StraightState → StraightState
-  one_turn i env = after_all (counted x i env) body
+  abbrev one_iteration : ℕ → StraightState → StraightState
+  one_iteration i env = after_all (counted x i env) body
 
   abbrev bounds : StraightState → ℕ × ℕ
   bounds env = (value_in env.variables low, value_in env.variables high)
 
   abbrev path_by : StraightState → ℕ × ℕ → Path
-  path_by env b = path_of_turns (b.1 - b.0) b.0 one_turn (λ i e. path_along (counted x i e) body) env
+  path_by env b = path_of_iterations (b.1 - b.0) b.0 one_iteration (λ i e. path_along (counted x i e) body) env
 
   -- the state is shown, and the words of the loops around are as they were
   abbrev Done : StraightState → machine.State → machine.State → Type 0
   Done env s t = Ready z env t × Hidden z depth s t
 
   abbrev Looped : StraightState → machine.State → machine.State → Type 0
-  Looped = Shown z depth (λ env. turns ((bounds env).1 - (bounds env).0) (bounds env).0 one_turn env)
+  Looped = Shown z depth (λ env. iterations ((bounds env).1 - (bounds env).0) (bounds env).0 one_iteration env)
 
-  -- the bounds are these, with no more turns between them than are counted
+  -- the bounds are these, with no more iterations between them than are counted
   abbrev With : (StraightState → machine.State → Type 0) → ℕ × ℕ → StraightState → machine.State → Type 0
   With P b = Known (setting z) (ℕ × ℕ) (λ c. c.1 - c.0 ≤ slice_index z.counts x) P bounds b
 
-  -- the cost of all turns, with so many instructions in the test
-  abbrev turns_cost : ℕ → ℕ
-  turns_cost c = slice_index z.counts x * (n + (1 + c) + 1)
+  -- the cost of all iterations, with so many instructions in the test
+  abbrev iterations_cost : ℕ → ℕ
+  iterations_cost c = slice_index z.counts x * (n + (1 + c) + 1)
 
   round_near : (test : List Instr) → length test ≤ 4 → 2 * length (ys ++ instr.Immediate Addi h h 1 ∷ test) ≤ 2 ^ 11
   round_near test few = omega (arith, few, short, length-append {A = Instr})
 
   -- what is shown with bounds that are known beforehand is shown with those of the state
   looped_by : (b : ℕ × ℕ) (env : StraightState) (s t : machine.State) → bounds env ≡ b
-      → Done (turns (b.1 - b.0) b.0 one_turn env) s t → Looped env s t
+      → Done (iterations (b.1 - b.0) b.0 one_iteration env) s t → Looped env s t
   looped_by b env s t is done = record {
-    ready = subst (λ (c : ℕ × ℕ). Ready z (turns (c.1 - c.0) c.0 one_turn env) t) (sym is) done.0;
+    ready = subst (λ (c : ℕ × ℕ). Ready z (iterations (c.1 - c.0) c.0 one_iteration env) t) (sym is) done.0;
     hidden = done.1;
   }
 
@@ -140,7 +141,7 @@ module _ (z : Setting) (depth x h : ℕ) (within : depth < z.depths)
     guard_code = below_number_code 6 start bound ++ guarded_code 6 h start (below_number_code 5 h bound) ys
 
     guard_at : (b : ℕ × ℕ) → b.1 - b.0 ≤ slice_index z.counts x
-        → Runs z (1 + (2 + (1 + (turns_cost 1 + 1)) + 0)) (λ env. path_by env (bounds env)) guard_code
+        → Runs z (1 + (2 + (1 + (iterations_cost 1 + 1)) + 0)) (λ env. path_by env (bounds env)) guard_code
         (With (FirstRead z low) b) Looped
     guard_at b few =
         let source = read_source z low 5 (omega arith) (omega arith) in
@@ -175,7 +176,7 @@ module _ (z : Setting) (depth x h : ℕ) (within : depth < z.depths)
         (λ env s t known done. done.0)))
 
     -- from any first number on
-    read_number_runs : Runs z (16 * term_nodes low + (1 + (2 + (1 + (turns_cost 1 + 1)) + 0)))
+    read_number_runs : Runs z (16 * term_nodes low + (1 + (2 + (1 + (iterations_cost 1 + 1)) + 0)))
         (λ env. path_in env.variables low ++ bounded x (bounds env).0 (bounds env).1 ∷ path_by env (bounds env))
         (read_code (layout_of z) 5 0 low ++ guard_code) (Ready z) Looped
     read_number_runs =
@@ -188,11 +189,11 @@ module _ (z : Setting) (depth x h : ℕ) (within : depth < z.depths)
 
     certain_at : (b : ℕ × ℕ) → is_below bound low ≡ true → b.1 - b.0 ≤ slice_index z.counts x → (left : ℕ)
         → b.1 - b.0 ≡ left
-        → Runs z (turns_cost 1 + 1)
-        (λ env. path_of_turns left b.0 one_turn (λ i e. path_along (counted x i e) body) env)
-        (turns_code h (below_number_code 5 h bound) ys)
+        → Runs z (iterations_cost 1 + 1)
+        (λ env. path_of_iterations left b.0 one_iteration (λ i e. path_along (counted x i e) body) env)
+        (iterations_code h (below_number_code 5 h bound) ys)
         (With Counted b)
-        (λ env s t. Done (turns left b.0 one_turn env) s t)
+        (λ env s t. Done (iterations left b.0 one_iteration env) s t)
     certain_at b below few zero is =
         never
         (λ env s known.
@@ -214,12 +215,12 @@ module _ (z : Setting) (depth x h : ℕ) (within : depth < z.depths)
           last = refl;
         })
         (λ env s t fine known done. done)
-        (turns_runs z depth x h known at 1 n limit (AtBound limit) body (λ s t hidden is. is) (limited limit)
+        (iterations_runs z depth x h known at 1 n limit (AtBound limit) body (λ s t hidden is. is) (limited limit)
         (number_tests limit) unset inner (round_near _ (omega arith)) left b.0))
 
-    certain_runs : is_below bound low ≡ true → Runs z (16 * term_nodes low + (turns_cost 1 + 1))
+    certain_runs : is_below bound low ≡ true → Runs z (16 * term_nodes low + (iterations_cost 1 + 1))
         (λ env. path_in env.variables low ++ bounded x (bounds env).0 (bounds env).1 ∷ path_by env (bounds env))
-        (into_code z.declared z.allocation (base_of z) h 0 low ++ turns_code h (below_number_code 5 h bound) ys)
+        (into_code z.declared z.allocation (base_of z) h 0 low ++ iterations_code h (below_number_code 5 h bound) ys)
         (Ready z) Looped
     certain_runs below =
         let is = z.allocated.allowed x h at in
@@ -242,7 +243,7 @@ module _ (z : Setting) (depth x h : ℕ) (within : depth < z.depths)
         (omega (arith, less env.variables, is_short.small)) env s t ready done.held kept done.there
         (λ r other apart. done.lower r (home_beside z.allocation.count 0 h r other.0 other.1 apart))))
 
-    pub to_number_runs : Runs z (16 * term_nodes low + (1 + (2 + (1 + (turns_cost 1 + 1)) + 0)))
+    pub to_number_runs : Runs z (16 * term_nodes low + (1 + (2 + (1 + (iterations_cost 1 + 1)) + 0)))
         (λ env. path_at env (repeats x low high body))
         (to_number_code (layout_of z) h low bound ys) (Ready z)
         (Shown z depth (λ env. after env (repeats x low high body)))
@@ -305,7 +306,7 @@ module _ (z : Setting) (depth x h : ℕ) (within : depth < z.depths)
     word_code = test_code words ++ guarded_code 5 h 6 (below_word_code h words) ys
 
     word_at : (b : ℕ × ℕ) → b.1 - b.0 ≤ slice_index z.counts x
-        → Runs z (7 + (2 + (1 + (turns_cost 4 + 1)) + 0)) (λ env. path_by env (bounds env)) word_code
+        → Runs z (7 + (2 + (1 + (iterations_cost 4 + 1)) + 0)) (λ env. path_by env (bounds env)) word_code
         (With Beginning b) Looped
     word_at b few =
         let limit = b.0 + (b.1 - b.0) in
@@ -343,7 +344,7 @@ module _ (z : Setting) (depth x h : ℕ) (within : depth < z.depths)
         (λ env s t known done. done.0)))
 
     pub to_word_runs : Runs z (16 * term_nodes low + 3 + (16 * term_nodes high + 3)
-        + (7 + (2 + (1 + (turns_cost 4 + 1)) + 0))) (λ env. path_at env (repeats x low high body))
+        + (7 + (2 + (1 + (iterations_cost 4 + 1)) + 0))) (λ env. path_at env (repeats x low high body))
         (bounds_code (layout_of z) words low high ++ word_code) (Ready z)
         (Shown z depth (λ env. after env (repeats x low high body)))
     to_word_runs =

@@ -1,11 +1,12 @@
--- The turns of a loop that counts in its counter's home. Before each turn the home has the turn's number, as the
--- counter has it; behind the body, which sets the counter nowhere, it still does, and one more is the next number.
+-- The iterations of a loop that counts in its counter's home. Before each iteration the home has the iteration's
+-- number, as the counter has it; behind the body, which sets the counter nowhere, it still does, and one more is the
+-- next number.
 use Rattle.std.proofs.Common.{◌≡◌, ◌≢◌, ℕ, zero, suc, ◌+◌, ◌-◌, ◌*◌, ◌^◌, ◌<◌, ◌≤◌, ◌==◌, ◌&&◌, Bool, true, false, cond}
 use Rattle.std.proofs.Common.{nat_lt, List, [], ◌∷◌, ◌++◌, length, Some, slice_get, slice_index, refl, sym, ap, ◌∙◌}
 use Rattle.std.proofs.Common.{subst, arith, eq-eqb, length-append}
 use Rattle.std.proofs.lemmas.Nat.{mul-le}
-use Rattle.codegen.proofs.Language.{word_as, turns, path_of_turns, counter_type, StraightBlock, StraightState, counted}
-use Rattle.codegen.proofs.Language.{after_all, path_along, Path, word_of}
+use Rattle.codegen.proofs.Language.{word_as, iterations, path_of_iterations, counter_type, StraightBlock, StraightState}
+use Rattle.codegen.proofs.Language.{counted, after_all, path_along, Path, word_of}
 use Rattle.codegen.proofs.Machine.{home_of, Instr, ByteMap, sign_extended, sum_of, Addi}
 use Rattle.codegen.proofs.Logic.{eqb-true, lt-ltb, nat_tests, Held, HeldAt, Setting, setting, base_of, Runs, Still}
 use Rattle.codegen.proofs.Logic.{quiet, quietly, weaken, gives, cheaper, beside, idle, never, Ready, none, HomesKept}
@@ -15,7 +16,7 @@ use Rattle.codegen.proofs.Slots.{Shown, Hidden, hidden_then, hidden_less, hidden
 use Rattle.codegen.proofs.Slots.{ready_with}
 use Rattle.codegen.proofs.Unset.{all_left_alone}
 use Rattle.codegen.specs.private.Jumps.{again_code}
-use Rattle.codegen.specs.private.Loops.{any_sets, guarded_code, turns_code}
+use Rattle.codegen.specs.private.Loops.{any_sets, guarded_code, iterations_code}
 use Rattle.codegen.specs.expression_code.TermCode.{move_code}
 use Rattle.codegen.proofs.program_logic_lemmas.Computing.{computed_value, computes, written_register}
 use Rattle.codegen.proofs.program_logic_lemmas.Jumps.{first_runs, second_runs}
@@ -53,14 +54,14 @@ one_computed z i plain some =
     })
     (computing_within z is_free (i ∷ []) (ap (λ b. b && true) plain) none_low)
 
--- the turn of a number is next, and so many more, up to a limit that is found where it is
+-- the iteration of a number is next, and so many more, up to a limit that is found where it is
 pub record Next (z : Setting) (x limit : ℕ) (There : ByteMap → Type 0) (left i : ℕ) (env : StraightState)
     (s : machine.State) : Type 0 where
   pub ready : Ready z (counted x i env) s
   pub there : There s.bytes
   pub last : i + left + 1 ≡ limit
 
--- so many turns are left, from the number in a register on; another one says whether there are any
+-- so many iterations are left, from the number in a register on; another one says whether there are any
 pub record Guarded (z : Setting) (There : ByteMap → Type 0) (b r left i : ℕ) (env : StraightState)
     (s : machine.State) : Type 0 where
   pub ready : Ready z env s
@@ -149,28 +150,29 @@ module _ (z : Setting) (depth x h : ℕ) (known : slice_get z.declared x ≡ Som
       (unset : any_sets x body ≡ false)
       (inner : Runs z n (λ env. path_along env body) ys (Ready z) (Shown z (depth + 1) (λ env. after_all env body)))
       (near : 2 * length (ys ++ instr.Immediate Addi h h 1 ∷ test) ≤ 2 ^ 11) where
-    abbrev one_turn : ℕ → StraightState → StraightState
-    one_turn i env = after_all (counted x i env) body
+    abbrev one_iteration : ℕ → StraightState → StraightState
+    one_iteration i env = after_all (counted x i env) body
 
-    abbrev turn_path : ℕ → StraightState → Path
-    turn_path i env = path_along (counted x i env) body
+    abbrev iteration_path : ℕ → StraightState → Path
+    iteration_path i env = path_along (counted x i env) body
 
-    turn_is : (i : ℕ) (env : StraightState) → (one_turn i env).variables x ≡ i ∷ []
-    turn_is i env = all_left_alone body x unset (counted x i env) ∙ counted_is i env
+    iteration_is : (i : ℕ) (env : StraightState) → (one_iteration i env).variables x ≡ i ∷ []
+    iteration_is i env = all_left_alone body x unset (counted x i env) ∙ counted_is i env
 
-    abbrev Turn : ℕ → ℕ → StraightState → machine.State → Type 0
-    Turn left i env s = Next z x limit There left i env s
+    abbrev Iteration : ℕ → ℕ → StraightState → machine.State → Type 0
+    Iteration left i env s = Next z x limit There left i env s
 
     -- it is done, the home has the next number, and a register whether that is below the limit
-    record Turned (left i : ℕ) (env : StraightState) (s t : machine.State) : Type 0 where
-      ready : Ready z (counted x (i + 1) (one_turn i env)) t
+    record Iterated (left i : ℕ) (env : StraightState) (s t : machine.State) : Type 0 where
+      ready : Ready z (counted x (i + 1) (one_iteration i env)) t
       there : There t.bytes
       last : i + left + 1 ≡ limit
       five : t.regs 5 ≡ word_of (nat_lt (i + 1) limit)
       hidden : Hidden z (depth + 1) s t
 
     round_runs : (left i : ℕ)
-        → Runs z (n + (1 + c)) (turn_path i) (ys ++ instr.Immediate Addi h h 1 ∷ test) (Turn left i) (Turned left i)
+        → Runs z (n + (1 + c)) (iteration_path i) (ys ++ instr.Immediate Addi h h 1 ∷ test) (Iteration left i)
+        (Iterated left i)
     round_runs left i =
         gives
         (λ env s t fine given done.
@@ -181,20 +183,21 @@ module _ (z : Setting) (depth x h : ℕ) (known : slice_get z.declared x ≡ Som
         let two = done.second.second in
         let small = limited s.bytes given.there in
         let more : sum_of (m.regs h) 1 ≡ i + 1 =
-        ap (λ a. sum_of a 1) (number_there i (one_turn i env) m (turn_is i env) shown.ready)
+        ap (λ a. sum_of a 1) (number_there i (one_iteration i env) m (iteration_is i env) shown.ready)
         ∙ omega (arith, small, given.last) in
         let same : t.bytes ≡ m.bytes = two.2 ∙ one.same in
         record {
           ready =
-              ready_with z (counted x (i + 1) (one_turn i env)) u t
-              (numbered (omega (arith, small, given.last)) (one_turn i env) m u shown.ready one more) two.0 two.2 two.3;
+              ready_with z (counted x (i + 1) (one_iteration i env)) u t
+              (numbered (omega (arith, small, given.last)) (one_iteration i env) m u shown.ready one more) two.0 two.2
+              two.3;
           there = subst There (sym same) (keeps s m shown.hidden given.there);
           last = given.last;
           five = two.1 ∙ ap (λ v. word_of (nat_lt v limit)) (one.there ∙ more);
           hidden = hidden_then z (depth + 1) s m t shown.hidden (hidden_by z (depth + 1) m t same);
         })
         (quiet
-        (weaken {P' = Turn left i} (λ env s fine given. given.ready) (λ env s t fine given done. done)
+        (weaken {P' = Iteration left i} (λ env s fine given. given.ready) (λ env s t fine given done. done)
         (beside (counted x i) inner))
         (quiet
         (weaken {P' = λ env s. HeldAt z s × There s.bytes} (λ env s fine given. given.0)
@@ -204,9 +207,9 @@ module _ (z : Setting) (depth x h : ℕ) (known : slice_get z.declared x ≡ Som
         (λ env s t given shown. (shown.ready.held, keeps s t shown.hidden given.there)))
 
     abbrev Inv : ℕ → ℕ → StraightState → machine.State → machine.State → Type 0
-    Inv left i env o s = Turn left i env s × Hidden z depth o s
+    Inv left i env o s = Iteration left i env s × Hidden z depth o s
 
-    -- the turns are over: the home has one more than the last number
+    -- the iterations are over: the home has one more than the last number
     record Over (env : StraightState) (o u : machine.State) : Type 0 where
       number : ℕ
       small : number + 1 < 2 ^ 32
@@ -221,12 +224,14 @@ module _ (z : Setting) (depth x h : ℕ) (known : slice_get z.declared x ≡ Som
         (hidden_then z depth s t u (hidden_less z depth (depth + 1) s t (omega arith) two)
         (hidden_by z depth t u still.bytes))
 
-    all_turns : (left i : ℕ)
-        → Runs z ((left + 1) * (n + (1 + c) + 1)) (λ env. path_of_turns (suc left) i one_turn turn_path env)
+    all_iterations : (left i : ℕ)
+        → Runs z ((left + 1) * (n + (1 + c) + 1))
+        (λ env. path_of_iterations (suc left) i one_iteration iteration_path env)
         (again_code 5 (ys ++ instr.Immediate Addi h h 1 ∷ test)) (λ env s. Inv left i env s s)
-        (λ env s t. Over (turns (suc left) i one_turn env) s t)
-    all_turns left i =
-        repeating {z = setting z} 5 0 (omega arith) (omega arith) {C = Turn} {D = Turned} turn_path one_turn Inv Over
+        (λ env s t. Over (iterations (suc left) i one_iteration env) s t)
+    all_iterations left i =
+        repeating {z = setting z} 5 0 (omega arith)
+        (omega arith) {C = Iteration} {D = Iterated} iteration_path one_iteration Inv Over
         (omega (arith, length-append {A = Instr})) near
         (λ left i env o s inv. inv.0)
         (λ left i env o s t inv done e.
@@ -234,7 +239,7 @@ module _ (z : Setting) (depth x h : ℕ) (known : slice_get z.declared x ≡ Som
         (λ i env o s t inv done. done.five ∙ zero_above (i + 1) limit (omega (arith, done.last)))
         (λ left i env o s t u inv done still. (
           record {
-            ready = ready_still z (counted x (i + 1) (one_turn i env)) t u done.ready still;
+            ready = ready_still z (counted x (i + 1) (one_iteration i env)) t u done.ready still;
             there = subst There (sym still.bytes) done.there;
             last = omega (arith, done.last);
           },
@@ -243,8 +248,8 @@ module _ (z : Setting) (depth x h : ℕ) (known : slice_get z.declared x ≡ Som
         (λ i env o s t u inv done still. record {
           number = i;
           small = omega (arith, done.last, limited t.bytes done.there);
-          ready = ready_still z (counted x (i + 1) (one_turn i env)) t u done.ready still;
-          is = turn_is i env;
+          ready = ready_still z (counted x (i + 1) (one_iteration i env)) t u done.ready still;
+          is = iteration_is i env;
           hidden = hidden_on o s t u inv.1 done.hidden still;
         })
         round_runs left i
@@ -252,16 +257,18 @@ module _ (z : Setting) (depth x h : ℕ) (known : slice_get z.declared x ≡ Som
     abbrev pub Finished : StraightState → machine.State → machine.State → Type 0
     Finished env s t = Ready z env t × Hidden z depth s t
 
-    -- one turn more than so many, the first at this number
-    pub turns_runs : (left i : ℕ)
-        → Runs z ((left + 1) * (n + (1 + c) + 1) + 1) (λ env. path_of_turns (suc left) i one_turn turn_path env)
-        (turns_code h test ys) (Turn left i) (λ env s t. Finished (turns (suc left) i one_turn env) s t)
-    turns_runs left i =
+    -- one iteration more than so many, the first at this number
+    pub iterations_runs : (left i : ℕ)
+        → Runs z ((left + 1) * (n + (1 + c) + 1) + 1)
+        (λ env. path_of_iterations (suc left) i one_iteration iteration_path env)
+        (iterations_code h test ys) (Iteration left i)
+        (λ env s t. Finished (iterations (suc left) i one_iteration env) s t)
+    iterations_runs left i =
         gives
         (λ env s t fine given done.
         let m = done.middle in
         let over = done.first in
-        let e = turns (suc left) i one_turn env in
+        let e = iterations (suc left) i one_iteration env in
         let k = over.number in
         let less : sum_of (m.regs h) (2 ^ 32 - 1) ≡ k =
         ap (λ a. sum_of a (2 ^ 32 - 1)) (number_there (k + 1) (counted x (k + 1) e) m (counted_is (k + 1) e) over.ready)
@@ -271,8 +278,8 @@ module _ (z : Setting) (depth x h : ℕ) (known : slice_get z.declared x ≡ Som
           hidden_then z depth s m t over.hidden (hidden_by z depth m t done.second.same),
         ))
         (quiet
-        (weaken {P' = Turn left i} (λ env s fine given. (given, λ o low high. refl))
-        (λ env s t fine given done. done) (all_turns left i))
+        (weaken {P' = Iteration left i} (λ env s fine given. (given, λ o low high. refl))
+        (λ env s t fine given done. done) (all_iterations left i))
         (added h 4095 (omega (arith, home_low)) (omega (arith, home_high)) (omega arith))
         (λ env s t given over. over.ready.held))
 
@@ -283,9 +290,10 @@ module _ (z : Setting) (depth x h : ℕ) (known : slice_get z.declared x ≡ Som
 
     arm_runs : (r left i : ℕ) → 4 < r → r < 32 → i + left + 1 ≡ limit
         → Runs z (1 + ((left + 1) * (n + (1 + c) + 1) + 1))
-        (λ env. path_of_turns (suc left) i one_turn turn_path env) (move_code h r ++ turns_code h test ys)
+        (λ env. path_of_iterations (suc left) i one_iteration iteration_path env)
+        (move_code h r ++ iterations_code h test ys)
         (Starting r i)
-        (λ env s t. Finished (turns (suc left) i one_turn env) s t)
+        (λ env s t. Finished (iterations (suc left) i one_iteration env) s t)
     arm_runs r left i low few last =
         gives
         (λ env s t fine given done. (
@@ -296,21 +304,22 @@ module _ (z : Setting) (depth x h : ℕ) (known : slice_get z.declared x ≡ Som
         (weaken {P' = Starting r i}
         (λ env s fine given. (given.0.held, omega (arith, limited s.bytes given.2, given.1, last)))
         (λ env s t fine given done. done) (moved_in r low few))
-        (turns_runs left i)
+        (iterations_runs left i)
         (λ env s t given done. record {
           ready = numbered (omega (arith, limited s.bytes given.2, last)) env s t given.0 done given.1;
           there = subst There (sym done.same) given.2;
           last = last;
         }))
 
-    arm_near : (r : ℕ) → 2 * (length (move_code h r ++ turns_code h test ys) + 0) + 8 < 2 ^ 19
+    arm_near : (r : ℕ) → 2 * (length (move_code h r ++ iterations_code h test ys) + 0) + 8 < 2 ^ 19
     arm_near r = omega (arith, near, length-append {A = Instr}, move_length h r)
 
     pub guarded_runs : (b r : ℕ) → 4 < b → b < 32 → 4 < r → r < 32 → (left i : ℕ) → i + left ≡ limit → (k : ℕ)
         → left ≤ k
         → Runs z (2 + (1 + (k * (n + (1 + c) + 1) + 1)) + 0)
-        (λ env. path_of_turns left i one_turn turn_path env) (guarded_code b h r test ys) (Guarded z There b r left i)
-        (λ env s t. Finished (turns left i one_turn env) s t)
+        (λ env. path_of_iterations left i one_iteration iteration_path env) (guarded_code b h r test ys)
+        (Guarded z There b r left i)
+        (λ env s t. Finished (iterations left i one_iteration env) s t)
     guarded_runs b r low high low' high' zero i last k few =
         second_runs {z = setting z} b high (λ e. omega (arith, low, e)) {a = none} {b = none}
         {P = Guarded z There b r 0 i} {P1 = λ env s. ⊥} {P2 = Ready z} {Q = Finished} {R = Finished} {S = Finished}
@@ -328,8 +337,8 @@ module _ (z : Setting) (depth x h : ℕ) (known : slice_get z.declared x ≡ Som
         (λ env s given. refl)
     guarded_runs b r low high low' high' (suc left) i last k few =
         first_runs {z = setting z} b high (λ e. omega (arith, low, e)) {b = none} {P = Guarded z There b r (suc left) i}
-        {P1 = Starting r i} {P2 = Ready z} {Q = λ env s t. Finished (turns (suc left) i one_turn env) s t}
-        {R = Finished} {S = λ env s t. Finished (turns (suc left) i one_turn env) s t}
+        {P1 = Starting r i} {P2 = Ready z} {Q = λ env s t. Finished (iterations (suc left) i one_iteration env) s t}
+        {R = Finished} {S = λ env s t. Finished (iterations (suc left) i one_iteration env) s t}
         (λ env. 1) (arm_near r)
         (λ env s given. given.any ∙ one_below 0 (suc left) (omega arith))
         (λ env s u some given still. (
@@ -338,7 +347,7 @@ module _ (z : Setting) (depth x h : ℕ) (known : slice_get z.declared x ≡ Som
           subst There (sym still.bytes) (given.there (omega arith)),
         ))
         (λ env s u v w some given still done back. (
-          ready_still z (turns (suc left) i one_turn env) v w done.0 back,
+          ready_still z (iterations (suc left) i one_iteration env) v w done.0 back,
           hidden_then z depth s u w (hidden_by z depth s u still.bytes)
               (hidden_then z depth u v w done.1 (hidden_by z depth v w back.bytes)),
         ))

@@ -14,7 +14,7 @@ pub use Rattle.branch_removal.specs.declared.straight.StraightStatement.{Straigh
 pub use Rattle.inline.specs.Fitting.{Fits, IsHeld, IsWithinKind}
 pub use Rattle.inline.specs.Flat.{TermTree, array_as, declaration_of, numbers_in, term_tree, word_as}
 pub use Rattle.inline.specs.FlatMeaning.{Values, array_of, arrays_from, given, path_in, path_in_all, path_of_result}
-pub use Rattle.inline.specs.FlatMeaning.{path_of_turns, turns, value_in, with_value}
+pub use Rattle.inline.specs.FlatMeaning.{path_of_iterations, iterations, value_in, with_value}
 pub use Rattle.inline.specs.FlatSize.{HasLength, declared_words, term_nodes, terms_nodes, value_nodes}
 pub use Rattle.inline.specs.FlatTyping.{AllSuit, HasCount, HasType, IsResult, Suits, Types, counter_type, types_of}
 pub use Rattle.inline.specs.Path.{AreFine, Path, bounded, indexed, seen}

@@ -50,8 +50,8 @@ repeat_spans layout depth x body low high is_set =
     from_spans layout (next_offset layout depth) body counter low high (counting_home counter is_set body)
     (short_number high)
 
--- so the turns of a loop that does not count are no farther than a jump goes, where the loop is not too long
-pub turn_near : (next : ℕ) (bounds : List Instr) (counter : Location) (body : List Instr)
+-- so the iterations of a loop that does not count are no farther than a jump goes, where the loop is not too long
+pub iteration_near : (next : ℕ) (bounds : List Instr) (counter : Location) (body : List Instr)
     → length (bounds ++ to_word_code next counter body None) < far
     → AreNear (length (test_code next)) (length (count_code next counter ++ body))
-turn_near next bounds counter body few = omega (arith, length-append {A = Instr}, few)
+iteration_near next bounds counter body few = omega (arith, length-append {A = Instr}, few)

@@ -5,7 +5,7 @@ use Rattle.std.proofs.Common.{inr}
 use Rattle.std.proofs.lemmas.Bool.Decides.{nat_tests}
 use Rattle.std.proofs.lemmas.Nat.{mul-le}
 use Rattle.codegen.proofs.CountingRuns.{home_low, moved_in, numbered}
-use Rattle.codegen.proofs.Language.{TermTree, word_as, value_in, path_in, turns, path_of_turns, Path, bounded}
+use Rattle.codegen.proofs.Language.{TermTree, word_as, value_in, path_in, iterations, path_of_iterations, Path, bounded}
 use Rattle.codegen.proofs.Language.{term_nodes, types_of, HasType, counter_type, StraightBlock, repeats, StraightState}
 use Rattle.codegen.proofs.Language.{counted, after, after_all, path_at, path_along, word_of}
 use Rattle.codegen.proofs.Machine.{bounds_code, test_code, count_code, loop_code, variable_offset, at_home, home_of}
@@ -24,7 +24,7 @@ use Rattle.codegen.proofs.Slots.{hidden_less, hidden_by, hidden_wrote, hidden_be
 use Rattle.codegen.proofs.Slots.{ready_set}
 use Rattle.codegen.specs.private.Words.{put_word_code}
 
--- So many turns are left, the next of them for this number: both of the loop's words tell it.
+-- So many iterations are left, the next of them for this number: both of the loop's words tell it.
 pub record Counts (z : Setting) (next left i : ℕ) (s : machine.State) : Type 0 where
   pub next_there : number_at s.bytes 4 (z.frame + next) ≡ Some i
   pub bound : ℕ
@@ -36,7 +36,7 @@ pub record AtLoop (z : Setting) (next left i : ℕ) (env : StraightState) (s : m
   pub ready : Ready z env s
   pub counts : Counts z next left i s
 
--- whether a turn is left is in the value's register, and the number in the left operand's
+-- whether an iteration is left is in the value's register, and the number in the left operand's
 pub record TestedFor (z : Setting) (left i : ℕ) (env : StraightState) (s t : machine.State) : Type 0 where
   pub held : HeldAt z t
   pub six : t.regs 6 ≡ i
@@ -105,8 +105,8 @@ module _ (z : Setting) (depth : ℕ) (within : depth < z.depths) where
 
   -- The counter.
 
-  abbrev Turns : ℕ → ℕ → StraightState → machine.State → Type 0
-  Turns left i env u = AtLoop z next (suc left) i env u × (u.regs 6 ≡ i)
+  abbrev Iterations : ℕ → ℕ → StraightState → machine.State → Type 0
+  Iterations left i env u = AtLoop z next (suc left) i env u × (u.regs 6 ≡ i)
 
   abbrev Counted : ℕ → ℕ → ℕ → StraightState → machine.State → machine.State → Type 0
   Counted x left i env u v = AtLoop z next left (i + 1) (counted x i env) v × Hidden z depth u v
@@ -121,11 +121,12 @@ module _ (z : Setting) (depth : ℕ) (within : depth < z.depths) where
   -- in its slot, or in its home
   taken_by : (x left i : ℕ) → slice_get z.declared x ≡ Some (word_as counter_type false) → (h : Option ℕ)
       → home_of z.allocation.homes x ≡ h
-      → Runs z 3 none (put_word_code 6 (at_home h (InSlot (variable_offset z.declared x)))) (Turns left i) (Taken x i)
+      → Runs z 3 none (put_word_code 6 (at_home h (InSlot (variable_offset z.declared x)))) (Iterations left i)
+      (Taken x i)
   taken_by x left i known None away =
       let o = variable_offset z.declared x in
       let before = word_before z x counter_type false known in
-      weaken {P' = Turns left i}
+      weaken {P' = Iterations left i}
       (λ env s fine given. given.0.ready.held)
       (λ env s t fine given moved.
       let counts = given.0.counts in
@@ -145,7 +146,7 @@ module _ (z : Setting) (depth : ℕ) (within : depth < z.depths) where
   taken_by x left i known (Some home) at =
       let low = home_low z depth x home known at in
       cheaper (omega arith)
-      (weaken {P' = Turns left i}
+      (weaken {P' = Iterations left i}
       (λ env s fine given.
       let counts = given.0.counts in
       (given.0.ready.held, omega (arith, given.1, counts.bound_small, counts.left_is)))
@@ -165,7 +166,7 @@ module _ (z : Setting) (depth : ℕ) (within : depth < z.depths) where
 
   -- and then the next number is stored
   count_runs : (x left i : ℕ) → slice_get z.declared x ≡ Some (word_as counter_type false)
-      → Runs z 7 none (count_code next (variable_location z.declared z.allocation x)) (Turns left i)
+      → Runs z 7 none (count_code next (variable_location z.declared z.allocation x)) (Iterations left i)
       (Counted x left i)
   count_runs x left i known =
       gives
@@ -279,16 +280,16 @@ module _ (z : Setting) (depth : ℕ) (within : depth < z.depths) where
       ++ ys)) + 8 < 2 ^ 19)
       (inner : Runs z n (λ env. path_along env body) ys (Ready z)
       (Shown z (depth + 1) (λ env. after_all env body))) where
-    abbrev one_turn : ℕ → StraightState → StraightState
-    one_turn i env = after_all (counted x i env) body
+    abbrev one_iteration : ℕ → StraightState → StraightState
+    one_iteration i env = after_all (counted x i env) body
 
     abbrev Done : ℕ → ℕ → StraightState → machine.State → machine.State → Type 0
-    Done left i env u v = AtLoop z next left (i + 1) (one_turn i env) v × Hidden z depth u v
+    Done left i env u v = AtLoop z next left (i + 1) (one_iteration i env) v × Hidden z depth u v
 
-    -- a turn
+    -- an iteration
     body_runs : (left i : ℕ)
         → Runs z (7 + n) (λ env. path_along (counted x i env) body)
-        (count_code next (variable_location z.declared z.allocation x) ++ ys) (Turns left i) (Done left i)
+        (count_code next (variable_location z.declared z.allocation x) ++ ys) (Iterations left i) (Done left i)
     body_runs left i =
         gives
         (λ env u v fine given done.
@@ -313,11 +314,11 @@ module _ (z : Setting) (depth : ℕ) (within : depth < z.depths) where
     abbrev Over : StraightState → machine.State → machine.State → Type 0
     Over env o u = Ready z env u × Hidden z depth o u
 
-    turned : (left i : ℕ) (env : StraightState) (o s t u v w : machine.State) → Inv (suc left) i env o s
+    iterated : (left i : ℕ) (env : StraightState) (o s t u v w : machine.State) → Inv (suc left) i env o s
         → TestedFor z (suc left) i env s t → Still t u → Done left i env u v → Still v w
-        → Inv left (i + 1) (one_turn i env) o w
-    turned left i env o s t u v w inv tested still done back = (
-      at_same left (i + 1) (one_turn i env) v w done.0 (held_still v w done.0.ready.held back) back.bytes
+        → Inv left (i + 1) (one_iteration i env) o w
+    iterated left i env o s t u v w inv tested still done back = (
+      at_same left (i + 1) (one_iteration i env) v w done.0 (held_still v w done.0.ready.held back) back.bytes
           (homes_by z v w back.regs),
       hidden_then z depth o s w inv.1
           (hidden_then z depth s u w (hidden_by z depth s u (still.bytes ∙ tested.same))
@@ -331,23 +332,23 @@ module _ (z : Setting) (depth : ℕ) (within : depth < z.depths) where
     Beginning env s = Inv ((bounds env).1 - (bounds env).0) (bounds env).0 env s s
 
     abbrev path_by : StraightState → ℕ × ℕ → Path
-    path_by env b = path_of_turns (b.1 - b.0) b.0 one_turn (λ i e. path_along (counted x i e) body) env
+    path_by env b = path_of_iterations (b.1 - b.0) b.0 one_iteration (λ i e. path_along (counted x i e) body) env
 
     -- with bounds that are known beforehand
     loop_at : (b : ℕ × ℕ)
         → Runs z ((b.1 - b.0 + 1) * (7 + (7 + n) + 2)) (λ env. path_by env (bounds env))
         (loop_code (test_code next) (count_code next (variable_location z.declared z.allocation x) ++ ys))
         (Known (setting z) (ℕ × ℕ) (λ c. c.1 - c.0 ≤ slice_index z.counts x) Beginning bounds b)
-        (λ env s t. Over (turns ((bounds env).1 - (bounds env).0) (bounds env).0 one_turn env) s t)
+        (λ env s t. Over (iterations ((bounds env).1 - (bounds env).0) (bounds env).0 one_iteration env) s t)
     loop_at b =
         along_fit (λ env s known. ap (path_by env) known.is)
         (weaken
         (λ env s fine known. subst (λ (c : ℕ × ℕ). Inv (c.1 - c.0) c.0 env s s) known.is known.given)
-        (λ env s t fine known over. subst (λ (c : ℕ × ℕ). Over (turns (c.1 - c.0) c.0 one_turn env) s t)
+        (λ env s t fine known over. subst (λ (c : ℕ × ℕ). Over (iterations (c.1 - c.0) c.0 one_iteration env) s t)
         (sym known.is) over)
         (looping {z = setting z} 5 (omega arith) (λ e. omega arith) {A = λ left i. AtLoop z next left i} {B =
-        λ left i. TestedFor z left i} {C = Turns} {D = Done}
-        (λ i env. path_along (counted x i env) body) one_turn Inv Over near
+        λ left i. TestedFor z left i} {C = Iterations} {D = Done}
+        (λ i env. path_along (counted x i env) body) one_iteration Inv Over near
         (λ left i env o s inv. inv.0)
         (λ left i env o s t inv tested e. let f = tested.five ∙ some_left left in omega (arith, e, f))
         (λ i env o s t inv tested. tested.five)
@@ -356,7 +357,7 @@ module _ (z : Setting) (depth : ℕ) (within : depth < z.depths) where
               ∙ tested.same) (homes_then z s t u tested.homes (homes_by z t u still.regs)),
           ap (λ (regs : ℕ → ℕ). regs 6) still.regs ∙ tested.six,
         ))
-        turned
+        iterated
         (λ i env o s t u inv tested still. (
           ready_with z env s u inv.0.ready (held_still t u tested.held still) (still.bytes
               ∙ tested.same) (homes_then z s t u tested.homes (homes_by z t u still.regs)),
@@ -367,13 +368,13 @@ module _ (z : Setting) (depth : ℕ) (within : depth < z.depths) where
     loop_runs : Runs z ((slice_index z.counts x + 1) * (7 + (7 + n) + 2))
         (λ env. bounded x (bounds env).0 (bounds env).1 ∷ path_by env (bounds env))
         (loop_code (test_code next) (count_code next (variable_location z.declared z.allocation x) ++ ys))
-        Beginning (λ env s t. Over (turns ((bounds env).1 - (bounds env).0) (bounds env).0 one_turn env) s t)
+        Beginning (λ env s t. Over (iterations ((bounds env).1 - (bounds env).0) (bounds env).0 one_iteration env) s t)
     loop_runs =
         by_bounds z x bounds
         (λ b few. cheaper (mul-le (b.1 - b.0 + 1) (7 + (7 + n) + 2) (slice_index z.counts x + 1) (7 + (7 + n) + 2)
         (omega (arith, few)) (omega arith)) (loop_at b))
 
-    -- both bounds, and then the turns
+    -- both bounds, and then the iterations
     pub repeats_runs : Runs z (16 * term_nodes low + 3 + (16 * term_nodes high + 3)
         + (slice_index z.counts x + 1) * (7 + (7 + n) + 2)) (λ env. path_at env (repeats x low high body))
         (bounds_code (layout_of z) next low high

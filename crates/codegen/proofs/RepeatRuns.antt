@@ -6,7 +6,7 @@ use Rattle.codegen.proofs.CountedLoops.{short_is, to_number_runs, to_word_runs}
 use Rattle.codegen.proofs.Language.{TermTree, word_as, term_nodes, types_of, HasType, counter_type, StraightBlock}
 use Rattle.codegen.proofs.Language.{repeats, after, after_all, path_at, path_along}
 use Rattle.codegen.proofs.Logic.{none-some, Setting, base_of, Runs, cheaper, Ready, layout_of}
-use Rattle.codegen.proofs.LoopLengths.{turn_near}
+use Rattle.codegen.proofs.LoopLengths.{iteration_near}
 use Rattle.codegen.proofs.LoopRuns.{repeats_runs}
 use Rattle.codegen.proofs.Machine.{at_home, bounds_code, far, height_of, home_of, InSlot, Instr, next_offset, slots_to}
 use Rattle.codegen.proofs.Machine.{variable_location, variable_offset}
@@ -54,7 +54,7 @@ module _ (z : Setting) (depth x : ℕ) (within : depth < z.depths) (low high : T
       high ys home bound)
   by_home None bound counts short few =
       repeats_runs z depth within x low high body n known has_low has_high room_low room_high
-      (turn_near next (bounds_code (layout_of z) next low high)
+      (iteration_near next (bounds_code (layout_of z) next low high)
       (variable_location z.declared z.allocation x) ys few) inner
   by_home (Some h) (Some bound) counts short few =
       let c = counts_by (home_of z.allocation.homes x) (variable_offset z.declared x) (any_sets x body) ys h counts in

@@ -3,11 +3,11 @@ use Rattle.std.proofs.Common.{◌≡◌, ℕ, zero, suc, ◌+◌, ◌-◌, ◌*�
 use Rattle.std.proofs.Common.{nat_le, List, [], ◌∷◌, ◌++◌, length, map, Some, slice_get, refl, sym, ap, ◌∙◌}
 use Rattle.std.proofs.Common.{subst, arith, ◌≤◌, length-append, append_assoc, Option}
 use Rattle.codegen.proofs.Language.{Profile}
-use Rattle.codegen.proofs.Machine.{body_words, Stand, Instr, word_of, Observation, Leads, stays, turns, State, Code}
-use Rattle.codegen.proofs.Machine.{goes_on, word_at, Turn, executes}
+use Rattle.codegen.proofs.Machine.{body_words, Stand, Instr, word_of, Observation, Leads, stays, steps_on, State, Code}
+use Rattle.codegen.proofs.Machine.{goes_on, word_at, Step, executes}
 use Rattle.codegen.proofs.Logic.{nat_tests, none-some, Placed}
 use Rattle.codegen.proofs.expression_code_lemmas.WorkRegisters.{when_some}
-use Rattle.codegen.specs.program_logic.Turns.{LeadsWithin, stays_within, turns_within}
+use Rattle.codegen.specs.program_logic.MachineSteps.{LeadsWithin, stays_within, steps_within}
 use Rattle.codegen.specs.Below.{Event}
 
 -- The words of an image.
@@ -102,7 +102,7 @@ word_alone profile start words q w is =
     let both = when_some (nat_le start q && ((q - start) % 4 == 0)) (slice_get words ((q - start) / 4)) w is in
     record { number = (q - start) / 4; there = grind (arith, nat_tests, both.0); is = both.1 }
 
--- Turns.
+-- Steps.
 
 module _ (code : Code) (start : ℕ) (words : List ℕ) (there : Stand code start words) where
   word_among : (q w : ℕ) → word_at (words_alone code.profile start words) q ≡ Some w → word_at code q ≡ Some w
@@ -110,17 +110,17 @@ module _ (code : Code) (start : ℕ) (words : List ℕ) (there : Stand code star
       let found = word_alone code.profile start words q w is in
       subst (λ a. word_at code a ≡ Some w) (sym found.there) (stand_at code start words found.number w there found.is)
 
-  turn_among : {s t : State} {o : Observation} → Turn (words_alone code.profile start words) s (goes_on o t)
-      → Turn code s (goes_on o t)
-  turn_among {s} (executes i even is ok ends) = executes i even (word_among s.pc (word_of i) is) ok ends
+  step_among : {s t : State} {o : Observation} → Step (words_alone code.profile start words) s (goes_on o t)
+      → Step code s (goes_on o t)
+  step_among {s} (executes i even is ok ends) = executes i even (word_among s.pc (word_of i) is) ok ends
 
   -- what words alone lead to, they lead to among others
   pub leads_among : {n : ℕ} {s t : State} {seen : List Observation}
       → Leads (words_alone code.profile start words) n s seen t → Leads code n s seen t
   leads_among stays = stays
-  leads_among (turns turn rest) = turns (turn_among turn) (leads_among rest)
+  leads_among (steps_on step rest) = steps_on (step_among step) (leads_among rest)
 
   pub within_among : {Allowed : ℕ → Option Event → Type 0} {n : ℕ} {s t : State} {seen : List Observation}
       → LeadsWithin (words_alone code.profile start words) Allowed n s seen t → LeadsWithin code Allowed n s seen t
   within_among stays_within = stays_within
-  within_among (turns_within turn may rest) = turns_within (turn_among turn) may (within_among rest)
+  within_among (steps_within step may rest) = steps_within (step_among step) may (within_among rest)

@@ -34,10 +34,10 @@ module _ (f : Frame) where
         )
 
   module _ (depth x : ℕ) {s : StraightTree} {low high : TermTree} {body : StraightBlock}
-      (tree : s ≡ repeats x low high body) {ys : List Instr} (turn : ys ≡ code_of_all (depth + 1) body) where
+      (tree : s ≡ repeats x low high body) {ys : List Instr} (iteration : ys ≡ code_of_all (depth + 1) body) where
     pub loop_is : (is_set : Bool) → is_set ≡ any_sets x body
         → repeat_code f depth x low high is_set ys ≡ code_of depth s
-    loop_is is_set set = rw (tree, turn, set)
+    loop_is is_set set = rw (tree, iteration, set)
 
     -- the body is no longer than the statement
     pub body_within : length ys ≤ length (code_of depth s)

@@ -3,8 +3,8 @@ use Rattle.std.proofs.Common.{◌≡◌, ℕ, zero, suc, ◌+◌, ◌-◌, ◌==
 use Rattle.std.proofs.Common.{refl, sym, ap, ◌∙◌}
 use Rattle.std.proofs.lemmas.Bool.{cond_both, eqb-false, ne_eqb, or_parts}
 use Rattle.codegen.proofs.Language.{StraightTree, set, array, put, take, branch, repeats, StraightBlock, nothing, first}
-use Rattle.codegen.proofs.Language.{StraightState, with_variable, counted, after, after_all, holds, turns, value_in}
-use Rattle.codegen.proofs.Language.{Values}
+use Rattle.codegen.proofs.Language.{StraightState, with_variable, counted, after, after_all, holds, iterations}
+use Rattle.codegen.proofs.Language.{value_in, Values}
 use Rattle.codegen.specs.private.Loops.{any_sets, sets}
 use Rattle.codegen.specs.Below.{with_value}
 
@@ -16,11 +16,11 @@ beside_under : (b : Bool) (s : StraightState) (x y : ℕ) (l : List ℕ) → (x 
 beside_under true s x y l apart = beside s.variables x y l apart
 beside_under false s x y l apart = refl
 
-turns_keep : (turn : ℕ → StraightState → StraightState) (y : ℕ)
-    → ((i : ℕ) (s : StraightState) → (turn i s).variables y ≡ s.variables y)
-    → (n i : ℕ) (s : StraightState) → (turns n i turn s).variables y ≡ s.variables y
-turns_keep turn y keep zero i s = refl
-turns_keep turn y keep (suc n) i s = turns_keep turn y keep n (i + 1) (turn i s) ∙ keep i s
+iterations_keep : (iteration : ℕ → StraightState → StraightState) (y : ℕ)
+    → ((i : ℕ) (s : StraightState) → (iteration i s).variables y ≡ s.variables y)
+    → (n i : ℕ) (s : StraightState) → (iterations n i iteration s).variables y ≡ s.variables y
+iterations_keep iteration y keep zero i s = refl
+iterations_keep iteration y keep (suc n) i s = iterations_keep iteration y keep n (i + 1) (iteration i s) ∙ keep i s
 
 mutual
   left_alone : (statement : StraightTree) (y : ℕ) → sets y statement ≡ false → (s : StraightState)
@@ -35,7 +35,7 @@ mutual
       (λ none. all_left_alone otherwise y (or_parts _ _ unset).1 s)
       (λ some. all_left_alone accepted y (or_parts _ _ unset).0 s)
   left_alone (repeats x low high body) y unset s =
-      turns_keep (λ i t. after_all (counted x i t) body) y
+      iterations_keep (λ i t. after_all (counted x i t) body) y
       (λ i t. all_left_alone body y (or_parts _ _ unset).1 (counted x i t)
       ∙ beside t.variables x y (i ∷ []) (or_parts _ _ unset).0)
       (value_in s.variables high - value_in s.variables low) (value_in s.variables low) s

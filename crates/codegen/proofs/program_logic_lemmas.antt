@@ -1,5 +1,5 @@
 pub mod Below
-pub mod TurnLaws
+pub mod StepLaws
 pub mod PlacedLaws
 pub mod StraightRuns
 pub mod Pieces

@@ -8,7 +8,7 @@ use Rattle.codegen.specs.Below.{State, StraightProgram, word_at}
 use Rattle.codegen.specs.Bases.{IsInside}
 use Rattle.codegen.specs.Loaded.{loaded_at, results_in}
 use Rattle.codegen.specs.image_fields.Fields.{Fields}
-use Rattle.codegen.specs.program_logic.Turns.{LeadsWithin}
+use Rattle.codegen.specs.program_logic.MachineSteps.{LeadsWithin}
 
 -- the words of code but the last
 abbrev pub body_words : List ℕ → List ℕ
@@ -46,13 +46,13 @@ IsBeside image frame a = (a < frame) ⊎ (frame + image.frame_bytes ≤ a)
 -- a run of the body from this state to behind its words, which shows this list
 pub record BodyRun (image : Fields) (code : Code) (start frame : ℕ) (s : State) (list : List Observation) :
     Type 0 where
-  pub turns : ℕ
+  pub step_count : ℕ
   pub end : State
-  pub leads : Leads code turns s list end
-  -- and x2 is the frame's base wherever a turn begins
-  pub at_base : LeadsWithin code (λ sp event. sp ≡ frame) turns s list end
-  -- ECALL would be one turn more
-  pub within_steps : turns < image.max_steps
+  pub leads : Leads code step_count s list end
+  -- and x2 is the frame's base wherever a step begins
+  pub at_base : LeadsWithin code (λ sp event. sp ≡ frame) step_count s list end
+  -- ECALL would be one step more
+  pub within_steps : step_count < image.max_steps
   pub within_frame : All (λ (o : Observation). IsInside frame image.frame_bytes o.event) list
   pub behind : end.pc ≡ start + 4 * length (body_words image.words)
   pub base : end.regs 2 ≡ frame
@@ -70,5 +70,5 @@ pub record RunsBehind (p : StraightProgram) (image : Fields) (code : Code) (star
 pub record IsFollowedIn (p : StraightProgram) (image : Fields) (code : Code) (start frame : ℕ) : Type 0 where
   pub shown : Path → List Observation
   pub runs : (args : List Arg) (s : State) → s.pc ≡ start → IsLoaded image frame args s → AreWithin p.parameters args
-      → AreFine p.turns (path_of p args)
+      → AreFine p.iterations (path_of p args)
       → RunsBehind p image code start frame args s (shown (seen p.profile (path_of p args)))

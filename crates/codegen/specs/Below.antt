@@ -26,15 +26,15 @@ pub use Rattle.rv_machine.specs.Bytes.{ByteMap, zeros}
 unfoldable pub use Rattle.rv_machine.specs.Bytes.{number_at, with_number}
 pub use Rattle.rv_machine.specs.Effects.{address_of, branch_target, holds, immediate_value, jump_target, load_size}
 pub use Rattle.rv_machine.specs.Effects.{loaded_value, register_value, shift_value, sign_extended, store_size}
-pub use Rattle.rv_machine.specs.Leakage.{Halts, Leads, stays, turns}
-pub use Rattle.rv_machine.specs.Machine.{Code, goes_on, IsAt, next, State, Turn, word_at}
+pub use Rattle.rv_machine.specs.Leakage.{Halts, Leads, stays, steps_on}
+pub use Rattle.rv_machine.specs.Machine.{Code, goes_on, IsAt, next, State, Step, word_at}
 unfoldable pub use Rattle.rv_machine.specs.Machine.{moved_to, with_link, with_stored}
 pub use Rattle.rv_machine.specs.Registers.{initial_registers, register, with_register}
 pub use Rattle.rv_machine.specs.Sizes.{byte_count}
 pub use Rattle.rv_machine.specs.declared.observation.Event.{Event}
 pub use Rattle.rv_machine.specs.declared.observation.Observation.{Observation}
 pub use Rattle.language.specs.Limits.{most_declared_bytes, most_elements, most_nodes}
-pub use Rattle.language.specs.Operators.{operated, operation_of, truth_of, turned_of, width_of}
+pub use Rattle.language.specs.Operators.{operated, operation_of, truth_of, swapped_of, width_of}
 pub use Rattle.language.specs.Size.{array_words, element_bytes, held_words}
 pub use Rattle.language.specs.WellTyped.{logic, Makes}
 pub use Rattle.language.specs.arguments.Within.{AreWithin}

@@ -14,18 +14,18 @@ use Rattle.rv_machine.specs.declared.stops.Stop.TheVariants.{Ecall}
 -- a run on some arguments, which shows this list
 pub record RunsAs (p : StraightProgram) (image : Fields) (code frame : ℕ) (args : List Arg)
     (list : List Observation) : Type 0 where
-  pub turns : ℕ
+  pub step_count : ℕ
   pub end : State
-  pub halts : Halts (code_at code image) turns (loaded_at code frame image args) list Ecall end
-  pub within_steps : turns ≤ image.max_steps
+  pub halts : Halts (code_at code image) step_count (loaded_at code frame image args) list Ecall end
+  pub within_steps : step_count ≤ image.max_steps
   pub within_frame : All (λ (o : Observation). IsInside frame image.frame_bytes o.event) list
   pub outcome : results_in frame image end.bytes ≡ outcome_of p args
 
--- one list for what is seen of each path, whatever the arguments; no fault is met on the path, and no more turns are
--- made than are counted
+-- one list for what is seen of each path, whatever the arguments; no fault is met on the path, and no more iterations
+-- are made than are counted
 pub record IsFollowed (p : StraightProgram) (image : Fields) (code frame : ℕ) : Type 0 where
   pub shown : Path → List Observation
-  pub runs : (args : List Arg) → AreWithin p.parameters args → AreFine p.turns (path_of p args)
+  pub runs : (args : List Arg) → AreWithin p.parameters args → AreFine p.iterations (path_of p args)
       → RunsAs p image code frame args (shown (seen p.profile (path_of p args)))
 
 -- the image is the code's

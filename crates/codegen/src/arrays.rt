@@ -56,7 +56,7 @@ fn store_element(
     Ok(())
 }
 
-/// What one turn of a loop tests that makes an array's words 0, and what it does.
+/// What one iteration of a loop tests that makes an array's words 0, and what it does.
 fn clear_word(alloc: Global, code: &mut Vec<Instr>) -> Result<(), AllocError>
     ensures { OnOk result (code.new.items ≡ code.old.items
         ++ loop_code (Register Sub value_register third_register second_register ∷ [])

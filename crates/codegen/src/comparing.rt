@@ -17,18 +17,18 @@ use language::BinaryOperator;
 use rv_code::{BranchTest, Instr, Reg};
 use std::alloc::AllocError;
 
-/// The test that a branch makes of a comparison's operands, and whether it takes them turned round.
+/// The test that a branch makes of a comparison's operands, and whether it takes them swapped.
 #[derive(Clone, Copy)]
 pub struct Comparison {
     pub test: BranchTest,
-    pub is_turned: bool,
+    pub is_swapped: bool,
 }
 
 /// The test that operands pass where a comparison of them does not hold.
 fn failing(operator: BinaryOperator) -> Option<Comparison>
     ensures { result ≡ failing operator }
 {
-    let (test, is_turned) = match operator {
+    let (test, is_swapped) = match operator {
         BinaryOperator::Equal => (BranchTest::Bne, false),
         BinaryOperator::Unequal => (BranchTest::Beq, false),
         BinaryOperator::Less => (BranchTest::Bgeu, false),
@@ -37,7 +37,7 @@ fn failing(operator: BinaryOperator) -> Option<Comparison>
         BinaryOperator::GreaterOrEqual => (BranchTest::Bltu, false),
         _ => return None,
     };
-    Some(Comparison { test, is_turned })
+    Some(Comparison { test, is_swapped })
 }
 
 /// That test of a left and a right register.
@@ -45,7 +45,7 @@ fn between(comparison: Comparison, left: Reg, right: Reg) -> Test
     ensures { result ≡ between comparison left right }
 {
     let test = comparison.test;
-    if comparison.is_turned {
+    if comparison.is_swapped {
         Test {
             test,
             left: right,

@@ -57,10 +57,10 @@ fn extent_of(statement: &StraightStatement) -> Extent
             };
         }
         StraightStatement::Repeat(_, low, high, body) => {
-            let turn = extent_of_all(body);
+            let iteration = extent_of_all(body);
             return Extent {
-                height: height(low).max(height(high)).max(turn.height),
-                depth: 1 + turn.depth,
+                height: height(low).max(height(high)).max(iteration.height),
+                depth: 1 + iteration.depth,
             };
         }
     };

@@ -1,4 +1,4 @@
-// Instructions that are run by turns or not at all: what stands between jumps.
+// Instructions that are run again and again or not at all: what stands between jumps.
 
 ghost use Rattle.std.specs.Prelude.{◌≡◌, ◌++◌, ◌+◌, ◌*◌, ◌^◌, ◌<◌, ◌≤◌, length, IfErr, OnOk};
 ghost use Rattle.codegen.specs.declared.unemitted.Unemitted.TheVariants.{TooFar};

@@ -4,7 +4,7 @@
 ghost use Rattle.std.specs.Prelude.{◌≡◌, ◌++◌, ◌+◌, ◌*◌, ◌<◌, ◌≤◌, [], ◌∷◌, length, None, Some, IfErr, OnOk};
 ghost use Rattle.codegen.specs.private.Loops.{bounds_code, test_code, count_code, below_number_code, below_word_code};
 ghost use Rattle.codegen.specs.private.Loops.{counting_home, guarded_code, is_below, repeat_code, short_number};
-ghost use Rattle.codegen.specs.private.Loops.{to_number_code, to_word_code, turns_code};
+ghost use Rattle.codegen.specs.private.Loops.{to_number_code, to_word_code, iterations_code};
 ghost use Rattle.codegen.specs.private.Jumps.{IsFar};
 ghost use Rattle.codegen.specs.private.Placed.{IsPlaced};
 ghost use Rattle.codegen.specs.Below.{Addi, Immediate, term_tree};
@@ -104,8 +104,8 @@ fn below_word(code: &mut Vec<Instr>, home: Reg, next: u32) -> Result<(), AllocEr
     Ok(())
 }
 
-/// The turns of a loop that counts, at least one: the test stands behind the body and the next number.
-fn turns(
+/// The iterations of a loop that counts, at least one: the test stands behind the body and the next number.
+fn iterations(
     alloc: Global,
     code: &mut Vec<Instr>,
     test: &[Instr],
@@ -114,7 +114,7 @@ fn turns(
     requires test { length test.now ≤ 4 }
     requires body { length counting.now.body.now < 1000 }
     ensures { OnOk result (code.new.items ≡ code.old.items
-        ++ turns_code counting.now.home test.now counting.now.body.now) }
+        ++ iterations_code counting.now.home test.now counting.now.body.now) }
 {
     let home = counting.home;
     let mut round = Vec::new(alloc);
@@ -141,7 +141,7 @@ fn guarded(
 {
     let mut arm = Vec::new(alloc);
     move_register(&mut arm, counting.home, start)?;
-    turns(alloc, &mut arm, test, counting)?;
+    iterations(alloc, &mut arm, test, counting)?;
     jumping::branch(code, below, arm.as_slice(), &[])
 }
 
@@ -165,7 +165,7 @@ fn to_number(
     below_number(&mut test, Reg::X5, home, bound)?;
     if is_below(bound, low) {
         into(layout, code, home, 0, low)?;
-        return turns(alloc, code, test.as_slice(), counting);
+        return iterations(alloc, code, test.as_slice(), counting);
     }
     let start = read(code, layout, Reg::X5, 0, low)?;
     below_number(code, Reg::X6, start, bound)?;
@@ -202,7 +202,7 @@ fn test(code: &mut Vec<Instr>, next: u32) -> Result<(), AllocError>
     Ok(())
 }
 
-/// The next number into the counter, and one more for the turn after this one.
+/// The next number into the counter, and one more for the iteration after this one.
 fn count(code: &mut Vec<Instr>, next: u32, counter: &Location) -> Result<(), AllocError>
     ensures { OnOk result (code.new.items ≡ code.old.items ++ count_code next counter.now) }
 {
@@ -229,11 +229,11 @@ fn tested(
 {
     let mut head = Vec::new(alloc);
     test(&mut head, next)?;
-    let mut turn = Vec::new(alloc);
-    count(&mut turn, next, counter)?;
-    turn.extend_from_slice(body)?;
-    jumping::reach(head.len(), turn.len())?;
-    Ok(jumping::repeat(code, head.as_slice(), turn.as_slice())?)
+    let mut iteration = Vec::new(alloc);
+    count(&mut iteration, next, counter)?;
+    iteration.extend_from_slice(body)?;
+    jumping::reach(head.len(), iteration.len())?;
+    Ok(jumping::repeat(code, head.as_slice(), iteration.as_slice())?)
 }
 
 /// A loop that counts up to the bound in its second word, behind its bounds.

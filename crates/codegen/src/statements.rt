@@ -169,15 +169,15 @@ fn statement(
             Ok(())
         }
         StraightStatement::Repeat(counter, low, high, body) => {
-            let mut turn = Vec::new(alloc);
-            statements(alloc, &mut turn, layout, depth + 1, body)?;
+            let mut iteration = Vec::new(alloc);
+            statements(alloc, &mut iteration, layout, depth + 1, body)?;
             let repeat = Loop {
                 counter: *counter,
                 low,
                 high,
                 is_set: any_sets(body, *counter),
             };
-            loops::repeat(alloc, code, layout, depth, &repeat, turn.as_slice())
+            loops::repeat(alloc, code, layout, depth, &repeat, iteration.as_slice())
         }
     }
 }

@@ -24,11 +24,11 @@ finds_fault {request} {files} (Err e) fault is why =
     subst (λ (f : Fault). Gives request files files (Err f)) (sym is) (not_answered why)
 
 -- the fault is made of another
-pub finds_turned : {request : Request} {files : Contents} {Such : Fault → Type 0} (answer : Result Answer Fault)
+pub finds_converted : {request : Request} {files : Contents} {Such : Fault → Type 0} (answer : Result Answer Fault)
     → IsErrAnd answer Such → ((e : Fault) → Such e → Refuses request files files e)
     → Gives request files files answer
-finds_turned (Ok done) is why = absurd is
-finds_turned (Err e) is why = not_answered (why e is)
+finds_converted (Ok done) is why = absurd is
+finds_converted (Err e) is why = not_answered (why e is)
 
 pub read_fault : {T : Type 0} (before after : Store) (answer : Result T Fault) (fault : Fault)
     → IsErrAnd answer (λ e. e ≡ fault) → IsReadBy fault before after → IsRead answer before after

@@ -91,7 +91,7 @@ module _ (files : Contents) (plan : List ℕ) (harts : List PlannedHart) (schedu
         loaded = loaded;
         ran =
             subst (λ (js : List side_by_side.Job). RunsHarts js schedule true [] (Ok ends) seen) same_jobs
-            (subst (λ (turns : List ℕ). RunsHarts jobs' turns true [] (Ok ends) seen) same_schedule
+            (subst (λ (steps : List ℕ). RunsHarts jobs' steps true [] (Ok ends) seen) same_schedule
             (subst (λ (list : List HartObservation). RunsHarts jobs' schedule' true list (Ok ends) seen) none was_run));
         printed = printed ∙ ap (λ js. harts_text js seen' ends') printed_jobs
             ∙ ap (λ list. harts_text jobs list ends') printed_seen ∙ ap (λ list. harts_text jobs seen list) printed_ends;
@@ -170,7 +170,7 @@ run_refused files plan harts schedule schedule' jobs jobs' before after why plan
     by : Refuses jobs' schedule' why ⊎ (why ≡ harts_faults.Memory) → RefusesPlan files plan (faults.Harts why)
     by (inl refuses) =
         by_run planned loaded
-        (subst (λ (turns : List ℕ). Refuses jobs turns why) same_schedule
+        (subst (λ (steps : List ℕ). Refuses jobs steps why) same_schedule
         (subst (λ (js : List side_by_side.Job). Refuses js schedule' why) same_jobs refuses))
     by (inr memory) = plan_wants_memory memory
 

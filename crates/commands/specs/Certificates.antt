@@ -11,14 +11,14 @@ use Rattle.commands.specs.Words.{AreGiven}
 use Rattle.commands.specs.declared.fault.Fault.{Fault}
 use Rattle.commands.specs.declared.fault.Fault.TheVariants.{Run}
 
--- `same` and the stop; or the entry that may differ, and the line of the word that stands where its turn is made
+-- `same` and the stop; or the entry that may differ, and the line of the word that stands where its step is made
 abbrev pub PrintsCertificate : Fields → CertifiedEnd → List ℕ → Type 0
 PrintsCertificate image (Same stop entries) text = text ≡ codes "same\n" ++ stop_line stop
 PrintsCertificate image (MayDiffer entry pc) text =
     (line : List ℕ) × IsLineAt (code_at code_base image) pc (Some line)
     × (text ≡ codes "may differ at " ++ decimal entry ++ codes "\n" ++ line)
 
--- a word begins where the turn is made that may differ
+-- a word begins where the step is made that may differ
 abbrev pub StandsInCode : Fields → CertifiedEnd → Type 0
 StandsInCode image (Same stop entries) = ⊤
 StandsInCode image (MayDiffer entry pc) = word_at (code_at code_base image) pc ≢ None

@@ -19,7 +19,7 @@ pub record IsJobOf (files : Contents) (hart : PlannedHart) (job : Job) : Type 0 
   pub held : HoldsImage files hart.path job.image
   pub spelled : AreSpelled (params_of job.image) hart.arguments job.args
 
--- the harts of a plan with this text are run in the order of its turns: what the turns show, how each hart ended, and
+-- the harts of a plan with this text are run in the order of its steps: what the steps show, how each hart ended, and
 -- the exit status
 pub record SaysPlan (files : Contents) (plan text : List ℕ) (status : ℕ) : Type 0 where
   pub harts : List PlannedHart
@@ -54,7 +54,7 @@ pub data RefusesJobs (files : Contents) (harts : List PlannedHart) : Fault → T
   jobs_want_memory : {fault : Fault} → IsOutOfMemory fault → RefusesJobs files harts fault
 
 -- why the harts of a plan with this text are not run: by its first faulty line; by a hart's image or arguments; by what
--- is refused of all of them and the order of their turns; or memory was refused
+-- is refused of all of them and the order of their steps; or memory was refused
 pub data RefusesPlan (files : Contents) (plan : List ℕ) : Fault → Type 0 where
   by_line : {rule : HartsRule} {line : ℕ} → IsFault plan rule line → RefusesPlan files plan (Plan (Line rule line))
   by_jobs : {harts : List PlannedHart} {schedule : List ℕ} {fault : Fault} → IsPlan plan harts schedule

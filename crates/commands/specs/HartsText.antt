@@ -17,9 +17,9 @@ with_fronts front begins (byte ∷ bytes) = (if begins then front else []) ++ by
 abbrev pub behind : ℕ → List ℕ → List ℕ
 behind hart lines = with_fronts (decimal hart ++ codes " ") true lines
 
--- what turns showed, in their order
-abbrev pub turns_text : List HartObservation → List ℕ
-turns_text seen = flat_map (λ turn. behind turn.hart (lines_of (turn.observation ∷ []))) seen
+-- what steps showed, in their order
+abbrev pub shown_text : List HartObservation → List ℕ
+shown_text seen = flat_map (λ step. behind step.hart (lines_of (step.observation ∷ []))) seen
 
 -- how a hart stopped, if it did
 abbrev pub ended_line : Option Stop → List ℕ
@@ -38,9 +38,9 @@ ends_text hart [] (end ∷ ends) = []
 ends_text hart (job ∷ jobs) (end ∷ ends) = behind hart (ended_line end.stop)
     ++ behind hart (ended_text job.image end.outcome) ++ ends_text (hart + 1) jobs ends
 
--- what turns showed, and then how each hart ended
+-- what steps showed, and then how each hart ended
 abbrev pub harts_text : List Job → List HartObservation → List HartEnd → List ℕ
-harts_text jobs seen ends = turns_text seen ++ ends_text 0 jobs ends
+harts_text jobs seen ends = shown_text seen ++ ends_text 0 jobs ends
 
 -- whether a hart has not stopped otherwise than by ECALL
 abbrev pub is_well : Option Stop → Bool

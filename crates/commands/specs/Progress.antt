@@ -1,4 +1,4 @@
--- What goes out on standard error while an image runs, where that is asked for: a line behind each so many turns
+-- What goes out on standard error while an image runs, where that is asked for: a line behind each so many steps
 -- after which the run goes on.
 use Rattle.std.specs.Prelude.{◌≡◌, ℕ, Bool, true, false, List, map, Option}
 use Rattle.image_reports.specs.certificates.KnownImage.{known_at}
@@ -12,7 +12,7 @@ use Rattle.commands.specs.Images.{HoldsImage}
 use Rattle.commands.specs.Words.{AreSpelled, AreBothSpelled, AreGiven}
 use Rattle.run_reports.specs.progress.Certified.{GoesOnKnown}
 
--- an image's run on arguments goes on after so many turns
+-- an image's run on arguments goes on after so many steps
 abbrev pub RunGoesOn : Fields → List Arg → ℕ → Type 0
 RunGoesOn image args = GoesOn (code_at code_base image) image.max_steps (loaded_at code_base frame_base image args)
 

@@ -8,7 +8,7 @@ ghost use Rattle.commands.specs.Below.{hart_of, job_of, most_images, params_of};
 ghost use Rattle.commands.specs.Failures.{IsReadBy};
 ghost use Rattle.commands.specs.FileTexts.{NoWholeText};
 ghost use Rattle.commands.specs.Harts.{IsJobOf, SaysPlan, RefusesJobs, RefusesPlan};
-ghost use Rattle.commands.specs.HartsText.{behind, turns_text, ended_line, ended_text, ends_text, harts_text, is_well};
+ghost use Rattle.commands.specs.HartsText.{behind, shown_text, ended_line, ended_text, ends_text, harts_text, is_well};
 ghost use Rattle.commands.specs.HartsText.{status_of_ends};
 ghost use Rattle.commands.specs.OutcomeText.{outcome_text};
 
@@ -61,7 +61,7 @@ pub fn run_file<'a, F: Files>(
     run_side_by_side(alloc, text.as_str(), files)
 }
 
-/// Runs the harts of a file with this text: what an observer sees of each turn and how each hart ended, as lines, and
+/// Runs the harts of a file with this text: what an observer sees of each step and how each hart ended, as lines, and
 /// the exit status. They are refused by the first faulty line, by the first hart whose image or arguments are faulty,
 /// or by what `run_harts` refuses.
 fn run_side_by_side<'a, F: Files>(
@@ -109,7 +109,7 @@ fn load_jobs<'a, F: Files>(
     Ok(loaded)
 }
 
-/// The lines of what turns showed, in their order, and then those of how each hart ended.
+/// The lines of what steps showed, in their order, and then those of how each hart ended.
 fn list_harts(
     alloc: Global,
     jobs: &[(Image, Args)],
@@ -120,18 +120,18 @@ fn list_harts(
     ensures { IfOk result (λ text. text.items ≡ harts_text (map job_of jobs.now) seen.now ends.now) }
 {
     let mut text = Vec::new(alloc);
-    push_turns(alloc, &mut text, seen)?;
+    push_shown(alloc, &mut text, seen)?;
     push_ends(alloc, &mut text, jobs, ends)?;
     Ok(text)
 }
 
-/// Puts the lines of what turns showed at the end of a text.
-fn push_turns(alloc: Global, text: &mut Vec<u8>, seen: &[HartObservation]) -> Result<(), AllocError>
-    ensures { OnOk result (text.new.items ≡ text.old.items ++ turns_text seen.now) }
+/// Puts the lines of what steps showed at the end of a text.
+fn push_shown(alloc: Global, text: &mut Vec<u8>, seen: &[HartObservation]) -> Result<(), AllocError>
+    ensures { OnOk result (text.new.items ≡ text.old.items ++ shown_text seen.now) }
 {
-    for turn in seen {
-        let lines = lines_of(&turn.observation);
-        push_lines(alloc, text, turn.hart, lines.as_slice())?;
+    for step in seen {
+        let lines = lines_of(&step.observation);
+        push_lines(alloc, text, step.hart, lines.as_slice())?;
     }
     Ok(())
 }

@@ -1,4 +1,4 @@
-// Runs of an image that say on standard error how many turns they have made, where that is asked for.
+// Runs of an image that say on standard error how many steps they have made, where that is asked for.
 
 ghost use Rattle.std.specs.Prelude.{◌≡◌, ◌≢◌, false, [], Err, IsTrue, OnOk, OnErr};
 ghost use Rattle.commands.specs.Below.{Certified, collected, Executed, HasLines, IsTold, Paired, Reaches};

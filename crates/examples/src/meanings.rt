@@ -56,7 +56,7 @@ const FILL: &str = "export void f(secret mut uint32[8] a, secret uint32 x) {\n\
     for (uint32 i from 0 to 8) { a[i] = x; }\n\
 }";
 
-const NO_TURNS: &str = "export public uint32 f() {\n\
+const NO_ITERATIONS: &str = "export public uint32 f() {\n\
     public mut uint32 c = 7;\n\
     for (uint32 i from 5 to 5) { c = c + i; }\n\
     for (uint32 j from 9 to 2) { c = 0; }\n\
@@ -104,7 +104,7 @@ fn a_budget_is_a_number_of_nodes(rt: HostRuntime) -> Result<(), Fail> {
     let fives = "None [Numbers { items: [5, 5, 5, 5, 5, 5, 5, 5] }]";
     means(&rt, FILL, &[ZEROS, "5"], 43, fives)?;
     means(&rt, FILL, &[ZEROS, "5"], 42, "E2: budget")?;
-    means(&rt, NO_TURNS, &[], 10, "Some(7) []")
+    means(&rt, NO_ITERATIONS, &[], 10, "Some(7) []")
 }
 
 #[test]

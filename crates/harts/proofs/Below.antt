@@ -9,7 +9,7 @@ pub use Rattle.hepurita.proofs.DataLemmas.{
 }
 pub use Rattle.hepurita.proofs.LoadLemmas.{length-within, slots_held}
 pub use Rattle.rv_machine.proofs.Face.{
-  MemberTurn-determined,
+  MemberStep-determined,
   alone,
   keeps_inside,
   number_at_same,

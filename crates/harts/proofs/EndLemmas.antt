@@ -3,7 +3,7 @@ use Rattle.std.specs.Prelude.{◌⊎◌, slice_get}
 use Rattle.std.proofs.Common.{◌≡◌, ℕ, zero, suc, ◌+◌, ◌≤◌, Bool, List, [], ◌∷◌, Some, Ok, sym, ap, ◌∙◌, inl, inr, arith}
 use Rattle.std.proofs.lemmas.Option.{none-some, same_Some}
 use Rattle.std.specs.List.{AllByRecursion}
-use Rattle.harts.specs.Below.{ByteMap, Ecall, HartObservation, Means, Member, Results, results_in, System, turns_of}
+use Rattle.harts.specs.Below.{ByteMap, Ecall, HartObservation, Means, Member, Results, results_in, System, steps_of}
 use Rattle.harts.proofs.EveryScheduleLemmas.{each_is_alone, one_list}
 use Rattle.harts.specs.Ends.{end_of, ends_from, ends_of, still_going, ended_with}
 use Rattle.harts.specs.EverySchedule.{IsFromText, AllAgree}
@@ -36,11 +36,11 @@ end_of_job jobs ends end k job m are at at' =
     ap (λ (those : List HartEnd). slice_get those k) are ∙ end_at 0 jobs end.members end.bytes k job m at at'
     ∙ ap (λ i. Some (end_of i job m.stop end.bytes)) place
 
--- a hart that was given its turns has ended with what its program means
+-- a hart that was given its steps has ended with what its program means
 pub ends_as_meant : (jobs : List Job) (schedule : List ℕ) (keeps : Bool) (list list' : List HartObservation)
     (ends : List HartEnd) (k : ℕ) (job : Job) (from : IsFromText job) → AllByRecursion IsFromText jobs
     → RunsHarts jobs schedule keeps list (Ok ends) list' → slice_get jobs k ≡ Some job
-    → job.image.max_steps ≤ turns_of k schedule
+    → job.image.max_steps ≤ steps_of k schedule
     → (results : Results) × Means from.built.program job.args results
     × (slice_get ends k ≡ Some (record { stop = Some Ecall; outcome = Some results }))
 ends_as_meant jobs schedule keeps list list' ends k job from all (ran {end = end} allowed followed answered)
@@ -53,7 +53,7 @@ ends_as_meant jobs schedule keeps list list' ends k job from all (ran {end = end
           ∙ ap (λ stop. Some (end_of k job stop end.bytes)) finished.0,
     )
 
--- however few its turns, it is still going, or has ended so
+-- however few its steps, it is still going, or has ended so
 pub ends_so_far : (jobs : List Job) (schedule : List ℕ) (keeps : Bool) (list list' : List HartObservation)
     (ends : List HartEnd) (k : ℕ) (job : Job) (from : IsFromText job) → AllByRecursion IsFromText jobs
     → RunsHarts jobs schedule keeps list (Ok ends) list' → slice_get jobs k ≡ Some job

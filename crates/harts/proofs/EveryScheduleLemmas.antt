@@ -7,26 +7,26 @@ use Rattle.std.proofs.lemmas.Option.{none-some, same_Some, slice_get_within}
 use Rattle.std.specs.List.{AllByRecursion}
 use Rattle.harts.specs.Below.{ByteMap, code_at, Ecall, Follows, HartObservation, IsAsAlone, IsInside, loaded_at, Makes}
 use Rattle.harts.specs.Below.{Means, Member, most_images, none, Observation, one_more, Results, results_in, ShowTheSame}
-use Rattle.harts.specs.Below.{Stop, System, turns_of}
+use Rattle.harts.specs.Below.{Stop, System, steps_of}
 use Rattle.harts.proofs.FrameLemmas.{frame_there, outcome_same}
 use Rattle.harts.proofs.Resting.{rests_on}
 use Rattle.harts.proofs.SystemLemmas.{IsFit, fit_of, all_fit, fit_at, run_of, member_at, job_at, own_of, own_is}
 use Rattle.harts.proofs.SystemLemmas.{jobs_apart}
 use Rattle.harts.specs.EverySchedule.{IsFromText, IsAlone, JobsAgree, AllAgree}
 use Rattle.harts.specs.SideBySide.{code_base_of, frame_base_of, Job, loaded_alone, member_of, members_from, system_of}
-use Rattle.harts.proofs.Below.{alone, shown_the_same, shown_alone, stopped_alone, MemberTurn-determined}
+use Rattle.harts.proofs.Below.{alone, shown_the_same, shown_alone, stopped_alone, MemberStep-determined}
 use Rattle.rv_machine.specs.Leakage.{Halts}
 
--- What a hart is alone after so many turns is one thing.
+-- What a hart is alone after so many steps is one thing.
 
 pub one_alone : (n : ℕ) (own bytes bytes' : ByteMap) (m after after' : Member) (seen seen' : List Observation)
     → Makes n own m seen bytes after → Makes n own m seen' bytes' after'
     → (seen ≡ seen') × (bytes ≡ bytes') × (after ≡ after')
 one_alone zero own bytes bytes' m after after' seen seen' none none = (refl, refl, refl)
 one_alone (suc n) own bytes bytes' m after after' seen seen'
-    (one_more {between = between} {after = next} {seen = first} {rest = rest} turn more is)
-    (one_more {between = between'} {after = next'} {seen = first'} {rest = rest'} turn' more' is') =
-    let same = MemberTurn-determined turn turn' in
+    (one_more {between = between} {after = next} {seen = first} {rest = rest} step more is)
+    (one_more {between = between'} {after = next'} {seen = first'} {rest = rest'} step' more' is') =
+    let same = MemberStep-determined step step' in
     let then = one_alone n between bytes bytes' next after after' rest rest' more (rw (same.1, same.2) more') in
     (is ∙ ap (λ xs. xs ++ rest) same.0 ∙ ap (λ xs. first' ++ xs) then.0 ∙ sym is', then.1, then.2)
 
@@ -34,7 +34,7 @@ one_alone (suc n) own bytes bytes' m after after' seen seen'
 
 module _ (k : ℕ) (below : k < most_images) (job : Job) (fit : IsFit job) (schedule : List ℕ)
     (list : List HartObservation) (end : System)
-    (it : IsAsAlone k (turns_of k schedule) (loaded_alone k job).bytes (member_of k job) list end) where
+    (it : IsAsAlone k (steps_of k schedule) (loaded_alone k job).bytes (member_of k job) list end) where
   same_frame : (a : ℕ) → frame_base_of k ≤ a → a < frame_base_of k + job.image.frame_bytes → end.bytes a ≡ it.bytes a
   same_frame a low high =
       it.bytes_there a (it.extent a
@@ -44,9 +44,10 @@ module _ (k : ℕ) (below : k < most_images) (job : Job) (fit : IsFit job) (sche
   stays_within =
       let to = run_of k job fit below in
       let run = to.run in
-      rw (shown_alone (member_of k job) it.member (loaded_alone k job).bytes it.bytes run.turns (turns_of k schedule)
+      rw (shown_alone (member_of k job) it.member (loaded_alone k job).bytes it.bytes run.step_count
+      (steps_of k schedule)
       run.seen it.seen Ecall run.end refl run.halts it.makes)
-      (All-take (λ (o : Observation). IsInside (frame_base_of k) job.image.frame_bytes o.event) (turns_of k schedule)
+      (All-take (λ (o : Observation). IsInside (frame_base_of k) job.image.frame_bytes o.event) (steps_of k schedule)
       run.seen to.within_frame)
 
   -- what its slots hold where its frame is as the run that halts leaves it
@@ -61,17 +62,17 @@ module _ (k : ℕ) (below : k < most_images) (job : Job) (fit : IsFit job) (sche
       (λ x low high. same_frame x low high ∙ ap (λ (b : ByteMap). b x) left) in
       subst (λ (results : Results). Means fit.program job.args results) (sym same) to.outcome
 
-  has_finished : job.image.max_steps ≤ turns_of k schedule
+  has_finished : job.image.max_steps ≤ steps_of k schedule
       → (it.member.stop ≡ Some Ecall) × Means fit.program job.args (results_in (frame_base_of k) job.image end.bytes)
   has_finished enough =
       let to = run_of k job fit below in
       let run = to.run in
-      let stop = stopped_alone (member_of k job) it.member (loaded_alone k job).bytes it.bytes run.turns
-      (turns_of k schedule) run.seen it.seen Ecall run.end refl run.halts it.makes
+      let stop = stopped_alone (member_of k job) it.member (loaded_alone k job).bytes it.bytes run.step_count
+      (steps_of k schedule) run.seen it.seen Ecall run.end refl run.halts it.makes
       (omega (arith, to.within_steps)) in
       (stop.0, means_there stop.1)
 
-  -- it has not stopped, or is what it is after more turns
+  -- it has not stopped, or is what it is after more steps
   has_ended : (stop : Option Stop) → it.member.stop ≡ stop
       → (it.member.stop ≡ None)
       ⊎ ((it.member.stop ≡ Some Ecall)
@@ -79,9 +80,9 @@ module _ (k : ℕ) (below : k < most_images) (job : Job) (fit : IsFit job) (sche
   has_ended None is = inl is
   has_ended (Some stop) is =
       let run = (run_of k job fit below).run in
-      let longer = rests_on run.turns is it.makes in
-      let ended = stopped_alone (member_of k job) it.member (loaded_alone k job).bytes it.bytes run.turns
-      (turns_of k schedule + run.turns) run.seen it.seen Ecall run.end refl run.halts longer (omega arith) in
+      let longer = rests_on run.step_count is it.makes in
+      let ended = stopped_alone (member_of k job) it.member (loaded_alone k job).bytes it.bytes run.step_count
+      (steps_of k schedule + run.step_count) run.seen it.seen Ecall run.end refl run.halts longer (omega arith) in
       inr (ended.0, means_there ended.1)
 
   is_alone : IsAlone fit.program k job schedule list end
@@ -152,7 +153,7 @@ shows_the_same k below a b fit fit' agree n seen seen' bytes bytes' after after'
     let frame = frame_base_of k in
     let run = (run_of k a fit below).run in
     let run' = (run_of k b fit' below).run in
-    let halts' : Halts (code_at code a.image) run'.turns (loaded_at code frame a.image b.args) run'.seen Ecall
+    let halts' : Halts (code_at code a.image) run'.step_count (loaded_at code frame a.image b.args) run'.seen Ecall
     run'.end = rw agree.image run'.halts in
     let lists : run.seen ≡ run'.seen = fit.compiled.equal_leakage (record {
       code = code;
@@ -162,12 +163,12 @@ shows_the_same k below a b fit fit' agree n seen seen' bytes bytes' after after'
       args' = b.args;
       agree = agree.args;
       one = run;
-      other = record { turns = run'.turns; seen = run'.seen; end = run'.end; halts = halts' };
+      other = record { step_count = run'.step_count; seen = run'.seen; end = run'.end; halts = halts' };
     }) in
-    shown_alone (member_of k a) after (loaded_alone k a).bytes bytes run.turns n run.seen seen Ecall run.end refl
+    shown_alone (member_of k a) after (loaded_alone k a).bytes bytes run.step_count n run.seen seen Ecall run.end refl
     run.halts makes
     ∙ ap (take n) lists
-    ∙ sym (shown_alone (member_of k b) after' (loaded_alone k b).bytes bytes' run'.turns n run'.seen seen' Ecall
+    ∙ sym (shown_alone (member_of k b) after' (loaded_alone k b).bytes bytes' run'.step_count n run'.seen seen' Ecall
     run'.end refl run'.halts makes')
 
 module _ (one other : List Job) (few : length one ≤ most_images) (fits : AllByRecursion IsFit one)

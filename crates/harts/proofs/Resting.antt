@@ -1,4 +1,4 @@
--- A hart that has stopped is given more turns, and stays what it is.
+-- A hart that has stopped is given more steps, and stays what it is.
 use Rattle.std.proofs.Common.{◌≡◌, ℕ, zero, suc, ◌+◌, List, [], Some, refl, subst, arith}
 use Rattle.harts.specs.Below.{ByteMap, Makes, Member, none, Observation, one_more, rests, Stop}
 
@@ -11,7 +11,7 @@ pub rests_on : {k : ℕ} {own bytes : ByteMap} {m after : Member} {seen : List O
 rests_on more is (none {bytes = bytes} {m = m}) =
     let e : more ≡ 0 + more = omega arith in
     subst (λ n. Makes n bytes m [] bytes m) e (resting more is)
-rests_on {own = own} {bytes = bytes} {m = m} {after = after} {seen = seen} more is (one_more {n = n} turn
+rests_on {own = own} {bytes = bytes} {m = m} {after = after} {seen = seen} more is (one_more {n = n} step
     then shown) =
     let e : suc (n + more) ≡ suc n + more = omega arith in
-    subst (λ k. Makes k own m seen bytes after) e (one_more turn (rests_on more is then) shown)
+    subst (λ k. Makes k own m seen bytes after) e (one_more step (rests_on more is then) shown)

@@ -58,7 +58,7 @@ module _ (k : ℕ) (job : Job) (fit : IsFit job) where
   pub inside_alone : k < most_images → KeepsInside (loaded_alone k job).bytes (member_of k job)
   inside_alone below =
       let run = (run_of below).run in
-      keeps_inside (member_of k job) (loaded_alone k job).bytes run.turns run.seen Ecall run.end refl
+      keeps_inside (member_of k job) (loaded_alone k job).bytes run.step_count run.seen Ecall run.end refl
       run.halts (λ e. cc)
 
   -- its data is in its frame

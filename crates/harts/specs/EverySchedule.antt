@@ -2,7 +2,7 @@
 use Rattle.std.specs.Prelude.{◌≡◌, ◌⊎◌, ℕ, ◌+◌, ◌<◌, ◌≤◌, List, [], ◌∷◌, Some, None, All, slice_get}
 use Rattle.language.specs.arguments.Agreement.{Agree}
 use Rattle.harts.specs.Below.{AreWithin, ByteMap, Ecall, HartObservation, IsInside, Makes, Means, Member, Observation}
-use Rattle.harts.specs.Below.{of_hart, params_of, ProgramTree, results_in, System, turns_of}
+use Rattle.harts.specs.Below.{of_hart, params_of, ProgramTree, results_in, System, steps_of}
 use Rattle.harts.specs.SideBySide.{frame_base_of, Job, loaded_alone, member_of}
 use Rattle.hepurita.specs.Built.{IsBuilt}
 use Rattle.hepurita.specs.declared.optimised.Optimisation.{Optimisation}
@@ -20,22 +20,22 @@ pub record IsFromText (job : Job) : Type 0 where
   pub within : AreWithin (params_of job.image) job.args
 
 -- what the hart of this number has come to under a schedule, and has shown, is what it comes to alone in as many
--- turns as the schedule names it: its program counter, its registers, its stop and the bytes of its frame. It stays
--- inside its frame. However few its turns, it has not stopped, or has with what its program means; and once it was
+-- steps as the schedule names it: its program counter, its registers, its stop and the bytes of its frame. It stays
+-- inside its frame. However few its steps, it has not stopped, or has with what its program means; and once it was
 -- given as many as its image states, it has
 pub record IsAlone (program : ProgramTree) (k : ℕ) (job : Job) (schedule : List ℕ) (list : List HartObservation)
     (end : System) : Type 0 where
   pub bytes : ByteMap
   pub member : Member
   pub seen : List Observation
-  pub makes : Makes (turns_of k schedule) (loaded_alone k job).bytes (member_of k job) seen bytes member
+  pub makes : Makes (steps_of k schedule) (loaded_alone k job).bytes (member_of k job) seen bytes member
   pub there : slice_get end.members k ≡ Some member
   pub frame : (a : ℕ) → frame_base_of k ≤ a → a < frame_base_of k + job.image.frame_bytes → end.bytes a ≡ bytes a
   pub shown : of_hart k list ≡ seen
   pub within_frame : All (λ (o : Observation). IsInside (frame_base_of k) job.image.frame_bytes o.event) seen
   pub so_far : (member.stop ≡ None)
       ⊎ ((member.stop ≡ Some Ecall) × Means program job.args (results_in (frame_base_of k) job.image end.bytes))
-  pub finished : job.image.max_steps ≤ turns_of k schedule
+  pub finished : job.image.max_steps ≤ steps_of k schedule
       → (member.stop ≡ Some Ecall) × Means program job.args (results_in (frame_base_of k) job.image end.bytes)
 
 -- two jobs of one image that an observer is allowed to tell apart by nothing

@@ -8,12 +8,12 @@ ghost use Rattle.harts.specs.RunHarts.{RunsHarts};
 ghost use Rattle.harts.specs.SideBySide.{Job, system_of};
 ghost use Rattle.harts.specs.declared.ends.HartEnd.{HartEnd};
 ghost use Rattle.harts.specs.Below.{ByteMap, Follows, HartObservation, Makes, Means, Member, most_images};
-ghost use Rattle.harts.specs.Below.{Observation, Results, System, turns_of};
+ghost use Rattle.harts.specs.Below.{Observation, Results, System, steps_of};
 
 use rv_machine::Stop;
 
 /// Every schedule: images of accepted texts side by side on one memory, on arguments within their parameter types,
-/// their turns interleaved as a schedule says. Each hart is what it is alone after as many turns, and alone there is
+/// their steps interleaved as a schedule says. Each hart is what it is alone after as many steps, and alone there is
 /// one such state; it has not stopped, or has with the outcome that its text means. Where each hart's arguments are
 /// equal where they are public, an observer sees one and the same list; so one who chooses the schedule by what was
 /// seen learns no more.
@@ -40,7 +40,7 @@ pub fn every_schedule()
 {}
 
 /// What `run_harts` answers and records of images of accepted texts, on arguments within their parameter types: a hart
-/// that the schedule gave as many turns as its image states has stopped with the outcome that its text means, and one
+/// that the schedule gave as many steps as its image states has stopped with the outcome that its text means, and one
 /// that it gave fewer has not stopped, or has in this way. Where each hart's arguments are equal where they are public,
 /// one and the same list is recorded.
 pub fn harts_do_what_texts_mean()
@@ -49,7 +49,7 @@ pub fn harts_do_what_texts_mean()
         → AllByRecursion IsFromText jobs
         → RunsHarts jobs schedule keeps list (Ok ends) list'
         → slice_get jobs k ≡ Some job
-        → job.image.max_steps ≤ turns_of k schedule
+        → job.image.max_steps ≤ steps_of k schedule
         → (results : Results)
         × Means from.built.program job.args results
         × (slice_get ends k ≡ Some (record { stop = Some Stop.Ecall; outcome = Some results })) }

@@ -1,7 +1,7 @@
 // Several images side by side: their harts over one memory, under every schedule.
 //
-// It promises what is refused before memory is asked for, and else that the recorder takes exactly what the turns of
-// the schedule show, and that the answer says how each hart ended (`specs/RunHarts.antt`). The machine and its turns
+// It promises what is refused before memory is asked for, and else that the recorder takes exactly what the steps of
+// the schedule show, and that the answer says how each hart ended (`specs/RunHarts.antt`). The machine and its steps
 // are `rv_machine`'s; how an image is loaded is `hepurita`'s. Above that it promises what images of accepted texts do
 // under every schedule (`specs/EverySchedule.antt`).
 #![tactic(auto)]

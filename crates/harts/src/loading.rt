@@ -82,7 +82,7 @@ fn harts(alloc: Global, jobs: &[(Image, Args)]) -> Result<Vec<RunningHart>, Allo
     Ok(harts)
 }
 
-/// Images on arguments that are within their parameters' types, side by side. No turn was made yet.
+/// Images on arguments that are within their parameters' types, side by side. No step was made yet.
 pub fn load(alloc: Global, jobs: &[(Image, Args)]) -> Result<RunningHarts<PagedMemory>, AllocError>
     requires few { length jobs.now ≤ most_images }
     requires within { All IsRunnable (map job_of jobs.now) }

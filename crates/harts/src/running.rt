@@ -14,9 +14,9 @@ use language::Args;
 use rv_machine::HartRecorder;
 use std::alloc::Global;
 
-/// Loads images with their arguments side by side, each entry of the schedule giving one turn to the
-/// hart that it names, and answers how each hart has ended. The recorder takes what the turns show. A
-/// hart's turns end when it stops; no count of turns stops it, and the schedule's end is no stop.
+/// Loads images with their arguments side by side, each entry of the schedule giving one step to the
+/// hart that it names, and answers how each hart has ended. The recorder takes what the steps show. A
+/// hart's steps end when it stops; no count of steps stops it, and the schedule's end is no stop.
 /// Harts, arguments and schedules are refused by their first fault, before memory is asked for. Once
 /// the harts are loaded the recorder alone takes memory.
 pub fn run_harts<R: HartRecorder>(

@@ -60,7 +60,7 @@ module _ (profile : Profile) (program : ProgramTree) (before : List ProcedureTre
       let run = run_of code frame args bases fits in
       record {
         run = record {
-          turns = run.turns;
+          step_count = run.step_count;
           seen = (generated.follows code frame bases).shown (path_on args);
           end = run.end;
           halts = run.halts;

@@ -5,19 +5,19 @@ use Rattle.std.proofs.Common.{refl, sym, ap, subst, ◌∙◌, arith}
 use Rattle.std.proofs.lemmas.List.{take_all}
 use Rattle.hepurita.specs.Below.{Agree, AreWithin, Arg, Budget, Code, cut_short, Ecall, Fields, halted, Halts, halts}
 use Rattle.hepurita.specs.Below.{Leads, Observation, params_of, ProcedureTree, ProgramTree, RecorderRefused, results_in}
-use Rattle.hepurita.specs.Below.{Runs, spent, State, stays, Stop, stops, Turn, turns}
+use Rattle.hepurita.specs.Below.{Runs, spent, State, stays, Stop, stops, Step, steps_on}
 use Rattle.hepurita.proofs.AnswerLemmas.{Fits, run_on, same_shown}
 use Rattle.hepurita.specs.Bases.{frame_base}
 use Rattle.hepurita.specs.Compiled.{Means}
 use Rattle.hepurita.specs.CutOff.{IsRightSoFar}
 use Rattle.hepurita.specs.Uncut.{RunsFor}
-use Rattle.hepurita.proofs.Below.{Turn-determined, goes_on≢stops, Halts-determined, turn_stops}
+use Rattle.hepurita.proofs.Below.{Step-determined, goes_on≢stops, Halts-determined, step_stops}
 
--- each turn shows one observation, and the one that stops at most one
+-- each step shows one observation, and the one that stops at most one
 as_many_shown : {code : Code} {n : ℕ} {s t : State} {seen : List Observation} → Leads code n s seen t
     → length seen ≡ n
 as_many_shown stays = refl
-as_many_shown (turns turn rest) = ap suc (as_many_shown rest)
+as_many_shown (steps_on step rest) = ap suc (as_many_shown rest)
 
 few_shown : {code : Code} {n : ℕ} {s t : State} {seen : List Observation} {stop : Stop} → Halts code n s seen stop t
     → length seen ≤ n
@@ -26,23 +26,23 @@ few_shown {code} (halts {n = n} {seen = seen} {last = last} {list = list} {stop 
       arith,
       ap length is ∙ length-append seen last,
       as_many_shown first,
-      (turn_stops code t last stop end).1,
+      (step_stops code t last stop end).1,
     )
 
--- turns from a state whose later turn stops are no more than those before it, and show a beginning
-turns_begin : {code : Code} {m n : ℕ} {s t u : State} {a b last : List Observation} {stop : Stop} → Leads code m s a t
-    → Turn code t (stops last stop) → Leads code n s b u → (n ≤ m) × (b ≡ take n (a ++ last))
-turns_begin first end stays = (omega arith, refl)
-turns_begin stays end (turns other then) = absurd (goes_on≢stops other end)
-turns_begin {code} {u = u} {last = last} (turns {n = m} {o = o} {seen = a} {t = s'} first rest) end
-    (turns {n = n} {o = p} {seen = b} {t = s''} other then) =
-    let e = Turn-determined first other in
+-- steps from a state whose later step stops are no more than those before it, and show a beginning
+steps_begin : {code : Code} {m n : ℕ} {s t u : State} {a b last : List Observation} {stop : Stop} → Leads code m s a t
+    → Step code t (stops last stop) → Leads code n s b u → (n ≤ m) × (b ≡ take n (a ++ last))
+steps_begin first end stays = (omega arith, refl)
+steps_begin stays end (steps_on other then) = absurd (goes_on≢stops other end)
+steps_begin {code} {u = u} {last = last} (steps_on {n = m} {o = o} {seen = a} {t = s'} first rest) end
+    (steps_on {n = n} {o = p} {seen = b} {t = s''} other then) =
+    let e = Step-determined first other in
     let same : s'' ≡ s' = cc in
     let head : p ≡ o = cc in
-    let more = turns_begin rest end (subst (λ x. Leads code n x b u) same then) in
+    let more = steps_begin rest end (subst (λ x. Leads code n x b u) same then) in
     (omega (arith, more.0), ap (λ x. x ∷ b) head ∙ ap (λ xs. o ∷ xs) more.1)
 
--- what a run is that was given so many turns, where the run that halts takes this many and shows this
+-- what a run is that was given so many steps, where the run that halts takes this many and shows this
 record Begun (n given : ℕ) (whole : List Observation) (stop : Stop) (end : State) (seen : List Observation)
     (other : Stop) (now : State) : Type 0 where
   pub shown : seen ≡ take given whole
@@ -59,7 +59,7 @@ begun {given = given} {whole = whole} halting (halted within halting') calm =
     }
 begun halting (cut_short within first end shows) calm = absurd (calm refl)
 begun {given = given} (halts {n = n} {seen = seen} {last = last} first end is) (spent all) calm =
-    let both = turns_begin first end all in
+    let both = steps_begin first end all in
     record { shown = both.1 ∙ ap (take given) (sym is); ended = inr (refl, omega (arith, both.0)) }
 
 module _ {program : ProgramTree} {before : List ProcedureTree} {export : ProcedureTree} {image : Fields}
@@ -67,7 +67,7 @@ module _ {program : ProgramTree} {before : List ProcedureTree} {export : Procedu
   begun_on : (args : List Arg) (within : AreWithin (params_of image) args) (given : ℕ) (seen : List Observation)
       (stop : Stop) (end : State) → RunsFor given image args seen stop end
       → (let to = run_on is args within in
-      Begun to.run.turns given to.run.seen Ecall to.run.end seen stop end)
+      Begun to.run.step_count given to.run.seen Ecall to.run.end seen stop end)
   begun_on args within given seen stop end run =
       begun (run_on is args within).run.halts run.0 run.1
 

@@ -3,7 +3,7 @@
 use Rattle.std.proofs.Common.{◌≡◌, ℕ, List, [], Some, ap₂, nat_lt}
 use Rattle.std.specs.List.{AllByRecursion}
 use Rattle.hepurita.specs.Below.{accepted, because, cost_by, exported, flattened, most_work, ProcedureTree, Profile}
-use Rattle.hepurita.specs.Below.{ProgramTree, Reads, TooMuchWork, turns_of, when, work_of}
+use Rattle.hepurita.specs.Below.{ProgramTree, Reads, TooMuchWork, iterations_of, when, work_of}
 use Rattle.hepurita.specs.source_work.SourceWork.{source_work, work_cost, work_violations}
 use Rattle.language.specs.Shares.{excess}
 use Rattle.language.specs.declared.cost.Cost.{Cost}
@@ -39,7 +39,8 @@ same_work profile program before export plain small =
 -- so is what is counted of it, and the part that has most
 pub same_cost : (profile : Profile) (program : ProgramTree) (before : List ProcedureTree) (export : ProcedureTree)
     → HasGrammaticalExport program → IsSmall profile program before export
-    → work_cost before export ≡ cost_by (turns_of (flattened profile before export)) (flattened profile before export)
+    → work_cost before export ≡ cost_by (iterations_of (flattened profile before export))
+    (flattened profile before export)
 same_cost profile program before export plain small =
     let is = small.well_formed in
     let parts = plain before export is.is_export in

@@ -4,7 +4,7 @@ use Rattle.std.proofs.lemmas.Bool.{cases_lt, lt-ltb}
 use Rattle.hepurita.specs.Below.{accepted, AreWithin, Arg, because, Ending, Fields, FlatProgram, flattened, Gives, gives}
 use Rattle.hepurita.specs.Below.{IsGenerated, IsRemoved, IsTypedProgram, most_work, outcome_of, param_of, Place}
 use Rattle.hepurita.specs.Below.{ProcedureTree, Profile, ProgramTree, ranged, Reads, Results, StraightProgram}
-use Rattle.hepurita.specs.Below.{TooMuchWork, turns_of, when}
+use Rattle.hepurita.specs.Below.{TooMuchWork, iterations_of, when}
 use Rattle.language.specs.declared.why.Why.{Why}
 use Rattle.hepurita.proofs.Below.{flat_keeps_meaning, flat_is_typed, accepted_is_safe, safe_runs_meet_no_fault}
 use Rattle.intervals.specs.Loose.{IsSafe}
@@ -39,14 +39,15 @@ module _ (profile : Profile) (program : ProgramTree) (before : List ProcedureTre
       flat_is_typed profile program before export is.typed is.is_export parts.0 parts.1
 
   -- the one meaning on arguments, where it is safe
-  pub safe_means : IsSafe flat (turns_of flat) → (args : List Arg) → AreWithin (map param_of export.parameters) args
+  pub safe_means : IsSafe flat (iterations_of flat) → (args : List Arg) → AreWithin
+      (map param_of export.parameters) args
       → Means program args (outcome_of flat args)
   safe_means safe args within =
       let is = small.well_formed in
       let parts = plain before export is.is_export in
       let given =
       subst (λ (e : Ending Results). Gives program args e)
-      (safe_runs_meet_no_fault flat (turns_of flat) args safe within)
+      (safe_runs_meet_no_fault flat (iterations_of flat) args safe within)
       (flat_keeps_meaning profile program before export args is.typed is.is_export parts.0 parts.1 within) in
       record {
         given = given;

@@ -7,8 +7,8 @@ unfoldable pub use Rattle.rv_machine.specs.Bytes.{number_at, with_number}
 pub use Rattle.rv_machine.specs.Entries.{Compares, entries_of, Entry}
 pub use Rattle.rv_machine.specs.Harts.{state_of}
 pub use Rattle.rv_machine.specs.Leakage.{cut_short, halted, Halts, halts, IsShown, Leads, Ran, Runs, spent, stays}
-pub use Rattle.rv_machine.specs.Leakage.{turns}
-pub use Rattle.rv_machine.specs.Machine.{Code, State, stops, Turn}
+pub use Rattle.rv_machine.specs.Leakage.{steps_on}
+pub use Rattle.rv_machine.specs.Machine.{Code, State, stops, Step}
 pub use Rattle.rv_machine.specs.Paged.{paged_bytes}
 pub use Rattle.rv_machine.specs.Recording.{count_after, HasRefused, kept}
 pub use Rattle.rv_machine.specs.Regions.{code_of}
@@ -101,14 +101,14 @@ pub use Rattle.inline.specs.Numbering.{names_after_all, naming, Numbers, numbers
 pub use Rattle.inline.specs.Numbering.{parameter_names, passed, passed_variables, return_names, return_place, right}
 pub use Rattle.inline.specs.Numbering.{right_block, size_of, statement, stretches, term, value_given, value_of}
 pub use Rattle.inline.specs.declared.flat.FlatVariable.{FlatVariable}
-pub use Rattle.intervals.specs.Evaluated.{evaluated_all, evaluated_by, evaluated_in_turns}
+pub use Rattle.intervals.specs.Evaluated.{evaluated_all, evaluated_by, evaluated_in_iterations}
 pub use Rattle.intervals.specs.Intervals.{Bounds, interval, with_bound}
 pub use Rattle.intervals.specs.Limits.{most_work}
 pub use Rattle.intervals.specs.Narrowing.{where_false, where_true}
 pub use Rattle.intervals.specs.Ranged.{RangedProgram}
 pub use Rattle.intervals.specs.Ranges.{bound_of, bounds_after, bounds_after_all, first_bounds, in_loop}
-pub use Rattle.intervals.specs.Ranges.{index_violations, most_turns, range_violations, result_violations}
-pub use Rattle.intervals.specs.Ranges.{term_violations, terms_violations, turns_of, violations_all}
+pub use Rattle.intervals.specs.Ranges.{index_violations, most_iterations, range_violations, result_violations}
+pub use Rattle.intervals.specs.Ranges.{term_violations, terms_violations, iterations_of, violations_all}
 pub use Rattle.intervals.specs.Work.{body_work, cost_by, first_of, IsRefusedByRanges, IsToldByRanges, ranged}
 pub use Rattle.intervals.specs.Work.{shares_by, stretch_shares, tree_work, value_shares, work_of}
 unfoldable pub use Rattle.branch_removal.specs.Exact.{straight_of}

@@ -11,15 +11,15 @@ pub use Rattle.hepurita.specs.Meant.{Means}
 
 -- the image's run on arguments, at these bases: from where it is loaded to the ECALL that stops it
 pub record WholeRun (image : Fields) (code frame : ℕ) (args : List Arg) : Type 0 where
-  pub turns : ℕ
+  pub step_count : ℕ
   pub seen : List Observation
   pub end : State
-  pub halts : Halts (code_at code image) turns (loaded_at code frame image args) seen Ecall end
+  pub halts : Halts (code_at code image) step_count (loaded_at code frame image args) seen Ecall end
 
 -- a run that gives what the source means, within the stated steps and the frame
 pub record RunsTo (program : ProgramTree) (image : Fields) (code frame : ℕ) (args : List Arg) : Type 0 where
   pub run : WholeRun image code frame args
-  pub within_steps : run.turns ≤ image.max_steps
+  pub within_steps : run.step_count ≤ image.max_steps
   pub within_frame : All (λ (o : Observation). IsInside frame image.frame_bytes o.event) run.seen
   pub outcome : Means program args (results_in frame image run.end.bytes)
 

@@ -17,7 +17,7 @@ use rv_machine::{PagedMemory, Running, Stop, run};
 use std::alloc::Global;
 
 /// What is answered where the machine stops so.
-// It is compiled in line: a call would take the memory's address, and then what the turns before it work on does not
+// It is compiled in line: a call would take the memory's address, and then what the steps before it work on does not
 // stay in registers.
 #[inline(always)]
 pub fn answer(
@@ -43,7 +43,7 @@ pub fn answer(
 
 /// Runs an image on arguments, and answers the outcome. The recorder takes what an observer sees of
 /// the run. Arguments are refused by their first fault, before memory is asked for.
-// It is never compiled in line: beside a caller's own values, those of the turns do not fit the registers.
+// It is never compiled in line: beside a caller's own values, those of the steps do not fit the registers.
 #[inline(never)]
 pub fn execute<R: Recorder>(
     alloc: Global,
@@ -67,8 +67,8 @@ pub fn execute<R: Recorder>(
     let Running {
         mut hart,
         mut memory,
-        turns_left,
+        steps_left,
     } = loaded;
-    let stop = run(&mut hart, &code, &mut memory, recorder, turns_left);
+    let stop = run(&mut hart, &code, &mut memory, recorder, steps_left);
     answer(image, space, stop, &memory)
 }

@@ -99,10 +99,10 @@ pub fn images_do_what_texts_mean()
     faultless_arguments();
 }
 
-/// Runs that are cut off. However few turns the image of an accepted text, plain or optimised, is given, on arguments
+/// Runs that are cut off. However few steps the image of an accepted text, plain or optimised, is given, on arguments
 /// within the parameter types and with no recorder that refuses, it has stopped by `Ecall` with the one outcome that
-/// the text means, or it has not stopped and had fewer turns than the image states. On two lists of arguments that are
-/// equal where they are public, as many turns show one and the same list.
+/// the text means, or it has not stopped and had fewer steps than the image states. On two lists of arguments that are
+/// equal where they are public, as many steps show one and the same list.
 pub fn cut_off_runs_are_right()
     ensures outcome { (optimisation : Optimisation) (profile : Profile) (text bytes : List ℕ) (program : ProgramTree)
         (before : List ProcedureTree) (export : ProcedureTree) (image : Fields) (args : List Arg) (given : ℕ)

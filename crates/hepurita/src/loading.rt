@@ -82,13 +82,13 @@ pub fn load(alloc: Global, image: &Image, args: &Args) -> Result<Running<PagedMe
     requires { AreWithin (params_of image.now) args.now }
     ensures state { IfOk result (λ run.
         state_of run.hart (paged_bytes run.memory) ≡ loaded_at code_base frame_base image.now args.now) }
-    ensures steps { IfOk result (λ run. run.turns_left ≡ image.now.max_steps) }
+    ensures steps { IfOk result (λ run. run.steps_left ≡ image.now.max_steps) }
 {
     let mut memory = frame(alloc, image)?;
     put_arguments(&mut memory, FRAME_BASE, image.slots(), args.as_slice());
     Ok(Running {
         hart: Hart::new(CODE_BASE, FRAME_BASE),
         memory,
-        turns_left: image.max_steps(),
+        steps_left: image.max_steps(),
     })
 }

@@ -45,7 +45,7 @@ fn finished(alloc: Global, straight: &StraightCode<'_>) -> Result<Option<Code>, 
     generate_optimised(alloc, shared)
 }
 
-/// The optimised code of a program in which loops become their turns, where it is within the limit on words. Only
+/// The optimised code of a program in which loops become their iterations, where it is within the limit on words. Only
 /// memory refuses it.
 pub fn unrolled(alloc: Global, straight: &StraightCode<'_>) -> Result<Option<Code>, Refusal>
     ensures generated { IfOk result (λ made. IfSome made (IsCodeFor straight.now)) }
@@ -58,8 +58,8 @@ pub fn unrolled(alloc: Global, straight: &StraightCode<'_>) -> Result<Option<Cod
     finished(alloc, made_or_given(&without_loops, straight))
 }
 
-/// The optimised code of a program in which all loops that make turns stay, where it is within the limit on words. Only
-/// memory refuses it.
+/// The optimised code of a program in which all loops that make iterations stay, where it is within the limit on words.
+/// Only memory refuses it.
 pub fn rolled(alloc: Global, straight: &StraightCode<'_>) -> Result<Option<Code>, Refusal>
     ensures generated { IfOk result (λ made. IfSome made (IsCodeFor straight.now)) }
     ensures exact { IfOk result (λ made. made ≡ optimised_fields_of (finished_of (after simplified_of straight.now))) }

@@ -34,13 +34,13 @@ pub fn source_statistics(alloc: Global, source: &str, profile: Profile) -> Resul
 /// The lines of a body with what was counted for it, and of the program whose export it is. Only memory refuses them.
 fn costs(alloc: Global, ranged: &Ranged<'_>, program: &Program) -> Result<String, Refusal>
     requires { IfSome (exported [] (program_tree program.now).procedures)
-        (λ export. cost_by ranged.now.turns ranged.now.flat ≡ work_cost export.0 export.1) }
+        (λ export. cost_by ranged.now.iterations ranged.now.flat ≡ work_cost export.0 export.1) }
     ensures said { IfOk result (λ text. string_bytes text ≡ costs_text ranged.now (fields_of (straight_of ranged.now))
         ++ export_lines (exported [] (program_tree program.now).procedures)) }
     ensures memory { IfErr result (λ refusal. IsWantOfMemory refusal.rule refusal.place) }
 {
     let mut text = body_costs(alloc, ranged)?;
-    let work = program_cost(ranged.turns(), ranged.flat());
+    let work = program_cost(ranged.iterations(), ranged.flat());
     push_sizes(alloc, &mut text, work, program)?;
     Ok(text)
 }

@@ -1,7 +1,7 @@
--- What one block after another does, and one turn of a loop after another.
+-- What one block after another does, and one iteration of a loop after another.
 use Rattle.std.proofs.Common.{◌≡◌, ℕ, zero, suc, ◌+◌, ◌-◌, ◌<◌, refl, arith}
 use Rattle.inline.specs.Flat.{FlatBlock, nothing, first, chain}
-use Rattle.inline.specs.FlatMeaning.{Values, after, after_all, path_at, path_along, turns}
+use Rattle.inline.specs.FlatMeaning.{Values, after, after_all, path_at, path_along, iterations}
 use Rattle.inline.specs.Path.{either, first_fault}
 use Rattle.inline.proofs.Comes.{across, either-assoc}
 
@@ -20,10 +20,10 @@ fault_chain (first s a) b m = rw (
   either-assoc,
 ) refl
 
--- what each turn keeps, all turns keep
-pub turns_keep : {S : Type 0} (P : S → Type 0) (turn : ℕ → S → S) (high : ℕ)
-    → ((i : ℕ) (s : S) → i < high → P s → P (turn i s)) → (k i : ℕ) (s : S) → high - i ≡ k → P s
-    → P (turns k i turn s)
-turns_keep P turn high keep zero i s count kept = kept
-turns_keep P turn high keep (suc k) i s count kept =
-    turns_keep P turn high keep k (i + 1) (turn i s) (omega arith) (keep i s (omega arith) kept)
+-- what each iteration keeps, all iterations keep
+pub iterations_keep : {S : Type 0} (P : S → Type 0) (iteration : ℕ → S → S) (high : ℕ)
+    → ((i : ℕ) (s : S) → i < high → P s → P (iteration i s)) → (k i : ℕ) (s : S) → high - i ≡ k → P s
+    → P (iterations k i iteration s)
+iterations_keep P iteration high keep zero i s count kept = kept
+iterations_keep P iteration high keep (suc k) i s count kept =
+    iterations_keep P iteration high keep k (i + 1) (iteration i s) (omega arith) (keep i s (omega arith) kept)

@@ -3,7 +3,7 @@ pub use Rattle.inline.proofs.Begun.{Enters, distinct_none, enters}
 pub use Rattle.inline.proofs.CallEnds.{call_means}
 pub use Rattle.inline.proofs.CallSizes.{GoTogether, same_all, same_nodes, same_result, some_nodes, value_there}
 pub use Rattle.inline.proofs.Called.{Behaves, IsKept, Ready, ready_after, ready_declared, ready_later}
-pub use Rattle.inline.proofs.Chains.{turns_keep}
+pub use Rattle.inline.proofs.Chains.{iterations_keep}
 pub use Rattle.inline.proofs.Comes.{Comes, fails, well}
 pub use Rattle.inline.proofs.Fitting.{
   bit_fits,

@@ -15,7 +15,7 @@ use Rattle.inline.specs.Flat.{nothing, first, FlatProgram, word_as, array_as, de
 use Rattle.inline.specs.FlatMeaning.{Values, with_value, value_in, elements, after, after_all, given, end_of}
 use Rattle.inline.specs.FlatTyping.{Types, with_type, AllSuit, HasCount, IsTyped, AreTyped, IsTypedProgram}
 use Rattle.inline.specs.FlatTyping.{counter_type, types_after, types_after_all, parameter_types, end_types}
-use Rattle.inline.proofs.Chains.{turns_keep}
+use Rattle.inline.proofs.Chains.{iterations_keep}
 use Rattle.inline.proofs.Fitting.{value_fits, suited_fits, some_bit}
 use Rattle.inline.proofs.Parameters.{argument_count}
 use Rattle.inline.proofs.Linked.{with_type-other}
@@ -104,8 +104,8 @@ module _ (all : List FlatVariable) where
         let a = value_in m low in
         let b = value_in m high in
         let most : b < 2 ^ 32 = value_fits types m fits typed.1 in
-        let turn = λ (i : ℕ) (t : Values). after_all (with_value t y (i ∷ [])) body in
-        turns_keep (Fits types) turn b
+        let iteration = λ (i : ℕ) (t : Values). after_all (with_value t y (i ∷ [])) body in
+        iterations_keep (Fits types) iteration b
         (λ i t less held x d is.
         fits_after_all body inside control typed.3 (with_value t y (i ∷ []))
         (fits_declared types t y (i ∷ []) own (one_held counter_type false i (omega (arith, less, most))) held) x d

@@ -4,17 +4,18 @@ use Rattle.std.proofs.Common.{map, Option, Some, None, slice_index, slice_set, r
 use Rattle.std.proofs.Common.{inr}
 use Rattle.std.proofs.lemmas.Bool.{cases_Bool}
 use Rattle.std.proofs.lemmas.List.{length-set, length-replicate, length-map}
-use Rattle.inline.specs.Below.{a_turn, accepts, AreAllSmall, ArePlain, Array, ArrayType, assignment_faults, BlockTree}
-use Rattle.inline.specs.Below.{bounds_fault, call_faults, condition_faults, counting, declaration_faults, declines}
-use Rattle.inline.specs.Below.{ends, EvaluatesAll, expr_faults, ExprTree, first_value_faults, goes_on, IsPlain}
-use Rattle.inline.specs.Below.{IsVariable, Kind, Label, labelled, later_faults, loops, made_array, no_turn, none_left}
-use Rattle.inline.specs.Below.{of_expr, operand_faults, Place, ProcedureTree, right_faults, Runs, RunsAll, Scope}
-use Rattle.inline.specs.Below.{single, State, StatementTree, stops, target_faults, this_faults, turn_faults, Turns}
-use Rattle.inline.specs.Below.{Uint32, with_element, with_some, with_value, word_given, WordType, written}
+use Rattle.inline.specs.Below.{an_iteration, accepts, AreAllSmall, ArePlain, Array, ArrayType, assignment_faults}
+use Rattle.inline.specs.Below.{BlockTree, bounds_fault, call_faults, condition_faults, counting, declaration_faults}
+use Rattle.inline.specs.Below.{declines, ends, EvaluatesAll, expr_faults, ExprTree, first_value_faults, goes_on}
+use Rattle.inline.specs.Below.{IsPlain, IsVariable, Kind, Label, labelled, later_faults, loops, made_array}
+use Rattle.inline.specs.Below.{no_iteration, none_left, of_expr, operand_faults, Place, ProcedureTree, right_faults}
+use Rattle.inline.specs.Below.{Runs, RunsAll, Scope, single, State, StatementTree, stops, target_faults, this_faults}
+use Rattle.inline.specs.Below.{iteration_faults, Iterations, Uint32, with_element, with_some, with_value, word_given}
+use Rattle.inline.specs.Below.{WordType, written}
 use Rattle.inline.specs.Flat as flat_tree
 use Rattle.inline.specs.Flat.{word_as, array_as, TermTree}
 use Rattle.inline.specs.FlatMeaning.{Values, value_in, path_in, path_in_all, elements, after_all, path_at, path_along}
-use Rattle.inline.specs.FlatMeaning.{path_of_turns, path_of_result}
+use Rattle.inline.specs.FlatMeaning.{path_of_iterations, path_of_result}
 use Rattle.inline.specs.FlatMeaning as flat
 use Rattle.inline.specs.FlatTyping.{Types, counter_type}
 use Rattle.inline.specs.Numbering as numbering
@@ -67,22 +68,23 @@ filled_count m names {size = size} (rules.all_given {values = e ∷ es} is) =
 
 -- Loops.
 
--- so many turns, where each comes to the same
-module _ (ps : List ProcedureTree) (text : List ℕ) (body : BlockTree) (names : Numbers) (turn : ℕ → Values → Values)
+-- so many iterations, where each comes to the same
+module _ (ps : List ProcedureTree) (text : List ℕ) (body : BlockTree) (names : Numbers)
+    (iteration : ℕ → Values → Values)
     (path : ℕ → Values → Path)
     (step : (i : ℕ) (s : State) (m : Values) → Shows names s m
-    → Comes (RunsAll ps (counting s text i) body) (λ t. Shows names t (turn i m)) (first_fault (path i m))) where
-  same_turns : (k i n : ℕ) (s : State) (m : Values) → n - i ≡ k → Shows names s m
-      → Comes (Turns ps s text body i n) (λ t. Shows names t (flat.turns k i turn m))
-      (first_fault (path_of_turns k i turn path m))
-  same_turns zero i n s m count shows = well s (no_turn (omega arith)) shows
-  same_turns (suc k) i n s m count shows =
+    → Comes (RunsAll ps (counting s text i) body) (λ t. Shows names t (iteration i m)) (first_fault (path i m))) where
+  same_iterations : (k i n : ℕ) (s : State) (m : Values) → n - i ≡ k → Shows names s m
+      → Comes (Iterations ps s text body i n) (λ t. Shows names t (flat.iterations k i iteration m))
+      (first_fault (path_of_iterations k i iteration path m))
+  same_iterations zero i n s m count shows = well s (no_iteration (omega arith)) shows
+  same_iterations (suc k) i n s m count shows =
       let more : i < n = omega arith in
-      rw (across (path i m) (path_of_turns k (i + 1) turn path (turn i m)))
+      rw (across (path i m) (path_of_iterations k (i + 1) iteration path (iteration i m)))
       (then_comes (step i s m shows)
-      (λ t is good. also (same_turns k (i + 1) n t (turn i m) (omega arith) good)
-      (λ u are shows. (u, a_turn more is are, shows)) (λ at are. a_turn more is are))
-      (λ at is. turn_faults more is))
+      (λ t is good. also (same_iterations k (i + 1) n t (iteration i m) (omega arith) good)
+      (λ u are shows. (u, an_iteration more is are, shows)) (λ at are. an_iteration more is are))
+      (λ at is. iteration_faults more is))
 
 -- a mark that is met twice
 met_twice : (a k c q : Option Place) → either (either a (either k None)) (either c (either k q))
@@ -291,7 +293,7 @@ module _ {ps : List ProcedureTree} where
         let own = word_as counter_type false in
         let inside = naming names text n own in
         let flat_body = block (callables ps) inside (n + 1) body in
-        let turn = λ (i : ℕ) (t : Values). after_all (flat.with_value t n (i ∷ [])) flat_body in
+        let iteration = λ (i : ℕ) (t : Values). after_all (flat.with_value t n (i ∷ [])) flat_body in
         let path = λ (i : ℕ) (t : Values). path_along (flat.with_value t n (i ∷ [])) flat_body in
         let step = λ (i : ℕ) (s : State) (m : Values) (shows : Shows names s m).
         also (same_ends inner (ready_declared ready counter text own new) plain.2 (counting s text i)
@@ -300,7 +302,7 @@ module _ {ps : List ProcedureTree} where
         (λ t is good. (
           t,
           is,
-          (λ other x is. shows_before (callables ps) body inside (n + 1) t (turn i m) good other x
+          (λ other x is. shows_before (callables ps) body inside (n + 1) t (iteration i m) good other x
               (found-kept names text (entry n own) other x is)),
         )) (λ at is. is) in
         rw (across, either-none, across, across, either-assoc)
@@ -309,7 +311,7 @@ module _ {ps : List ProcedureTree} where
         then_comes ((means ready.linked other plain.1).value s m shows)
         (λ v second alike.
         let are = one_more (rw same at first) (one_more (rw alike at second) none_left) in
-        also (same_turns ps text body names turn path step (b - a) a b s m refl shows)
+        also (same_iterations ps text body names iteration path step (b - a) a b s m refl shows)
         (λ t all good. (t, loops are all, good)) (λ at all. loops are all))
         (λ at is. bounds_fault (later_faults first (this_faults is))))
         (λ at is. bounds_fault (this_faults is)))

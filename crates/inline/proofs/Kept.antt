@@ -17,7 +17,7 @@ use Rattle.inline.specs.Below.{one_more, ProcedureTree, repeats, Scope, Statemen
 use Rattle.inline.specs.Flat.{TermTree}
 use Rattle.inline.proofs.Called.{Spares, Ready, ready_later, ready_declared, ready_after}
 use Rattle.inline.proofs.CallEnds.{call_means}
-use Rattle.inline.proofs.Chains.{after_chain, turns_keep}
+use Rattle.inline.proofs.Chains.{after_chain, iterations_keep}
 use Rattle.inline.proofs.Linked.{entry, variable_as}
 use Rattle.inline.proofs.Below.{found-split}
 use Rattle.inline.proofs.Rights.{right_means}
@@ -105,7 +105,7 @@ module _ {earlier : List ProcedureTree} where
         inner)
         {names = names} {n = n} ready {x = x} spares m =
         let own = word_as counter_type false in
-        turns_keep (λ (t : Values). t x ≡ m x)
+        iterations_keep (λ (t : Values). t x ≡ m x)
         (λ i t. after_all (flat_meaning.with_value t n (i ∷ []))
         (block (callables earlier) (naming names text n own) (n + 1) body)) (value_in m (term names high))
         (λ i t below same.

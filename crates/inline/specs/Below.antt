@@ -9,17 +9,17 @@ pub use Rattle.language.specs.Grammatical.{AreAllSmall, ArePlain, AreSmall, AreS
 pub use Rattle.language.specs.Grammatical.{IsGrammatical, IsNumberKind, IsPlain, IsSmallReturn, IsSmallRight}
 pub use Rattle.language.specs.Known.{first_known, Known, known_from, known_of, nothing_known, with_known}
 pub use Rattle.language.specs.Limits.{most_bodies, most_declared_bytes, most_elements, most_nodes}
-pub use Rattle.language.specs.Meaning.{a_turn, accepts, applied, argument_faults, argument_held, argument_value}
+pub use Rattle.language.specs.Meaning.{an_iteration, accepts, applied, argument_faults, argument_held, argument_value}
 pub use Rattle.language.specs.Meaning.{array_named, assignment_faults, Bodies, body_ends, body_faults, bounds_fault}
 pub use Rattle.language.specs.Meaning.{by_operands, call_faults, Calls, condition_faults, copied_out, counting}
 pub use Rattle.language.specs.Meaning.{declaration_faults, declines, element_held, Ending, ends, ends_well, Evaluates}
 pub use Rattle.language.specs.Meaning.{EvaluatesAll, exported, expr_faults, faults, final_array, final_arrays}
 pub use Rattle.language.specs.Meaning.{first_value_faults, Gives, gives, goes_on, gone_back, holding, is_word}
-pub use Rattle.language.specs.Meaning.{later_faults, loops, made_array, meets_fault, named, no_turn, none_left, of_expr}
-pub use Rattle.language.specs.Meaning.{operand_faults, return_faults, Returned, returns, returns_nothing, right_faults}
-pub use Rattle.language.specs.Meaning.{Rights, Runs, RunsAll, statements_fault, stops, target_faults, this_faults}
-pub use Rattle.language.specs.Meaning.{turn_faults, Turns, with_element, with_some, word_arguments, word_given}
-pub use Rattle.language.specs.Meaning.{word_held, words_left}
+pub use Rattle.language.specs.Meaning.{later_faults, loops, made_array, meets_fault, named, no_iteration, none_left}
+pub use Rattle.language.specs.Meaning.{of_expr, operand_faults, return_faults, Returned, returns, returns_nothing}
+pub use Rattle.language.specs.Meaning.{right_faults, Rights, Runs, RunsAll, statements_fault, stops, target_faults}
+pub use Rattle.language.specs.Meaning.{this_faults, iteration_faults, Iterations, with_element, with_some}
+pub use Rattle.language.specs.Meaning.{word_arguments, word_given, word_held, words_left}
 pub use Rattle.language.specs.Operators.{divides, multiplies, operated, operation_of, prefix_value, truth_of, width_of}
 pub use Rattle.language.specs.Results.{Results}
 pub use Rattle.language.specs.Shares.{counted, counted_share, excess, larger, largest, most_counted, statement_shares}

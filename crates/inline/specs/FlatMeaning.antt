@@ -64,14 +64,14 @@ abbrev pub elements : Values → ℕ → List TermTree → List ℕ
 elements m size [] = replicate size 0
 elements m size (e ∷ es) = map (value_in m) (e ∷ es)
 
--- so many turns, the first at this number: what each makes of a state, and the path of each
-abbrev pub turns : {S : Type 0} → ℕ → ℕ → (ℕ → S → S) → S → S
-turns zero i turn s = s
-turns (suc n) i turn s = turns n (i + 1) turn (turn i s)
+-- so many iterations, the first at this number: what each makes of a state, and the path of each
+abbrev pub iterations : {S : Type 0} → ℕ → ℕ → (ℕ → S → S) → S → S
+iterations zero i iteration s = s
+iterations (suc n) i iteration s = iterations n (i + 1) iteration (iteration i s)
 
-abbrev pub path_of_turns : {S : Type 0} → ℕ → ℕ → (ℕ → S → S) → (ℕ → S → Path) → S → Path
-path_of_turns zero i turn path s = []
-path_of_turns (suc n) i turn path s = path i s ++ path_of_turns n (i + 1) turn path (turn i s)
+abbrev pub path_of_iterations : {S : Type 0} → ℕ → ℕ → (ℕ → S → S) → (ℕ → S → Path) → S → Path
+path_of_iterations zero i iteration path s = []
+path_of_iterations (suc n) i iteration path s = path i s ++ path_of_iterations n (i + 1) iteration path (iteration i s)
 
 abbrev mutual
   -- after a statement; of a branch one arm runs
@@ -85,7 +85,7 @@ abbrev mutual
   after m (branch label condition accepted otherwise) = if value_in m condition == 0 then after_all m otherwise
       else after_all m accepted
   after m (loop x low high body) =
-      turns (value_in m high - value_in m low) (value_in m low) (λ i t. after_all (with_value t x (i ∷ [])) body) m
+      iterations (value_in m high - value_in m low) (value_in m low) (λ i t. after_all (with_value t x (i ∷ [])) body) m
 
   pub after_all : Values → FlatBlock → Values
   after_all m nothing = m
@@ -105,7 +105,7 @@ abbrev mutual
       path_in m condition ++ (if value_in m condition == 0 then path_along m otherwise else path_along m accepted)
   path_at m (loop x low high body) =
       path_in m low ++ path_in m high ++ bounded x (value_in m low) (value_in m high)
-      ∷ path_of_turns (value_in m high - value_in m low) (value_in m low)
+      ∷ path_of_iterations (value_in m high - value_in m low) (value_in m low)
       (λ i t. after_all (with_value t x (i ∷ [])) body) (λ i t. path_along (with_value t x (i ∷ [])) body) m
 
   pub path_along : Values → FlatBlock → Path

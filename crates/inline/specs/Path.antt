@@ -38,18 +38,18 @@ abbrev pub first_fault : Path → Option Place
 first_fault [] = None
 first_fault (mark ∷ rest) = either (fault_at mark) (first_fault rest)
 
--- A mark is fine: it is no fault, and a loop makes no more turns than are counted for its counter.
+-- A mark is fine: it is no fault, and a loop makes no more iterations than are counted for its counter.
 abbrev pub IsFine : List ℕ → Mark → Type 0
-IsFine turns (decided value) = Unit {0}
-IsFine turns (bounded x low high) = high - low ≤ slice_index turns x
-IsFine turns (indexed place size index) = index < size
-IsFine turns (divided place left right) = 0 < right
-IsFine turns (multiplied left right) = Unit {0}
+IsFine iterations (decided value) = Unit {0}
+IsFine iterations (bounded x low high) = high - low ≤ slice_index iterations x
+IsFine iterations (indexed place size index) = index < size
+IsFine iterations (divided place left right) = 0 < right
+IsFine iterations (multiplied left right) = Unit {0}
 
 -- all marks on a path are
 abbrev pub AreFine : List ℕ → Path → Type 0
-AreFine turns [] = Unit {0}
-AreFine turns (mark ∷ rest) = IsFine turns mark × AreFine turns rest
+AreFine iterations [] = Unit {0}
+AreFine iterations (mark ∷ rest) = IsFine iterations mark × AreFine iterations rest
 
 -- what a run shows of a mark: the operands of a multiplication in profile 2 alone
 abbrev pub shown_of : Profile → Mark → Path

@@ -325,7 +325,7 @@ impl<'a> Numbering<'a> {
 
     /// A loop, the names of its counter and its body are gone where it ends.
     #[cycle(numbering)]
-    fn turns(
+    fn iterations(
         &mut self,
         earlier: &[Procedure],
         counted: &'a Counter,
@@ -350,9 +350,9 @@ impl<'a> Numbering<'a> {
         let high = self.term(high)?;
         let names = self.names.len();
         let number = self.declare(&counted.name, counter(), declared)?;
-        let turn = self.arm(earlier, body, declared)?;
+        let iteration = self.arm(earlier, body, declared)?;
         self.names.truncate(names);
-        push(flat, FlatStatement::Loop(number, low, high, turn))
+        push(flat, FlatStatement::Loop(number, low, high, iteration))
     }
 
     /// A statement with numbers in place of names.
@@ -384,7 +384,7 @@ impl<'a> Numbering<'a> {
                 self.branch(earlier, condition, accepted, otherwise, declared, flat)
             }
             Statement::For(_, counted, low, high, body) => {
-                self.turns(earlier, counted, low, high, body, declared, flat)
+                self.iterations(earlier, counted, low, high, body, declared, flat)
             }
         }
     }

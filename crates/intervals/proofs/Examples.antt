@@ -1,4 +1,4 @@
--- Intervals, narrowing, turns and work by small examples: each is computed.
+-- Intervals, narrowing, iterations and work by small examples: each is computed.
 use Rattle.std.proofs.Common.{◌≡◌, ℕ, List, [], ◌∷◌, length, false, true, None, Some, refl}
 use Rattle.intervals.specs.Below.{Add, array_as, binary, BinaryOperator, BitAnd, BitOr, BitXor, Both, Complement}
 use Rattle.intervals.specs.Below.{convert, declare, Divide, element, Equal, first, FlatBlock, FlatProgram, FlatVariable}
@@ -8,7 +8,7 @@ use Rattle.intervals.specs.Below.{ShiftRight, skip, Subtract, TermTree, truth, U
 use Rattle.intervals.specs.Below.{Width, word_as}
 use Rattle.intervals.specs.Intervals.{Bounds, between, interval, operated_interval, prefix_interval, converted_interval}
 use Rattle.intervals.specs.Narrowing.{where_false, where_true}
-use Rattle.intervals.specs.Ranges.{counter_interval, most_turns, range_violations, turns_of}
+use Rattle.intervals.specs.Ranges.{counter_interval, most_iterations, range_violations, iterations_of}
 use Rattle.intervals.specs.Work.{work_of, work_violations}
 use Rattle.word.specs.Places.{origin}
 use Rattle.word.specs.declared.profile.Profile.TheVariants.{P1}
@@ -131,14 +131,14 @@ narrowed =
 counter : counter_interval (between 1 3) (between 4 8) ≡ between 1 7
 counter = refl
 
-counter_without_turn : counter_interval (between 5 9) (between 3 5) ≡ between 5 5
-counter_without_turn = refl
+counter_without_iteration : counter_interval (between 5 9) (between 3 5) ≡ between 5 5
+counter_without_iteration = refl
 
-turns : most_turns (between 1 3) (between 4 8) ≡ 7
-turns = refl
+iterations : most_iterations (between 1 3) (between 4 8) ≡ 7
+iterations = refl
 
-no_turns : most_turns (between 5 9) (between 3 5) ≡ 0
-no_turns = refl
+no_iterations : most_iterations (between 5 9) (between 3 5) ≡ 0
+no_iterations = refl
 
 -- an empty loop from 0 up to a number
 abbrev long : ℕ → FlatProgram
@@ -155,7 +155,7 @@ long n = record {
   return_place = None;
 }
 
-counted : turns_of (long 4294967293) ≡ 4294967293 ∷ []
+counted : iterations_of (long 4294967293) ≡ 4294967293 ∷ []
 counted = refl
 
 work_at_the_limit : work_of (long 4294967293) ≡ 4294967296
@@ -191,12 +191,12 @@ inside = refl
 outside : length (range_violations (reads 0 5)) ≡ 1
 outside = refl
 
--- a loop that makes no turn is checked with its first number
-no_turn_inside : length (range_violations (reads 3 0)) ≡ 0
-no_turn_inside = refl
+-- a loop that makes no iteration is checked with its first number
+no_iteration_inside : length (range_violations (reads 3 0)) ≡ 0
+no_iteration_inside = refl
 
-no_turn_outside : length (range_violations (reads 4 0)) ≡ 1
-no_turn_outside = refl
+no_iteration_outside : length (range_violations (reads 4 0)) ≡ 1
+no_iteration_outside = refl
 
 -- Calls, as they stand in a body.
 

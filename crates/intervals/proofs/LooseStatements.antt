@@ -18,11 +18,12 @@ use Rattle.intervals.proofs.Below.{with_type-other, with_value-same, with_value-
 use Rattle.intervals.proofs.Below.{new_number, type_kept, types_kept}
 use Rattle.intervals.specs.Intervals.{Bounds, known, with_bound, between, interval}
 use Rattle.intervals.specs.Loose.{Comes, ComeAll, none_left, one_more, made, Leads, declares, declares_array, assigns}
-use Rattle.intervals.specs.Loose.{puts, holds as holding, skips, chooses, repeats, Turns, no_turn, a_turn, LeadAll}
-use Rattle.intervals.specs.Loose.{ends, goes_on}
+use Rattle.intervals.specs.Loose.{puts, holds as holding, skips, chooses, repeats, Iterations, no_iteration}
+use Rattle.intervals.specs.Loose.{an_iteration, LeadAll, ends, goes_on}
 use Rattle.intervals.specs.Narrowing.{where_true, where_false}
 use Rattle.intervals.specs.Ranges.{bounds_after, bounds_after_all, counter_interval, in_loop, index_violations}
-use Rattle.intervals.specs.Ranges.{is_steady, most_turns, term_violations, terms_violations, violations, violations_all}
+use Rattle.intervals.specs.Ranges.{is_steady, most_iterations, term_violations, terms_violations, violations}
+use Rattle.intervals.specs.Ranges.{violations_all}
 use Rattle.intervals.proofs.LooseIntervals.{IsIn}
 use Rattle.intervals.proofs.LooseNarrowing.{at_number, holds_where_false, holds_where_true}
 use Rattle.intervals.proofs.LooseTerms.{Holds, IsKept, loose_below, loose_fine, loose_fits, loose_in, none_in}
@@ -57,15 +58,15 @@ counter_in low high i least most = by (nat_lt low.low high.high) refl
     by true e = (least, omega (arith, most))
     by false e = (least, grind (arith, nat_tests, e, least, most))
 
--- the turns of a statement's loops are those that are counted
-module _ (declared : List FlatVariable) (turns : List ℕ) where
+-- the iterations of a statement's loops are those that are counted
+module _ (declared : List FlatVariable) (iterations : List ℕ) where
   abbrev mutual
     pub AreCounted : Bounds → FlatTree → Type 0
     AreCounted bounds (branch label condition accepted otherwise) =
         AllCounted (where_true declared bounds label condition) accepted
         × AllCounted (where_false declared bounds label condition) otherwise
     AreCounted bounds (loop x low high body) =
-        (most_turns (interval declared bounds low) (interval declared bounds high) ≡ slice_index turns x)
+        (most_iterations (interval declared bounds low) (interval declared bounds high) ≡ slice_index iterations x)
         × AllCounted (in_loop declared bounds x low high) body
     AreCounted bounds other = Unit {0}
 
@@ -77,9 +78,9 @@ module _ (declared : List FlatVariable) (turns : List ℕ) where
   pub record Done (types after : Types) (bounds : Bounds) (m t : Values) (path : Path) : Type 0 where
     pub holds : Holds declared after bounds t
     pub same : (x : ℕ) (word : WordType) → types.at x ≡ Some (word_as word false) → t x ≡ m x
-    pub fine : AreFine turns path
+    pub fine : AreFine iterations path
 
-  -- at the end of an arm or a turn all is known that was known before
+  -- at the end of an arm or an iteration all is known that was known before
   back : (types after : Types) {before inside : Bounds} {m t : Values} {path : Path} → Holds declared types before m
       → Done types after inside m t path
       → ((x : ℕ) (d : FlatVariable) → types.at x ≡ Some d → after.at x ≡ Some d) → Done types types before m t path
@@ -101,9 +102,14 @@ module _ (declared : List FlatVariable) (turns : List ℕ) where
   }
 
   -- also behind a condition
-  after_both : {types after : Types} {bounds : Bounds} {m t : Values} (p q : Path) → AreFine turns p
+  after_both : {types after : Types} {bounds : Bounds} {m t : Values} (p q : Path) → AreFine iterations p
       → Done types after bounds m t q → Done types after bounds m t (p ++ q)
-  after_both p q fine done = record { holds = done.holds; same = done.same; fine = fine_both turns p q fine done.fine }
+  after_both p q fine done = record {
+    holds = done.holds;
+    same = done.same;
+    fine = fine_both iterations p q fine
+        done.fine;
+  }
 
   module _ (types : Types) (bounds : Bounds) (m : Values) (holds : Holds declared types bounds m) where
     -- what suits is within the kind that is wanted
@@ -211,11 +217,11 @@ module _ (declared : List FlatVariable) (turns : List ℕ) where
 
     all_fine : (word : WordType) {profile : Profile} {es : List TermTree} {vs : List ℕ} {p : Path}
         → ComeAll (types_of profile declared) m es vs p → AllSuit types word es
-        → terms_violations declared bounds es ≡ [] → AreFine turns p
+        → terms_violations declared bounds es ≡ [] → AreFine iterations p
     all_fine word none_left suit none = tt
     all_fine word (one_more {e = e} {es = es} {p = p} {q = q} c cs) suit none =
         let parts = none_in (term_violations declared bounds e) (terms_violations declared bounds es) none in
-        fine_both turns p q (loose_fine declared types bounds m holds turns c suit.0.has_type parts.0)
+        fine_both iterations p q (loose_fine declared types bounds m holds iterations c suit.0.has_type parts.0)
         (all_fine word cs suit.1 parts.1)
 
     -- a declared word
@@ -246,7 +252,7 @@ module _ (declared : List FlatVariable) (turns : List ℕ) where
             holds = declared_done types bounds m holds x word mutable typed.0 typed.1 c (is_steady word mutable) refl;
             same = new_same types bounds m holds x (word_as word mutable) (v ∷ []) typed.0
                 (one_held word mutable v (suited types bounds m holds word typed.1 c));
-            fine = loose_fine declared types bounds m holds turns c typed.1.has_type none;
+            fine = loose_fine declared types bounds m holds iterations c typed.1.has_type none;
           }
       loose_done {types = types} {bounds = bounds} control {m =
           m} (declares_array {x = x} {size = size} {word = word} {mutable = mutable} {vs = vs} cs) typed holds
@@ -263,7 +269,7 @@ module _ (declared : List FlatVariable) (turns : List ℕ) where
           record {
             holds = assigned_holds types bounds m holds x (word_as typed.word true) (v ∷ []) typed.known refl held;
             same = assigned_same types bounds m holds x (word_as typed.word true) (v ∷ []) typed.known refl held;
-            fine = loose_fine declared types bounds m holds turns c typed.suits.has_type none;
+            fine = loose_fine declared types bounds m holds iterations c typed.suits.has_type none;
           }
       loose_done {types = types} {bounds = bounds} control {m =
           m} (puts {place = place} {x = x} {size = size} {index = index} {value = value} {i = i} {v = v} {p =
@@ -284,10 +290,10 @@ module _ (declared : List FlatVariable) (turns : List ℕ) where
                 typed.known refl held;
             same = assigned_same types bounds m holds x (array_as typed.word true size) (slice_set (m x) i v)
                 typed.known refl held;
-            fine = fine_both turns p (indexed place size i ∷ q)
-                (loose_fine declared types bounds m holds turns c typed.index_type at.0) (
-                  loose_below declared types bounds m holds turns place size c typed.index_type at.1,
-                  loose_fine declared types bounds m holds turns d typed.suits.has_type parts.1,
+            fine = fine_both iterations p (indexed place size i ∷ q)
+                (loose_fine declared types bounds m holds iterations c typed.index_type at.0) (
+                  loose_below declared types bounds m holds iterations place size c typed.index_type at.1,
+                  loose_fine declared types bounds m holds iterations d typed.suits.has_type parts.1,
                 );
           }
       loose_done {types = types} {bounds = bounds} control {m =
@@ -300,9 +306,9 @@ module _ (declared : List FlatVariable) (turns : List ℕ) where
             holds = known_holds types bounds m known x (word_as counter_type false) (i ∷ []) typed.0 held counter_type
                 (interval declared bounds index) refl refl (loose_in declared types bounds m known c typed.1 refl);
             same = new_same types bounds m known x (word_as counter_type false) (i ∷ []) typed.0 held;
-            fine = fine_both turns p (indexed place size i ∷ [])
-                (loose_fine declared types bounds m known turns c typed.1 parts.0)
-                (loose_below declared types bounds m known turns place size c typed.1 parts.1, tt);
+            fine = fine_both iterations p (indexed place size i ∷ [])
+                (loose_fine declared types bounds m known iterations c typed.1 parts.0)
+                (loose_below declared types bounds m known iterations place size c typed.1 parts.1, tt);
           }
       loose_done control skips typed known none counted =
           record { holds = known; same = λ y word is. refl; fine = tt }
@@ -334,7 +340,7 @@ module _ (declared : List FlatVariable) (turns : List ℕ) where
               counted.0,
             )
           ] in
-          after_both p q (loose_fine declared types bounds m holds turns c typed.0 firsts.0)
+          after_both p q (loose_fine declared types bounds m holds iterations c typed.0 firsts.0)
           (back types (types_after_all types block) holds
           (all_done {types = types} {bounds = inside} under arm facts.0 facts.1 facts.2 facts.3)
           (types_kept declared types under block facts.0))
@@ -347,31 +353,32 @@ module _ (declared : List FlatVariable) (turns : List ℕ) where
           let least = loose_in declared types bounds m holds c typed.0 refl in
           let most = loose_in declared types bounds m holds d typed.1 refl in
           let below = loose_fits declared types bounds m holds d typed.1 in
-          let done = turns_done {types = types} {bounds = bounds} control low high b below most.1 run
+          let done = iterations_done {types = types} {bounds = bounds} control low high b below most.1 run
           (λ some. omega (arith, some)) least.0 typed.2 typed.3 holds parts.1 counted.1 in
           record {
             holds = done.holds;
             same = done.same;
-            fine = fine_both turns (p ++ q) (bounded x a b ∷ r)
-                (fine_both turns p q (loose_fine declared types bounds m holds turns c typed.0 firsts.0)
-                (loose_fine declared types bounds m holds turns d typed.1 firsts.1))
+            fine = fine_both iterations (p ++ q) (bounded x a b ∷ r)
+                (fine_both iterations p q (loose_fine declared types bounds m holds iterations c typed.0 firsts.0)
+                (loose_fine declared types bounds m holds iterations d typed.1 firsts.1))
                 (omega (arith, least, most, counted.0), done.fine);
           }
 
-      pub turns_done : {types : Types} {bounds : Bounds} (control : Label) {m t : Values} {x n i : ℕ}
+      pub iterations_done : {types : Types} {bounds : Bounds} (control : Label) {m t : Values} {x n i : ℕ}
           {body : FlatBlock} {path : Path} (low high : TermTree) (b : ℕ) → b < 2 ^ 32
           → b ≤ (interval declared bounds high).high
-          → Turns (types_of profile declared) x body n i m t path → (0 < n → i + n ≤ b)
+          → Iterations (types_of profile declared) x body n i m t path → (0 < n → i + n ≤ b)
           → (interval declared bounds low).low ≤ i
           → IsNew declared types x (word_as counter_type false)
           → AreTyped declared (with_type types x (word_as counter_type false)) control body
           → Holds declared types bounds m → violations_all declared (in_loop declared bounds x low high) body ≡ []
           → AllCounted (in_loop declared bounds x low high) body
           → Done types types bounds m t path
-      turns_done control low high b below most no_turn count least new typed holds none counted =
+      iterations_done control low high b below most no_iteration count least new typed holds none counted =
           record { holds = holds; same = λ y word is. refl; fine = tt }
-      turns_done {types = types} {bounds = bounds} control {m = m} {t = t} {x = x} {body = body} low high b below most
-          (a_turn {n = n} {i = i} {s = s} {p = p} {q = q} run rest) count least new typed holds none counted =
+      iterations_done {types = types} {bounds = bounds} control {m = m} {t = t} {x = x}
+          {body = body} low high b below most
+          (an_iteration {n = n} {i = i} {s = s} {p = p} {q = q} run rest) count least new typed holds none counted =
           let own = word_as counter_type false in
           let inside = in_loop declared bounds x low high in
           let room : i + suc n ≤ b = count (omega arith) in
@@ -385,16 +392,16 @@ module _ (declared : List FlatVariable) (turns : List ℕ) where
           let same = λ (y : ℕ) (word : WordType) (is : types.at y ≡ Some (word_as word false)).
           done.same y word (with_type-other types x y own (new_number types x y (word_as word false) new.new is) ∙ is)
           ∙ new_same types bounds m holds x own (i ∷ []) new held y word is in
-          let turn = back types (types_after_all (with_type types x own) body) holds
+          let iteration = back types (types_after_all (with_type types x own) body) holds
           (record { holds = done.holds; same = same; fine = done.fine })
           (λ y d is. types_kept declared (with_type types x own) control body typed y d
           (with_type-other types x y own (new_number types x y d new.new is) ∙ is)) in
-          let others = turns_done {types = types} {bounds = bounds} control low high b below most rest
-          (λ some. omega (arith, room)) (omega (arith, least)) new typed turn.holds none counted in
+          let others = iterations_done {types = types} {bounds = bounds} control low high b below most rest
+          (λ some. omega (arith, room)) (omega (arith, least)) new typed iteration.holds none counted in
           record {
             holds = others.holds;
             same = λ y word is. others.same y word is ∙ same y word is;
-            fine = fine_both turns p q done.fine others.fine;
+            fine = fine_both iterations p q done.fine others.fine;
           }
 
       pub all_done : {types : Types} {bounds : Bounds} (control : Label) {m t : Values} {b : FlatBlock} {path : Path}
@@ -413,5 +420,5 @@ module _ (declared : List FlatVariable) (turns : List ℕ) where
             holds = others.holds;
             same = λ x word is. others.same x word
                 (type_kept declared types control s typed.0 x (word_as word false) is) ∙ one.same x word is;
-            fine = fine_both turns p q one.fine others.fine;
+            fine = fine_both iterations p q one.fine others.fine;
           }

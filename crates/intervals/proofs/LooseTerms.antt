@@ -140,7 +140,7 @@ module _ (declared : List FlatVariable) (types : Types) (bounds : Bounds) (m : V
   loose_in {w = w} (to_anything {word = word} c t secret within) u public =
       absurd (secret_is_not w word (one_type declared types holds.listed u t) public secret)
 
-  module _ (turns : List ℕ) where
+  module _ (iterations : List ℕ) where
     index_below : (size : ℕ) (index : Interval) (place : Place) → index_violations place size index ≡ []
         → index.high < size
     index_below size index place none = by (nat_le size index.high) refl none
@@ -162,11 +162,11 @@ module _ (declared : List FlatVariable) (types : Types) (bounds : Bounds) (m : V
         by false e n = grind (arith, nat_tests, e)
 
     marks_fine : (place : Place) (operator : BinaryOperator) (a b : ℕ) → (divides operator ≡ true → 0 < b)
-        → AreFine turns (marks_of place operator a b)
+        → AreFine iterations (marks_of place operator a b)
     marks_fine place operator a b some = by (divides operator) refl (multiplies operator)
       where
         by : (d : Bool) → divides operator ≡ d → (m : Bool)
-            → AreFine turns (if d then divided place a b ∷ [] else (if m then multiplied a b ∷ [] else []))
+            → AreFine iterations (if d then divided place a b ∷ [] else (if m then multiplied a b ∷ [] else []))
         by true e m = (some e, tt)
         by false e true = (tt, tt)
         by false e false = tt
@@ -180,15 +180,15 @@ module _ (declared : List FlatVariable) (types : Types) (bounds : Bounds) (m : V
 
     pub loose_fine : {profile : Profile} {e : TermTree} {v : ℕ} {p : Path} {w : WordType}
         → Comes (types_of profile declared) m e v p → HasType types e w → term_violations declared bounds e ≡ []
-        → AreFine turns p
+        → AreFine iterations p
     loose_fine (to_prefix c) (of_prefix t takes width) none = loose_fine c t none
     loose_fine (to_binary {place = place} {operator = operator} {left = left} {right = right} {a = a} {b = b} {p =
         p} {q = q} c d) (of_binary t u makes width) none =
         let parts = none_in (term_violations declared bounds left ++ term_violations declared bounds right) _ none in
         let operands = none_in (term_violations declared bounds left)
         (term_violations declared bounds right) parts.0 in
-        fine_both turns (p ++ q) (marks_of place operator a b)
-        (fine_both turns p q (loose_fine c t operands.0) (loose_fine d u operands.1))
+        fine_both iterations (p ++ q) (marks_of place operator a b)
+        (fine_both iterations p q (loose_fine c t operands.0) (loose_fine d u operands.1))
         (marks_fine place operator a b (λ divide.
         let some = divisor_some operator (interval declared bounds right) place divide parts.1 in
         let inside = loose_in d u (divisor_public operator divide makes) in
@@ -201,13 +201,13 @@ module _ (declared : List FlatVariable) (types : Types) (bounds : Bounds) (m : V
         (term_violations declared bounds otherwise) none in
         let firsts = none_in (term_violations declared bounds condition)
         (term_violations declared bounds accepted) parts.0 in
-        fine_both turns (p ++ q) r (fine_both turns p q (loose_fine c t firsts.0) (loose_fine d u firsts.1))
+        fine_both iterations (p ++ q) r (fine_both iterations p q (loose_fine c t firsts.0) (loose_fine d u firsts.1))
         (loose_fine e v parts.1)
     loose_fine (to_element {place = place} {size = size} {index = index} {i = i} {path = path} c)
         (of_element is t) none =
         let parts = none_in (term_violations declared bounds index)
         (index_violations place size (interval declared bounds index)) none in
-        fine_both turns path (indexed place size i ∷ []) (loose_fine c t parts.0)
+        fine_both iterations path (indexed place size i ∷ []) (loose_fine c t parts.0)
         (loose_below place size c t parts.1, tt)
     loose_fine (to_anything c t secret within) u none = loose_fine c u none
     loose_fine other t none = tt

@@ -15,7 +15,7 @@ use Rattle.intervals.proofs.Below.{element_fits, fine_both, parameters_fit}
 use Rattle.intervals.specs.Intervals.{Bounds, full_of, known}
 use Rattle.intervals.specs.Loose.{IsSafe, Returns, nothing_returned, returned}
 use Rattle.intervals.specs.Ranges.{bound_by, bound_of, bounds_after_all, first_bounds, range_violations}
-use Rattle.intervals.specs.Ranges.{result_violations, turns_of, violations_all}
+use Rattle.intervals.specs.Ranges.{result_violations, iterations_of, violations_all}
 use Rattle.intervals.proofs.Counting.{enough_all}
 use Rattle.intervals.proofs.LooseIntervals.{IsIn, kind_in}
 use Rattle.intervals.proofs.LooseStatements.{all_done}
@@ -29,24 +29,24 @@ below a b h = grind (arith, nat_tests)
 some : (a : ℕ) → 0 < a → (a == 0) ≡ false
 some a h = grind (arith, nat_tests)
 
-no_fault_at : (turns : List ℕ) (mark : Mark) → IsFine turns mark → fault_at mark ≡ None
-no_fault_at turns (decided value) fine = refl
-no_fault_at turns (bounded x low high) fine = refl
-no_fault_at turns (indexed place size index) fine = rw (below index size fine) refl
-no_fault_at turns (divided place left right) fine = rw (some right fine) refl
-no_fault_at turns (multiplied left right) fine = refl
+no_fault_at : (iterations : List ℕ) (mark : Mark) → IsFine iterations mark → fault_at mark ≡ None
+no_fault_at iterations (decided value) fine = refl
+no_fault_at iterations (bounded x low high) fine = refl
+no_fault_at iterations (indexed place size index) fine = rw (below index size fine) refl
+no_fault_at iterations (divided place left right) fine = rw (some right fine) refl
+no_fault_at iterations (multiplied left right) fine = refl
 
-no_fault : (turns : List ℕ) (path : Path) → AreFine turns path → first_fault path ≡ None
-no_fault turns [] fine = refl
-no_fault turns (mark ∷ rest) fine = ap (λ o. either o (first_fault rest)) (no_fault_at turns mark fine.0)
-    ∙ no_fault turns rest fine.1
+no_fault : (iterations : List ℕ) (path : Path) → AreFine iterations path → first_fault path ≡ None
+no_fault iterations [] fine = refl
+no_fault iterations (mark ∷ rest) fine = ap (λ o. either o (first_fault rest)) (no_fault_at iterations mark fine.0)
+    ∙ no_fault iterations rest fine.1
 
 -- a run of a safe program on arguments within its parameter types ends with its outcome
-pub safe_runs_meet_no_fault : (p : FlatProgram) (turns : List ℕ) (args : List Arg) → IsSafe p turns
+pub safe_runs_meet_no_fault : (p : FlatProgram) (iterations : List ℕ) (args : List Arg) → IsSafe p iterations
     → AreWithin p.parameters args → ending_of p args ≡ gives (outcome_of p args)
-safe_runs_meet_no_fault p turns args safe within =
+safe_runs_meet_no_fault p iterations args safe within =
     ap (λ fault. ending_by fault (outcome_of p args))
-    (no_fault turns (path_of p args) (safe args (path_of p args) within (strict_is_loose p args)))
+    (no_fault iterations (path_of p args) (safe args (path_of p args) within (strict_is_loose p args)))
 
 -- Where a body begins.
 
@@ -116,34 +116,35 @@ module _ (p : FlatProgram) (typed : IsTypedProgram p) (args : List Arg) (within 
 
 -- The result.
 
-result_fine : (declared : List FlatVariable) (turns : List ℕ) (types : Types) (bounds : Bounds) (m : Values)
+result_fine : (declared : List FlatVariable) (iterations : List ℕ) (types : Types) (bounds : Bounds) (m : Values)
     → Holds declared types bounds m
     → {profile : Profile} {value : Option TermTree} {path : Path} → Returns (types_of profile declared) m value path
     → (returned : Option WordType) → IsResult types returned value → result_violations declared bounds value ≡ []
-    → AreFine turns path
-result_fine declared turns types bounds m holds nothing_returned word suits none = tt
-result_fine declared turns types bounds m holds (returned c) None suits none = absurd suits
-result_fine declared turns types bounds m holds (returned c) (Some word) suits none =
-    loose_fine declared types bounds m holds turns c suits.has_type none
+    → AreFine iterations path
+result_fine declared iterations types bounds m holds nothing_returned word suits none = tt
+result_fine declared iterations types bounds m holds (returned c) None suits none = absurd suits
+result_fine declared iterations types bounds m holds (returned c) (Some word) suits none =
+    loose_fine declared types bounds m holds iterations c suits.has_type none
 
 empty : {X : Type 0} (xs : List X) → length xs ≡ 0 → xs ≡ []
 empty [] h = refl
 empty (x ∷ xs) h = absurd (omega (arith, h))
 
--- a well-typed program without violations is safe, with the turns that are counted for it
-pub accepted_is_safe : (p : FlatProgram) → IsTypedProgram p → length (range_violations p) ≡ 0 → IsSafe p (turns_of p)
+-- a well-typed program without violations is safe, with the iterations that are counted for it
+pub accepted_is_safe : (p : FlatProgram) → IsTypedProgram p → length (range_violations p) ≡ 0 → IsSafe p
+    (iterations_of p)
 accepted_is_safe p typed in_range args path within run =
     let types = parameter_types p.profile p.parameters in
-    let turns = turns_of p in
+    let iterations = iterations_of p in
     let start = begins p typed args within in
     let last = bounds_after_all p.declared (first_bounds p) p.body in
     let parts = none_in (violations_all p.declared (first_bounds p) p.body)
     (result_violations p.declared last p.value) (empty (range_violations p) in_range) in
-    let counted = enough_all p.declared turns p.body types Public (length p.parameters) (first_bounds p)
+    let counted = enough_all p.declared iterations p.body types Public (length p.parameters) (first_bounds p)
     (replicate (length p.declared) 0) typed.body typed.numbered (length-replicate (length p.declared) 0)
     (λ y low high. refl) in
-    let done = all_done p.declared turns p.profile {types = types} {bounds = first_bounds p} Public run.body
+    let done = all_done p.declared iterations p.profile {types = types} {bounds = first_bounds p} Public run.body
     typed.body start parts.0 counted in
-    let back = result_fine p.declared turns (end_types p) last run.end done.holds run.result p.returned
+    let back = result_fine p.declared iterations (end_types p) last run.end done.holds run.result p.returned
     typed.result parts.1 in
-    subst (AreFine turns) (sym run.whole) (fine_both turns run.front run.back done.fine back)
+    subst (AreFine iterations) (sym run.whole) (fine_both iterations run.front run.back done.fine back)

@@ -3,14 +3,14 @@ use Rattle.std.proofs.Common.{ℕ, zero, suc, ◌+◌, ◌-◌, ◌==◌, Bool, 
 use Rattle.std.proofs.Common.{Option, Some, None, refl}
 use Rattle.intervals.specs.Below.{after, after_all, Arg, array, assign, binary, branch, convert, declare, element}
 use Rattle.intervals.specs.Below.{end_of, first, FlatBlock, FlatProgram, FlatTree, given, hold, loop, nothing, number}
-use Rattle.intervals.specs.Below.{path_along, path_at, path_in, path_in_all, path_of, path_of_result, path_of_turns}
-use Rattle.intervals.specs.Below.{prefix, put, rotate, select, skip, TermTree, truth, turns, Types, types_of, value_in}
-use Rattle.intervals.specs.Below.{Values, variable, with_value}
+use Rattle.intervals.specs.Below.{path_along, path_at, path_in, path_in_all, path_of, path_of_result}
+use Rattle.intervals.specs.Below.{path_of_iterations, prefix, put, rotate, select, skip, TermTree, truth, iterations}
+use Rattle.intervals.specs.Below.{Types, types_of, value_in, Values, variable, with_value}
 use Rattle.intervals.specs.Loose.{Comes, to_number, to_truth, to_variable, to_prefix, to_binary, to_rotation}
 use Rattle.intervals.specs.Loose.{to_conversion, to_selection, to_element, ComeAll, none_left, one_more, Leads}
-use Rattle.intervals.specs.Loose.{declares, declares_array, assigns, puts, holds, skips, chooses, repeats, Turns}
-use Rattle.intervals.specs.Loose.{no_turn, a_turn, LeadAll, ends, goes_on, Returns, nothing_returned, returned}
-use Rattle.intervals.specs.Loose.{IsLooseRun}
+use Rattle.intervals.specs.Loose.{declares, declares_array, assigns, puts, holds, skips, chooses, repeats, Iterations}
+use Rattle.intervals.specs.Loose.{no_iteration, an_iteration, LeadAll, ends, goes_on, Returns, nothing_returned}
+use Rattle.intervals.specs.Loose.{returned, IsLooseRun}
 
 module _ (types : Types) where
   pub comes : (m : Values) (e : TermTree) → Comes types m e (value_in m e) (path_in m e)
@@ -38,16 +38,16 @@ module _ (types : Types) where
   either true m accepted otherwise one other = other
   either false m accepted otherwise one other = one
 
-  -- the turns of a loop, where each leads on
-  turns_lead : (x : ℕ) (body : FlatBlock)
+  -- the iterations of a loop, where each leads on
+  iterations_lead : (x : ℕ) (body : FlatBlock)
       → ((m : Values) → LeadAll types m body (after_all m body) (path_along m body)) → (n i : ℕ) (m : Values)
-      → Turns types x body n i m (turns n i (λ j t. after_all (with_value t x (j ∷ [])) body) m)
-      (path_of_turns n i (λ j t. after_all (with_value t x (j ∷ [])) body)
+      → Iterations types x body n i m (iterations n i (λ j t. after_all (with_value t x (j ∷ [])) body) m)
+      (path_of_iterations n i (λ j t. after_all (with_value t x (j ∷ [])) body)
       (λ j t. path_along (with_value t x (j ∷ [])) body) m)
-  turns_lead x body each zero i m = no_turn
-  turns_lead x body each (suc n) i m =
-      a_turn (each (with_value m x (i ∷ [])))
-      (turns_lead x body each n (i + 1) (after_all (with_value m x (i ∷ [])) body))
+  iterations_lead x body each zero i m = no_iteration
+  iterations_lead x body each (suc n) i m =
+      an_iteration (each (with_value m x (i ∷ [])))
+      (iterations_lead x body each n (i + 1) (after_all (with_value m x (i ∷ [])) body))
 
   mutual
     pub leads : (s : FlatTree) (m : Values) → Leads types m s (after m s) (path_at m s)
@@ -63,7 +63,7 @@ module _ (types : Types) where
         (lead_all otherwise m))
     leads (loop x low high body) m =
         repeats (comes m low) (comes m high)
-        (turns_lead x body (λ t. lead_all body t) (value_in m high - value_in m low) (value_in m low) m)
+        (iterations_lead x body (λ t. lead_all body t) (value_in m high - value_in m low) (value_in m low) m)
 
     pub lead_all : (b : FlatBlock) (m : Values) → LeadAll types m b (after_all m b) (path_along m b)
     lead_all nothing m = ends

@@ -7,7 +7,7 @@ use Rattle.intervals.specs.Below.{Label, Loop, loop, sooner, Term, term_tree, Vi
 use Rattle.intervals.specs.Intervals.{Bounds, interval, with_bound}
 use Rattle.intervals.specs.Narrowing.{met, met_all, where_true, where_false}
 use Rattle.intervals.specs.declared.said.Said.{Said}
-use Rattle.intervals.specs.Ranges.{counted, counted_all, counter_interval, in_loop, most_turns}
+use Rattle.intervals.specs.Ranges.{counted, counted_all, counter_interval, in_loop, most_iterations}
 use Rattle.intervals.proofs.Below.{branch_tree, loop_tree}
 use Rattle.intervals.specs.Ranges.{violations, violations_all, term_violations}
 
@@ -34,13 +34,13 @@ module _ (declared : List FlatVariable) (bounds : Bounds) (statement : FlatState
     tree = ap flat_tree is ∙ (branch_tree label condition accepted otherwise
         ∙ ap₂ (λ xs ys. branch label (term_tree condition) (flat_block xs) (flat_block ys)) (sym one) (sym other))
 
-    pub branch_turns : (turns middle last : List ℕ)
-        → middle ≡ counted_all declared (where_true declared bounds label (term_tree condition)) turns
+    pub branch_iterations : (iterations middle last : List ℕ)
+        → middle ≡ counted_all declared (where_true declared bounds label (term_tree condition)) iterations
         (flat_block ones)
         → last ≡ counted_all declared (where_false declared between label (term_tree condition)) middle
         (flat_block others)
-        → last ≡ counted declared bounds turns (flat_tree statement)
-    branch_turns turns middle last a o = rw tree
+        → last ≡ counted declared bounds iterations (flat_tree statement)
+    branch_iterations iterations middle last a o = rw tree
         (o ∙ ap₂ (λ b ts. counted_all declared (where_false declared b label (term_tree condition)) ts
         (flat_block others)) same a)
 
@@ -70,13 +70,13 @@ module _ (declared : List FlatVariable) (bounds : Bounds) (statement : FlatState
     inside : with_bound bounds counter numbers ≡ in_loop declared bounds counter (term_tree low) (term_tree high)
     inside = ap (with_bound bounds counter) (within ∙ ap₂ counter_interval at_low at_high)
 
-    pub loop_turns : (turns counting last : List ℕ) (most : ℕ)
-        → most ≡ most_turns a b
-        → counting ≡ slice_set turns counter most
+    pub loop_iterations : (iterations counting last : List ℕ) (most : ℕ)
+        → most ≡ most_iterations a b
+        → counting ≡ slice_set iterations counter most
         → last ≡ counted_all declared (with_bound bounds counter numbers) counting (flat_block ones)
-        → last ≡ counted declared bounds turns (flat_tree statement)
-    loop_turns turns counting last most m c l =
-        let counted_here = c ∙ ap (slice_set turns counter) (m ∙ ap₂ most_turns at_low at_high) in
+        → last ≡ counted declared bounds iterations (flat_tree statement)
+    loop_iterations iterations counting last most m c l =
+        let counted_here = c ∙ ap (slice_set iterations counter) (m ∙ ap₂ most_iterations at_low at_high) in
         rw whole (l ∙ ap₂ (λ bs ts. counted_all declared bs ts (flat_block ones)) inside counted_here)
 
     pub loop_seen : (seen of_low of_high last : Option Violation)

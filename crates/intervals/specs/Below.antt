@@ -42,7 +42,7 @@ pub use Rattle.inline.specs.Flat.{loop, nothing, number, prefix, put, rotate, se
 pub use Rattle.inline.specs.Flat.{variable, word_as}
 pub use Rattle.inline.specs.FlatMeaning.{after, after_all, end_of, ending_by, ending_of, given, marks_of, outcome_of}
 pub use Rattle.inline.specs.FlatMeaning.{path_along, path_at, path_in, path_in_all, path_of, path_of_result}
-pub use Rattle.inline.specs.FlatMeaning.{path_of_turns, turns, value_in, Values, with_value}
+pub use Rattle.inline.specs.FlatMeaning.{path_of_iterations, iterations, value_in, Values, with_value}
 pub use Rattle.inline.specs.FlatSize.{term_nodes, terms_nodes, value_nodes}
 pub use Rattle.inline.specs.FlatTyping.{AllSuit, AreNumbered, AreTyped, counter_type, declarations_in}
 pub use Rattle.inline.specs.FlatTyping.{declarations_in_all, end_types, HasCount, HasType, IsNew, IsNumbered, IsResult}

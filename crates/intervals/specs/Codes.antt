@@ -9,6 +9,6 @@ abbrev pub coded_ranged : Coded RangedProgram
 coded_ranged =
     code_by (FlatProgram × (List ℕ × ℕ))
     (coded× coded_program (coded× (coded_list coded_ℕ) coded_ℕ))
-    (λ r. (r.flat, (r.turns, r.work)))
-    (λ t. record { flat = t.0; turns = t.1.0; work = t.1.1 })
+    (λ r. (r.flat, (r.iterations, r.work)))
+    (λ t. record { flat = t.0; iterations = t.1.0; work = t.1.1 })
     (λ _. refl)

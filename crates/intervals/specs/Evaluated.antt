@@ -1,15 +1,16 @@
--- How many nodes a run of a body evaluates: of a branch one arm, of a loop the turns that it makes. It is counted
+-- How many nodes a run of a body evaluates: of a branch one arm, of a loop the iterations that it makes. It is counted
 -- where the body is run as it means, without a fault.
 use Rattle.std.specs.Prelude.{ℕ, zero, suc, ◌+◌, ◌-◌, ◌==◌, [], ◌∷◌, List, if◌then◌else◌}
 use Rattle.intervals.specs.Below.{after, after_all, Arg, array, assign, branch, declare, first, FlatBlock, FlatProgram}
 use Rattle.intervals.specs.Below.{FlatTree, given, hold, loop, nothing, put, skip, term_nodes, terms_nodes, value_in}
 use Rattle.intervals.specs.Below.{value_nodes, Values, with_value}
 
--- of so many turns, the first at this number: what each makes of a state, and how many nodes each evaluates beside
+-- of so many iterations, the first at this number: what each makes of a state, and how many nodes each evaluates beside
 -- its own
-abbrev pub evaluated_in_turns : {S : Type 0} → ℕ → ℕ → (ℕ → S → S) → (ℕ → S → ℕ) → S → ℕ
-evaluated_in_turns zero i turn count s = 0
-evaluated_in_turns (suc n) i turn count s = 1 + count i s + evaluated_in_turns n (i + 1) turn count (turn i s)
+abbrev pub evaluated_in_iterations : {S : Type 0} → ℕ → ℕ → (ℕ → S → S) → (ℕ → S → ℕ) → S → ℕ
+evaluated_in_iterations zero i iteration count s = 0
+evaluated_in_iterations (suc n) i iteration count s = 1 + count i s + evaluated_in_iterations n (i + 1) iteration count
+    (iteration i s)
 
 abbrev mutual
   pub evaluated : Values → FlatTree → ℕ
@@ -24,7 +25,7 @@ abbrev mutual
       else evaluated_all m accepted)
   evaluated m (loop x low high body) =
       1 + term_nodes low + term_nodes high
-      + evaluated_in_turns (value_in m high - value_in m low) (value_in m low)
+      + evaluated_in_iterations (value_in m high - value_in m low) (value_in m low)
       (λ i t. after_all (with_value t x (i ∷ [])) body)
       (λ i t. evaluated_all (with_value t x (i ∷ [])) body) m
 

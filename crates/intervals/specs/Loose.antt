@@ -88,16 +88,16 @@ mutual
     repeats : {m t : Values} {x : ℕ} {low high : TermTree} {body : FlatBlock} {a b : ℕ} {p q r : Path}
         → Comes types m low a p
         → Comes types m high b q
-        → Turns types x body (b - a) a m t r
+        → Iterations types x body (b - a) a m t r
         → Leads types m (loop x low high body) t (p ++ q ++ bounded x a b ∷ r)
 
-  -- so many turns of a loop with this counter and body, the first at this number
-  pub data Turns (types : Types) : ℕ → FlatBlock → ℕ → ℕ → Values → Values → Path → Type 0 where
-    no_turn : {x i : ℕ} {body : FlatBlock} {m : Values} → Turns types x body zero i m m []
-    a_turn : {x n i : ℕ} {body : FlatBlock} {m s t : Values} {p q : Path}
+  -- so many iterations of a loop with this counter and body, the first at this number
+  pub data Iterations (types : Types) : ℕ → FlatBlock → ℕ → ℕ → Values → Values → Path → Type 0 where
+    no_iteration : {x i : ℕ} {body : FlatBlock} {m : Values} → Iterations types x body zero i m m []
+    an_iteration : {x n i : ℕ} {body : FlatBlock} {m s t : Values} {p q : Path}
         → LeadAll types (with_value m x (i ∷ [])) body s p
-        → Turns types x body n (i + 1) s t q
-        → Turns types x body (suc n) i m t (p ++ q)
+        → Iterations types x body n (i + 1) s t q
+        → Iterations types x body (suc n) i m t (p ++ q)
 
   -- statements in their order
   pub data LeadAll (types : Types) : Values → FlatBlock → Values → Path → Type 0 where
@@ -121,7 +121,7 @@ pub record IsLooseRun (p : FlatProgram) (args : List Arg) (path : Path) : Type 0
   pub result : Returns (types_of p.profile p.declared) end p.value back
   pub whole : path ≡ front ++ back
 
--- no loose run on arguments within the parameter types meets a fault, or makes more turns in a loop than these
+-- no loose run on arguments within the parameter types meets a fault, or makes more iterations in a loop than these
 abbrev pub IsSafe : FlatProgram → List ℕ → Type 0
-IsSafe p turns = (args : List Arg) (path : Path) → AreWithin p.parameters args → IsLooseRun p args path
-    → AreFine turns path
+IsSafe p iterations = (args : List Arg) (path : Path) → AreWithin p.parameters args → IsLooseRun p args path
+    → AreFine iterations path

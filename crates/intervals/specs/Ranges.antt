@@ -1,5 +1,5 @@
 -- What is checked of ranges: each index is below the size of its array and no divisor may be 0, in all code, whether
--- a run reaches it or not. And how many turns are counted for each loop.
+-- a run reaches it or not. And how many iterations are counted for each loop.
 use Rattle.std.specs.Prelude.{ℕ, ◌-◌, ◌==◌, ◌&&◌, ◌||◌, Bool, not, nat_lt, nat_le, List, [], ◌∷◌, ◌++◌, length, map}
 use Rattle.std.specs.Prelude.{replicate, Option, None, Some, if◌then◌else◌, slice_set}
 use Rattle.intervals.specs.Below.{array, assign, because, binary, BinaryOperator, branch, convert, declare, divides}
@@ -46,12 +46,12 @@ terms_violations declared bounds (e ∷ es) = term_violations declared bounds e 
 abbrev pub is_steady : WordType → Bool → Bool
 is_steady word mutable = not (is_secret word.label || mutable)
 
--- how many turns a loop makes at most, by the intervals of its bounds
-abbrev pub most_turns : Interval → Interval → ℕ
-most_turns low high = high.high - low.low
+-- how many iterations a loop makes at most, by the intervals of its bounds
+abbrev pub most_iterations : Interval → Interval → ℕ
+most_iterations low high = high.high - low.low
 
--- what a counter is: from the low of the first bound up to one below the high of the second; where there is no turn,
--- the low
+-- what a counter is: from the low of the first bound up to one below the high of the second; where there is no
+-- iteration, the low
 abbrev pub counter_interval : Interval → Interval → Interval
 counter_interval low high = if nat_lt low.low high.high then between low.low (high.high - 1)
     else between low.low low.low
@@ -104,25 +104,25 @@ module _ (declared : List FlatVariable) where
         ++ violations_all (bounds_after bounds statement) rest
 
   abbrev mutual
-    -- the turns counted so far, and those of a statement's loops, each at its counter's number
+    -- the iterations counted so far, and those of a statement's loops, each at its counter's number
     pub counted : Bounds → List ℕ → FlatTree → List ℕ
-    counted bounds turns (declare x word mutable value) = turns
-    counted bounds turns (array x word mutable size values) = turns
-    counted bounds turns (assign x value) = turns
-    counted bounds turns (put place x size index value) = turns
-    counted bounds turns (hold x place size index) = turns
-    counted bounds turns skip = turns
-    counted bounds turns (branch label condition accepted otherwise) =
+    counted bounds iterations (declare x word mutable value) = iterations
+    counted bounds iterations (array x word mutable size values) = iterations
+    counted bounds iterations (assign x value) = iterations
+    counted bounds iterations (put place x size index value) = iterations
+    counted bounds iterations (hold x place size index) = iterations
+    counted bounds iterations skip = iterations
+    counted bounds iterations (branch label condition accepted otherwise) =
         counted_all (where_false declared bounds label condition)
-        (counted_all (where_true declared bounds label condition) turns accepted) otherwise
-    counted bounds turns (loop x low high body) =
+        (counted_all (where_true declared bounds label condition) iterations accepted) otherwise
+    counted bounds iterations (loop x low high body) =
         counted_all (in_loop bounds x low high)
-        (slice_set turns x (most_turns (interval declared bounds low) (interval declared bounds high))) body
+        (slice_set iterations x (most_iterations (interval declared bounds low) (interval declared bounds high))) body
 
     pub counted_all : Bounds → List ℕ → FlatBlock → List ℕ
-    counted_all bounds turns nothing = turns
-    counted_all bounds turns (first statement rest) =
-        counted_all (bounds_after bounds statement) (counted bounds turns statement) rest
+    counted_all bounds iterations nothing = iterations
+    counted_all bounds iterations (first statement rest) =
+        counted_all (bounds_after bounds statement) (counted bounds iterations statement) rest
 
 -- what is known of a parameter: a public word is something of its kind
 abbrev pub bound_by : Form → Label → Kind → Option Interval
@@ -148,6 +148,6 @@ range_violations p =
     violations_all p.declared (first_bounds p) p.body
     ++ result_violations p.declared (bounds_after_all p.declared (first_bounds p) p.body) p.value
 
--- how many turns are counted for each counter of a program, at its number
-abbrev pub turns_of : FlatProgram → List ℕ
-turns_of p = counted_all p.declared (first_bounds p) (replicate (length p.declared) 0) p.body
+-- how many iterations are counted for each counter of a program, at its number
+abbrev pub iterations_of : FlatProgram → List ℕ
+iterations_of p = counted_all p.declared (first_bounds p) (replicate (length p.declared) 0) p.body

@@ -19,9 +19,13 @@ fn split(body: &[FlatStatement], count: usize) -> (&[FlatStatement], &[FlatState
 }
 
 /// The statement of the source that has most work, of those that became these stretches of the body.
-fn largest_stretch(turns: &[u32], stretches: &[Stretch], body: &[FlatStatement]) -> Option<Share>
+fn largest_stretch(
+    iterations: &[u32],
+    stretches: &[Stretch],
+    body: &[FlatStatement],
+) -> Option<Share>
     ensures { result
-        ≡ fold larger None (map counted_share (stretch_shares turns.now stretches.now (flat_block body.now))) }
+        ≡ fold larger None (map counted_share (stretch_shares iterations.now stretches.now (flat_block body.now))) }
 {
     let mut left = body;
     let mut most = None;
@@ -29,7 +33,7 @@ fn largest_stretch(turns: &[u32], stretches: &[Stretch], body: &[FlatStatement])
         let (own, rest) = split(left, stretch.statements);
         let share = Share {
             place: stretch.place,
-            count: work_of_all(turns, own),
+            count: work_of_all(iterations, own),
         };
         most = larger(most, share);
         left = rest;
@@ -52,19 +56,19 @@ fn larger_value(most: Option<Share>, place: Option<Place>, value: Option<&Term>)
 }
 
 /// The part of the source that has most work.
-fn largest_part(turns: &[u32], flat: &Flat) -> Option<Share>
-    ensures { result ≡ largest (map counted_share (shares_by turns.now flat.now)) }
+fn largest_part(iterations: &[u32], flat: &Flat) -> Option<Share>
+    ensures { result ≡ largest (map counted_share (shares_by iterations.now flat.now)) }
 {
-    let most = largest_stretch(turns, flat.stretches(), flat.body());
+    let most = largest_stretch(iterations, flat.stretches(), flat.body());
     larger_value(most, flat.return_place(), flat.value())
 }
 
-/// What a body for which these turns are counted costs of the limit on work.
-pub fn program_cost(turns: &[u32], flat: &Flat) -> Cost
-    ensures { result ≡ cost_by turns.now flat.now }
+/// What a body for which these iterations are counted costs of the limit on work.
+pub fn program_cost(iterations: &[u32], flat: &Flat) -> Cost
+    ensures { result ≡ cost_by iterations.now flat.now }
 {
     Cost {
-        whole: program_work(turns, flat),
-        largest: largest_part(turns, flat),
+        whole: program_work(iterations, flat),
+        largest: largest_part(iterations, flat),
     }
 }

@@ -4,12 +4,12 @@ ghost use Rattle.intervals.specs.Kept.{IsRanged};
 use inline::Flat;
 use std::marker::Model;
 
-/// A body with what is counted for it, its work within the limit. It is safe: no run meets a fault, or makes more turns
-/// in a loop than are counted for it.
+/// A body with what is counted for it, its work within the limit. It is safe: no run meets a fault, or makes more
+/// iterations in a loop than are counted for it.
 #[derive(Drop)]
 pub struct Ranged<'f> {
     flat: &'f Flat,
-    turns: Vec<u32>,
+    iterations: Vec<u32>,
     work: u64,
 }
 
@@ -22,18 +22,22 @@ impl<'f> Model for Ranged<'f> {
 
     ghost coded = { coded_ranged };
 
-    ghost view = { λ r. record { flat = r.flat.now; turns = r.turns.items; work = r.work } };
+    ghost view = { λ r. record { flat = r.flat.now; iterations = r.iterations.items; work = r.work } };
 
-    ghost invariant = { λ r. IsRanged (record { flat = r.flat.now; turns = r.turns.items; work = r.work }) };
+    ghost invariant = { λ r. IsRanged (record { flat = r.flat.now; iterations = r.iterations.items; work = r.work }) };
 }
 
 impl<'f> Ranged<'f> {
     /// A body with what is counted for it.
-    pub(crate) fn new(flat: &'f Flat, turns: Vec<u32>, work: u64) -> Self
-        requires { IsRanged (record { flat = flat.now; turns = turns.items; work = work }) }
-        ensures { result ≡ record { flat = flat.now; turns = turns.items; work = work } }
+    pub(crate) fn new(flat: &'f Flat, iterations: Vec<u32>, work: u64) -> Self
+        requires { IsRanged (record { flat = flat.now; iterations = iterations.items; work = work }) }
+        ensures { result ≡ record { flat = flat.now; iterations = iterations.items; work = work } }
     {
-        Ranged { flat, turns, work }
+        Ranged {
+            flat,
+            iterations,
+            work,
+        }
     }
 
     /// The body.
@@ -44,11 +48,11 @@ impl<'f> Ranged<'f> {
         self.flat
     }
 
-    /// How many turns the loop of each counter makes at most, at the counter's number; 0 at all other numbers.
-    pub fn turns(&self) -> &[u32]
-        ensures { result.now ≡ self.now.turns }
+    /// How many iterations the loop of each counter makes at most, at the counter's number; 0 at all other numbers.
+    pub fn iterations(&self) -> &[u32]
+        ensures { result.now ≡ self.now.iterations }
     {
-        self.turns.as_slice()
+        self.iterations.as_slice()
     }
 
     /// How many nodes a run evaluates at most.

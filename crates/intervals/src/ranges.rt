@@ -1,7 +1,7 @@
 ghost use Rattle.std.specs.Prelude.{◌≡◌, None, Some, fold, length, map, replicate, IfErr, IfOk, OnOk};
 ghost use Rattle.intervals.specs.Loose.{IsSafe};
 ghost use Rattle.intervals.specs.Ranges.{bound_by, bound_of, first_bounds, range_violations, result_violations};
-ghost use Rattle.intervals.specs.Ranges.{turns_of};
+ghost use Rattle.intervals.specs.Ranges.{iterations_of};
 ghost use Rattle.intervals.specs.Work.{IsRefusedByRanges, IsToldByRanges, ranged, work_excess, work_violations};
 ghost use Rattle.intervals.specs.Below.{IsFirst, IsNamed, sooner, TellsOf};
 
@@ -55,9 +55,9 @@ fn first_bounds(alloc: Global, flat: &Flat) -> Result<Vec<Option<Interval>>, All
 
 /// A walk over a whole program, which is safe where no range is passed.
 fn walked(alloc: Global, flat: &Flat) -> Result<Walk, AllocError>
-    ensures turns { IfOk result (λ walk. walk.turns.items ≡ turns_of flat.now) }
+    ensures iterations { IfOk result (λ walk. walk.iterations.items ≡ iterations_of flat.now) }
     ensures found { IfOk result (λ walk. walk.first.seen ≡ fold sooner None (range_violations flat.now)) }
-    ensures safe { OnOk result (length (range_violations flat.now) ≡ 0 → IsSafe flat.now (turns_of flat.now)) }
+    ensures safe { OnOk result (length (range_violations flat.now) ≡ 0 → IsSafe flat.now (iterations_of flat.now)) }
 {
     let declared = flat.declared();
     let mut walk = Walk {
@@ -66,7 +66,7 @@ fn walked(alloc: Global, flat: &Flat) -> Result<Walk, AllocError>
             bounds: first_bounds(alloc, flat)?,
             changes: Vec::new(alloc),
         },
-        turns: vec![in alloc; 0; declared.len()]?,
+        iterations: vec![in alloc; 0; declared.len()]?,
         first: First { seen: None },
     };
     statements(declared, &mut walk, flat.body())?;
@@ -82,13 +82,13 @@ fn walked(alloc: Global, flat: &Flat) -> Result<Walk, AllocError>
 }
 
 /// What a body violates whose work is too much.
-fn too_much_work(turns: &[u32], flat: &Flat) -> Violation
-    requires { turns.now ≡ turns_of flat.now }
+fn too_much_work(iterations: &[u32], flat: &Flat) -> Violation
+    requires { iterations.now ≡ iterations_of flat.now }
     ensures rule { result.rule ≡ Rule.TooMuchWork }
     ensures place { result.place ≡ flat.now.place }
     ensures why { result.why ≡ Why.TooMuch (work_excess flat.now) }
 {
-    let excess = program_cost(turns, flat).excess(Counted::Work);
+    let excess = program_cost(iterations, flat).excess(Counted::Work);
     Violation {
         place: flat.place(),
         rule: Rule::TooMuchWork,
@@ -96,10 +96,10 @@ fn too_much_work(turns: &[u32], flat: &Flat) -> Violation
     }
 }
 
-/// The body with these turns and its work, where that is within the limit. It asks for no memory.
-fn with_work<'f>(flat: &'f Flat, turns: Vec<u32>) -> Result<Ranged<'f>, Refusal>
-    requires turns { turns.items ≡ turns_of flat.now }
-    requires safe { IsSafe flat.now turns.items }
+/// The body with these iterations and its work, where that is within the limit. It asks for no memory.
+fn with_work<'f>(flat: &'f Flat, iterations: Vec<u32>) -> Result<Ranged<'f>, Refusal>
+    requires iterations { iterations.items ≡ iterations_of flat.now }
+    requires safe { IsSafe flat.now iterations.items }
     ensures accepted { IfOk result (λ result. result ≡ ranged flat.now) }
     ensures worked { OnOk result (length (work_violations flat.now) ≡ 0) }
     ensures refused { IfErr result (λ refusal. (first : Violation)
@@ -107,11 +107,11 @@ fn with_work<'f>(flat: &'f Flat, turns: Vec<u32>) -> Result<Ranged<'f>, Refusal>
         × IsNamed (work_violations flat.now) first
         × TellsOf refusal first) }
 {
-    let work = program_work(turns.as_slice(), flat);
+    let work = program_work(iterations.as_slice(), flat);
     if work > MOST_WORK {
-        return Err(Refusal::of(too_much_work(turns.as_slice(), flat)));
+        return Err(Refusal::of(too_much_work(iterations.as_slice(), flat)));
     }
-    Ok(Ranged::new(flat, turns, work))
+    Ok(Ranged::new(flat, iterations, work))
 }
 
 /// The body with what is counted for it, where each index is within its array, no divisor is 0 and the work is within
@@ -126,6 +126,6 @@ pub fn check_ranges<'f>(alloc: Global, flat: &'f Flat) -> Result<Ranged<'f>, Ref
     let walk = walked(alloc, flat)?;
     match walk.first.seen {
         Some(first) => Err(Refusal::of(first)),
-        None => with_work(flat, walk.turns),
+        None => with_work(flat, walk.iterations),
     }
 }

@@ -5,7 +5,7 @@ ghost use Rattle.intervals.specs.Below.{flat_block, flat_tree, sooner, term_tree
 ghost use Rattle.intervals.specs.Intervals.{with_bound};
 ghost use Rattle.intervals.specs.Narrowing.{where_false, where_true};
 ghost use Rattle.intervals.specs.Ranges.{bounds_after, bounds_after_all, counted, counted_all, counter_interval};
-ghost use Rattle.intervals.specs.Ranges.{is_steady, most_turns, violations, violations_all};
+ghost use Rattle.intervals.specs.Ranges.{is_steady, most_iterations, violations, violations_all};
 ghost use Rattle.intervals.specs.Undoing.{CameFrom};
 
 use crate::Interval;
@@ -20,8 +20,8 @@ use std::alloc::AllocError;
 #[derive(Drop)]
 pub struct Walk {
     pub known: Known,
-    /// The turns of each loop, at its counter's number.
-    pub turns: Vec<u32>,
+    /// The iterations of each loop, at its counter's number.
+    pub iterations: Vec<u32>,
     pub first: First,
 }
 
@@ -32,9 +32,9 @@ fn is_steady(word: WordType, mutable: bool) -> bool
     !(matches!(word.label, Label::Secret) || mutable)
 }
 
-/// How many turns a loop makes at most, by the intervals of its bounds.
-fn most_turns(low: Interval, high: Interval) -> u32
-    ensures { result ≡ most_turns low high }
+/// How many iterations a loop makes at most, by the intervals of its bounds.
+fn most_iterations(low: Interval, high: Interval) -> u32
+    ensures { result ≡ most_iterations low high }
 {
     high.high.saturating_sub(low.low)
 }
@@ -56,16 +56,16 @@ fn counter_interval(low: Interval, high: Interval) -> Interval
     }
 }
 
-/// Counts so many turns for a counter.
-fn count(turns: &mut Vec<u32>, counter: u32, most: u32)
-    ensures { turns.new.items ≡ slice_set turns.old.items counter most }
+/// Counts so many iterations for a counter.
+fn count(iterations: &mut Vec<u32>, counter: u32, most: u32)
+    ensures { iterations.new.items ≡ slice_set iterations.old.items counter most }
 {
-    if let Some(turns) = turns.get_mut(counter as usize) {
-        *turns = most;
+    if let Some(iterations) = iterations.get_mut(counter as usize) {
+        *iterations = most;
     }
 }
 
-/// A statement: what is known after it, its turns, and what it has out of range.
+/// A statement: what is known after it, its iterations, and what it has out of range.
 #[cycle(walk)]
 fn statement(
     declared: &[FlatVariable],
@@ -75,8 +75,8 @@ fn statement(
     ensures bounds { OnOk result (walk.new.known.bounds.items
         ≡ bounds_after declared.now walk.old.known.bounds.items (flat_tree statement.now)) }
     ensures from { OnOk result (CameFrom walk.old.known walk.new.known) }
-    ensures turns { OnOk result (walk.new.turns.items
-        ≡ counted declared.now walk.old.known.bounds.items walk.old.turns.items (flat_tree statement.now)) }
+    ensures iterations { OnOk result (walk.new.iterations.items
+        ≡ counted declared.now walk.old.known.bounds.items walk.old.iterations.items (flat_tree statement.now)) }
     ensures first { OnOk result (walk.new.first.seen
         ≡ fold sooner walk.old.first.seen
         (violations declared.now walk.old.known.bounds.items (flat_tree statement.now))) }
@@ -118,9 +118,9 @@ fn statement(
         FlatStatement::Loop(counter, low, high, body) => {
             let low = note_term(&mut walk.first, declared, bounds, low);
             let high = note_term(&mut walk.first, declared, bounds, high);
-            count(&mut walk.turns, *counter, most_turns(low, high));
+            count(&mut walk.iterations, *counter, most_iterations(low, high));
             let numbers = counter_interval(low, high);
-            turns(declared, walk, *counter, numbers, body.as_slice())
+            iterations(declared, walk, *counter, numbers, body.as_slice())
         }
     }
 }
@@ -136,9 +136,9 @@ fn accepted_arm(
 ) -> Result<(), AllocError>
     ensures bounds { OnOk result (walk.new.known.bounds.items ≡ walk.old.known.bounds.items) }
     ensures changes { OnOk result (walk.new.known.changes.items ≡ walk.old.known.changes.items) }
-    ensures turns { OnOk result (walk.new.turns.items
+    ensures iterations { OnOk result (walk.new.iterations.items
         ≡ counted_all declared.now
-        (where_true declared.now walk.old.known.bounds.items label (term_tree condition.now)) walk.old.turns.items
+        (where_true declared.now walk.old.known.bounds.items label (term_tree condition.now)) walk.old.iterations.items
         (flat_block arm.now)) }
     ensures first { OnOk result (walk.new.first.seen
         ≡ fold sooner walk.old.first.seen (violations_all declared.now
@@ -162,9 +162,9 @@ fn otherwise_arm(
 ) -> Result<(), AllocError>
     ensures bounds { OnOk result (walk.new.known.bounds.items ≡ walk.old.known.bounds.items) }
     ensures changes { OnOk result (walk.new.known.changes.items ≡ walk.old.known.changes.items) }
-    ensures turns { OnOk result (walk.new.turns.items
+    ensures iterations { OnOk result (walk.new.iterations.items
         ≡ counted_all declared.now
-        (where_false declared.now walk.old.known.bounds.items label (term_tree condition.now)) walk.old.turns.items
+        (where_false declared.now walk.old.known.bounds.items label (term_tree condition.now)) walk.old.iterations.items
         (flat_block arm.now)) }
     ensures first { OnOk result (walk.new.first.seen
         ≡ fold sooner walk.old.first.seen (violations_all declared.now
@@ -177,9 +177,9 @@ fn otherwise_arm(
     Ok(())
 }
 
-/// The turns of a loop, whose counter is one of these numbers.
+/// The iterations of a loop, whose counter is one of these numbers.
 #[cycle(walk)]
-fn turns(
+fn iterations(
     declared: &[FlatVariable],
     walk: &mut Walk,
     counter: u32,
@@ -188,9 +188,9 @@ fn turns(
 ) -> Result<(), AllocError>
     ensures bounds { OnOk result (walk.new.known.bounds.items ≡ walk.old.known.bounds.items) }
     ensures changes { OnOk result (walk.new.known.changes.items ≡ walk.old.known.changes.items) }
-    ensures turns { OnOk result (walk.new.turns.items
+    ensures iterations { OnOk result (walk.new.iterations.items
         ≡ counted_all declared.now
-        (with_bound walk.old.known.bounds.items counter numbers) walk.old.turns.items (flat_block body.now)) }
+        (with_bound walk.old.known.bounds.items counter numbers) walk.old.iterations.items (flat_block body.now)) }
     ensures first { OnOk result (walk.new.first.seen
         ≡ fold sooner walk.old.first.seen
         (violations_all declared.now (with_bound walk.old.known.bounds.items counter numbers) (flat_block body.now))) }
@@ -212,8 +212,8 @@ pub fn statements(
     ensures bounds { OnOk result (walk.new.known.bounds.items
         ≡ bounds_after_all declared.now walk.old.known.bounds.items (flat_block body.now)) }
     ensures from { OnOk result (CameFrom walk.old.known walk.new.known) }
-    ensures turns { OnOk result (walk.new.turns.items
-        ≡ counted_all declared.now walk.old.known.bounds.items walk.old.turns.items (flat_block body.now)) }
+    ensures iterations { OnOk result (walk.new.iterations.items
+        ≡ counted_all declared.now walk.old.known.bounds.items walk.old.iterations.items (flat_block body.now)) }
     ensures first { OnOk result (walk.new.first.seen
         ≡ fold sooner walk.old.first.seen
         (violations_all declared.now walk.old.known.bounds.items (flat_block body.now))) }

@@ -41,17 +41,17 @@ fn nodes_in_all(terms: &[Term]) -> u64
     sum
 }
 
-/// How many turns are counted for a counter.
-fn turns_at(turns: &[u32], counter: u32) -> u32
-    ensures { result ≡ slice_index turns.now counter }
+/// How many iterations are counted for a counter.
+fn iterations_at(iterations: &[u32], counter: u32) -> u32
+    ensures { result ≡ slice_index iterations.now counter }
 {
-    turns.get(counter as usize).copied().unwrap_or(0)
+    iterations.get(counter as usize).copied().unwrap_or(0)
 }
 
-/// The work of a statement. The turns are counted at their counters' numbers.
+/// The work of a statement. The iterations are counted at their counters' numbers.
 #[cycle(work)]
-fn work_of(turns: &[u32], statement: &FlatStatement) -> u64
-    ensures { result ≡ counted (tree_work turns.now (flat_tree statement.now)) }
+fn work_of(iterations: &[u32], statement: &FlatStatement) -> u64
+    ensures { result ≡ counted (tree_work iterations.now (flat_tree statement.now)) }
 {
     match statement {
         FlatStatement::Declare(_, _, _, value) => nodes_in(value).saturating_add(1),
@@ -65,33 +65,33 @@ fn work_of(turns: &[u32], statement: &FlatStatement) -> u64
         FlatStatement::Hold(_, _, _, index) => nodes_in(index).saturating_add(1),
         FlatStatement::Skip => 1,
         FlatStatement::Branch(_, condition, accepted, otherwise) => nodes_in(condition)
-            .saturating_add(work_of_all(turns, accepted.as_slice()))
-            .saturating_add(work_of_all(turns, otherwise.as_slice()))
+            .saturating_add(work_of_all(iterations, accepted.as_slice()))
+            .saturating_add(work_of_all(iterations, otherwise.as_slice()))
             .saturating_add(1),
         FlatStatement::Loop(counter, low, high, body) => nodes_in(low)
             .saturating_add(nodes_in(high))
-            .saturating_add(work_of_turns(turns, *counter, body.as_slice())),
+            .saturating_add(work_of_iterations(iterations, *counter, body.as_slice())),
     }
 }
 
-/// The work of the turns of a loop: one more than it makes at most.
+/// The work of the iterations of a loop: one more than it makes at most.
 #[cycle(work)]
-fn work_of_turns(turns: &[u32], counter: u32, body: &[FlatStatement]) -> u64
-    ensures { result ≡ counted ((slice_index turns.now counter + 1) * (1 + body_work turns.now (flat_block body.now))) }
+fn work_of_iterations(iterations: &[u32], counter: u32, body: &[FlatStatement]) -> u64
+    ensures { result ≡ counted ((slice_index iterations.now counter + 1) * (1 + body_work iterations.now (flat_block body.now))) }
 {
-    let times = u64::from(turns_at(turns, counter)) + 1;
-    let turn = work_of_all(turns, body).saturating_add(1);
-    times.saturating_mul(turn)
+    let times = u64::from(iterations_at(iterations, counter)) + 1;
+    let iteration = work_of_all(iterations, body).saturating_add(1);
+    times.saturating_mul(iteration)
 }
 
 /// The work of statements.
 #[cycle(work)]
-pub fn work_of_all(turns: &[u32], body: &[FlatStatement]) -> u64
-    ensures { result ≡ counted (body_work turns.now (flat_block body.now)) }
+pub fn work_of_all(iterations: &[u32], body: &[FlatStatement]) -> u64
+    ensures { result ≡ counted (body_work iterations.now (flat_block body.now)) }
 {
     let mut sum = 0u64;
     for statement in body {
-        sum = sum.saturating_add(work_of(turns, statement));
+        sum = sum.saturating_add(work_of(iterations, statement));
     }
     sum
 }
@@ -106,9 +106,9 @@ pub fn work_of_value(value: Option<&Term>) -> u64
     }
 }
 
-/// The work of a program for which these turns are counted.
-pub fn program_work(turns: &[u32], flat: &Flat) -> u64
-    ensures { result ≡ counted (body_work turns.now flat.now.body + value_nodes flat.now.value) }
+/// The work of a program for which these iterations are counted.
+pub fn program_work(iterations: &[u32], flat: &Flat) -> u64
+    ensures { result ≡ counted (body_work iterations.now flat.now.body + value_nodes flat.now.value) }
 {
-    work_of_all(turns, flat.body()).saturating_add(work_of_value(flat.value()))
+    work_of_all(iterations, flat.body()).saturating_add(work_of_value(flat.value()))
 }

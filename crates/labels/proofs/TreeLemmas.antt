@@ -91,10 +91,10 @@ pub scope_before : (n : ℕ) (scope : Scope) (b : BlockTree) → n ≡ length sc
 scope_before n scope b many even = shortened_longer n many even (all_more b scope)
 
 -- so are those before a loop
-pub scope_before_turns : (n : ℕ) (scope : Scope) (place : Place) (text : List ℕ) (what : Declared) (b : BlockTree)
+pub scope_before_iterations : (n : ℕ) (scope : Scope) (place : Place) (text : List ℕ) (what : Declared) (b : BlockTree)
     → n ≡ length scope.names → n ≡ length scope.places
     → shortened n (scope_after_all (declared scope place text what) b) ≡ scope
-scope_before_turns n scope place text what b many even =
+scope_before_iterations n scope place text what b many even =
     shortened_longer n many even
     (longer_twice (declared_more scope place text what) (all_more b (declared scope place text what)))
 
@@ -158,8 +158,9 @@ loop_violations seen earlier scope control statement place counter low high body
     ap (λ s. fold sooner seen (statement_violations earlier scope control s)) (ap statement_tree is
     ∙ loop_tree place counter low high body) ∙ simp (fold-append sooner)
 
--- the same, from what each part has noted: the bounds, what is asked of them, and the turns
-pub loop_seen : (seen of_low of_high noted of_turns : Option Violation) (earlier : List ProcedureTree) (scope : Scope)
+-- the same, from what each part has noted: the bounds, what is asked of them, and the iterations
+pub loop_seen : (seen of_low of_high noted of_iterations : Option Violation) (earlier : List ProcedureTree)
+    (scope : Scope)
     (control : Option SecretControl) (lower upper : Option Typed) (statement : Statement) (place : Place) (counter : Counter)
     (low high : Expr) (body : Vec Statement Global) (ones : List Statement)
     → statement ≡ For place counter low high body → ones ≡ body.items →
@@ -167,9 +168,10 @@ pub loop_seen : (seen of_low of_high noted of_turns : Option Violation) (earlier
     of_low ≡ fold sooner seen (expr_violations scope (expr_tree low))
     → of_high ≡ fold sooner of_low (expr_violations scope (expr_tree high)) →
     noted ≡ fold sooner of_high (asked_of_two bounds_why place bounds_rules lower upper) →
-    of_turns ≡ fold sooner noted (at counter.place (when (is_some (found scope counter.name)) NameDeclaredTwice)
+    of_iterations ≡ fold sooner noted (at counter.place (when (is_some (found scope counter.name)) NameDeclaredTwice)
     ++ block_violations earlier (declared scope counter.place counter.name counter_as) control (block_tree ones)) →
-    of_turns ≡ fold sooner seen (statement_violations earlier scope control (statement_tree statement))
-loop_seen seen of_low of_high noted of_turns earlier scope control lower upper statement place counter low high body
+    of_iterations ≡ fold sooner seen (statement_violations earlier scope control (statement_tree statement))
+loop_seen seen of_low of_high noted of_iterations earlier scope control lower upper statement place counter low high
+    body
     ones is items typed typed' l h n t =
     let whole = loop_violations seen earlier scope control statement place counter low high body is in cc

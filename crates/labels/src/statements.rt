@@ -103,7 +103,7 @@ fn statement<'a>(
             let low = expression(names, first, low);
             let high = expression(names, first, high);
             note_bounds(first, *place, low, high);
-            turns(
+            iterations(
                 alloc,
                 names,
                 first,
@@ -137,9 +137,9 @@ fn arm<'a>(
     Ok(())
 }
 
-/// The turns of a loop: the counter and the names that they declare are their own.
+/// The iterations of a loop: the counter and the names that they declare are their own.
 #[cycle(statement)]
-fn turns<'a>(
+fn iterations<'a>(
     alloc: Global,
     names: &mut Scope<'a>,
     first: &mut First,

@@ -109,10 +109,10 @@ abbrev pub right_run : Runnables → State → RightTree → Run Returned
 right_run known s (called c) = call_run (known c.name) s c
 right_run known s (computed e) = andthen (value s e) (λ v. given (record { word = Some v; state = s }))
 
--- so many turns of a loop, the first at this number
-abbrev pub turns : ℕ → ℕ → (ℕ → State → Run State) → State → Run State
-turns zero i turn s = given s
-turns (suc n) i turn s = tick (andthen (turn i s) (λ t. turns n (i + 1) turn t))
+-- so many iterations of a loop, the first at this number
+abbrev pub iterations : ℕ → ℕ → (ℕ → State → Run State) → State → Run State
+iterations zero i iteration s = given s
+iterations (suc n) i iteration s = tick (andthen (iteration i s) (λ t. iterations n (i + 1) iteration t))
 
 -- a name is set to a right side's word
 abbrev pub set_run : Runnables → State → List ℕ → RightTree → Run State
@@ -135,10 +135,10 @@ abbrev pub branch_run : State → ExprTree → Run State → Run State → Run S
 branch_run s condition accepted otherwise =
     tick (andthen (value s condition) (λ c. if truth_of c.value then accepted else otherwise))
 
--- the turns between two bounds, each evaluated once
+-- the iterations between two bounds, each evaluated once
 abbrev pub loop_run : State → ExprTree → ExprTree → (ℕ → State → Run State) → Run State
-loop_run s low high turn =
-    tick (andthen (value s low) (λ a. andthen (value s high) (λ b. turns (b.value - a.value) a.value turn s)))
+loop_run s low high iteration =
+    tick (andthen (value s low) (λ a. andthen (value s high) (λ b. iterations (b.value - a.value) a.value iteration s)))
 
 abbrev mutual
   -- a statement

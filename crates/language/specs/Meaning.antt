@@ -290,23 +290,23 @@ mutual
         → Runs ps s (loop place counter text low high body) (faults at)
     loops : {ps s place counter text low high body ending : _} {a b : Word}
         → EvaluatesAll s (low ∷ high ∷ []) (gives (a ∷ b ∷ []))
-        → Turns ps s text body a.value b.value ending
+        → Iterations ps s text body a.value b.value ending
         → Runs ps s (loop place counter text low high body) ending
 
-  -- the turns of a loop from one number to another
-  pub data Turns : List ProcedureTree → State → List ℕ → BlockTree → ℕ → ℕ → Ending State → Type 0 where
-    no_turn : {ps s text body i n : _}
+  -- the iterations of a loop from one number to another
+  pub data Iterations : List ProcedureTree → State → List ℕ → BlockTree → ℕ → ℕ → Ending State → Type 0 where
+    no_iteration : {ps s text body i n : _}
         → n ≤ i
-        → Turns ps s text body i n (gives s)
-    turn_faults : {ps s text body i n at : _}
+        → Iterations ps s text body i n (gives s)
+    iteration_faults : {ps s text body i n at : _}
         → i < n
         → RunsAll ps (counting s text i) body (faults at)
-        → Turns ps s text body i n (faults at)
-    a_turn : {ps s t text body i n ending : _}
+        → Iterations ps s text body i n (faults at)
+    an_iteration : {ps s t text body i n ending : _}
         → i < n
         → RunsAll ps (counting s text i) body (gives t)
-        → Turns ps t text body (i + 1) n ending
-        → Turns ps s text body i n ending
+        → Iterations ps t text body (i + 1) n ending
+        → Iterations ps s text body i n ending
 
   -- statements in their order
   pub data RunsAll : List ProcedureTree → State → BlockTree → Ending State → Type 0 where

@@ -87,19 +87,19 @@ opposite_of Greater = Some LessOrEqual
 opposite_of GreaterOrEqual = Some Less
 opposite_of _ = None
 
--- the operator that makes the same of two numbers turned round, where there is one and neither of them is shown
-abbrev pub turned_of : BinaryOperator → Option BinaryOperator
-turned_of Equal = Some Equal
-turned_of Unequal = Some Unequal
-turned_of Less = Some Greater
-turned_of LessOrEqual = Some GreaterOrEqual
-turned_of Greater = Some Less
-turned_of GreaterOrEqual = Some LessOrEqual
-turned_of BitOr = Some BitOr
-turned_of BitXor = Some BitXor
-turned_of BitAnd = Some BitAnd
-turned_of Add = Some Add
-turned_of _ = None
+-- the operator that makes the same of two numbers swapped, where there is one and neither of them is shown
+abbrev pub swapped_of : BinaryOperator → Option BinaryOperator
+swapped_of Equal = Some Equal
+swapped_of Unequal = Some Unequal
+swapped_of Less = Some Greater
+swapped_of LessOrEqual = Some GreaterOrEqual
+swapped_of Greater = Some Less
+swapped_of GreaterOrEqual = Some LessOrEqual
+swapped_of BitOr = Some BitOr
+swapped_of BitXor = Some BitXor
+swapped_of BitAnd = Some BitAnd
+swapped_of Add = Some Add
+swapped_of _ = None
 
 -- a product
 abbrev pub multiplies : BinaryOperator → Bool

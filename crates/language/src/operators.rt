@@ -78,7 +78,7 @@ impl PrefixOperator {
 impl BinaryOperator {
     ghost use Rattle.std.specs.Prelude.{◌≢◌, true};
     ghost use Rattle.language.specs.ExprTyping.{operation_kind};
-    ghost use Rattle.language.specs.Operators.{divides, operated, operation_of, opposite_of, turned_of};
+    ghost use Rattle.language.specs.Operators.{divides, operated, operation_of, opposite_of, swapped_of};
 
     /// What it makes of its operands.
     pub fn operation(self) -> Operation
@@ -162,9 +162,9 @@ impl BinaryOperator {
         }
     }
 
-    /// The operator that makes the same of two numbers turned round, where there is one and neither of them is shown.
-    pub fn turned(self) -> Option<Self>
-        ensures { result ≡ turned_of self }
+    /// The operator that makes the same of two numbers swapped, where there is one and neither of them is shown.
+    pub fn swapped(self) -> Option<Self>
+        ensures { result ≡ swapped_of self }
     {
         match self {
             BinaryOperator::Less => Some(BinaryOperator::Greater),

@@ -116,7 +116,7 @@ pub enum Statement {
     /// The place of `if`, the condition, and what runs where it is true and where it is not.
     If(Place, Expr, Vec<Statement>, Vec<Statement>),
     /// The place of `for`, the counter, the first number that it is, the first that it is no longer,
-    /// and what runs in each turn.
+    /// and what runs in each iteration.
     For(Place, Counter, Expr, Expr, Vec<Statement>),
 }
 

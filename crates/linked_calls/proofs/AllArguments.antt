@@ -4,7 +4,7 @@ use Rattle.std.specs.Prelude.{is_some}
 use Rattle.std.proofs.Common.{◌≡◌, ℕ, ◌+◌, ◌*◌, ◌≤◌, List, [], ◌∷◌, length, map, Some, inl, inr, refl, true}
 use Rattle.std.proofs.Common.{sym, ap, ◌∙◌, subst, arith}
 use Rattle.std.proofs.lemmas.List.{length-map}
-use Rattle.linked_calls.proofs.Below.{AreData, Arg, argument_code, argument_offset, argument_turns, arguments_code}
+use Rattle.linked_calls.proofs.Below.{AreData, Arg, argument_code, argument_offset, argument_steps, arguments_code}
 use Rattle.linked_calls.proofs.Below.{arguments_end, Array, array_bytes, ByteMap, CanBeCopied, CanBePut, Code, Data}
 use Rattle.linked_calls.proofs.Below.{element_bytes, elements_at, Fields, FixedArray, Form, frame_room, HasArray}
 use Rattle.linked_calls.proofs.Below.{is_some-with_number, IsBesides, IsOfCall, IsOnStack, LiesIn, meant}
@@ -17,7 +17,7 @@ use Rattle.linked_calls.proofs.Between.{AreReady, IsReady, saved_at}
 use Rattle.linked_calls.proofs.Bytes.{IsOutside, SameData, number_there, numbers_count, numbers_outside}
 use Rattle.linked_calls.proofs.Bytes.{is_some-with_numbers}
 use Rattle.linked_calls.proofs.Copies.{array_runs as copies_run}
-use Rattle.linked_calls.proofs.SectionTurns.{arguments_turns}
+use Rattle.linked_calls.proofs.SectionSteps.{arguments_steps}
 use Rattle.linked_calls.proofs.Pieces.{Runs, Setting, no_code, then_runs, weaken_runs}
 use Rattle.linked_calls.proofs.Rooms.{RoomNumbers}
 use Rattle.linked_calls.proofs.SameRegisters.{IsNone, same_beside}
@@ -208,7 +208,7 @@ module _ (image : Fields) (site : Site) where
         }
 
     array_runs : (i : ℕ) (slot : Slot) → KnownArray i slot
-        → Runs z (argument_turns image i slot FixedArray) (argument_code image i slot FixedArray)
+        → Runs z (argument_steps image i slot FixedArray) (argument_code image i slot FixedArray)
         (Begins (λ bytes. IsReady image site bytes i slot FixedArray)) (Takes (λ s. taken s.bytes i slot FixedArray))
     array_runs i slot known =
         let at = room_base image site + slot.offset in
@@ -225,7 +225,7 @@ module _ (image : Fields) (site : Site) where
         })
 
     argument_runs : (i : ℕ) (slot : Slot) (form : Form) → IsKnown i slot form
-        → Runs z (argument_turns image i slot form) (argument_code image i slot form)
+        → Runs z (argument_steps image i slot form) (argument_code image i slot form)
         (Begins (λ bytes. IsReady image site bytes i slot form)) (Takes (λ s. taken s.bytes i slot form))
     argument_runs i slot SingleWord known =
         let under = room in
@@ -245,7 +245,7 @@ module _ (image : Fields) (site : Site) where
 
     -- all of them
     pub arguments_runs : (i : ℕ) (slots : List Slot) → i + length slots ≡ length image.slots → AreKnown i slots
-        → Runs z (arguments_turns image i slots) (arguments_code image i slots)
+        → Runs z (arguments_steps image i slots) (arguments_code image i slots)
         (Begins (λ bytes. AreReady image site bytes i slots)) (Takes (λ s. all_taken s.bytes i slots))
     arguments_runs i [] count known = no_code z (λ s begins. record { bytes = refl; others = λ q none. refl })
     arguments_runs i (slot ∷ slots) count known =

@@ -13,7 +13,7 @@ use Rattle.linked_calls.proofs.Between.{AreReady, IsReady}
 use Rattle.linked_calls.proofs.Bytes.{IsOutside, SameData, numbers_count, numbers_outside, is_some-with_numbers}
 use Rattle.linked_calls.proofs.Bytes.{numbers_same}
 use Rattle.linked_calls.proofs.Copies.{handed_runs as handed_by}
-use Rattle.linked_calls.proofs.SectionTurns.{output_turns, outputs_turns}
+use Rattle.linked_calls.proofs.SectionSteps.{output_steps, outputs_steps}
 use Rattle.linked_calls.proofs.Pieces.{Runs, Setting, no_code, then_runs, weaken_runs}
 use Rattle.linked_calls.proofs.Rooms.{RoomNumbers}
 use Rattle.linked_calls.proofs.Staying.{stay_ready}
@@ -48,7 +48,7 @@ module _ (image : Fields) (code : Code) (site : Site) (numbers : RoomNumbers ima
   longer a size lies = ((lies.0.0, omega (arith, lies.0.1)), lies.1)
 
   output_runs : (i : ℕ) (slot : Slot) (form : Form) → IsKnown image site i slot form
-      → Runs z (output_turns image i slot form) (copy_out_code image i slot form)
+      → Runs z (output_steps image i slot form) (copy_out_code image i slot form)
       (Begins image site (λ bytes. IsReady image site bytes i slot form)) (Takes (λ s. handed s.bytes i slot form))
   output_runs i slot MutableArray known =
       weaken_runs z {P' = Begins image site (λ bytes. IsReady image site bytes i slot MutableArray)}
@@ -142,7 +142,7 @@ module _ (image : Fields) (code : Code) (site : Site) (numbers : RoomNumbers ima
       (sym (one_handed bytes i slot form rest)) (sym (one_behind bytes slot form rest))
 
   handed_runs : (i : ℕ) (slots : List Slot) → i + length slots ≡ length image.slots → AreKnown image site i slots
-      → Runs z (outputs_turns image i slots) (results_code image i slots)
+      → Runs z (outputs_steps image i slots) (results_code image i slots)
       (Begins image site (λ bytes. AreReady image site bytes i slots)) (Takes (λ s. all_handed s.bytes i slots))
   handed_runs i [] count known = no_code z (λ s begins. record { bytes = refl; others = λ q none. refl })
   handed_runs i (slot ∷ slots) count known =
@@ -171,7 +171,7 @@ module _ (image : Fields) (code : Code) (site : Site) (numbers : RoomNumbers ima
 
   -- the outcome of each, as the slots hold it at the beginning
   pub results_runs : AreKnown image site 0 image.slots
-      → Runs z (outputs_turns image 0 image.slots) (results_code image 0 image.slots)
+      → Runs z (outputs_steps image 0 image.slots) (results_code image 0 image.slots)
       (Begins image site (λ bytes. AreReady image site bytes 0 image.slots))
       (Takes (λ s. with_arrays site s.bytes 0 image.slots (arrays_in base s.bytes image.slots)))
   results_runs known =

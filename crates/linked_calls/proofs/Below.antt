@@ -22,7 +22,7 @@ pub use Rattle.codegen.specs.declared.image_fields.slot.Slot.{Slot}
 pub use Rattle.codegen.specs.expression_code.TermCode.{constant_code, load_code, lower_part, store_code, upper_part}
 pub use Rattle.codegen.specs.image_fields.Fields.{Fields, IsImage}
 pub use Rattle.codegen.specs.program_logic.StraightCode.{IsFit, IsMet}
-pub use Rattle.codegen.specs.program_logic.Turns.{LeadsWithin, stays_within}
+pub use Rattle.codegen.specs.program_logic.MachineSteps.{LeadsWithin, stays_within}
 pub use Rattle.hepurita.proofs.DataLemmas.{bytes_within}
 pub use Rattle.hepurita.proofs.ElementLemmas.{is_some-with_numbers, number_there, numbers_at-more}
 pub use Rattle.hepurita.specs.Linked.{IsLinked, RunsLinked}
@@ -56,13 +56,13 @@ unfoldable pub use Rattle.linked_calls.specs.FunctionCode.{function_words}
 pub use Rattle.linked_calls.specs.FunctionCode.{result_code, results_code, room_of, stores_code, until_equal}
 pub use Rattle.linked_calls.specs.FunctionCode.{wipe_code, zeros_code}
 pub use Rattle.linked_calls.specs.Meant.{meant}
-pub use Rattle.linked_calls.specs.Sections.{argument_sections, argument_turns, around_turns, array_section}
-pub use Rattle.linked_calls.specs.Sections.{array_sections, array_turns, block_turns, code_of, element_turns}
-pub use Rattle.linked_calls.specs.Sections.{enter_sections, frame_sections, leave_sections, section_turns}
+pub use Rattle.linked_calls.specs.Sections.{argument_sections, argument_steps, around_steps, array_section}
+pub use Rattle.linked_calls.specs.Sections.{array_sections, array_steps, block_steps, code_of, element_steps}
+pub use Rattle.linked_calls.specs.Sections.{enter_sections, frame_sections, leave_sections, section_steps}
 pub use Rattle.linked_calls.specs.Stretches.{AreData, AreZeroed, LiesIn}
 pub use Rattle.linked_calls.specs.Words.{CanBePut, HasResult, HasWordArgument, IsLoadOf, IsPut, IsPutting, IsReturned}
 pub use Rattle.linked_calls.specs.Words.{ResultIsHandedBack, WordIsTaken}
-pub use Rattle.linked_calls.specs.Zeros.{frame_turns, FrameIsZeroed, HasFrame, HasRoom, IsStoreIn, IsWiped}
+pub use Rattle.linked_calls.specs.Zeros.{frame_steps, FrameIsZeroed, HasFrame, HasRoom, IsStoreIn, IsWiped}
 pub use Rattle.linked_calls.specs.Zeros.{IsZeroFrame, RoomIsWiped}
 pub use Rattle.linked_calls.specs.declared.section.Section.{Section}
 pub use Rattle.linked_calls.specs.declared.section.Section.TheVariants.{ArgumentIn, CallersStack, ClearedFrame}
@@ -79,13 +79,13 @@ pub use Rattle.rv_code.specs.declared.operations.ShiftOperation.TheVariants.{Sll
 pub use Rattle.rv_code.specs.declared.operations.StoreOperation.TheVariants.{Sw}
 pub use Rattle.rv_code.specs.declared.operations.UpperOperation.TheVariants.{Lui}
 pub use Rattle.rv_machine.proofs.Face.{branch_leads, branch_passes, is_inside, is_outside, is_some-with_number}
-pub use Rattle.rv_machine.proofs.Face.{jump_done, number_at-with_number, number_at_same, place, turn_of}
+pub use Rattle.rv_machine.proofs.Face.{jump_done, number_at-with_number, number_at_same, place, step_of}
 pub use Rattle.rv_machine.proofs.Face.{with_number-suc, with_number-zero, with_number_inside, with_number_outside}
 pub use Rattle.rv_machine.specs.Bytes.{ByteMap, number_at, with_byte, zeros}
 unfoldable pub use Rattle.rv_machine.specs.Bytes.{with_number}
 pub use Rattle.rv_machine.specs.Effects.{branch_target, difference_of, holds, register_target, register_value}
 pub use Rattle.rv_machine.specs.Effects.{shift_value, sign_extended, sum_of}
-pub use Rattle.rv_machine.specs.Machine.{Code, goes_on, IsAt, next, observed, State, Turn}
+pub use Rattle.rv_machine.specs.Machine.{Code, goes_on, IsAt, next, observed, State, Step}
 unfoldable pub use Rattle.rv_machine.specs.Machine.{moved_to, with_link}
 pub use Rattle.rv_machine.specs.Registers.{register, with_register}
 pub use Rattle.rv_machine.specs.Sizes.{byte_count}

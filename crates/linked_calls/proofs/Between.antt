@@ -7,8 +7,8 @@ use Rattle.linked_calls.proofs.Below.{AreData, argument_offset, arguments_end, a
 use Rattle.linked_calls.proofs.Below.{ByteMap, Code, enter_code, enter_sections, Fields, FixedArray, Form, frame_room}
 use Rattle.linked_calls.proofs.Below.{function_words, goes_on, IsCalled, IsImage, IsLeft, IsLoaded, IsOfCall, IsSite}
 use Rattle.linked_calls.proofs.Below.{LeadsWithin, leave_sections, moved_to, MutableArray, number_at, Observation}
-use Rattle.linked_calls.proofs.Below.{observed, results_in, room_base, saved_registers, section_turns, SingleWord}
-use Rattle.linked_calls.proofs.Below.{Site, Slot, State, Turn}
+use Rattle.linked_calls.proofs.Below.{observed, results_in, room_base, saved_registers, section_steps, SingleWord}
+use Rattle.linked_calls.proofs.Below.{Site, Slot, State, Step}
 use Rattle.linked_calls.proofs.Bytes.{IsOutside}
 use Rattle.linked_calls.proofs.SameRegisters.{AreSame}
 
@@ -19,11 +19,11 @@ body_at image site = site.entry + 4 * length (enter_code image)
 abbrev pub leave_at : Fields → Site → ℕ
 leave_at image site = body_at image site + 4 * length (body_words image.words)
 
-abbrev pub enter_turns : Fields → ℕ
-enter_turns image = sum (map (section_turns image) (enter_sections image))
+abbrev pub enter_steps : Fields → ℕ
+enter_steps image = sum (map (section_steps image) (enter_sections image))
 
-abbrev pub leave_turns : Fields → ℕ
-leave_turns image = sum (map (section_turns image) (leave_sections image))
+abbrev pub leave_steps : Fields → ℕ
+leave_steps image = sum (map (section_steps image) (leave_sections image))
 
 -- what registers held stands in words from an address on
 abbrev pub AreSaved : ByteMap → (ℕ → ℕ) → ℕ → List ℕ → Type 0
@@ -73,7 +73,7 @@ pub record IsEntered (image : Fields) (site : Site) (s t : State) : Type 0 where
 pub record EntersFrom (image : Fields) (code : Code) (site : Site) (list : List Observation) (s : State) :
     Type 0 where
   pub end : State
-  pub leads : LeadsWithin code (IsOfCall image site) (enter_turns image) s list end
+  pub leads : LeadsWithin code (IsOfCall image site) (enter_steps image) s list end
   pub entered : IsEntered image site s end
 
 pub record Enters (image : Fields) (code : Code) (site : Site) : Type 0 where
@@ -99,13 +99,13 @@ pub record CanLeave (image : Fields) (site : Site) (regs : ℕ → ℕ) (s : Sta
 
 pub record LeavesFrom (image : Fields) (code : Code) (site : Site) (list : List Observation) (regs : ℕ
     → ℕ) (s : State) : Type 0 where
-  pub turns : ℕ
-  pub counted : suc turns ≡ leave_turns image
+  pub step_count : ℕ
+  pub counted : suc step_count ≡ leave_steps image
   pub end : State
-  pub leads : LeadsWithin code (IsOfCall image site) turns s list end
+  pub leads : LeadsWithin code (IsOfCall image site) step_count s list end
   pub at_last : end.pc ≡ site.entry + 4 * (length (function_words image) - 1)
   pub left : IsLeft image site regs s.bytes (results_in (room_base image site) image s.bytes) end
-  pub goes_back : regs 1 % 4 ≡ 0 → Turn code end (goes_on (observed end None) (moved_to end (regs 1)))
+  pub goes_back : regs 1 % 4 ≡ 0 → Step code end (goes_on (observed end None) (moved_to end (regs 1)))
 
 pub record Leaves (image : Fields) (code : Code) (site : Site) : Type 0 where
   pub shown : List Observation

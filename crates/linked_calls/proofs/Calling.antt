@@ -5,14 +5,14 @@ use Rattle.std.proofs.Common.{inr, ⊎_elim, refl, sym, ap, ◌∙◌, subst, ar
 use Rattle.std.proofs.lemmas.Bool.{cases_lt}
 use Rattle.std.proofs.lemmas.List.{map-append}
 use Rattle.std.proofs.lemmas.List.Sums.{sum_by-append}
-use Rattle.linked_calls.proofs.Below.{AreData, Arg, arguments_end, arguments_of, around_turns, both_within, Code}
+use Rattle.linked_calls.proofs.Below.{AreData, Arg, arguments_end, arguments_of, around_steps, both_within, Code}
 use Rattle.linked_calls.proofs.Below.{enter_sections, Event, Fields, IsCalled, IsInside, IsLeft, IsLinked, IsOfCall}
 use Rattle.linked_calls.proofs.Below.{IsSite, LeadsWithin-append, leave_sections, Observation, ProcedureTree}
 use Rattle.linked_calls.proofs.Below.{ProgramTree, Results, results_in, room_base, RunsLinked, saved_registers}
-use Rattle.linked_calls.proofs.Below.{section_turns, Site, State}
+use Rattle.linked_calls.proofs.Below.{section_steps, Site, State}
 use Rattle.linked_calls.specs.Below.{BodyRun, IsBeside, IsPlaced, Load, Store}
 use Rattle.linked_calls.specs.Callable.{Returns, IsCallable, CallsAreLinked}
-use Rattle.linked_calls.proofs.Between.{IsOutsideRoom, body_at, saved_at, enter_turns, leave_turns, Enters}
+use Rattle.linked_calls.proofs.Between.{IsOutsideRoom, body_at, saved_at, enter_steps, leave_steps, Enters}
 use Rattle.linked_calls.proofs.Between.{EntersFrom, EnteringLeads, CanLeave, Leaves, LeavesFrom, LeavesEverywhere}
 use Rattle.linked_calls.proofs.Between.{untouched_registers}
 use Rattle.linked_calls.proofs.Bytes.{SameData}
@@ -47,17 +47,17 @@ inside_is_of_call image code site is sp (Some (Store a size)) at inside =
     inl ((inside.0, omega arith), omega (arith, at, inside.0))
 inside_is_of_call image code site is sp (Some event) at inside = tt
 
--- Turns.
+-- Steps.
 
-turns_around : (image : Fields) → around_turns image ≡ enter_turns image + leave_turns image
-turns_around image =
-    ap sum (map-append (section_turns image) (enter_sections image) (leave_sections image))
-    ∙ sum_by-append (λ x. x) (map (section_turns image) (enter_sections image))
-    (map (section_turns image) (leave_sections image))
+steps_around : (image : Fields) → around_steps image ≡ enter_steps image + leave_steps image
+steps_around image =
+    ap sum (map-append (section_steps image) (enter_sections image) (leave_sections image))
+    ∙ sum_by-append (λ x. x) (map (section_steps image) (enter_sections image))
+    (map (section_steps image) (leave_sections image))
 
-turns_counted : (enter body leave around : ℕ) (rest : ℕ) → around ≡ enter + leave → suc rest ≡ leave
+steps_counted : (enter body leave around : ℕ) (rest : ℕ) → around ≡ enter + leave → suc rest ≡ leave
     → suc (enter + (body + rest)) ≡ around + body
-turns_counted enter body leave around rest e counted = omega arith
+steps_counted enter body leave around rest e counted = omega arith
 
 -- The body, between the two.
 
@@ -155,13 +155,14 @@ module _ (program : ProgramTree) (p : ProcedureTree) (image : Fields) (code : Co
       record {
         results = results_in (room_base image site) image run.end.bytes;
         means = body.outcome;
-        turns = enter_turns image + (run.turns + left.turns);
+        step_count = enter_steps image + (run.step_count + left.step_count);
         end = left.end;
         leads = LeadsWithin-append entered.leads (LeadsWithin-append body_within left.leads);
-        body_turns = run.turns;
+        body_steps = run.step_count;
         within_steps = run.within_steps;
-        counted = turns_counted (enter_turns image) run.turns (leave_turns image) (around_turns image) left.turns
-            (turns_around image) left.counted;
+        counted = steps_counted (enter_steps image) run.step_count (leave_steps image)
+            (around_steps image) left.step_count
+            (steps_around image) left.counted;
         at_last = left.at_last;
         left = is_left image code site is s called enters.shown entered (linked.shown args) run _ left.end left.left;
         goes_back = left.goes_back;

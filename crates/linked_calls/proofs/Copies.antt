@@ -5,8 +5,8 @@ use Rattle.std.proofs.Common.{◌≡◌, ◌≢◌, ℕ, suc, ◌+◌, ◌*◌, 
 use Rattle.std.proofs.Common.{length, map, Some, inl, inr, refl, sym, ap, ap₂, ◌∙◌, subst, arith, append_assoc}
 use Rattle.std.proofs.lemmas.List.{length-map, map-append, map-id}
 use Rattle.linked_calls.proofs.Below.{Add, AreApart, AreData, argument_code, argument_offset, array_bytes}
-use Rattle.linked_calls.proofs.Below.{array_turns, ArrayIsHandedBack, ArrayIsTaken, bounds_code, ByteMap, CanBeCopied}
-use Rattle.linked_calls.proofs.Below.{Code, constant_code, copy_out_code, Data, element_bytes, element_turns, Fields}
+use Rattle.linked_calls.proofs.Below.{array_steps, ArrayIsHandedBack, ArrayIsTaken, bounds_code, ByteMap, CanBeCopied}
+use Rattle.linked_calls.proofs.Below.{Code, constant_code, copy_out_code, Data, element_bytes, element_steps, Fields}
 use Rattle.linked_calls.proofs.Below.{FixedArray, HasArray, Instr, IsCopying, IsHandedBack, IsTaken, Kind, load_code}
 use Rattle.linked_calls.proofs.Below.{MutableArray, number_at, number_or_zero, numbers_at, OthersAsBefore, place_of}
 use Rattle.linked_calls.proofs.Below.{Pointed, Register, register_kept, Slot, slot_of, sum_of, until_equal, unwritten}
@@ -19,7 +19,7 @@ use Rattle.linked_calls.proofs.CopyElements.{element_size}
 use Rattle.linked_calls.proofs.CopyElements.{element_lies, elements_fit, some_bytes, source, target}
 use Rattle.linked_calls.proofs.Loops.{loop}
 use Rattle.linked_calls.proofs.Parts.{load_runs, number_then, same_number}
-use Rattle.linked_calls.proofs.Pieces.{MayAt, Runs, Setting, as_straight, in_turns, makes_on, makes_then, placed}
+use Rattle.linked_calls.proofs.Pieces.{MayAt, Runs, Setting, as_straight, in_steps, makes_on, makes_then, placed}
 use Rattle.linked_calls.proofs.Pieces.{straight_runs, weaken_runs}
 use Rattle.linked_calls.specs.Below.{Word}
 use Rattle.rv_machine.specs.declared.observation.Event.TheVariants as event
@@ -298,12 +298,12 @@ module _ (image : Fields) (slot : Slot) (spot : Pointed) (can : CanBeCopied imag
     pub bytes : t.bytes ≡ copied k s.bytes
     pub others : OthersAsBefore s t
 
-  pub array_runs : Runs z (length (bounds_code image spot.index slot) + element_turns (copied_code inward kind) k)
+  pub array_runs : Runs z (length (bounds_code image spot.index slot) + element_steps (copied_code inward kind) k)
       (bounds_code image spot.index slot ++ until_equal 5 7 (copied_code inward kind)) (HasArray image slot spot) Copied
   array_runs =
       makes_then z {P = HasArray image slot spot} {f = bounded} {S = Copied} (bounds_code image spot.index slot)
       (until_equal 5 7 (copied_code inward kind)) bounds_runs
-      (in_turns z (until_equal 5 7 (copied_code inward kind)) (omega arith) copy_runs) bounds_begin
+      (in_steps z (until_equal 5 7 (copied_code inward kind)) (omega arith) copy_runs) bounds_begin
       (λ s u has copies. record {
         bytes = copies.bytes;
         others = λ q g h l m. copies.others q g h m
@@ -317,7 +317,7 @@ pub handed_runs : (image : Fields) (slot : Slot) (spot : Pointed) → CanBeCopie
     → z.allowed spot.frame (Some (event.Load (place_of image spot) Word))
     → MayAt z spot.frame event.Load (slot_of slot spot) (slot_of slot spot + array_bytes slot)
     → MayAt z spot.frame event.Store spot.pointer (spot.pointer + array_bytes slot)
-    → Runs z (array_turns image spot.index slot) (copy_out_code image spot.index slot MutableArray)
+    → Runs z (array_steps image spot.index slot) (copy_out_code image spot.index slot MutableArray)
     (HasArray image slot spot) (IsHandedBack slot spot)
 handed_runs image slot spot can z place loads stores =
     weaken_runs z {P' = HasArray image slot spot} {R' = IsHandedBack slot spot}

@@ -22,7 +22,7 @@ module _ (z : Setting) (above : ℕ) (even : above % 16 ≡ 0) (below : above + 
   lowered : (s : Data) → P s → sum_of (s.regs 2) 4294967216 ≡ above
   lowered s given = omega (arith, (begins s given).0)
 
-  -- 21 turns
+  -- 21 steps
   pub entry_runs : Runs z 21 entry_code P (λ s t. t ≡ entered above s)
   entry_runs =
       makes_then z {P = P} {P' = λ s. (s.regs 2 ≡ above) × AreData above (above + 80) s.bytes}

@@ -5,22 +5,22 @@ use Rattle.std.proofs.Common.{◌∷◌, ◌++◌, length, map, Some, inl, inr, 
 use Rattle.std.proofs.lemmas.Bool.{cases_lt, ltb-false, ltb-true}
 use Rattle.linked_calls.proofs.Below.{AreData, argument_offset, argument_registers, arguments_code, arguments_end}
 use Rattle.linked_calls.proofs.Below.{arguments_of, at, ByteMap, Code, Data, enter_code, entry_code, Fields, found}
-use Rattle.linked_calls.proofs.Below.{frame_code, frame_room, frame_turns, HasFrame, IsCalled, IsImage, IsLoaded}
+use Rattle.linked_calls.proofs.Below.{frame_code, frame_room, frame_steps, HasFrame, IsCalled, IsImage, IsLoaded}
 use Rattle.linked_calls.proofs.Below.{IsOfCall, IsSite, IsZeroFrame, LeadsWithin, number_at, number_at_same}
 use Rattle.linked_calls.proofs.Below.{room_base, saved_registers, Site, State, word_in, zeros}
 use Rattle.linked_calls.proofs.AllArguments.{AreKnown, Begins, Takes, all_taken, all_taken_data, all_taken_outside}
 use Rattle.linked_calls.proofs.AllArguments.{arguments_runs, call_setting, still_base, taken_registers}
 use Rattle.linked_calls.proofs.Between.{AreReady, AreSaved, EnteringLeads, IsEntered, IsOutsideRoom, body_at}
-use Rattle.linked_calls.proofs.Between.{enter_turns, saved_at, untouched_registers}
+use Rattle.linked_calls.proofs.Between.{enter_steps, saved_at, untouched_registers}
 use Rattle.linked_calls.proofs.Bytes.{IsOutside, SameData, number_there, numbers_outside, is_some-with_numbers}
 use Rattle.linked_calls.proofs.Bytes.{zero_byte}
-use Rattle.linked_calls.proofs.SectionTurns.{arguments_turns, enter_turns_are}
+use Rattle.linked_calls.proofs.SectionSteps.{arguments_steps, enter_steps_are}
 use Rattle.linked_calls.proofs.Entering.{entered, entered_bytes, entry_runs, stored_registers}
 use Rattle.linked_calls.proofs.KnownArguments.{all_known}
 use Rattle.linked_calls.proofs.LoadedArguments.{all_taken_is}
 use Rattle.linked_calls.proofs.Parts.{same_number}
 use Rattle.linked_calls.proofs.Passed.{StandAsPassed, all_ready, still_passed}
-use Rattle.linked_calls.proofs.Pieces.{Runs, Setting, in_turns, makes_then, then_runs}
+use Rattle.linked_calls.proofs.Pieces.{Runs, Setting, in_steps, makes_then, then_runs}
 use Rattle.linked_calls.proofs.Rooms.{RoomNumbers, place_inside, place_stacked, room_numbers}
 use Rattle.linked_calls.proofs.SameRegisters.{AreSame, same_beside, still_same}
 use Rattle.linked_calls.proofs.SavedRegisters.{stored_are_saved, saved_first, saved_one, saved_same, saved_then}
@@ -105,7 +105,7 @@ module _ (image : Fields) (code : Code) (site : Site) (is : IsImage image) (is_s
       entry_runs z above (omega arith) (omega arith) (λ x low high. inl ((omega arith, omega arith), low))
       (λ d called. (omega (arith, called.stack), above_there d called))
 
-  frame_part : Runs z (frame_turns room) (frame_code room) (HasFrame frame room) (IsZeroFrame frame room)
+  frame_part : Runs z (frame_steps room) (frame_code room) (HasFrame frame room) (IsZeroFrame frame room)
   frame_part =
       zeroed_runs z frame room numbers.even numbers.whole (omega arith)
       (λ sp x low high above. inl ((omega arith, omega arith), above))
@@ -130,7 +130,7 @@ module _ (image : Fields) (code : Code) (site : Site) (is : IsImage image) (is_s
     outside = zeroed.zeroed.outside;
   }
 
-  framed_part : Runs z (21 + frame_turns room) (entry_code ++ frame_code room) Called IsFramed
+  framed_part : Runs z (21 + frame_steps room) (entry_code ++ frame_code room) Called IsFramed
   framed_part = makes_then z {f = entered above} entry_code (frame_code room) entry_part frame_part frame_begins framed
 
   -- The arguments.
@@ -199,7 +199,7 @@ module _ (image : Fields) (code : Code) (site : Site) (is : IsImage image) (is_s
       there = room_there;
     }
 
-  enter_part : Runs z (21 + frame_turns room + arguments_turns image 0 image.slots) (enter_code image) Called
+  enter_part : Runs z (21 + frame_steps room + arguments_steps image 0 image.slots) (enter_code image) Called
       (λ d t. IsEntered image site (at_call d) (at (body_at image site) t))
   enter_part =
       then_runs z {S = λ d t. IsEntered image site (at_call d) (at (body_at image site) t)}
@@ -215,7 +215,7 @@ at_own site image s called = ap (λ p. at p (record { regs = s.regs; bytes = s.b
 
 pub enters : EnteringLeads
 enters image code site is is_site =
-    let part = in_turns (call_setting image code site) (enter_code image) (sym (enter_turns_are image))
+    let part = in_steps (call_setting image code site) (enter_code image) (sym (enter_steps_are image))
     (enter_part image code site is is_site (room_numbers image code site is_site)) site.entry
     (enter_placed image code site is_site) in
     record {
@@ -227,7 +227,7 @@ enters image code site is is_site =
           let end = at (body_at image site) run.end in
           record {
             end = end;
-            leads = subst (λ (x : State). LeadsWithin code (IsOfCall image site) (enter_turns image) x part.shown end)
+            leads = subst (λ (x : State). LeadsWithin code (IsOfCall image site) (enter_steps image) x part.shown end)
                 own run.leads;
             entered = subst (λ (x : State). IsEntered image site x end) own run.done;
           };

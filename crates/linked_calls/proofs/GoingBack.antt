@@ -2,7 +2,7 @@
 use Rattle.std.proofs.Common.{◌≡◌, ℕ, ◌+◌, ◌%◌, ◌^◌, ◌<◌, Bool, true, false, cond, nat_eq, None, refl, ap, ◌∙◌, arith}
 use Rattle.std.proofs.Math.Path.{fun_ext}
 use Rattle.linked_calls.proofs.Below.{Code, goes_on, IsAt, jump_done, JumpRegister, moved_to, near_address, next}
-use Rattle.linked_calls.proofs.Below.{observed, register_target, sign_extended, State, sum_of, Turn, turn_of}
+use Rattle.linked_calls.proofs.Below.{observed, register_target, sign_extended, State, sum_of, Step, step_of}
 use Rattle.linked_calls.proofs.Below.{with_link}
 
 either : (b : Bool) (v x : ℕ) → cond b x (cond b v x) ≡ x
@@ -25,10 +25,10 @@ target_is regs target is below even =
 
 pub goes_back : (code : Code) (s : State) (target : ℕ) → IsAt code s.pc (JumpRegister 0 1 0) → s.regs 1 ≡ target
     → target < 2 ^ 32 → target % 4 ≡ 0
-    → Turn code s (goes_on (observed s None) (moved_to s target))
+    → Step code s (goes_on (observed s None) (moved_to s target))
 goes_back code s target is link below even =
     let there = target_is s.regs target link below even in
-    turn_of code s (JumpRegister 0 1 0) (goes_on (observed s None) (moved_to s target)) is
+    step_of code s (JumpRegister 0 1 0) (goes_on (observed s None) (moved_to s target)) is
     (jump_done code.profile (register_target s.regs 1 0) s 0 (ap (λ x. x % 4) there ∙ even)
     ∙ ap (λ (t : State). goes_on (observed s None) t)
     (link_dropped s (register_target s.regs 1 0) ∙ ap (λ x. moved_to s x) there))

@@ -5,7 +5,7 @@ use Rattle.std.specs.Option.{option_map}
 use Rattle.std.proofs.Common.{◌≡◌, ℕ, suc, ◌+◌, ◌-◌, ◌*◌, ◌<◌, ◌≤◌, ◌==◌, List, [], ◌∷◌, ◌++◌, length, Option}
 use Rattle.std.proofs.Common.{Some, None, drop, inl, refl, sym, ap, ◌∙◌, subst, arith, length-append, append_assoc}
 use Rattle.std.proofs.lemmas.List.Elements.{All-head}
-use Rattle.linked_calls.proofs.Below.{Add, AreZeroed, arguments_end, arrays_in, at, block_turns, ByteMap}
+use Rattle.linked_calls.proofs.Below.{Add, AreZeroed, arguments_end, arrays_in, at, block_steps, ByteMap}
 use Rattle.linked_calls.proofs.Below.{clear_registers_code, Code, constant_code, Data, Fields, frame_room}
 use Rattle.linked_calls.proofs.Below.{function_words, Instr, IsAt, IsImage, IsLeft, IsOfCall, IsSite, JumpRegister}
 use Rattle.linked_calls.proofs.Below.{kept_registers, LeadsWithin, number_at, Placed-left, Placed-right, Register}
@@ -15,11 +15,11 @@ use Rattle.linked_calls.proofs.Below.{with_arrays, with_register, with_result, w
 use Rattle.linked_calls.specs.Below.{IsResultSlot, result_end, slots_end}
 use Rattle.linked_calls.proofs.AllArguments.{AreKnown, Begins, call_setting, taken_registers}
 use Rattle.linked_calls.proofs.AllResults.{all_handed_apart, all_handed_are, results_runs}
-use Rattle.linked_calls.proofs.Between.{AreReady, CanLeave, Leaves, LeavesEverywhere, leave_at, leave_turns}
+use Rattle.linked_calls.proofs.Between.{AreReady, CanLeave, Leaves, LeavesEverywhere, leave_at, leave_steps}
 use Rattle.linked_calls.proofs.Between.{saved_at, untouched_registers}
 use Rattle.linked_calls.proofs.GoingBack.{goes_back}
 use Rattle.linked_calls.proofs.KnownArguments.{all_known}
-use Rattle.linked_calls.proofs.SectionTurns.{outputs_turns, leave_turns_are}
+use Rattle.linked_calls.proofs.SectionSteps.{outputs_steps, leave_steps_are}
 use Rattle.linked_calls.proofs.Parts.{computes_runs, load_runs, same_number}
 use Rattle.linked_calls.proofs.Bytes.{number_there}
 use Rattle.linked_calls.proofs.Pieces.{Runs, Setting, as_code, makes_then, then_runs, weaken_runs}
@@ -102,7 +102,7 @@ module _ (image : Fields) (code : Code) (site : Site) (is : IsImage image) (at_s
     bytes : t.bytes ≡ left_bytes s.bytes
     others : (q : ℕ) → IsNone (10 ∷ taken_registers) q → t.regs q ≡ s.regs q
 
-  handed_runs : Runs z (length (result_code image.returned) + outputs_turns image 0 image.slots)
+  handed_runs : Runs z (length (result_code image.returned) + outputs_steps image 0 image.slots)
       (result_code image.returned ++ results_code image 0 image.slots) Starts Handed
   handed_runs =
       makes_then z {P = Starts} {f = λ s. with_result 10 (result_of s.bytes image.returned) s} {S = Handed}
@@ -129,13 +129,13 @@ module _ (image : Fields) (code : Code) (site : Site) (is : IsImage image) (at_s
       (regs : ℕ → ℕ) → CanLeave image site regs (at (leave_at image site) s)
       → IsLeft image site regs s.bytes (results_in base image s.bytes) (at last_at t)
 
-  abbrev front_turns : ℕ
-  front_turns =
-      length (result_code image.returned) + outputs_turns image 0 image.slots +
+  abbrev front_steps : ℕ
+  front_steps =
+      length (result_code image.returned) + outputs_steps image 0 image.slots +
       (length (constant_code 5 (frame_room image) ++ Register Add 5 5 2 ∷ []) + 12 + 1 +
-      block_turns (frame_room image + 80) + 14)
+      block_steps (frame_room image + 80) + 14)
 
-  front_runs : Runs z front_turns (front image) Starts LeavesAll
+  front_runs : Runs z front_steps (front image) Starts LeavesAll
   front_runs =
       let ends = numbers.ends in
       let room = frame_room image in
@@ -182,9 +182,9 @@ module _ (image : Fields) (code : Code) (site : Site) (is : IsImage image) (at_s
       (leave_placed image code site at_site) in
       record { aligned = last.0; word = last.2; in_range = (omega arith, omega arith, omega arith) }
 
-  turns_counted : suc front_turns ≡ leave_turns image
-  turns_counted =
-      let all = leave_turns_are image in
+  steps_counted : suc front_steps ≡ leave_steps image
+  steps_counted =
+      let all = leave_steps_are image in
       omega arith
 
   leaves_here : Leaves image code site
@@ -201,10 +201,10 @@ module _ (image : Fields) (code : Code) (site : Site) (is : IsImage image) (at_s
             let left = a.done regs (subst (λ (x : State). CanLeave image site regs x) (sym there) can) in
             let last = at last_at a.end in
             record {
-              turns = front_turns;
-              counted = turns_counted;
+              step_count = front_steps;
+              counted = steps_counted;
               end = last;
-              leads = subst (λ (x : State). LeadsWithin code (IsOfCall image site) front_turns x one.shown last) there
+              leads = subst (λ (x : State). LeadsWithin code (IsOfCall image site) front_steps x one.shown last) there
                   a.leads;
               at_last = last_place image site;
               left = left;

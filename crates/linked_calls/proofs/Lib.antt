@@ -15,7 +15,7 @@ pub mod Rooms
 pub mod Standing
 pub mod Staying
 pub mod SavedRegisters
-pub mod SectionTurns
+pub mod SectionSteps
 pub mod AllArguments
 pub mod KnownArguments
 pub mod Entering

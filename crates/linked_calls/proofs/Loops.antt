@@ -1,4 +1,4 @@
--- Loops that go back by a branch: rounds, of which each is so many turns, with one list for all states.
+-- Loops that go back by a branch: rounds, of which each is so many steps, with one list for all states.
 use Rattle.std.specs.Prelude.{not}
 use Rattle.std.proofs.Common.{◌≡◌, ◌≢◌, ℕ, zero, suc, ◌+◌, ◌-◌, ◌*◌, ◌%◌, ◌^◌, ◌<◌, ◌≤◌, true, false, List, [], ◌∷◌}
 use Rattle.std.proofs.Common.{◌++◌, length, None, refl, ap, ◌∙◌, subst, arith, eq-eqb, ne_eqb, length-append}
@@ -6,7 +6,7 @@ use Rattle.std.proofs.lemmas.Bool.Decides.{nat_tests}
 use Rattle.linked_calls.proofs.Below.{at, Bne, Branch, branch_leads, branch_passes, branch_target, Data, holds, Instr}
 use Rattle.linked_calls.proofs.Below.{LeadsWithin, LeadsWithin-append, moved_to, Observation, one_within, Placed}
 use Rattle.linked_calls.proofs.Below.{Placed-left, Placed-right, register, sign_extended, stands, until_equal}
-use Rattle.linked_calls.proofs.Pieces.{Setting, Runs, in_turns, leads_as, weaken_runs}
+use Rattle.linked_calls.proofs.Pieces.{Setting, Runs, in_steps, leads_as, weaken_runs}
 
 -- a branch back over so many instructions
 back : (p count : ℕ) → 0 < count → count < 1024 → p + 4 * count < 2 ^ 32
@@ -116,6 +116,6 @@ module _ (z : Setting) (one other : ℕ) (small : (one < 32) × (other < 32)) (b
     loop positive begins ends =
         let e : suc (k - 1) ≡ k = omega arith in
         weaken_runs z (until_equal one other body)
-        (in_turns z (until_equal one other body) (ap (λ x. x * suc n) e)
+        (in_steps z (until_equal one other body) (ap (λ x. x * suc n) e)
         (rounds (k - 1) 0 (omega arith)))
         (λ s given. (s, begins s given)) (λ s t given run. ends s t given (run s (begins s given)))

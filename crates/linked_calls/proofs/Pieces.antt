@@ -1,4 +1,4 @@
--- Pieces of code, wherever they stand: an exact number of turns, and one list for all states that they may begin in, of
+-- Pieces of code, wherever they stand: an exact number of steps, and one list for all states that they may begin in, of
 -- allowed accesses alone. So what follows in a list is known before any state is given, which is equal leakage.
 use Rattle.std.proofs.Common.{◌≡◌, ℕ, ◌+◌, ◌*◌, Bool, true, false, List, [], ◌∷◌, ◌++◌, length, Option, None, Some}
 use Rattle.std.proofs.Common.{subst, sym, ◌∙◌}
@@ -22,11 +22,11 @@ pub record Setting : Type 1 where
 abbrev pub Runs : Setting → ℕ → List Instr → (Data → Type 0) → (Data → Data → Type 0) → Type 0
 Runs z n is P R = (p : ℕ) → Placed z.code p is → Does z.code p is n z.allowed P R
 
--- to the same address in as many turns, otherwise written
+-- to the same address in as many steps, otherwise written
 pub leads_as : (z : Setting) (s : State) (list : List Observation) (d : Data) {m n q r : ℕ} → m ≡ n → q ≡ r
     → LeadsWithin z.code z.allowed m s list (at q d) → LeadsWithin z.code z.allowed n s list (at r d)
-leads_as z s list d {m = m} {r = r} turns there leads =
-    subst (λ k. LeadsWithin z.code z.allowed k s list (at r d)) turns
+leads_as z s list d {m = m} {r = r} steps there leads =
+    subst (λ k. LeadsWithin z.code z.allowed k s list (at r d)) steps
     (subst (λ a. LeadsWithin z.code z.allowed m s list (at a d)) there leads)
 
 module _ (z : Setting) where
@@ -98,7 +98,7 @@ module _ (z : Setting) where
       then_runs xs ys one two (λ s t given made. subst P' (sym made) (link s given))
       (λ s t u given made more. both s u given (subst (λ (x : Data). R x u) made more))
 
-  -- straight code, in as many turns as both have instructions
+  -- straight code, in as many steps as both have instructions
   pub makes_on : {P P' : Data → Type 0} {f : Data → Data} {R S : Data → Data → Type 0} (xs ys : List Instr)
       → Runs z (length xs) xs P (λ s t. t ≡ f s) → Runs z (length ys) ys P' R
       → ((s : Data) → P s → P' (f s)) → ((s u : Data) → P s → R (f s) u → S s u)
@@ -118,10 +118,10 @@ module _ (z : Setting) where
             record { end = run.end; leads = run.leads; done = behind s run.end given run.done };
       }
 
-  -- in as many turns, otherwise written
-  pub in_turns : {P : Data → Type 0} {R : Data → Data → Type 0} {m n : ℕ} (is : List Instr) → m ≡ n → Runs z m is P R
+  -- in as many steps, otherwise written
+  pub in_steps : {P : Data → Type 0} {R : Data → Data → Type 0} {m n : ℕ} (is : List Instr) → m ≡ n → Runs z m is P R
       → Runs z n is P R
-  in_turns {P = P} {R = R} is turns one = subst (λ k. Runs z k is P R) turns one
+  in_steps {P = P} {R = R} is steps one = subst (λ k. Runs z k is P R) steps one
 
   -- the same code, otherwise written
   pub as_code : {P : Data → Type 0} {R : Data → Data → Type 0} {n : ℕ} (is js : List Instr) → is ≡ js

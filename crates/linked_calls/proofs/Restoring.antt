@@ -1,7 +1,7 @@
 -- The last of a call: the caller's registers restored, all the room wiped, and the other registers cleared.
 use Rattle.std.proofs.Common.{◌≡◌, ℕ, ◌+◌, ◌%◌, ◌^◌, ◌<◌, ◌==◌, List, [], ◌∷◌, ◌++◌, length, All, refl, sym}
 use Rattle.std.proofs.Common.{◌∙◌, subst, arith, append_assoc}
-use Rattle.linked_calls.proofs.Below.{Add, added, after_all, AreCleared, AreData, AreZeroed, block_turns, ByteMap}
+use Rattle.linked_calls.proofs.Below.{Add, added, after_all, AreCleared, AreData, AreZeroed, block_steps, ByteMap}
 use Rattle.linked_calls.proofs.Below.{clear_registers_code, constant_code, Data, Instr, IsWiped, loads_code, Register}
 use Rattle.linked_calls.proofs.Below.{restore_code, saved_registers, scratch_registers, sum_of, wipe_code}
 use Rattle.linked_calls.proofs.Below.{with_register, with_result}
@@ -74,7 +74,7 @@ module _ (z : Setting) (frame room : ℕ) (even : frame % 16 ≡ 0) (whole : roo
         (λ s begins. tt) (λ s u begins made. made)
 
     -- the room is wiped as well
-    wiped_runs : Runs z (length (constant_code 5 room ++ Register Add 5 5 2 ∷ []) + 12 + 1 + block_turns (room + 80))
+    wiped_runs : Runs z (length (constant_code 5 room ++ Register Add 5 5 2 ∷ []) + 12 + 1 + block_steps (room + 80))
         (restore_code room ++ wipe_code) BeginsLast (λ s t. IsWiped frame (room + 80) (restored s) t)
     wiped_runs =
         makes_then z {P = BeginsLast} {f = restored} (restore_code room) wipe_code restored_runs
@@ -91,7 +91,7 @@ module _ (z : Setting) (frame room : ℕ) (even : frame % 16 ≡ 0) (whole : roo
       pub zeroed : AreZeroed frame (frame + (room + 80)) s.bytes t.bytes
 
     pub lasts_run : Runs z
-        (length (constant_code 5 room ++ Register Add 5 5 2 ∷ []) + 12 + 1 + block_turns (room + 80) + 14)
+        (length (constant_code 5 room ++ Register Add 5 5 2 ∷ []) + 12 + 1 + block_steps (room + 80) + 14)
         (restore_code room ++ wipe_code ++ clear_registers_code scratch_registers) BeginsLast Lasts
     lasts_run =
         then_runs z {P = BeginsLast} {P' = λ s. Unit {0}} {R' = AreCleared scratch_registers} {S = Lasts}

@@ -14,7 +14,7 @@ module _ (code : Code) (Allowed : ℕ → Option Event → Type 0) (works : ℕ 
     (may : (sp : ℕ) (event : Option Event) → Here sp → Allows event → Allowed sp event)
     (stays : (i : Instr) (a : ℕ) (c : Data) → is_straight works i ≡ true → Here (c.regs 2)
     → Here ((after i a c).regs 2)) where
-  -- the turn of the first instruction
+  -- the step of the first instruction
   first_within : (p : ℕ) (i : Instr) (is : List Instr) (places : List ℕ) (c : Data) (F M : Type 0)
       → is_straight works i ≡ true → Placed code p (i ∷ is) → fit_and Allows i (next_of places) F
       → met_and i (next_of places) c M → Here (c.regs 2)

@@ -4,7 +4,7 @@ use Rattle.std.proofs.Common.{◌≡◌, ℕ, ◌+◌, ◌%◌, ◌^◌, ◌==�
 use Rattle.std.proofs.Math.Path.{fun_ext}
 use Rattle.std.proofs.lemmas.Bool.Decides.{nat_tests}
 use Rattle.std.proofs.lemmas.Nat.{and_mask}
-use Rattle.linked_calls.proofs.Below.{argument_code, argument_offset, argument_turns, Boolean, ByteMap, CanBePut}
+use Rattle.linked_calls.proofs.Below.{argument_code, argument_offset, argument_steps, Boolean, ByteMap, CanBePut}
 use Rattle.linked_calls.proofs.Below.{Data, Fields, HasResult, HasWordArgument, IsLoadOf, IsPut, IsPutting}
 use Rattle.linked_calls.proofs.Below.{IsReturned, Kind, load_code, meant, meant_code, number_at, number_or_zero}
 use Rattle.linked_calls.proofs.Below.{only_computes, registers_after, ResultIsHandedBack, shift_value, SingleWord}
@@ -48,7 +48,7 @@ meant_made kind regs = refl
 pub word_runs : (z : Setting) (image : Fields) (slot : Slot) (frame i : ℕ) → CanBePut image slot frame i
     → z.allowed frame (Some (event.Load (frame + argument_offset image i) Word))
     → z.allowed frame (Some (event.Store (frame + slot.offset) Word))
-    → Runs z (argument_turns image i slot SingleWord) (argument_code image i slot SingleWord)
+    → Runs z (argument_steps image i slot SingleWord) (argument_code image i slot SingleWord)
     (HasWordArgument image slot frame i) (IsPut image slot frame i)
 word_runs z image slot frame i can loads stores =
     let kind = slot.param.kind in

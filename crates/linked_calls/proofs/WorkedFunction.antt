@@ -1,7 +1,7 @@
--- The function that adds one to its argument, as it is worked out by hand: 72 words, and 98 turns around the 4 of its
+-- The function that adds one to its argument, as it is worked out by hand: 72 words, and 98 steps around the 4 of its
 -- body.
 use Rattle.std.proofs.Common.{◌≡◌, [], ◌∷◌, length, Some, refl}
-use Rattle.linked_calls.proofs.Below.{around_turns, Fields, function_words, P1, room_of, Secret, SingleWord, Uint32}
+use Rattle.linked_calls.proofs.Below.{around_steps, Fields, function_words, P1, room_of, Secret, SingleWord, Uint32}
 
 abbrev add_one : Fields
 add_one = record {
@@ -20,5 +20,5 @@ words : length (function_words add_one) ≡ 72
 unfolding function_words
 words = refl
 
-turns : around_turns add_one ≡ 98
-turns = refl
+steps : around_steps add_one ≡ 98
+steps = refl

@@ -4,8 +4,8 @@ use Rattle.std.proofs.Common.{◌≡◌, ◌≢◌, ℕ, suc, ◌+◌, ◌-◌, 
 use Rattle.std.proofs.Common.{[], ◌∷◌, ◌++◌, length, Some, refl, sym, ap, ◌∙◌, subst, arith, append_assoc}
 use Rattle.std.proofs.Common.{length-append, if◌then◌else◌}
 use Rattle.std.proofs.lemmas.Bool.{eqb-false, eqb-true}
-use Rattle.linked_calls.proofs.Below.{added, AreData, AreZeroed, block_turns, ByteMap, Code, constant_code, Data}
-use Rattle.linked_calls.proofs.Below.{difference_of, frame_code, frame_turns, FrameIsZeroed, HasFrame, HasRoom, Instr}
+use Rattle.linked_calls.proofs.Below.{added, AreData, AreZeroed, block_steps, ByteMap, Code, constant_code, Data}
+use Rattle.linked_calls.proofs.Below.{difference_of, frame_code, frame_steps, FrameIsZeroed, HasFrame, HasRoom, Instr}
 use Rattle.linked_calls.proofs.Below.{IsStoreIn, IsWiped, IsZeroFrame, Register, RoomIsWiped, Sub, sum_of}
 use Rattle.linked_calls.proofs.Below.{until_equal, unwritten, wipe_code, with_numbers, with_register, with_result}
 use Rattle.linked_calls.proofs.Below.{zeros_code}
@@ -13,7 +13,7 @@ use Rattle.linked_calls.proofs.Bytes.{no_zeros, is_some-with_numbers, zeroed_wor
 use Rattle.linked_calls.specs.Below.{Store, Word}
 use Rattle.linked_calls.proofs.Loops.{loop}
 use Rattle.linked_calls.proofs.Parts.{computes_runs, number_then, stored, stores_runs}
-use Rattle.linked_calls.proofs.Pieces.{Runs, Setting, as_code, in_turns, makes_then, no_code, placed, weaken_runs}
+use Rattle.linked_calls.proofs.Pieces.{Runs, Setting, as_code, in_steps, makes_then, no_code, placed, weaken_runs}
 
 abbrev down_code : List Instr
 down_code = added 2 (4096 - 16) ∷ zeros_code
@@ -123,9 +123,9 @@ module _ (z : Setting) (bottom room : ℕ) (even : bottom % 16 ≡ 0) (whole : r
       others = λ q h. unwritten d.regs 2 (x (suc i)) q h ∙ held.others q h;
     }
 
-    blocks_run : Runs z (block_turns room) (until_equal 2 5 body) (BeginsBlocks (x 0) stop) (Zeroed blocks)
+    blocks_run : Runs z (block_steps room) (until_equal 2 5 body) (BeginsBlocks (x 0) stop) (Zeroed blocks)
     blocks_run =
-        in_turns z (until_equal 2 5 body) (omega arith)
+        in_steps z (until_equal 2 5 body) (omega arith)
         (loop z 2 5 (omega arith, omega arith) body (omega arith) (omega arith) blocks Zeroed
         (λ i few.
         weaken_runs z body (block_runs i few)
@@ -151,7 +151,7 @@ module _ (z : Setting) (bottom room : ℕ) (even : bottom % 16 ≡ 0) (whole : r
   abbrev up_at : ℕ → ℕ
   up_at i = bottom + 16 * i
 
-  down_runs : Runs z (block_turns room) (until_equal 2 5 down_code) (BeginsBlocks (down_at 0) bottom)
+  down_runs : Runs z (block_steps room) (until_equal 2 5 down_code) (BeginsBlocks (down_at 0) bottom)
       (Zeroing (down_at blocks) bottom (down_at blocks) top)
   down_runs =
       blocks_run down_code refl bottom down_at (λ i. down_at (suc i)) down_at (λ i. top)
@@ -163,7 +163,7 @@ module _ (z : Setting) (bottom room : ℕ) (even : bottom % 16 ≡ 0) (whole : r
       (subst (λ y. AreZeroed (down_at (suc i)) y two three) next more))
       (λ i few same. omega arith) (omega arith) (omega arith)
 
-  pub up_runs : Runs z (block_turns room) (until_equal 2 5 up_code) (HasRoom bottom room) (IsWiped bottom room)
+  pub up_runs : Runs z (block_steps room) (until_equal 2 5 up_code) (HasRoom bottom room) (IsWiped bottom room)
   up_runs =
       let end : up_at blocks ≡ top = omega arith in
       weaken_runs z (until_equal 2 5 up_code)
@@ -183,14 +183,14 @@ module _ (z : Setting) (bottom room : ℕ) (even : bottom % 16 ≡ 0) (whole : r
 
   -- The frame: x5 is the number of bytes, and then the bottom.
 
-  frame_runs : Runs z (length (constant_code 5 room) + 1 + block_turns room)
+  frame_runs : Runs z (length (constant_code 5 room) + 1 + block_steps room)
       ((constant_code 5 room ++ Register Sub 5 2 5 ∷ []) ++ until_equal 2 5 down_code) (HasFrame bottom room)
       (IsZeroFrame bottom room)
   frame_runs =
       let base = constant_code 5 room ++ Register Sub 5 2 5 ∷ [] in
       let end : down_at blocks ≡ bottom = omega arith in
-      in_turns z (base ++ until_equal 2 5 down_code)
-      (ap (λ n. n + block_turns room) (length-append (constant_code 5 room) (Register Sub 5 2 5 ∷ [])))
+      in_steps z (base ++ until_equal 2 5 down_code)
+      (ap (λ n. n + block_steps room) (length-append (constant_code 5 room) (Register Sub 5 2 5 ∷ [])))
       (makes_then z {P = HasFrame bottom room} {f = λ s. with_result 5 (difference_of (s.regs 2) room) s}
       {S = IsZeroFrame bottom room} base (until_equal 2 5 down_code)
       (number_then z 5 room (omega arith) (λ e. omega arith) (omega arith) Sub 2 5 (omega arith) (omega arith))
@@ -205,11 +205,11 @@ module _ (z : Setting) (bottom room : ℕ) (even : bottom % 16 ≡ 0) (whole : r
 -- the code of a frame, which is none where the frame has no room
 pub zeroed_runs : (z : Setting) (bottom room : ℕ) → bottom % 16 ≡ 0 → room % 16 ≡ 0 → bottom + room < 2 ^ 32
     → MayZero z bottom (bottom + room)
-    → Runs z (frame_turns room) (frame_code room) (HasFrame bottom room) (IsZeroFrame bottom room)
+    → Runs z (frame_steps room) (frame_code room) (HasFrame bottom room) (IsZeroFrame bottom room)
 zeroed_runs z bottom room even whole below may = by (room == 0) refl
   where
     by : (b : Bool) → (room == 0) ≡ b
-        → Runs z (if b then 0 else length (constant_code 5 room) + 1 + block_turns room)
+        → Runs z (if b then 0 else length (constant_code 5 room) + 1 + block_steps room)
         (if b then [] else some_frame room) (HasFrame bottom room) (IsZeroFrame bottom room)
     by true none =
         let no_room : room ≡ 0 = eqb-true room 0 none in

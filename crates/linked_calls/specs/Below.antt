@@ -7,7 +7,7 @@ pub use Rattle.rv_code.specs.declared.operations.ImmediateOperation.TheVariants.
 pub use Rattle.rv_code.specs.declared.operations.RegisterOperation.TheVariants.{Add, Sub}
 pub use Rattle.rv_machine.specs.Bytes.{ByteMap}
 unfoldable pub use Rattle.rv_machine.specs.Bytes.{number_at}
-pub use Rattle.rv_machine.specs.Machine.{Code, goes_on, observed, State, Turn}
+pub use Rattle.rv_machine.specs.Machine.{Code, goes_on, observed, State, Step}
 unfoldable pub use Rattle.rv_machine.specs.Machine.{moved_to}
 pub use Rattle.rv_machine.specs.declared.memory.Size.{Size}
 pub use Rattle.rv_machine.specs.declared.memory.Size.TheVariants.{Byte, Half, Word}
@@ -30,6 +30,6 @@ pub use Rattle.codegen.specs.image_fields.Fields.{AreSlots, Fields, is_length, I
 pub use Rattle.codegen.specs.image_fields.Fields.{slot_bytes, slot_end, slots_end}
 pub use Rattle.codegen.specs.program_logic.StraightCode.{Contents, event_of, fit_and, is_straight, left_by, met_and}
 pub use Rattle.codegen.specs.program_logic.StraightCode.{next_of, state_at}
-pub use Rattle.codegen.specs.program_logic.Turns.{LeadsWithin}
+pub use Rattle.codegen.specs.program_logic.MachineSteps.{LeadsWithin}
 pub use Rattle.codegen.specs.declared.image_fields.slot.ResultSlot.{ResultSlot}
 pub use Rattle.codegen.specs.declared.image_fields.slot.Slot.{Slot}

@@ -1,35 +1,35 @@
--- The linked call: a caller that keeps the calling convention gets what the source means, in an exact number of turns
+-- The linked call: a caller that keeps the calling convention gets what the source means, in an exact number of steps
 -- around those of the body, and its secrets make no difference to what an observer sees.
 use Rattle.std.specs.Prelude.{◌≡◌, ℕ, suc, ◌+◌, ◌-◌, ◌*◌, ◌%◌, ◌<◌, List, length, None}
 use Rattle.language.specs.arguments.Agreement.{Agree}
 use Rattle.language.specs.arguments.PublicResults.{AgreeInPublic}
 use Rattle.linked_calls.specs.Below.{Arg, Code, Fields, goes_on, IsImage, LeadsWithin, moved_to, Observation, observed}
-use Rattle.linked_calls.specs.Below.{params_of, Results, State, Turn}
+use Rattle.linked_calls.specs.Below.{params_of, Results, State, Step}
 use Rattle.hepurita.specs.Compiled.{IsCompiled}
 use Rattle.hepurita.specs.Meant.{Means}
 use Rattle.language.specs.Tree.{ProcedureTree, ProgramTree}
 use Rattle.linked_calls.specs.Called.{IsOfCall, IsLeft}
 use Rattle.linked_calls.specs.Calls.{Site, IsSite, IsCalled, arguments_of}
 use Rattle.linked_calls.specs.FunctionCode.{function_words}
-use Rattle.linked_calls.specs.Sections.{around_turns}
+use Rattle.linked_calls.specs.Sections.{around_steps}
 
--- a call from this state: all its turns but the last, which jumps back, and that one. What it shows is this list
+-- a call from this state: all its steps but the last, which jumps back, and that one. What it shows is this list
 pub record Returns (program : ProgramTree) (image : Fields) (code : Code) (site : Site) (s : State)
     (list : List Observation) : Type 0 where
   pub results : Results
   pub means : Means program (arguments_of image site s) results
-  pub turns : ℕ
+  pub step_count : ℕ
   pub end : State
-  -- each turn makes an access of the call, by the stack pointer as it is then, or none
-  pub leads : LeadsWithin code (IsOfCall image site) turns s list end
-  -- those of the body: ECALL would be one turn more
-  pub body_turns : ℕ
-  pub within_steps : body_turns < image.max_steps
-  pub counted : suc turns ≡ around_turns image + body_turns
+  -- each step makes an access of the call, by the stack pointer as it is then, or none
+  pub leads : LeadsWithin code (IsOfCall image site) step_count s list end
+  -- those of the body: ECALL would be one step more
+  pub body_steps : ℕ
+  pub within_steps : body_steps < image.max_steps
+  pub counted : suc step_count ≡ around_steps image + body_steps
   pub at_last : end.pc ≡ site.entry + 4 * (length (function_words image) - 1)
   pub left : IsLeft image site s.regs s.bytes results end
   -- a caller of code without compressed instructions stands at a multiple of 4
-  pub goes_back : s.regs 1 % 4 ≡ 0 → Turn code end (goes_on (observed end None) (moved_to end (s.regs 1)))
+  pub goes_back : s.regs 1 % 4 ≡ 0 → Step code end (goes_on (observed end None) (moved_to end (s.regs 1)))
 
 -- the function of an image can be called from where it stands
 pub record IsCallable (program : ProgramTree) (p : ProcedureTree) (image : Fields) (code : Code) (site : Site) :

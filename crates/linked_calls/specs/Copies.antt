@@ -4,7 +4,7 @@ use Rattle.std.specs.Prelude.{◌≡◌, ◌≢◌, ◌⊎◌, ℕ, ◌+◌, ◌
 use Rattle.linked_calls.specs.Below.{Array, ByteMap, Code, Div, element_bytes, Event, Fields, FixedArray, Load, Mul}
 use Rattle.linked_calls.specs.Below.{MutableArray, number_at, numbers_at, Slot, Store, with_argument, with_numbers}
 use Rattle.linked_calls.specs.FunctionCode.{argument_offset, array_bytes, argument_code, copy_out_code}
-use Rattle.linked_calls.specs.Sections.{argument_turns, array_turns}
+use Rattle.linked_calls.specs.Sections.{argument_steps, array_steps}
 use Rattle.linked_calls.specs.Does.{Data, Does, AreThere}
 use Rattle.linked_calls.specs.Meant.{meant}
 use Rattle.linked_calls.specs.Stretches.{AreData, LiesIn}
@@ -75,7 +75,7 @@ ArrayIsTaken =
     → AreThere code start (argument_code image spot.index slot FixedArray)
     → CanBeCopied image slot spot
     → Does code start (argument_code image spot.index slot FixedArray)
-    (argument_turns image spot.index slot FixedArray)
+    (argument_steps image spot.index slot FixedArray)
     (IsCopying spot.frame (place_of image spot) (array_bytes slot) spot.pointer (slot_of slot spot))
     (HasArray image slot spot) (IsTaken slot spot)
 
@@ -91,6 +91,6 @@ ArrayIsHandedBack =
     (code : Code) (start : ℕ) (image : Fields) (slot : Slot) (spot : Pointed)
     → AreThere code start (copy_out_code image spot.index slot MutableArray)
     → CanBeCopied image slot spot
-    → Does code start (copy_out_code image spot.index slot MutableArray) (array_turns image spot.index slot)
+    → Does code start (copy_out_code image spot.index slot MutableArray) (array_steps image spot.index slot)
     (IsCopying spot.frame (place_of image spot) (array_bytes slot) (slot_of slot spot) spot.pointer)
     (HasArray image slot spot) (IsHandedBack slot spot)

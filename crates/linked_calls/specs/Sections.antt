@@ -1,4 +1,4 @@
--- The code of a function in sections, each with one purpose: what its text says of them, and how many turns they
+-- The code of a function in sections, each with one purpose: what its text says of them, and how many steps they
 -- make.
 use Rattle.std.specs.Prelude.{ℕ, ◌+◌, ◌-◌, ◌*◌, ◌/◌, ◌==◌, List, [], ◌∷◌, ◌++◌, length, map, sum, if◌then◌else◌}
 use Rattle.std.specs.List.{flat_map}
@@ -67,33 +67,33 @@ section_code image Return = JumpRegister 0 link_register 0 ∷ []
 abbrev pub code_of : Fields → List Section → List Instr
 code_of image sections = flat_map (section_code image) sections
 
--- Turns. A loop makes its turns once for each block of 16 bytes, or for each element.
+-- Steps. A loop makes its steps once for each block of 16 bytes, or for each element.
 
-abbrev pub block_turns : ℕ → ℕ
-block_turns room = 6 * (room / 16)
+abbrev pub block_steps : ℕ → ℕ
+block_steps room = 6 * (room / 16)
 
 -- so many instructions and the branch, once for each element
-abbrev pub element_turns : List Instr → ℕ → ℕ
-element_turns element count = (length element + 1) * count
+abbrev pub element_steps : List Instr → ℕ → ℕ
+element_steps element count = (length element + 1) * count
 
-abbrev pub argument_turns : Fields → ℕ → Slot → Form → ℕ
-argument_turns image i slot SingleWord = length (argument_code image i slot SingleWord)
-argument_turns image i slot FixedArray =
-    length (bounds_code image i slot) + element_turns (copied_in_code slot.param.kind) slot.param.length
-argument_turns image i slot MutableArray =
-    length (bounds_code image i slot) + element_turns (copied_in_code slot.param.kind) slot.param.length
+abbrev pub argument_steps : Fields → ℕ → Slot → Form → ℕ
+argument_steps image i slot SingleWord = length (argument_code image i slot SingleWord)
+argument_steps image i slot FixedArray =
+    length (bounds_code image i slot) + element_steps (copied_in_code slot.param.kind) slot.param.length
+argument_steps image i slot MutableArray =
+    length (bounds_code image i slot) + element_steps (copied_in_code slot.param.kind) slot.param.length
 
-abbrev pub array_turns : Fields → ℕ → Slot → ℕ
-array_turns image i slot =
-    length (bounds_code image i slot) + element_turns (copied_out_code slot.param.kind) slot.param.length
+abbrev pub array_steps : Fields → ℕ → Slot → ℕ
+array_steps image i slot =
+    length (bounds_code image i slot) + element_steps (copied_out_code slot.param.kind) slot.param.length
 
-abbrev pub section_turns : Fields → Section → ℕ
-section_turns image ClearedFrame = block_turns (frame_room image)
-section_turns image (ArgumentIn i slot) = argument_turns image i slot slot.param.form
-section_turns image (ArrayOut i slot) = array_turns image i slot
-section_turns image WipedRoom = block_turns (room_of image)
-section_turns image section = length (section_code image section)
+abbrev pub section_steps : Fields → Section → ℕ
+section_steps image ClearedFrame = block_steps (frame_room image)
+section_steps image (ArgumentIn i slot) = argument_steps image i slot slot.param.form
+section_steps image (ArrayOut i slot) = array_steps image i slot
+section_steps image WipedRoom = block_steps (room_of image)
+section_steps image section = length (section_code image section)
 
 -- of all that stands around the body
-abbrev pub around_turns : Fields → ℕ
-around_turns image = sum (map (section_turns image) (enter_sections image ++ leave_sections image))
+abbrev pub around_steps : Fields → ℕ
+around_steps image = sum (map (section_steps image) (enter_sections image ++ leave_sections image))

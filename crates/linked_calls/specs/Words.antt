@@ -3,7 +3,7 @@ use Rattle.std.specs.Prelude.{◌≡◌, ◌≢◌, ℕ, ◌+◌, ◌%◌, ◌^�
 use Rattle.linked_calls.specs.Below.{Code, Event, Fields, ResultSlot, SingleWord, Slot, with_argument, word_in}
 use Rattle.linked_calls.specs.Convention.{result_register}
 use Rattle.linked_calls.specs.FunctionCode.{argument_offset, argument_code, result_code}
-use Rattle.linked_calls.specs.Sections.{argument_turns}
+use Rattle.linked_calls.specs.Sections.{argument_steps}
 use Rattle.language.specs.declared.values.Arg.TheVariants.{Word}
 use Rattle.linked_calls.specs.Does.{Data, Does, AreThere}
 use Rattle.linked_calls.specs.Meant.{meant}
@@ -47,7 +47,7 @@ WordIsTaken =
     (code : Code) (start : ℕ) (image : Fields) (slot : Slot) (frame i : ℕ)
     → AreThere code start (argument_code image i slot SingleWord)
     → CanBePut image slot frame i
-    → Does code start (argument_code image i slot SingleWord) (argument_turns image i slot SingleWord)
+    → Does code start (argument_code image i slot SingleWord) (argument_steps image i slot SingleWord)
     (IsPutting (frame + argument_offset image i) (frame + slot.offset)) (HasWordArgument image slot frame i)
     (IsPut image slot frame i)
 

@@ -2,7 +2,7 @@
 use Rattle.std.specs.Prelude.{◌≡◌, ◌≢◌, ℕ, ◌+◌, ◌%◌, ◌^◌, ◌<◌, ◌≤◌, ◌==◌, length, Option, Some, None, if◌then◌else◌}
 use Rattle.linked_calls.specs.Below.{Code, constant_code, Div, Event, Load, Mul, Store}
 use Rattle.linked_calls.specs.FunctionCode.{frame_code, wipe_code}
-use Rattle.linked_calls.specs.Sections.{block_turns}
+use Rattle.linked_calls.specs.Sections.{block_steps}
 use Rattle.linked_calls.specs.Does.{Data, Does, AreThere}
 use Rattle.linked_calls.specs.Stretches.{AreData, AreZeroed, LiesIn}
 
@@ -25,8 +25,8 @@ pub record IsZeroFrame (bottom room : ℕ) (s t : Data) : Type 0 where
   pub zeroed : AreZeroed bottom (bottom + room) s.bytes t.bytes
   pub others : (q : ℕ) → q ≢ 2 → q ≢ 5 → t.regs q ≡ s.regs q
 
-abbrev pub frame_turns : ℕ → ℕ
-frame_turns room = if room == 0 then 0 else length (constant_code 5 room) + 1 + block_turns room
+abbrev pub frame_steps : ℕ → ℕ
+frame_steps room = if room == 0 then 0 else length (constant_code 5 room) + 1 + block_steps room
 
 -- the code that zeroes a frame does so
 abbrev pub FrameIsZeroed : Type 0
@@ -36,7 +36,7 @@ FrameIsZeroed =
     → bottom % 16 ≡ 0
     → room % 16 ≡ 0
     → bottom + room < 2 ^ 32
-    → Does code start (frame_code room) (frame_turns room)
+    → Does code start (frame_code room) (frame_steps room)
     (IsStoreIn bottom (bottom + room)) (HasFrame bottom room) (IsZeroFrame bottom room)
 
 -- x2 is where a room of so many bytes begins, and x5 where it ends
@@ -60,5 +60,5 @@ RoomIsWiped =
     → room % 16 ≡ 0
     → 0 < room
     → bottom + room < 2 ^ 32
-    → Does code start wipe_code (block_turns room)
+    → Does code start wipe_code (block_steps room)
     (IsStoreIn bottom (bottom + room)) (HasRoom bottom room) (IsWiped bottom room)

@@ -11,12 +11,12 @@ ghost use Rattle.linked_calls.specs.Words.{ResultIsHandedBack, WordIsTaken};
 ghost use Rattle.linked_calls.specs.Zeros.{FrameIsZeroed, RoomIsWiped};
 
 /// The function of every compiled procedure can be called from wherever its words stand in code. From each state in which
-/// it is called by the standard calling convention it goes back to its caller, in an exact number of turns around those of
-/// its body. It leaves what the source means on the arguments: the result in a0 and the elements of each `mut` array where
-/// its argument points. The registers that a caller may rely on are as they were, the others and the room of the call are 0,
-/// and nothing else has changed. Its accesses stay in the room, the arguments and the arrays, and none of the stack lies
-/// below the stack pointer as it is then. What the call shows is one list for arguments that agree where they are public,
-/// whatever the secret ones are.
+/// it is called by the standard calling convention it goes back to its caller, in an exact number of steps around those
+/// of its body. It leaves what the source means on the arguments: the result in a0 and the elements of each `mut` array
+/// where its argument points. The registers that a caller may rely on are as they were, the others and the room of the
+/// call are 0, and nothing else has changed. Its accesses stay in the room, the arguments and the arrays, and none of
+/// the stack lies below the stack pointer as it is then. What the call shows is one list for arguments that agree where
+/// they are public, whatever the secret ones are.
 pub fn calls_are_linked()
     ensures { CallsAreLinked }
 {}
@@ -26,9 +26,9 @@ pub fn sections_are_the_function()
     ensures { (image : Fields) → map word_of (code_of image (enter_sections image)) ++ body_words image.words ++ map word_of (code_of image (leave_sections image)) ≡ function_words image }
 {}
 
-/// The code that zeroes a frame before the body makes an exact number of turns, stores in the frame alone, never below x2,
-/// and shows one list whatever the state holds; the frame is zeros behind it, x2 its base, and nothing else but x5 has
-/// changed.
+/// The code that zeroes a frame before the body makes an exact number of steps, stores in the frame alone, never below
+/// x2, and shows one list whatever the state holds; the frame is zeros behind it, x2 its base, and nothing else but x5
+/// has changed.
 pub fn frame_is_zeroed()
     ensures { FrameIsZeroed }
 {}

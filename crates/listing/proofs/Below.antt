@@ -6,7 +6,7 @@ pub use Rattle.rv_machine.proofs.Face.{
   entries_of-append,
   run_of_state,
   stopped_at,
-  turn_made,
-  turn_stops,
+  step_made,
+  step_stops,
   went_to,
 }

@@ -6,7 +6,7 @@ use Rattle.hepurita.specs.Compiled.{Means}
 use Rattle.hepurita.specs.CutOff.{IsRightSoFar}
 use Rattle.listing.specs.Listings.{listing}
 
--- with as many turns as the image states it has stopped
+-- with as many steps as the image states it has stopped
 has_stopped : (program : ProgramTree) (image : Fields) (args : List Arg) (stop : Stop) (end : State)
     → IsRightSoFar program image args image.max_steps stop end → stop ≡ Ecall
 has_stopped program image args stop end right =

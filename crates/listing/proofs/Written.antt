@@ -1,23 +1,23 @@
--- A run, a turn at a time, and what is written of it.
+-- A run, a step at a time, and what is written of it.
 use Rattle.std.proofs.Common.{◌≡◌, ℕ, suc, ◌+◌, ◌-◌, ◌<◌, ◌≤◌, List, [], ◌∷◌, ◌++◌, Option, Some, None, Result, Ok}
 use Rattle.std.proofs.Common.{Err, IfOk, OnOk, OnErr, refl, sym, ap, ◌∙◌, subst, append_assoc, append-nil, arith}
 use Rattle.listing.specs.Below.{Budget, Code, entries_of, Entry, GainsPart, goes_on, halted, halts, Leads, listed}
-use Rattle.listing.specs.Below.{Observation, Runs, spent, State, stays, Stop, stops, Turn, Turned, turns, Writes}
+use Rattle.listing.specs.Below.{Observation, Runs, spent, State, stays, Stop, stops, Step, OneStep, steps_on, Writes}
 use Rattle.listing.specs.Below.{WritesPart}
-use Rattle.listing.proofs.Below.{Leads-more, entries_of-append, Runs-more, turn_stops, run_of_state}
+use Rattle.listing.proofs.Below.{Leads-more, entries_of-append, Runs-more, step_stops, run_of_state}
 use Rattle.listing.specs.Lines.{entry_line, entry_lines, lines_of, stop_line}
 use Rattle.listing.specs.Listings.{listing, Ends, IsListing}
-use Rattle.rv_machine.specs.Turned as turned
+use Rattle.rv_machine.specs.OneStep as one_step
 use Rattle.listing.proofs.Pieces.{put-more, part-inside, part-at_end}
 
--- turns, and then a run
+-- steps, and then a run
 Runs-after : {code : Code} {k n : ℕ} {s t u : State} {seen more : List Observation} {stop : Stop}
     → Leads code k s seen t → Runs code n t more stop u → Runs code (k + n) s (seen ++ more) stop u
 Runs-after {code} {n = n} {u = u} {more = more} {stop = stop} (stays {s = s}) run =
     let e : n ≡ 0 + n = omega arith in
     subst (λ k. Runs code k s more stop u) e run
 Runs-after {code} {n = n} {u = u} {more = more} {stop =
-    stop} (turns {n = k} {o = o} {seen = seen} {s = s} first rest) run =
+    stop} (steps_on {n = k} {o = o} {seen = seen} {s = s} first rest) run =
     let e : suc (k + n) ≡ suc k + n = omega arith in
     subst (λ k. Runs code k s (o ∷ (seen ++ more)) stop u) e (Runs-more first (Runs-after rest run))
 
@@ -30,7 +30,7 @@ entry_lines-append (entry ∷ a) b =
 lines_of-append : (a b : List Observation) → lines_of (a ++ b) ≡ lines_of a ++ lines_of b
 lines_of-append a b = ap entry_lines (entries_of-append a b) ∙ entry_lines-append (entries_of a) (entries_of b)
 
--- turns that showed this, and then to the end
+-- steps that showed this, and then to the end
 ends_from : (code : Code) (budget : ℕ) (s : State) (k : ℕ) (t : State) (seen : List Observation)
     → Leads code k s seen t → k ≤ budget → (more : List Observation) × (stop : Stop)
     × Ends code budget s (seen ++ more) stop
@@ -39,34 +39,34 @@ ends_from code budget s k t seen led within =
     let e : k + (budget - k) ≡ budget = omega arith in
     (run.0, run.1, (run.2, (subst (λ n. Runs code n s (seen ++ run.0) run.1 run.2) e (Runs-after led run.3), run.4)))
 
--- so many turns were made from a state, which showed this
+-- so many steps were made from a state, which showed this
 module _ (code : Code) (budget : ℕ) (s : State) (k : ℕ) (t : State) (seen : List Observation)
     (led : Leads code k s seen t) where
   -- the next one goes on
-  pub leads_on : (o : Observation) (u : State) → Turn code t (goes_on o u) → Leads code (k + 1) s (seen ++ o ∷ []) u
-  leads_on o u turn =
+  pub leads_on : (o : Observation) (u : State) → Step code t (goes_on o u) → Leads code (k + 1) s (seen ++ o ∷ []) u
+  leads_on o u step =
       let e : suc k ≡ k + 1 = omega arith in
-      subst (λ n. Leads code n s (seen ++ o ∷ []) u) e (Leads-more led turn)
+      subst (λ n. Leads code n s (seen ++ o ∷ []) u) e (Leads-more led step)
 
   -- the next one stops
-  pub ends_here : (last : List Observation) (stop : Stop) → k < budget → Turn code t (stops last stop)
+  pub ends_here : (last : List Observation) (stop : Stop) → k < budget → Step code t (stops last stop)
       → Ends code budget s (seen ++ last) stop
-  ends_here last stop within turn =
-      (t, (halted (omega arith) (halts led turn refl), (turn_stops code t last stop turn).0))
+  ends_here last stop within step =
+      (t, (halted (omega arith) (halts led step refl), (step_stops code t last stop step).0))
 
   -- no more are allowed
   pub ends_spent : k ≡ budget → Ends code budget s seen Budget
   ends_spent all = (t, (spent (subst (λ n. Leads code n s seen t) all led), λ e. cc))
 
-  -- a turn is made, and the run goes on to its end
+  -- a step is made, and the run goes on to its end
   pub ends_after : (last : Option Observation) (answer : Option Stop) (u : State) → k < budget
-      → Turned code t last answer u → (more : List Observation) × (stop : Stop)
+      → OneStep code t last answer u → (more : List Observation) × (stop : Stop)
       × Ends code budget s ((seen ++ listed last) ++ more) stop
-  ends_after None None u within turned = elim turned [ ]
-  ends_after (Some o) None u within (turned.went_on turn) =
-      ends_from code budget s (k + 1) u (seen ++ o ∷ []) (leads_on o u turn) (omega arith)
-  ends_after last (Some stop) u within (turned.stopped turn) =
-      let ends = ends_here (listed last) stop within turn in
+  ends_after None None u within one_step = elim one_step [ ]
+  ends_after (Some o) None u within (one_step.went_on step) =
+      ends_from code budget s (k + 1) u (seen ++ o ∷ []) (leads_on o u step) (omega arith)
+  ends_after last (Some stop) u within (one_step.stopped step) =
+      let ends = ends_here (listed last) stop within step in
       ([], stop, subst (λ l. Ends code budget s l stop) (sym (append-nil (seen ++ listed last))) ends)
 
 -- what was written so far are the lines of this
@@ -95,7 +95,7 @@ module _ (before now : List ℕ) (seen : List Observation) (so_far : now ≡ bef
     part = part-at_end before now after (lines_of seen) (stop_line stop) so_far part;
   }
 
-  -- and a part of the next turn's lines
+  -- and a part of the next step's lines
   pub cut_at_lines : (code : Code) (budget : ℕ) (s : State) (after : List ℕ) (last more : List Observation)
       (stop : Stop) → Ends code budget s ((seen ++ last) ++ more) stop → GainsPart now after (lines_of last)
       → WritesPart (λ bytes. (stop : Stop) × IsListing code budget s stop bytes) before after

@@ -7,11 +7,11 @@ use Rattle.listing.specs.Lines.{lines_of, stop_line}
 abbrev pub listing : List Observation → Stop → List ℕ
 listing seen stop = lines_of seen ++ stop_line stop
 
--- a run of at most so many turns, which no recorder cuts short, shows this and stops so
+-- a run of at most so many steps, which no recorder cuts short, shows this and stops so
 abbrev pub Ends : Code → ℕ → State → List Observation → Stop → Type 0
 Ends code budget s seen stop = (end : State) × RunsUncut code budget s seen stop end
 
--- these bytes are the listing of a run of at most so many turns, which stops so
+-- these bytes are the listing of a run of at most so many steps, which stops so
 abbrev pub IsListing : Code → ℕ → State → Stop → List ℕ → Type 0
 IsListing code budget s stop bytes = (seen : List Observation) × Ends code budget s seen stop
     × (bytes ≡ listing seen stop)

@@ -5,7 +5,7 @@ ghost use Rattle.listing.specs.Below.{one_more, Stop, Writes, WritesPart};
 ghost use Rattle.listing.specs.Leaked.{Leaks, IsLeak};
 
 use crate::fault::LeakFault;
-use crate::turns::write_run;
+use crate::steps::write_run;
 use hepurita::{code, first_fault, load};
 use image::Image;
 use language::Args;
@@ -15,7 +15,7 @@ use streams::Sink;
 
 /// Runs an image on arguments, writes what an observer sees, a line for each entry, and then the line
 /// of the stop, which it answers. Arguments are refused by their first fault, before memory is asked for.
-/// Each turn's lines are written before the next turn is made, and once the image is loaded no memory is
+/// Each step's lines are written before the next step is made, and once the image is loaded no memory is
 /// taken. A call of the sink that fails ends the run.
 pub fn leak<W: Sink>(
     alloc: Global,
@@ -45,7 +45,7 @@ pub fn leak<W: Sink>(
         &code,
         &mut run.memory,
         sink,
-        run.turns_left,
+        run.steps_left,
     ) {
         Ok(stop) => Ok(stop),
         Err(_) => Err(LeakFault::Write),

@@ -8,7 +8,7 @@ mod fault;
 mod laws;
 mod leaking;
 mod lines;
-mod turns;
+mod steps;
 mod words;
 
 pub use fault::LeakFault;

@@ -8,7 +8,7 @@ use crate::digits::eight;
 use arrayvec::ArrayVec;
 use rv_machine::{Event, Observation, Size, Stop};
 
-/// Text of a fixed capacity: as many bytes as the longest lines of one turn have.
+/// Text of a fixed capacity: as many bytes as the longest lines of one step have.
 pub type Lines = ArrayVec<u8, 34>;
 
 /// Puts bytes at the end of lines that have room for them.
@@ -70,7 +70,7 @@ fn append_event(lines: &mut Lines, event: Event)
     }
 }
 
-/// The lines of what one turn shows.
+/// The lines of what one step shows.
 pub fn lines_of(seen: &Observation) -> Lines
     ensures { result.items ≡ lines_of (seen.now ∷ []) }
 {

@@ -8,7 +8,7 @@ pub use Rattle.word.specs.declared.width.Width.{Width}
 pub use Rattle.word.specs.declared.width.Width.TheVariants.{W16, W32, W8}
 pub use Rattle.language.specs.ExprTyping.{operation_kind}
 pub use Rattle.language.specs.Operators.{divides, multiplies, operated, operation_of, opposite_of, prefix_value}
-pub use Rattle.language.specs.Operators.{truth_of, turned_of, width_of}
+pub use Rattle.language.specs.Operators.{truth_of, swapped_of, width_of}
 pub use Rattle.language.specs.Types.{bits_of, same_kind, same_label}
 pub use Rattle.language.specs.Typing.{is_mutable}
 pub use Rattle.language.specs.WantOfMemory.{IsWantOfMemory}
@@ -30,7 +30,8 @@ pub use Rattle.inline.specs.Fitting.{Fits, IsWithinKind}
 pub use Rattle.inline.specs.Flat.{array_as, binary, convert, counter_type, declaration_of, element, elements_by, number}
 pub use Rattle.inline.specs.Flat.{numbers_in, prefix, rotate, select, term_tree, TermTree, truth, variable, word_as}
 pub use Rattle.inline.specs.FlatMeaning.{array_of, arrays_from, elements, given, marks_of, path_in, path_in_all}
-pub use Rattle.inline.specs.FlatMeaning.{path_of_result, path_of_turns, results_of, turns, value_in, Values, with_value}
+pub use Rattle.inline.specs.FlatMeaning.{path_of_result, path_of_iterations, results_of, iterations, value_in, Values}
+pub use Rattle.inline.specs.FlatMeaning.{with_value}
 pub use Rattle.inline.specs.FlatSize.{declared_words, HasLength, words_by}
 pub use Rattle.inline.specs.FlatTyping.{AllSuit, HasCount, HasType, IsResult, of_binary, of_conversion, of_element}
 pub use Rattle.inline.specs.FlatTyping.{of_number, of_prefix, of_rotation, of_selection, of_truth, of_variable, Suits}

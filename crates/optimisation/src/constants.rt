@@ -1,6 +1,6 @@
 // Constants: straight code in which a word that is known is a number, a copy is read as its source, an operator between
 // numbers is what it comes to, and a branch that a number decides is its one arm. A loop whose bounds are numbers may
-// become its turns. It may stand in the place of the code that it is made of: the outcome is the same, and what is
+// become its iterations. It may stand in the place of the code that it is made of: the outcome is the same, and what is
 // public stays public. Stands on `inline` and `branch_removal`.
 //
 // What is known is carried from statement to statement: of numbers all, of copies the last 16. After an arm or a loop

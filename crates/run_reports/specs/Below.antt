@@ -5,12 +5,12 @@ pub use Rattle.rv_machine.specs.Entries.{Compares, entries_of, Entry, event, eve
 pub use Rattle.rv_machine.specs.Entries.{program_counter}
 pub use Rattle.rv_machine.specs.Harts.{regs_of, state_of}
 pub use Rattle.rv_machine.specs.Leakage.{cut_short, followed_by, halted, halts, IsShown, Leads, Runs, spent, stays}
-pub use Rattle.rv_machine.specs.Leakage.{turns}
+pub use Rattle.rv_machine.specs.Leakage.{steps_on}
 pub use Rattle.rv_machine.specs.Machine.{Code, Ending, executes, goes_on, here, IsAt, no_instruction, not_code}
-pub use Rattle.rv_machine.specs.Machine.{pc_misaligned, State, stops, Turn, word_at}
+pub use Rattle.rv_machine.specs.Machine.{pc_misaligned, State, stops, Step, word_at}
 pub use Rattle.rv_machine.specs.Progress.{advances, begins, finishes, further, Makes, MakesAll, rests}
 pub use Rattle.rv_machine.specs.Regions.{code_of}
-pub use Rattle.rv_machine.specs.Turned.{listed, Turned}
+pub use Rattle.rv_machine.specs.OneStep.{listed, OneStep}
 pub use Rattle.rv_machine.specs.declared.observation.Event.{Event}
 pub use Rattle.rv_machine.specs.declared.observation.Observation.{Observation}
 pub use Rattle.rv_machine.specs.declared.stops.Stop.{Stop}

@@ -1,7 +1,7 @@
-// Progress: runs that say, line by line, how many turns they have made.
+// Progress: runs that say, line by line, how many steps they have made.
 //
-// Behind each `TURNS_A_LINE` turns after which a run goes on a line is written (`Lines.antt` and `GoingOn.antt` of
-// `specs/progress`): a run and a certified run are made in pieces of so many turns, and two runs that are compared in
+// Behind each `STEPS_A_LINE` steps after which a run goes on a line is written (`Lines.antt` and `GoingOn.antt` of
+// `specs/progress`): a run and a certified run are made in pieces of so many steps, and two runs that are compared in
 // step go on together. What comes of a run is what comes of it without lines.
 
 mod certifying;
@@ -11,5 +11,5 @@ mod running;
 
 pub use certifying::certify_in_pieces;
 pub use comparing::compare_telling;
-pub use lines::{ProgressLines, TURNS_A_LINE};
+pub use lines::{ProgressLines, STEPS_A_LINE};
 pub use running::run_in_pieces;

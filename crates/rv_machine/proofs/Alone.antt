@@ -11,53 +11,53 @@ use Rattle.rv_machine.specs.declared.stops.Stop.{Stop}
 use Rattle.rv_machine.specs.declared.stops.Stop.TheVariants.{AccessFault}
 use Rattle.rv_machine.specs.Apart.{Covers, Changes, KeepsInside, AreApart, IsAsAlone, ShowTheSame}
 use Rattle.rv_machine.specs.Bytes.{ByteMap}
-use Rattle.rv_machine.specs.Machine.{Ending, goes_on, stops, Turn}
-use Rattle.rv_machine.specs.System.{Member, System, state_in, gone_on, stopped, MemberTurn, rests, moves, ends}
-use Rattle.rv_machine.specs.System.{with_member, shown_by, Follows, done, turns, none, one_more, of_hart, turns_of}
-use Rattle.rv_machine.proofs.Locality.{changes_nothing, IsSameTurn, both_go, both_stop, reaches_out, turn_same}
-use Rattle.rv_machine.proofs.RunLaws.{Turn-determined}
-use Rattle.rv_machine.proofs.TotalLaws.{turn_of_state}
+use Rattle.rv_machine.specs.Machine.{Ending, goes_on, stops, Step}
+use Rattle.rv_machine.specs.System.{Member, System, state_in, gone_on, stopped, MemberStep, rests, moves, ends}
+use Rattle.rv_machine.specs.System.{with_member, shown_by, Follows, done, steps_on, none, one_more, of_hart, steps_of}
+use Rattle.rv_machine.proofs.Locality.{changes_nothing, IsSameStep, both_go, both_stop, reaches_out, step_same}
+use Rattle.rv_machine.proofs.RunLaws.{Step-determined}
+use Rattle.rv_machine.proofs.TotalLaws.{step_of_state}
 
--- One turn of a member.
+-- One step of a member.
 
--- the turn of a member alone, where that among others is this one
-pub record TurnAlone (own bytes : ByteMap) (m : Member) (seen : List Observation) (bytes' : ByteMap)
+-- the step of a member alone, where that among others is this one
+pub record StepAlone (own bytes : ByteMap) (m : Member) (seen : List Observation) (bytes' : ByteMap)
     (after : Member) : Type 0 where
   pub own' : ByteMap
-  pub turn : MemberTurn own m seen own' after
+  pub step : MemberStep own m seen own' after
   pub changes : Changes own bytes own' bytes'
 
 module _ (own bytes : ByteMap) (covers : Covers own bytes) (m : Member) (inside : KeepsInside own m) where
-  -- a turn that stops alone does not stop by reaching for other bytes
-  calm : {seen : List Observation} {stop : Stop} → m.stop ≡ None → Turn m.code (state_in own m) (stops seen stop)
+  -- a step that stops alone does not stop by reaching for other bytes
+  calm : {seen : List Observation} {stop : Stop} → m.stop ≡ None → Step m.code (state_in own m) (stops seen stop)
       → stop ≢ AccessFault
-  calm {seen} {stop} going turn e =
-      inside 1 (seen ++ []) own (stopped m stop) (one_more (ends going turn) none refl) (ap Some e)
+  calm {seen} {stop} going step e =
+      inside 1 (seen ++ []) own (stopped m stop) (one_more (ends going step) none refl) (ap Some e)
 
-  -- what a turn that ends so is alone
+  -- what a step that ends so is alone
   abbrev ends_alone : Ending → Type 0
-  ends_alone (goes_on o t) = TurnAlone own bytes m (o ∷ []) t.bytes (gone_on m t)
-  ends_alone (stops seen stop) = TurnAlone own bytes m seen bytes (stopped m stop)
+  ends_alone (goes_on o t) = StepAlone own bytes m (o ∷ []) t.bytes (gone_on m t)
+  ends_alone (stops seen stop) = StepAlone own bytes m seen bytes (stopped m stop)
 
-  alone_by : {e f : Ending} → m.stop ≡ None → Turn m.code (state_in own m) e
-      → IsSameTurn (state_in own m) bytes e f → ends_alone f
-  alone_by going turn (both_go {t = t} pcs registers changes) =
-      rw (pcs, registers) (record { own' = t.bytes; turn = moves going turn; changes = changes })
-  alone_by going turn both_stop =
-      record { own' = own; turn = ends going turn; changes = changes_nothing own bytes covers }
-  alone_by going turn reaches_out = absurd (calm going turn refl)
+  alone_by : {e f : Ending} → m.stop ≡ None → Step m.code (state_in own m) e
+      → IsSameStep (state_in own m) bytes e f → ends_alone f
+  alone_by going step (both_go {t = t} pcs registers changes) =
+      rw (pcs, registers) (record { own' = t.bytes; step = moves going step; changes = changes })
+  alone_by going step both_stop =
+      record { own' = own; step = ends going step; changes = changes_nothing own bytes covers }
+  alone_by going step reaches_out = absurd (calm going step refl)
 
-  alone_of_turn : {f : Ending} → m.stop ≡ None → Turn m.code (state_in bytes m) f → ends_alone f
-  alone_of_turn going turn =
-      let alone = turn_of_state m.code (state_in own m) in
-      let same = turn_same (state_in own m) bytes covers m.code alone.0 alone.1 in
-      subst ends_alone (Turn-determined same.1 turn) (alone_by going alone.1 same.2)
+  alone_of_step : {f : Ending} → m.stop ≡ None → Step m.code (state_in bytes m) f → ends_alone f
+  alone_of_step going step =
+      let alone = step_of_state m.code (state_in own m) in
+      let same = step_same (state_in own m) bytes covers m.code alone.0 alone.1 in
+      subst ends_alone (Step-determined same.1 step) (alone_by going alone.1 same.2)
 
-  pub turn_alone : {seen : List Observation} {bytes' : ByteMap} {after : Member}
-      → MemberTurn bytes m seen bytes' after → TurnAlone own bytes m seen bytes' after
-  turn_alone (rests is) = record { own' = own; turn = rests is; changes = changes_nothing own bytes covers }
-  turn_alone (moves going turn) = alone_of_turn going turn
-  turn_alone (ends going turn) = alone_of_turn going turn
+  pub step_alone : {seen : List Observation} {bytes' : ByteMap} {after : Member}
+      → MemberStep bytes m seen bytes' after → StepAlone own bytes m seen bytes' after
+  step_alone (rests is) = record { own' = own; step = rests is; changes = changes_nothing own bytes covers }
+  step_alone (moves going step) = alone_of_step going step
+  step_alone (ends going step) = alone_of_step going step
 
 -- Members by their numbers.
 
@@ -94,19 +94,19 @@ module _ (own : ℕ → ByteMap) (j : ℕ) (bytes : ByteMap) where
     | inr e ↦ rw (with_own_other k e) (kept e)
   ]
 
--- One turn of a system.
+-- One step of a system.
 
--- after one turn of a member
-abbrev pub after_turn : System → ℕ → Member → ByteMap → System
-after_turn s j after bytes = record { members = with_member s.members j after; bytes = bytes }
+-- after one step of a member
+abbrev pub after_step : System → ℕ → Member → ByteMap → System
+after_step s j after bytes = record { members = with_member s.members j after; bytes = bytes }
 
 module _ (own : ℕ → ByteMap) (s : System) (apart : AreApart own s) (j : ℕ) (m : Member)
     (at : slice_get s.members j ≡ Some m) {seen : List Observation} {bytes : ByteMap} {after : Member} where
   -- it is one that the member makes alone
-  pub alone_of : MemberTurn s.bytes m seen bytes after → TurnAlone (own j) s.bytes m seen bytes after
-  alone_of turn = turn_alone (own j) s.bytes (apart.there j) m (apart.inside j m at) turn
+  pub alone_of : MemberStep s.bytes m seen bytes after → StepAlone (own j) s.bytes m seen bytes after
+  alone_of step = step_alone (own j) s.bytes (apart.there j) m (apart.inside j m at) step
 
-  module _ (alone : TurnAlone (own j) s.bytes m seen bytes after) where
+  module _ (alone : StepAlone (own j) s.bytes m seen bytes after) where
     extent_kept : (k a : ℕ) → is_some (with_own own j alone.own' k a) ≡ is_some (own k a)
     extent_kept k a =
         with_own_each own j alone.own' (λ b. is_some (b a) ≡ is_some (own k a)) k
@@ -119,7 +119,7 @@ module _ (own : ℕ → ByteMap) (s : System) (apart : AreApart own s) (j : ℕ)
 
     inside_after : KeepsInside alone.own' after
     inside_after n more end last makes =
-        apart.inside j m at (suc n) (seen ++ more) end last (one_more alone.turn makes refl)
+        apart.inside j m at (suc n) (seen ++ more) end last (one_more alone.step makes refl)
 
     inside_kept : (k : ℕ) (it : Member) → slice_get (with_member s.members j after) k ≡ Some it
         → KeepsInside (with_own own j alone.own' k) it
@@ -132,7 +132,7 @@ module _ (own : ℕ → ByteMap) (s : System) (apart : AreApart own s) (j : ℕ)
         (λ e. apart.inside k it (sym (with_member_other s.members j k after e) ∙ at'))
 
     -- and the members' own bytes are apart as before
-    pub still_apart : AreApart (with_own own j alone.own') (after_turn s j after bytes)
+    pub still_apart : AreApart (with_own own j alone.own') (after_step s j after bytes)
     still_apart = record {
       apart = λ i k a other there. extent_kept k a ∙ apart.apart i k a other (sym (extent_kept i a) ∙ there);
       there = there_kept;
@@ -156,7 +156,7 @@ of_hart_other j k other (o ∷ seen) rest = rw (ne_eqb j k other) (of_hart_other
 -- each is what it is alone
 pub alone : (own : ℕ → ByteMap) (schedule : List ℕ) (s end : System) (list : List HartObservation) (k : ℕ)
     (m : Member) → AreApart own s → Follows schedule s list end → slice_get s.members k ≡ Some m
-    → IsAsAlone k (turns_of k schedule) (own k) m list end
+    → IsAsAlone k (steps_of k schedule) (own k) m list end
 alone own [] s end list k m apart done at =
     record {
       seen = [];
@@ -169,24 +169,24 @@ alone own [] s end list k m apart done at =
       shown = refl;
     }
 alone own (j ∷ schedule) s end list k m apart
-    (turns {m = mover} {after = after} {bytes = bytes} {seen = seen} {rest = rest} at_j turn follows is) at =
-    let one = alone_of own s apart j mover at_j turn in
+    (steps_on {m = mover} {after = after} {bytes = bytes} {seen = seen} {rest = rest} at_j step follows is) at =
+    let one = alone_of own s apart j mover at_j step in
     let own' = with_own own j one.own' in
     let then = λ (it : Member) (there : slice_get (with_member s.members j after) k ≡ Some it).
-    alone own' schedule (after_turn s j after bytes) end rest k it (still_apart own s apart j mover at_j one) follows
+    alone own' schedule (after_step s j after bytes) end rest k it (still_apart own s apart j mover at_j one) follows
     there in
     elim (cases_eq j k) [
       | inl e ↦
           let same : mover ≡ m = same_Some mover m (sym at_j ∙ ap (slice_get s.members) e ∙ at) in
           let later = rw (with_own_same own j one.own' k (sym e)) at then after
           (ap (slice_get (with_member s.members j after)) (sym e) ∙ with_member_same s.members j mover after at_j) in
-          let turn' = subst (λ i. MemberTurn (own i) m seen one.own' after) e
-          (subst (λ (it : Member). MemberTurn (own j) it seen one.own' after) same one.turn) in
+          let step' = subst (λ i. MemberStep (own i) m seen one.own' after) e
+          (subst (λ (it : Member). MemberStep (own j) it seen one.own' after) same one.step) in
           rw (eq-eqb j k e) (record {
             seen = seen ++ later.seen;
             bytes = later.bytes;
             member = later.member;
-            makes = one_more {m' = later.member} turn' later.makes refl;
+            makes = one_more {m' = later.member} step' later.makes refl;
             there = later.there;
             bytes_there = later.bytes_there;
             extent = λ a. later.extent a ∙ one.changes.extent a ∙ ap (λ i. is_some (own i a)) e;
@@ -210,21 +210,21 @@ alone own (j ∷ schedule) s end list k m apart
 
 -- Two systems.
 
--- what shows the same from here on does so after a turn
+-- what shows the same from here on does so after a step
 same_after : {own own' bytes bytes' : ByteMap} {m m' after after' : Member} {seen seen' : List Observation}
-    → ShowTheSame own m own' m' → MemberTurn own m seen bytes after → MemberTurn own' m' seen' bytes' after'
+    → ShowTheSame own m own' m' → MemberStep own m seen bytes after → MemberStep own' m' seen' bytes' after'
     → (seen ≡ seen') × ShowTheSame bytes after bytes' after'
 same_after {bytes = bytes} {bytes' = bytes'} {after = after} {after' = after'} {seen = seen} {seen' =
-    seen'} same turn turn' =
+    seen'} same step step' =
     let both : seen ++ [] ≡ seen' ++ [] =
-    same 1 (seen ++ []) (seen' ++ []) bytes bytes' after after' (one_more turn none refl)
-    (one_more turn' none refl) in
+    same 1 (seen ++ []) (seen' ++ []) bytes bytes' after after' (one_more step none refl)
+    (one_more step' none refl) in
     let first : seen ≡ seen' = sym (append-nil seen) ∙ both ∙ append-nil seen' in (
       first,
       λ n more more' b b' last last' makes makes'.
           append_cancel_left seen more more'
-          (same (suc n) (seen ++ more) (seen' ++ more') b b' last last' (one_more turn makes refl)
-          (one_more turn' makes' refl) ∙ ap (λ xs. xs ++ more') (sym first)),
+          (same (suc n) (seen ++ more) (seen' ++ more') b b' last last' (one_more step makes refl)
+          (one_more step' makes' refl) ∙ ap (λ xs. xs ++ more') (sym first)),
     )
 
 abbrev pub AreAlike : (ℕ → ByteMap) → System → (ℕ → ByteMap) → System → Type 0
@@ -234,7 +234,7 @@ AreAlike own s own' s' = (k : ℕ) (m m' : Member) → slice_get s.members k ≡
 module _ (own own' : ℕ → ByteMap) (s s' : System) (alike : AreAlike own s own' s') (j : ℕ) (m m' : Member)
     (at : slice_get s.members j ≡ Some m) (at' : slice_get s'.members j ≡ Some m') where
   still_alike : (bytes bytes' : ByteMap) {b b' : ByteMap} {after after' : Member} → ShowTheSame b after b' after'
-      → AreAlike (with_own own j b) (after_turn s j after bytes) (with_own own' j b') (after_turn s' j after' bytes')
+      → AreAlike (with_own own j b) (after_step s j after bytes) (with_own own' j b') (after_step s' j after' bytes')
   still_alike bytes bytes' {b = b} {b' = b'} {after = after} {after' = after'} same k it it' is is' =
       elim (cases_eq k j) [
         | inl e ↦
@@ -255,15 +255,15 @@ pub shown_the_same : (own own' : ℕ → ByteMap) (schedule : List ℕ) (s s' en
     → Follows schedule s list end → Follows schedule s' list' end' → list ≡ list'
 shown_the_same own own' [] s s' end end' list list' apart apart' alike done done = refl
 shown_the_same own own' (j ∷ schedule) s s' end end' list list' apart apart' alike
-    (turns {m = m} {after = after} {bytes = bytes} {seen = seen} {rest = rest} at turn follows is)
-    (turns {m = m'} {after = after'} {bytes = bytes'} {seen = seen'} {rest = rest'} at' turn' follows' is') =
-    let one = alone_of own s apart j m at turn in
-    let other = alone_of own' s' apart' j m' at' turn' in
-    let both = same_after (alike j m m' at at') one.turn other.turn in
+    (steps_on {m = m} {after = after} {bytes = bytes} {seen = seen} {rest = rest} at step follows is)
+    (steps_on {m = m'} {after = after'} {bytes = bytes'} {seen = seen'} {rest = rest'} at' step' follows' is') =
+    let one = alone_of own s apart j m at step in
+    let other = alone_of own' s' apart' j m' at' step' in
+    let both = same_after (alike j m m' at at') one.step other.step in
     let next = still_apart own s apart j m at one in
     let next' = still_apart own' s' apart' j m' at' other in
     let alike' = still_alike own own' s s' alike j m m' at at' bytes bytes' both.1 in
     let rests = shown_the_same (with_own own j one.own') (with_own own' j other.own') schedule
-    (after_turn s j after bytes) (after_turn s' j after' bytes') end end' rest rest' next next' alike' follows
+    (after_step s j after bytes) (after_step s' j after' bytes') end end' rest rest' next next' alike' follows
     follows' in
     is ∙ ap (λ xs. shown_by j xs ++ rest) both.0 ∙ ap (λ xs. shown_by j seen' ++ xs) rests ∙ sym is'

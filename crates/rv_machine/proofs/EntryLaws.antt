@@ -13,7 +13,7 @@ no_event_first : (e : Event) (seen : List Observation) → slice_get (entries_of
 no_event_first e [] same = cc
 no_event_first e (o ∷ seen) same = cc
 
--- so the event of the first turn is determined by the next entry
+-- so the event of the first step is determined by the next entry
 pub first_event : (a b : Option Event) (one other : List Observation)
     → slice_get (events_of a ++ entries_of one) 0 ≡ slice_get (events_of b ++ entries_of other) 0 → a ≡ b
 first_event None None one other same = refl
@@ -32,8 +32,8 @@ entries_of-injective (o ∷ one) (p ∷ other) same =
     let events = first_event o.event p.event one other (ap (λ list. slice_get list 0) rests) in
     let tails : entries_of one ≡ entries_of other =
     append_cancel_left (events_of p.event) (entries_of one) (entries_of other) (rw events at rests) in
-    let turn : o ≡ p = ap₂ (λ n e. record { pc = n; event = e }) pcs events in
-    let turns : one ≡ other = entries_of-injective one other tails in
+    let step : o ≡ p = ap₂ (λ n e. record { pc = n; event = e }) pcs events in
+    let steps : one ≡ other = entries_of-injective one other tails in
     cc
 
 -- lists that differ somewhere first are not equal

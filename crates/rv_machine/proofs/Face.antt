@@ -21,7 +21,7 @@ pub use Rattle.rv_machine.proofs.ByteLaws.{
 }
 pub use Rattle.rv_machine.proofs.EntryLaws.{differ-apart, first-unique}
 pub use Rattle.rv_machine.proofs.Halting.{keeps_inside, shown_alone, stopped_alone}
-pub use Rattle.rv_machine.proofs.Locality.{IsSameTurn, both_go, turn_same}
+pub use Rattle.rv_machine.proofs.Locality.{IsSameStep, both_go, step_same}
 pub use Rattle.rv_machine.proofs.Pairs.{count-few, one-ends, other-ends}
 pub use Rattle.rv_machine.proofs.Progressing.{InStep, differ_after, same_after}
 pub use Rattle.rv_machine.proofs.RunLaws.{
@@ -33,13 +33,13 @@ pub use Rattle.rv_machine.proofs.RunLaws.{
   Ran-determined,
   Ran-halts,
   Runs-determined,
-  Turn-determined,
+  Step-determined,
   goes_on-determined,
   goes_on≢stops,
   no_longer,
 }
 pub use Rattle.rv_machine.proofs.Shown.{entries_of-append, entry_count-append, nothing_shown, something_shown}
-pub use Rattle.rv_machine.proofs.SystemLaws.{MemberTurn-determined}
+pub use Rattle.rv_machine.proofs.SystemLaws.{MemberStep-determined}
 pub use Rattle.rv_machine.proofs.TotalLaws.{
   IsOwn,
   Runs-more,
@@ -48,12 +48,12 @@ pub use Rattle.rv_machine.proofs.TotalLaws.{
   goes_own,
   run_of_state,
   stops_own,
-  turn_of_state,
-  turn_stops,
-  turn_within_budget,
+  step_of_state,
+  step_stops,
+  step_within_budget,
 }
-pub use Rattle.rv_machine.proofs.TurnedLemmas.{stopped_at, turn_made, went_to}
-pub use Rattle.rv_machine.proofs.TurnLaws.{
+pub use Rattle.rv_machine.proofs.OneStepLemmas.{stopped_at, step_made, went_to}
+pub use Rattle.rv_machine.proofs.InstructionSteps.{
   branch_leads,
   branch_passes,
   divide_leads,
@@ -69,7 +69,7 @@ pub use Rattle.rv_machine.proofs.TurnLaws.{
   register_leads,
   shift_leads,
   store_leads,
-  turn_of,
+  step_of,
   upper_leads,
   with_link-bytes,
   with_link-pc,

@@ -16,7 +16,7 @@ pub mod StepLaws
 pub mod Stretch
 pub mod SystemLaws
 pub mod TotalLaws
-pub mod TurnLaws
-pub mod Turns
-pub mod TurnedLemmas
+pub mod InstructionSteps
+pub mod Steps
+pub mod OneStepLemmas
 pub mod Face

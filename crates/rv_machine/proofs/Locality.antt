@@ -1,4 +1,4 @@
--- What a turn reads and writes are its own bytes: among others it is the same turn.
+-- What a step reads and writes are its own bytes: among others it is the same step.
 use Rattle.std.specs.Prelude.{nat_eq, is_some}
 use Rattle.std.proofs.Common.{◌≡◌, ℕ, zero, suc, ◌+◌, ◌%◌, Bool, true, false, cond, List, Option, Some, None, refl, sym}
 use Rattle.std.proofs.Common.{ap, ◌∙◌}
@@ -13,7 +13,7 @@ use Rattle.rv_machine.specs.Apart.{Covers, Changes}
 use Rattle.rv_machine.specs.Bytes.{ByteMap, number_at, with_number}
 use Rattle.rv_machine.specs.Effects.{effect_of, load_size, store_size}
 use Rattle.rv_machine.specs.Machine.{State, Code, Ending, goes_on, stops, loaded, stored, with_value, with_stored}
-use Rattle.rv_machine.specs.Machine.{with_link, moved_to, ending_of, Turn, pc_misaligned, not_code, no_instruction}
+use Rattle.rv_machine.specs.Machine.{with_link, moved_to, ending_of, Step, pc_misaligned, not_code, no_instruction}
 use Rattle.rv_machine.specs.Machine.{executes}
 use Rattle.rv_machine.specs.Sizes.{byte_count}
 use Rattle.rv_machine.specs.Below.{Profile}
@@ -51,27 +51,27 @@ put_changes own bytes covers n a v there = record {
 pub changes_nothing : (own bytes : ByteMap) → Covers own bytes → Changes own bytes own bytes
 changes_nothing own bytes covers = record { covers = covers; extent = λ x. refl; elsewhere = λ x none. refl }
 
--- Turns.
+-- Steps.
 
 -- the same state over other bytes
 abbrev pub over : ByteMap → State → State
 over bytes s = record { pc = s.pc; regs = s.regs; bytes = bytes }
 
--- a turn over its own bytes, and over more
-pub data IsSameTurn (s : State) (bytes : ByteMap) : Ending → Ending → Type 0 where
+-- a step over its own bytes, and over more
+pub data IsSameStep (s : State) (bytes : ByteMap) : Ending → Ending → Type 0 where
   both_go : {o : Observation} {t t' : State} → t'.pc ≡ t.pc → t'.regs ≡ t.regs → Changes s.bytes bytes t.bytes t'.bytes
-      → IsSameTurn s bytes (goes_on o t) (goes_on o t')
-  both_stop : {seen : List Observation} {stop : Stop} → IsSameTurn s bytes (stops seen stop) (stops seen stop)
-  reaches_out : {seen : List Observation} {other : Ending} → IsSameTurn s bytes (stops seen AccessFault) other
+      → IsSameStep s bytes (goes_on o t) (goes_on o t')
+  both_stop : {seen : List Observation} {stop : Stop} → IsSameStep s bytes (stops seen stop) (stops seen stop)
+  reaches_out : {seen : List Observation} {other : Ending} → IsSameStep s bytes (stops seen AccessFault) other
 
-either_same : {s : State} {bytes : ByteMap} {e f e' f' : Ending} (b : Bool) → IsSameTurn s bytes e e'
-    → IsSameTurn s bytes f f' → IsSameTurn s bytes (cond b e f) (cond b e' f')
+either_same : {s : State} {bytes : ByteMap} {e f e' f' : Ending} (b : Bool) → IsSameStep s bytes e e'
+    → IsSameStep s bytes f f' → IsSameStep s bytes (cond b e f) (cond b e' f')
 either_same true one other = one
 either_same false one other = other
 
 module _ (s : State) (bytes : ByteMap) (covers : Covers s.bytes bytes) where
   load_same : (operation : _) (a rd n : ℕ) (value : Option ℕ) → number_at s.bytes n a ≡ value
-      → IsSameTurn s bytes (loaded s operation a rd value)
+      → IsSameStep s bytes (loaded s operation a rd value)
       (loaded (over bytes s) operation a rd (number_at bytes n a))
   unfolding with_value
   load_same operation a rd n (Some value) there =
@@ -80,7 +80,7 @@ module _ (s : State) (bytes : ByteMap) (covers : Covers s.bytes bytes) where
   load_same operation a rd n None none = reaches_out
 
   store_same : (size : Size) (a v : ℕ) (old : Option ℕ) → number_at s.bytes (byte_count size) a ≡ old
-      → IsSameTurn s bytes (stored s size a v old)
+      → IsSameStep s bytes (stored s size a v old)
       (stored (over bytes s) size a v (number_at bytes (byte_count size) a))
   unfolding with_stored
   store_same size a v (Some old) there =
@@ -89,7 +89,7 @@ module _ (s : State) (bytes : ByteMap) (covers : Covers s.bytes bytes) where
   store_same size a v None none = reaches_out
 
   effect_same : (profile : Profile) (e : Effect)
-      → IsSameTurn s bytes (ending_of profile e s) (ending_of profile e (over bytes s))
+      → IsSameStep s bytes (ending_of profile e s) (ending_of profile e (over bytes s))
   unfolding ending_of with_value with_link moved_to
   effect_same profile (Jumps rd target) =
       either_same (nat_eq (target % 4) 0) (both_go refl refl (changes_nothing s.bytes bytes covers)) both_stop
@@ -105,11 +105,11 @@ module _ (s : State) (bytes : ByteMap) (covers : Covers s.bytes bytes) where
   effect_same profile Breaks = both_stop
   effect_same profile _ = both_go refl refl (changes_nothing s.bytes bytes covers)
 
-  -- the turn over more bytes
-  pub turn_same : (code : Code) (e : Ending) → Turn code s e
-      → (e' : Ending) × Turn code (over bytes s) e' × IsSameTurn s bytes e e'
-  turn_same code e (pc_misaligned odd) = (_, pc_misaligned odd, both_stop)
-  turn_same code e (not_code even none) = (_, not_code even none, both_stop)
-  turn_same code e (no_instruction even is misfit) = (_, no_instruction even is misfit, both_stop)
-  turn_same code e (executes i even is ok ends) =
+  -- the step over more bytes
+  pub step_same : (code : Code) (e : Ending) → Step code s e
+      → (e' : Ending) × Step code (over bytes s) e' × IsSameStep s bytes e e'
+  step_same code e (pc_misaligned odd) = (_, pc_misaligned odd, both_stop)
+  step_same code e (not_code even none) = (_, not_code even none, both_stop)
+  step_same code e (no_instruction even is misfit) = (_, no_instruction even is misfit, both_stop)
+  step_same code e (executes i even is ok ends) =
       (_, executes i even is ok refl, rw ends (effect_same code.profile (effect_of i s.pc s.regs)))

@@ -1,4 +1,4 @@
--- Where what two turns show differs first.
+-- Where what two steps show differs first.
 use Rattle.std.proofs.Common.{◌≡◌, ℕ, List, [], ◌∷◌, ◌++◌, Option, Some, None, suc, length, ◌≤◌, refl, ap, arith}
 use Rattle.rv_machine.specs.declared.observation.Event.{Event}
 use Rattle.rv_machine.specs.declared.observation.Observation.{Observation}
@@ -10,7 +10,7 @@ pub first-after : (x : Entry) (one other : List Entry) (place : ℕ)
     → IsFirstDifference one other place → IsFirstDifference (x ∷ one) (x ∷ other) (suc place)
 first-after x one other place first = record { before = ap (λ list. x ∷ list) first.before; there = first.there }
 
--- two turns at one program counter that show other events differ after it
+-- two steps at one program counter that show other events differ after it
 pub events-differ : (a b : Observation) (one other : List Observation) → a.pc ≡ b.pc → (a.event ≡ b.event → ⊥)
     → IsFirstDifference (entries_of (a ∷ one)) (entries_of (b ∷ other)) 1
 events-differ a b one other pcs apart = record {

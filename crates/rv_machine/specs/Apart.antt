@@ -17,7 +17,7 @@ pub record Changes (own bytes own' bytes' : ByteMap) : Type 0 where
   pub extent : (a : ℕ) → is_some (own' a) ≡ is_some (own a)
   pub elsewhere : (a : ℕ) → is_some (own a) ≡ false → bytes' a ≡ bytes a
 
--- alone with these bytes a hart reaches for no others, however many turns it makes
+-- alone with these bytes a hart reaches for no others, however many steps it makes
 abbrev pub KeepsInside : ByteMap → Member → Type 0
 KeepsInside own m = (n : ℕ) (seen : List Observation) (bytes : ByteMap) (after : Member)
     → Makes n own m seen bytes after → after.stop ≢ Some AccessFault
@@ -28,19 +28,19 @@ pub record AreApart (own : ℕ → ByteMap) (s : System) : Type 0 where
   pub there : (k : ℕ) → Covers (own k) s.bytes
   pub inside : (k : ℕ) (m : Member) → slice_get s.members k ≡ Some m → KeepsInside (own k) m
 
--- what the hart k has come to among others, and shown, is what it comes to alone in so many turns
-pub record IsAsAlone (k turns : ℕ) (own : ByteMap) (m : Member) (list : List HartObservation) (end : System) :
+-- what the hart k has come to among others, and shown, is what it comes to alone in so many steps
+pub record IsAsAlone (k steps : ℕ) (own : ByteMap) (m : Member) (list : List HartObservation) (end : System) :
     Type 0 where
   pub seen : List Observation
   pub bytes : ByteMap
   pub member : Member
-  pub makes : Makes turns own m seen bytes member
+  pub makes : Makes steps own m seen bytes member
   pub there : slice_get end.members k ≡ Some member
   pub bytes_there : Covers bytes end.bytes
   pub extent : (a : ℕ) → is_some (bytes a) ≡ is_some (own a)
   pub shown : of_hart k list ≡ seen
 
--- alone both show the same, however many turns they make
+-- alone both show the same, however many steps they make
 abbrev pub ShowTheSame : ByteMap → Member → ByteMap → Member → Type 0
 ShowTheSame own m own' m' = (n : ℕ) (seen seen' : List Observation) (bytes bytes' : ByteMap) (after after' : Member)
     → Makes n own m seen bytes after → Makes n own' m' seen' bytes' after' → seen ≡ seen'

@@ -8,7 +8,7 @@ ghost use Rattle.rv_machine.specs.Below.{one_more};
 use crate::observation::Observation;
 use std::alloc::AllocError;
 
-/// What a turn of one hart among others shows, with the hart's number.
+/// What a step of one hart among others shows, with the hart's number.
 #[derive(Clone, Copy)]
 pub struct HartObservation {
     pub hart: u8,

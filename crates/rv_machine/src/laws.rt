@@ -15,28 +15,28 @@ ghost use Rattle.rv_machine.specs.Effects.{multiply_value, divide_value, holds, 
 ghost use Rattle.rv_machine.specs.Effects.{address_of, jump_target, branch_target, register_target};
 ghost use Rattle.rv_machine.specs.Entries.{Entry, entries_of, IsFirstDifference};
 ghost use Rattle.rv_machine.specs.Leakage.{Leads, Halts, Stepped, Runs, Ran};
-ghost use Rattle.rv_machine.specs.Machine.{State, Code, IsAt, Ending, Turn, here, next, observed, product_shown};
+ghost use Rattle.rv_machine.specs.Machine.{State, Code, IsAt, Ending, Step, here, next, observed, product_shown};
 ghost use Rattle.rv_machine.specs.Machine.{with_value, with_stored, with_link, moved_to};
 ghost use Rattle.rv_machine.specs.Recording.{kept};
 ghost use Rattle.rv_machine.specs.Registers.{register};
 ghost use Rattle.rv_machine.specs.Sizes.{byte_count};
-ghost use Rattle.rv_machine.specs.System.{Member, System, state_in, Follows, Makes, turns_of};
+ghost use Rattle.rv_machine.specs.System.{Member, System, state_in, Follows, Makes, steps_of};
 
 use crate::observation::Event;
 use crate::stops::Stop;
 use rv_code::Instr;
 
-/// A state has one turn.
-pub fn one_turn()
-    ensures { (code : Code) (s : State) (e f : Ending) → Turn code s e → Turn code s f → e ≡ f }
+/// A state has one step.
+pub fn one_step()
+    ensures { (code : Code) (s : State) (e f : Ending) → Step code s e → Step code s f → e ≡ f }
 {}
 
-/// Every state has a turn, and a run of at most so many turns that no recorder cuts short. A turn that stops is no
+/// Every state has a step, and a run of at most so many steps that no recorder cuts short. A step that stops is no
 /// recorder's refusal, and shows one observation at most.
 pub fn every_state_has_a_run()
-    ensures turn { (code : Code) (s : State) → (ending : Ending) × Turn code s ending }
+    ensures step { (code : Code) (s : State) → (ending : Ending) × Step code s ending }
     ensures stop { (code : Code) (s : State) (seen : List Observation) (stop : Stop)
-        → Turn code s (Ending.stops seen stop) → (stop ≢ Stop.RecorderRefused) × (length seen ≤ 1) }
+        → Step code s (Ending.stops seen stop) → (stop ≢ Stop.RecorderRefused) × (length seen ≤ 1) }
     ensures run { (code : Code) (budget : ℕ) (s : State)
         → (seen : List Observation) × (stop : Stop) × (t : State)
         × Runs code budget s seen stop t
@@ -50,7 +50,7 @@ pub fn runs_compose()
     ensures halts { (code : Code) (m n : ℕ) (s t u : State) (a b : List Observation) (stop : Stop)
         → Leads code m s a t → Halts code n t b stop u → Halts code (m + n) s (a ++ b) stop u }
     ensures runs { (code : Code) (budget : ℕ) (s t u : State) (o : Observation) (seen : List Observation) (stop : Stop)
-        → Turn code s (Ending.goes_on o t)
+        → Step code s (Ending.goes_on o t)
         → Runs code budget t seen stop u
         → Runs code (budget + 1) s (o ∷ seen) stop u }
 {}
@@ -70,7 +70,7 @@ pub fn one_run()
         → (other ≡ stop) × (u ≡ t) × (list' ≡ kept keeps list a) }
 {}
 
-/// Two turns from one state with one list so far agree, where the recorder refused nothing; where it refused, the state
+/// Two steps from one state with one list so far agree, where the recorder refused nothing; where it refused, the state
 /// and the list are as before.
 pub fn steps_agree()
     ensures finished { (code : Code) (keeps : Bool) (s t u : State) (list one other : List Observation)
@@ -113,8 +113,8 @@ pub fn one_first_difference()
         → IsFirstDifference one other a → IsFirstDifference one other b → a ≡ b }
 {}
 
-/// The turn of each kind of instruction, where it stands at the program counter.
-pub fn instructions_turn()
+/// The step of each kind of instruction, where it stands at the program counter.
+pub fn instructions_step()
     ensures upper { (code : Code) (s : State) (operation : UpperOperation) (rd immediate : ℕ)
         → IsAt code s.pc (Instr.Upper operation rd immediate)
         → Leads code 1 s (here s) (with_value s rd (upper_value operation s.pc immediate)) }
@@ -191,14 +191,14 @@ pub fn numbers_in_bytes()
 {}
 
 /// Harts over one memory, each with bytes of its own that no other hart reaches. After any schedule each is what it is
-/// alone after as many turns as the schedule names it. Two such systems whose harts alone show the same show one list.
+/// alone after as many steps as the schedule names it. Two such systems whose harts alone show the same show one list.
 pub fn harts_are_as_alone()
     ensures alone { (own : ℕ → ByteMap) (schedule : List ℕ) (s end : System) (list : List HartObservation) (k : ℕ)
         (m : Member)
         → AreApart own s
         → Follows schedule s list end
         → slice_get s.members k ≡ Some m
-        → IsAsAlone k (turns_of k schedule) (own k) m list end }
+        → IsAsAlone k (steps_of k schedule) (own k) m list end }
     ensures shown { (own own' : ℕ → ByteMap) (schedule : List ℕ) (s s' end end' : System)
         (list list' : List HartObservation)
         → AreApart own s
@@ -210,8 +210,8 @@ pub fn harts_are_as_alone()
         → list ≡ list' }
 {}
 
-/// A hart alone whose run stops: it reaches for no other bytes unless that is how it stops, however many turns it makes
-/// it has shown a beginning of the run's list, an observation a turn, and once it has made the run's turns it is where
+/// A hart alone whose run stops: it reaches for no other bytes unless that is how it stops, however many steps it makes
+/// it has shown a beginning of the run's list, an observation a step, and once it has made the run's steps it is where
 /// the run stopped.
 pub fn harts_halt()
     ensures inside { (m : Member) (own : ByteMap) (n : ℕ) (seen : List Observation) (stop : Stop) (t : State)

@@ -1,9 +1,9 @@
 // The machine that runs the compiler's code: all of RV32IM over a memory, and what an observer sees.
 //
-// It promises that `step` makes one turn of the machine (`specs/Machine.antt`) and records what that
-// turn shows (`specs/Leakage.antt`), that `run` makes turns up to the first one that stops or to its
+// It promises that `step` makes one step of the machine (`specs/Machine.antt`) and records what that
+// step shows (`specs/Leakage.antt`), that `run` makes steps up to the first one that stops or to its
 // budget, both for any lawful memory and recorder, and that the memories and recorders here are
-// lawful. What a turn shows goes by the profile of the code: in profile 2 the operands of
+// lawful. What a step shows goes by the profile of the code: in profile 2 the operands of
 // multiplications are shown too. It stands on `rv_code`, which says what instruction
 // a word is and what its operation computes.
 #![tactic(auto)]

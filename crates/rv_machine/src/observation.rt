@@ -1,4 +1,4 @@
-// What an observer sees of one turn of the machine.
+// What an observer sees of one step of the machine.
 
 use crate::memory::Size;
 
@@ -15,7 +15,7 @@ pub enum Event {
     Mul(u32, u32),
 }
 
-/// What one turn shows: the program counter, and the event where the instruction has one.
+/// What one step shows: the program counter, and the event where the instruction has one.
 #[derive(Clone, Copy, Debug, Default, PartialEq, Eq)]
 pub struct Observation {
     pub pc: u32,

@@ -39,7 +39,7 @@ impl fmt::Display for Pairing {
     }
 }
 
-// Whether two turns show the same besides their program counters.
+// Whether two steps show the same besides their program counters.
 fn is_same_event(one: Option<Event>, other: Option<Event>) -> bool
     ensures { IsTrue result ↔ (one ≡ other) }
 {
@@ -70,23 +70,23 @@ pub fn first_difference(one: &Observation, other: &Observation) -> Option<u64>
     }
 }
 
-// Makes the next turn of a run where the other one has shown all, and answers what it shows.
+// Makes the next step of a run where the other one has shown all, and answers what it shows.
 #[cold]
 #[inline(never)]
-fn last_turn<M: Memory>(
+fn last_step<M: Memory>(
     alloc: Global,
     code: &CodeRegion,
     run: &mut Running<M>,
 ) -> Option<Observation>
     ensures made { Makes (code_of code.now)
-        run.old.turns_left (state_of run.old.hart (M.bytes run.old.memory)) result
-        run.new.turns_left (state_of run.new.hart (M.bytes run.new.memory)) }
-    ensures ended { result ≡ None → run.new.turns_left ≡ 0 }
+        run.old.steps_left (state_of run.old.hart (M.bytes run.old.memory)) result
+        run.new.steps_left (state_of run.new.hart (M.bytes run.new.memory)) }
+    ensures ended { result ≡ None → run.new.steps_left ≡ 0 }
 {
-    run.turn(alloc, code)
+    run.step(alloc, code)
 }
 
-/// Makes turns of two runs of the same code, one of each after the other, and compares what they show.
+/// Makes steps of two runs of the same code, one of each after the other, and compares what they show.
 /// It answers at the first difference, or where both have ended. No list is kept.
 pub fn compare<M: Memory>(
     alloc: Global,
@@ -94,31 +94,31 @@ pub fn compare<M: Memory>(
     one: &mut Running<M>,
     other: &mut Running<M>,
 ) -> Pairing
-    requires { one.old.turns_left < 2 ^ 63 }
+    requires { one.old.steps_left < 2 ^ 63 }
     ensures compared { (seen seen' : List Observation)
-        × IsShown (code_of code.now) one.old.turns_left (state_of one.old.hart (M.bytes one.old.memory)) seen
-        × IsShown (code_of code.now) other.old.turns_left (state_of other.old.hart (M.bytes other.old.memory)) seen'
+        × IsShown (code_of code.now) one.old.steps_left (state_of one.old.hart (M.bytes one.old.memory)) seen
+        × IsShown (code_of code.now) other.old.steps_left (state_of other.old.hart (M.bytes other.old.memory)) seen'
         × Compares (entries_of seen) (entries_of seen') result }
     ensures ended { result ≡ Pairing.Same → EndTogether (code_of code.now)
-        one.old.turns_left (state_of one.old.hart (M.bytes one.old.memory))
-        one.new.turns_left (state_of one.new.hart (M.bytes one.new.memory))
-        other.old.turns_left (state_of other.old.hart (M.bytes other.old.memory))
-        other.new.turns_left (state_of other.new.hart (M.bytes other.new.memory)) }
+        one.old.steps_left (state_of one.old.hart (M.bytes one.old.memory))
+        one.new.steps_left (state_of one.new.hart (M.bytes one.new.memory))
+        other.old.steps_left (state_of other.old.hart (M.bytes other.old.memory))
+        other.new.steps_left (state_of other.new.hart (M.bytes other.new.memory)) }
     ensures parted { (place : ℕ) → result ≡ Pairing.Differ place → Part (code_of code.now)
-        one.old.turns_left (state_of one.old.hart (M.bytes one.old.memory))
-        one.new.turns_left (state_of one.new.hart (M.bytes one.new.memory))
-        other.old.turns_left (state_of other.old.hart (M.bytes other.old.memory))
-        other.new.turns_left (state_of other.new.hart (M.bytes other.new.memory)) place }
+        one.old.steps_left (state_of one.old.hart (M.bytes one.old.memory))
+        one.new.steps_left (state_of one.new.hart (M.bytes one.new.memory))
+        other.old.steps_left (state_of other.old.hart (M.bytes other.old.memory))
+        other.new.steps_left (state_of other.new.hart (M.bytes other.new.memory)) place }
 {
     let mut place = 0;
-    'turns: loop {
-        let Some(seen) = one.turn(alloc, code) else {
-            return match last_turn(alloc, code, other) {
+    'steps: loop {
+        let Some(seen) = one.step(alloc, code) else {
+            return match last_step(alloc, code, other) {
                 Some(_) => Pairing::Differ(place),
                 None => Pairing::Same,
             };
         };
-        let Some(seen_other) = other.turn(alloc, code) else {
+        let Some(seen_other) = other.step(alloc, code) else {
             return Pairing::Differ(place);
         };
         if let Some(entry) = first_difference(&seen, &seen_other) {

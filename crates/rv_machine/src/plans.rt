@@ -1,11 +1,11 @@
-// What a turn shows and changes, before the recorder has its say.
+// What a step shows and changes, before the recorder has its say.
 
 ghost use Rattle.std.specs.Prelude.{◌≡◌, ◌≢◌, ℕ, ◌%◌, Some, None};
 ghost use Rattle.rv_machine.specs.Bytes.{ByteMap};
 ghost use Rattle.rv_machine.specs.Decoded.{spelled, IsDecoded};
 ghost use Rattle.rv_machine.specs.Effects.{load_size, store_size};
 ghost use Rattle.rv_machine.specs.Harts.{state_of};
-ghost use Rattle.rv_machine.specs.Machine.{State, Turn, word_at, product_shown, ending_of};
+ghost use Rattle.rv_machine.specs.Machine.{State, Step, word_at, product_shown, ending_of};
 ghost use Rattle.rv_machine.specs.Plans.{ends_as, stop_of, IsPossible};
 ghost use Rattle.rv_machine.specs.Regions.{code_of};
 ghost use Rattle.rv_machine.specs.Below.{Profile};
@@ -19,7 +19,7 @@ use crate::stops::Stop;
 use rv_code::{LoadOperation, Reg, StoreOperation};
 use word::Profile;
 
-/// What a turn changes, where the recorder takes what it shows.
+/// What a step changes, where the recorder takes what it shows.
 #[derive(Clone, Copy)]
 pub enum Change {
     /// The register gets this value, and the hart goes on to the next instruction.
@@ -35,14 +35,14 @@ pub enum Change {
     Stops(Stop),
 }
 
-/// What a turn shows besides its program counter, and what it changes.
+/// What a step shows besides its program counter, and what it changes.
 #[derive(Clone, Copy)]
 pub struct Plan {
     pub event: Option<Event>,
     pub change: Change,
 }
 
-/// The plan of a turn that shows its program counter alone.
+/// The plan of a step that shows its program counter alone.
 #[inline(always)]
 fn unseen(change: Change) -> Plan
     ensures { result ≡ record { event = None; change = change } }
@@ -199,7 +199,7 @@ fn effect_plan<M: Memory>(hart: &Hart, code: &CodeRegion, effect: Effect, memory
     }
 }
 
-/// The plan of a turn, where this word of the code stands at the hart's program counter.
+/// The plan of a step, where this word of the code stands at the hart's program counter.
 #[inline(always)]
 pub(crate) fn plan_of<M: Memory>(
     hart: &Hart,
@@ -207,9 +207,9 @@ pub(crate) fn plan_of<M: Memory>(
     word: &CodeWord,
     memory: &M,
 ) -> Plan
-    ensures turn { let s = state_of hart.now (M.bytes memory.now) in
+    ensures step { let s = state_of hart.now (M.bytes memory.now) in
         s.pc % 4 ≡ 0 → word_at (code_of code.now) s.pc ≡ Some (spelled word.now) → IsDecoded word.now
-        → Turn (code_of code.now) s (ends_as result.event result.change s) }
+        → Step (code_of code.now) s (ends_as result.event result.change s) }
     ensures possible { IsPossible (M.bytes memory.now) result.change }
     ensures calm { stop_of result.change ≢ Some Stop.RecorderRefused }
 {

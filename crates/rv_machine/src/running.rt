@@ -1,4 +1,4 @@
-// Runs in progress, a turn at a time.
+// Runs in progress, a step at a time.
 
 ghost use Rattle.std.specs.Prelude.{◌≡◌, ◌<◌, List, None, IsSome};
 ghost use Rattle.rv_machine.specs.Harts.{state_of};
@@ -15,39 +15,39 @@ use crate::observation::Observation;
 use crate::turn_recorder::TurnRecorder;
 use std::alloc::Global;
 
-/// A run in progress: where the machine stands, and how many turns it may still make. A run that has
-/// stopped makes no more turns.
+/// A run in progress: where the machine stands, and how many steps it may still make. A run that has
+/// stopped makes no more steps.
 #[derive(Drop)]
 pub struct Running<M> {
     pub hart: Hart,
     pub memory: M,
-    pub turns_left: u64,
+    pub steps_left: u64,
 }
 
 impl<M: Memory> Running<M> {
-    /// Makes the next turn, a step with a recorder made for it, and answers what it shows. `None` where
-    /// the run has ended, or ends by a turn that shows nothing. It takes no memory.
+    /// Makes the next step, with a recorder made for it, and answers what it shows. `None` where
+    /// the run has ended, or ends by a step that shows nothing. It takes no memory.
     #[inline(always)]
-    pub fn turn(&mut self, alloc: Global, code: &CodeRegion) -> Option<Observation>
+    pub fn step(&mut self, alloc: Global, code: &CodeRegion) -> Option<Observation>
         ensures made { Makes (code_of code.now)
-            self.old.turns_left (state_of self.old.hart (M.bytes self.old.memory)) result
-            self.new.turns_left (state_of self.new.hart (M.bytes self.new.memory)) }
+            self.old.steps_left (state_of self.old.hart (M.bytes self.old.memory)) result
+            self.new.steps_left (state_of self.new.hart (M.bytes self.new.memory)) }
         ensures shown { (rest : List Observation)
-            → IsShown (code_of code.now) self.new.turns_left (state_of self.new.hart (M.bytes self.new.memory)) rest
-            → IsShown (code_of code.now) self.old.turns_left (state_of self.old.hart (M.bytes self.old.memory))
+            → IsShown (code_of code.now) self.new.steps_left (state_of self.new.hart (M.bytes self.new.memory)) rest
+            → IsShown (code_of code.now) self.old.steps_left (state_of self.old.hart (M.bytes self.old.memory))
             (followed_by result rest) }
-        ensures ended { result ≡ None → self.new.turns_left ≡ 0 }
-        ensures fewer { IsSome result → self.new.turns_left < self.old.turns_left }
+        ensures ended { result ≡ None → self.new.steps_left ≡ 0 }
+        ensures fewer { IsSome result → self.new.steps_left < self.old.steps_left }
     {
-        if self.turns_left == 0 {
+        if self.steps_left == 0 {
             return None;
         }
         let mut recorder = TurnRecorder::new(alloc);
         let stop = step(&mut self.hart, code, &mut self.memory, &mut recorder);
-        self.turns_left = if stop.is_some() {
+        self.steps_left = if stop.is_some() {
             0
         } else {
-            self.turns_left - 1
+            self.steps_left - 1
         };
         recorder.first()
     }

@@ -18,7 +18,7 @@ pub enum Stop {
     AccessFault,
     /// An address is no multiple of its size.
     Misaligned,
-    /// As many turns were made as were allowed.
+    /// As many steps were made as were allowed.
     Budget,
     /// The recorder refused what the instruction shows, and the instruction was not executed.
     RecorderRefused,

@@ -1,10 +1,10 @@
-// Several harts over one memory, a turn of one at a time.
+// Several harts over one memory, a step of one at a time.
 
 ghost use Rattle.std.specs.Prelude.{◌≡◌, ℕ, ◌<◌, length, ◌∷◌, [], All, OnOk, OnErr};
 ghost use Rattle.rv_machine.specs.Leakage.{followed_by};
 ghost use Rattle.rv_machine.specs.Recording.{HasRefused};
 ghost use Rattle.rv_machine.specs.RunningHarts.{member_now, system_now, Followed, CutShort};
-ghost use Rattle.rv_machine.specs.System.{MemberTurn, Follows, shown_by};
+ghost use Rattle.rv_machine.specs.System.{MemberStep, Follows, shown_by};
 
 use crate::code::CodeRegion;
 use crate::hart::Hart;
@@ -25,10 +25,10 @@ pub struct RunningHart {
 }
 
 impl RunningHart {
-    /// Makes the hart's next turn over a memory, and answers what it shows. A hart that has stopped
+    /// Makes the hart's next step over a memory, and answers what it shows. A hart that has stopped
     /// does nothing and shows nothing. It takes no memory.
-    pub fn turn<M: Memory>(&mut self, alloc: Global, memory: &mut M) -> Option<Observation>
-        ensures { MemberTurn (M.bytes memory.old) (member_now self.old) (followed_by result []) (M.bytes memory.new)
+    pub fn step<M: Memory>(&mut self, alloc: Global, memory: &mut M) -> Option<Observation>
+        ensures { MemberStep (M.bytes memory.old) (member_now self.old) (followed_by result []) (M.bytes memory.new)
             (member_now self.new) }
     {
         if self.stop.is_some() {
@@ -48,20 +48,20 @@ pub struct RunningHarts<M> {
 }
 
 impl<M: Memory> RunningHarts<M> {
-    /// Makes the next turn of the hart with this number, and answers what it shows.
-    fn turn(&mut self, alloc: Global, number: u8) -> Option<Observation>
+    /// Makes the next step of the hart with this number, and answers what it shows.
+    fn step(&mut self, alloc: Global, number: u8) -> Option<Observation>
         requires { number < length self.now.harts.items }
-        ensures turn { Follows (number ∷ [])
+        ensures step { Follows (number ∷ [])
             (system_now self.old.harts.items (M.bytes self.old.memory)) (shown_by number (followed_by result []))
             (system_now self.new.harts.items (M.bytes self.new.memory)) }
         ensures count { length self.new.harts.items ≡ length self.old.harts.items }
     {
         let hart = &mut self.harts[usize::from(number)];
-        hart.turn(alloc, &mut self.memory)
+        hart.step(alloc, &mut self.memory)
     }
 
-    /// Makes one turn of each hart that the schedule names, in its order. The recorder takes what the
-    /// turns show, each with its hart's number. Where the recorder refuses it, the rest of the
+    /// Makes one step of each hart that the schedule names, in its order. The recorder takes what the
+    /// steps show, each with its hart's number. Where the recorder refuses it, the rest of the
     /// schedule is not followed.
     pub fn follow<R: HartRecorder>(
         &mut self,
@@ -80,7 +80,7 @@ impl<M: Memory> RunningHarts<M> {
         ensures count { length self.new.harts.items ≡ length self.old.harts.items }
     {
         for &number in schedule {
-            if let Some(observation) = self.turn(alloc, number) {
+            if let Some(observation) = self.step(alloc, number) {
                 recorder.note(number, observation)?;
             }
         }

@@ -1,4 +1,4 @@
-// The recorder of one turn.
+// The recorder of one step.
 
 ghost use Rattle.std.specs.Prelude.{◌≡◌, [], slice_get};
 ghost use Rattle.rv_machine.specs.ListRecording.{recorded, refused, has_room};
@@ -10,7 +10,7 @@ use smallvec::SmallVec;
 use std::alloc::{AllocError, Global};
 use std::marker::Model;
 
-/// Keeps observations, the first of them in itself: for one turn it takes no memory.
+/// Keeps observations, the first of them in itself: for one step it takes no memory.
 #[derive(Drop)]
 pub struct TurnRecorder {
     seen: SmallVec<Observation, 1>,

@@ -5,20 +5,20 @@ use Rattle.std.proofs.Common.{append-nil, append_assoc}
 use Rattle.std.proofs.lemmas.Bool.{cases_Bool}
 use Rattle.std.proofs.lemmas.Option.{none-some, same_Some}
 use Rattle.std.specs.Str.{bytes_eq}
-use Rattle.source_eval.specs.Below.{a_turn, accepts, Arg, argument_faults, array, assignment, assignment_faults}
+use Rattle.source_eval.specs.Below.{an_iteration, accepts, Arg, argument_faults, array, assignment, assignment_faults}
 use Rattle.source_eval.specs.Below.{assigns, assigns_element, begun, BlockTree, Bodies, body_ends, body_faults}
 use Rattle.source_eval.specs.Below.{body_run, bounds_fault, by_operands, call, call_faults, call_run, called, Calls}
 use Rattle.source_eval.specs.Below.{calls, CallTree, computed, condition_faults, conditional, counting, declaration}
 use Rattle.source_eval.specs.Below.{declaration_faults, declares, declares_array, declines, element, element_assignment}
 use Rattle.source_eval.specs.Below.{element_held, ended, ends, ends_well, Evaluates, EvaluatesAll, exported}
 use Rattle.source_eval.specs.Below.{expr_faults, ExprTree, first, first_value_faults, found_run, Gives, gives, goes_on}
-use Rattle.source_eval.specs.Below.{holding, inside, later_faults, loop, loops, meets_fault, named, no_turn, none_left}
-use Rattle.source_eval.specs.Below.{nothing, of_call, of_expr, one_more, operand_faults, passed, Place, ProcedureTree}
-use Rattle.source_eval.specs.Below.{program_run, ProgramTree, return_faults, return_run, returns, returns_nothing}
-use Rattle.source_eval.specs.Below.{ReturnTree, right_faults, right_run, Rights, RightTree, run, run_all, runnable}
-use Rattle.source_eval.specs.Below.{runnables, Runs, RunsAll, State, statements_fault, StatementTree, stops}
-use Rattle.source_eval.specs.Below.{target_faults, this_faults, tick, truth_of, turn_faults, Turns, turns, value}
-use Rattle.source_eval.specs.Below.{values, Word, word_arguments, written}
+use Rattle.source_eval.specs.Below.{holding, inside, later_faults, loop, loops, meets_fault, named, no_iteration}
+use Rattle.source_eval.specs.Below.{none_left, nothing, of_call, of_expr, one_more, operand_faults, passed, Place}
+use Rattle.source_eval.specs.Below.{ProcedureTree, program_run, ProgramTree, return_faults, return_run, returns}
+use Rattle.source_eval.specs.Below.{returns_nothing, ReturnTree, right_faults, right_run, Rights, RightTree, run}
+use Rattle.source_eval.specs.Below.{run_all, runnable, runnables, Runs, RunsAll, State, statements_fault, StatementTree}
+use Rattle.source_eval.specs.Below.{stops, target_faults, this_faults, tick, truth_of, iteration_faults, Iterations}
+use Rattle.source_eval.specs.Below.{iterations, value, values, Word, word_arguments, written}
 use Rattle.source_eval.proofs.Below.{Found, known-named}
 use Rattle.source_eval.proofs.EarlierCalls.{IsNamed, RightKnown, StatementKnown, BlockKnown, CallEarlier}
 use Rattle.source_eval.proofs.RunEnds.{then-either}
@@ -31,20 +31,20 @@ BodyHad found = (s : State) → Bodies found.0 found.1 s (body_run (runnables fo
 abbrev AllHad : List ProcedureTree → Type 0
 AllHad ps = (text : List ℕ) (found : Found) → named [] ps text ≡ Some found → BodyHad found
 
--- the turns of a loop, by those of its body
-turns-had : (ps : List ProcedureTree) (text : List ℕ) (body : BlockTree)
+-- the iterations of a loop, by those of its body
+iterations-had : (ps : List ProcedureTree) (text : List ℕ) (body : BlockTree)
     → ((s : State) → RunsAll ps s body (run_all (runnables ps) s body).ends)
     → (left i n : ℕ) (s : State) → n - i ≡ left
-    → Turns ps s text body i n (turns left i (λ k t. run_all (runnables ps) (counting t text k) body) s).ends
+    → Iterations ps s text body i n (iterations left i (λ k t. run_all (runnables ps) (counting t text k) body) s).ends
 unfolding tick
-turns-had ps text body had zero i n s none = no_turn (omega (arith, none))
-turns-had ps text body had (suc left) i n s more =
+iterations-had ps text body had zero i n s none = no_iteration (omega (arith, none))
+iterations-had ps text body had (suc left) i n s more =
     let low : i < n = omega (arith, more) in
     let fewer : n - (i + 1) ≡ left = omega (arith, more) in
-    then-either (RunsAll ps (counting s text i) body) (Turns ps s text body i n)
+    then-either (RunsAll ps (counting s text i) body) (Iterations ps s text body i n)
     (run_all (runnables ps) (counting s text i) body) _ (had (counting s text i))
-    (λ t d. a_turn low d (turns-had ps text body had left (i + 1) n t fewer))
-    (λ at d. turn_faults low d)
+    (λ t d. an_iteration low d (iterations-had ps text body had left (i + 1) n t fewer))
+    (λ at d. iteration_faults low d)
 
 module _ (ps : List ProcedureTree) (had : AllHad ps) where
   call-had : (s : State) (c : CallTree) → IsNamed ps c.name → Calls ps s c (call_run (runnables ps c.name) s c).ends
@@ -129,7 +129,7 @@ module _ (ps : List ProcedureTree) (had : AllHad ps) where
         (λ a d. then-either (Evaluates s high) (Runs ps s (loop place counter text low high body)) (value s high) _
         (value-had s high)
         (λ b e. loops (one_more d (one_more e none_left))
-        (turns-had ps text body (λ t. block-had t body is) (b.value - a.value) a.value b.value s refl))
+        (iterations-had ps text body (λ t. block-had t body is) (b.value - a.value) a.value b.value s refl))
         (λ at e. bounds_fault (later_faults d (this_faults e))))
         (λ at d. bounds_fault (this_faults d))
 

@@ -1,4 +1,4 @@
--- The turns of the loops of this crate, over the lists that they go through.
+-- The iterations of the loops of this crate, over the lists that they go through.
 use Rattle.std.proofs.Common.{◌≡◌, ℕ, ◌+◌, ◌<◌, ◌≤◌, true, false, List, [], ◌∷◌, ◌++◌, Result, drop, length, get_or}
 use Rattle.std.proofs.Common.{map, cond, ◌==◌, ◌⊎◌, inl, inr, nat_lt, replicate, refl, sym, ap, ap₂, subst, ◌∙◌}
 use Rattle.std.proofs.Common.{arith}

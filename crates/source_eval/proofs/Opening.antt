@@ -9,8 +9,8 @@ use Rattle.source_eval.specs.Below.{continued, counting, declaration, element_as
 use Rattle.source_eval.specs.Below.{ExprTree, Extent, extent_of, Extents, extents_of, faults, first, found_run, gives}
 use Rattle.source_eval.specs.Below.{holding, inside, loop, nothing, passed, ProcedureTree, program_run, ProgramTree}
 use Rattle.source_eval.specs.Below.{right_bodies, right_run, RightTree, Run, run, run_all, Runnable, runnable}
-use Rattle.source_eval.specs.Below.{Runnables, runnables, State, statement_bodies, StatementTree, tick, truth_of, turns}
-use Rattle.source_eval.specs.Below.{value, word_arguments}
+use Rattle.source_eval.specs.Below.{Runnables, runnables, State, statement_bodies, StatementTree, tick, truth_of}
+use Rattle.source_eval.specs.Below.{iterations, value, word_arguments}
 use Rattle.language.specs.Known.{first_known, known_from, nothing_known, with_known}
 use Rattle.source_eval.proofs.RunLemmas.{value_opens, passed_open, return_opens, array_opens}
 
@@ -29,13 +29,13 @@ then_open most r next h k = continued_open most r.nodes r.bodies r.ends next h k
 none_open : (most n : ℕ) → n ≡ 0 → n ≤ most
 none_open most n h = omega (arith, h)
 
--- so many turns
-turns_open : (most : ℕ) (turn : ℕ → State → Run State) → ((i : ℕ) (s : State) → (turn i s).bodies ≤ most)
-    → (n i : ℕ) (s : State) → (turns n i turn s).bodies ≤ most
+-- so many iterations
+iterations_open : (most : ℕ) (iteration : ℕ → State → Run State) → ((i : ℕ) (s : State) → (iteration i s).bodies ≤ most)
+    → (n i : ℕ) (s : State) → (iterations n i iteration s).bodies ≤ most
 unfolding tick
-turns_open most turn each zero i s = omega arith
-turns_open most turn each (suc n) i s =
-    then_open most (turn i s) _ (each i s) (λ t. turns_open most turn each n (i + 1) t)
+iterations_open most iteration each zero i s = omega arith
+iterations_open most iteration each (suc n) i s =
+    then_open most (iteration i s) _ (each i s) (λ t. iterations_open most iteration each n (i + 1) t)
 
 -- one of two runs
 one_open : (a b : ℕ) (accepted otherwise : Run State) → accepted.bodies ≤ a → otherwise.bodies ≤ b → (test : Bool)
@@ -95,7 +95,7 @@ module _ (known : Runnables) (extents : Extents) (opened : AreOpened known exten
         one_open _ _ _ _ (block_open accepted s) (block_open otherwise s) (truth_of c.value))
     statement_open (loop place counter text low high body) s =
         then_open _ _ _ (value_open _ s low) (λ a. then_open _ _ _ (value_open _ s high) (λ b.
-        turns_open _ _ (λ i t. block_open body (counting t text i)) (b.value - a.value) a.value s))
+        iterations_open _ _ (λ i t. block_open body (counting t text i)) (b.value - a.value) a.value s))
 
     block_open : (block : BlockTree) (s : State) → (run_all known s block).bodies ≤ block_bodies extents block
     block_open nothing s = omega arith

@@ -78,9 +78,9 @@ j = 106 ∷ []
 abbrev a : List ℕ
 a = 97 ∷ []
 
--- a loop whose low bound is not below its high one makes no turn
-abbrev no_turns : ProgramTree
-no_turns = record {
+-- a loop whose low bound is not below its high one makes no iteration
+abbrev no_iterations : ProgramTree
+no_iterations = record {
   procedures = exporting (void (102 ∷ []) []
       (first (declaration here Public true Uint32 s (computed (n 7)))
       (first (loop here here j (n 5) (n 5)
@@ -89,10 +89,10 @@ no_turns = record {
       (Some (record { place = here; value = v s }))) ∷ [];
 }
 
-pub counts_no_turn : program_run no_turns []
+pub counts_no_iteration : program_run no_iterations []
     ≡ record { nodes = 10; bodies = 1; ends = gives (record { returned = Some 7; arrays = [] }) }
 unfolding tick andthen inside
-counts_no_turn = refl
+counts_no_iteration = refl
 
 -- an array is copied in and out, its word argument taken before
 abbrev parameter : Form → ℕ → List ℕ → ParameterTree

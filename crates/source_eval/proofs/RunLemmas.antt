@@ -4,7 +4,7 @@ use Rattle.std.proofs.Common.{append_assoc, append-nil, refl, arith}
 use Rattle.source_eval.specs.Below.{andthen, array_run, binary, BlockTree, continued, convert, element, Ending}
 use Rattle.source_eval.specs.Below.{ExprTree, faults, first, given, gives, Kind, later, loop_run, name, number, passed}
 use Rattle.source_eval.specs.Below.{prefix, return_run, ReturnTree, rotate, Run, run, run_all, Runnables, select, State}
-use Rattle.source_eval.specs.Below.{StatementTree, tick, truth, turns, value, values, Word, written}
+use Rattle.source_eval.specs.Below.{StatementTree, tick, truth, iterations, value, values, Word, written}
 use Rattle.source_eval.specs.Metering.{Ended, Stopped}
 use Rattle.source_eval.specs.declared.fault.EvalFault.{EvalFault}
 use Rattle.source_eval.specs.declared.fault.EvalFault.TheVariants.{Argument, NoMeaning, Budget, Memory}
@@ -178,40 +178,41 @@ pub all_found : (whole : Run (List Word)) (start now : ℕ) (front : List Word)
 all_found whole start now front leads =
     rw append-nil at (leads.ends [] now (record { gives_it = refl; spends = omega arith; opens = omega arith }))
 
--- the turns of a loop
+-- the iterations of a loop
 step_of : (i n : ℕ) → i < n → n - i ≡ suc (n - (i + 1))
 step_of i n less = omega arith
 
-module _ (whole : Run State) (turn : ℕ → State → Run State) (start room : ℕ) where
-  pub turns_more : (s t : State) (i n before now middle : ℕ) → i < n
-      → Leads whole start room (turns (n - i) i turn s) before (λ u. u) → before ≡ now + 1
-      → Ended (turn i s) now room t middle
-      → Leads whole start room (turns (n - (i + 1)) (i + 1) turn t) middle (λ u. u)
-  turns_more s t i n before now middle less leads one h =
+module _ (whole : Run State) (iteration : ℕ → State → Run State) (start room : ℕ) where
+  pub iterations_more : (s t : State) (i n before now middle : ℕ) → i < n
+      → Leads whole start room (iterations (n - i) i iteration s) before (λ u. u) → before ≡ now + 1
+      → Ended (iteration i s) now room t middle
+      → Leads whole start room (iterations (n - (i + 1)) (i + 1) iteration t) middle (λ u. u)
+  iterations_more s t i n before now middle less leads one h =
       let l = rw (step_of i n less) at leads in
       record {
         ends = λ u after k. l.ends u after (tick_ends one (then_ends _ h k));
         stops = λ fault k. l.stops fault (tick_stops _ before now room fault one (then_stops _ fault h k));
       }
 
-  pub turns_stop : (s : State) (i n before now : ℕ) (fault : EvalFault) → i < n
-      → Leads whole start room (turns (n - i) i turn s) before (λ u. u) → before ≡ now + 1
-      → Stopped (turn i s) now room fault
+  pub iterations_stop : (s : State) (i n before now : ℕ) (fault : EvalFault) → i < n
+      → Leads whole start room (iterations (n - i) i iteration s) before (λ u. u) → before ≡ now + 1
+      → Stopped (iteration i s) now room fault
       → Stopped whole start room fault
-  turns_stop s i n before now fault less leads one h =
+  iterations_stop s i n before now fault less leads one h =
       let l = rw (step_of i n less) at leads in
-      l.stops fault (tick_stops _ before now room fault one (stops_then (turn i s) _ now room fault h))
+      l.stops fault (tick_stops _ before now room fault one (stops_then (iteration i s) _ now room fault h))
 
-  pub turns_lack : (s : State) (i n before : ℕ) (fault : EvalFault) → i < n
-      → Leads whole start room (turns (n - i) i turn s) before (λ u. u) → before ≡ 0 → fault ≡ Budget
+  pub iterations_lack : (s : State) (i n before : ℕ) (fault : EvalFault) → i < n
+      → Leads whole start room (iterations (n - i) i iteration s) before (λ u. u) → before ≡ 0 → fault ≡ Budget
       → Stopped whole start room fault
-  turns_lack s i n before fault less leads none is =
+  iterations_lack s i n before fault less leads none is =
       let l = rw (step_of i n less) at leads in
       l.stops fault (tick_lacks _ before room fault none is)
 
-  pub turns_end : (s : State) (i n now : ℕ) → n ≤ i → Leads whole start room (turns (n - i) i turn s) now (λ u. u)
+  pub iterations_end : (s : State) (i n now : ℕ) → n ≤ i → Leads whole start room
+      (iterations (n - i) i iteration s) now (λ u. u)
       → Ended whole start room s now
-  turns_end s i n now least leads =
+  iterations_end s i n now least leads =
       let none : n - i ≡ 0 = omega arith in
       let l = rw none at leads in
       l.ends s now (record { gives_it = refl; spends = omega arith; opens = omega arith })
@@ -229,12 +230,13 @@ roomy_stops r left room Budget none (inr h) = absurd (omega arith)
 roomy_stops r left room Memory none h = h
 roomy_stops r left room (Argument fault) none h = h
 
--- the bounds of a loop, and then its turns
-pub bounds_end : (s : State) (low high : ExprTree) (turn : ℕ → State
+-- the bounds of a loop, and then its iterations
+pub bounds_end : (s : State) (low high : ExprTree) (iteration : ℕ → State
     → Run State) (start one two three room : ℕ) (a b : Word)
     → start ≡ one + 1 → Ended (value s low) one 0 a two → Ended (value s high) two 0 b three
-    → Leads (loop_run s low high turn) start room (turns (b.value - a.value) a.value turn s) three (λ u. u)
-bounds_end s low high turn start one two three room a b counts h k = record {
+    → Leads (loop_run s low high iteration) start room (iterations (b.value - a.value) a.value iteration s) three
+    (λ u. u)
+bounds_end s low high iteration start one two three room a b counts h k = record {
   ends = λ u after m. tick_ends counts (then_ends _ (roomy_ends h) (then_ends _ (roomy_ends k) m));
   stops = λ fault m. tick_stops _ start one room fault counts
       (then_stops _ fault (roomy_ends h) (then_stops _ fault (roomy_ends k) m));

@@ -9,7 +9,7 @@ use Rattle.source_eval.specs.Below.{called_run, CallTree, copied_out, counting, 
 use Rattle.source_eval.specs.Below.{final_arrays, For, given, holding, If, inside, loop_run, most_bodies, named}
 use Rattle.source_eval.specs.Below.{Parameter, parameter_tree, passed, Place, Procedure, procedure_tree, Results}
 use Rattle.source_eval.specs.Below.{results, Returned, Run, run, run_all, Runnable, runnable, Runnables, State}
-use Rattle.source_eval.specs.Below.{Statement, statement_tree, turns, value, Word, word_arguments}
+use Rattle.source_eval.specs.Below.{Statement, statement_tree, iterations, value, Word, word_arguments}
 use Rattle.language.specs.declared.tree.Call.{Call}
 use Rattle.language.specs.declared.tree.Counter.{Counter}
 use Rattle.source_eval.specs.Metering.{Ended, Stopped, known_of}
@@ -17,7 +17,7 @@ use Rattle.source_eval.proofs.Below.{conditional_tree, loop_tree, known-named}
 use Rattle.source_eval.specs.declared.fault.EvalFault.{EvalFault}
 use Rattle.source_eval.specs.declared.fault.EvalFault.TheVariants.{Argument, NoMeaning, Budget, Memory}
 use Rattle.source_eval.proofs.RunLemmas.{Leads, then_ends, then_stops, stops_then, tick_ends, tick_stops, roomy_ends}
-use Rattle.source_eval.proofs.RunLemmas.{roomy_stops, passed_open, value_opens, turns_more, turns_stop}
+use Rattle.source_eval.proofs.RunLemmas.{roomy_stops, passed_open, value_opens, iterations_more, iterations_stop}
 
 inside_ends : {A : Type 0} {r : Run A} {left room more : ℕ} {a : A} {after : ℕ} → more ≡ room + 1
     → Ended r left room a after → Ended (inside r) left more a after
@@ -47,39 +47,39 @@ call_none o s c before left room is one =
     rw is (tick_ends one given_ends)
 
 -- the bounds of a loop
-module _ (s : State) (low high : ExprTree) (turn : ℕ → State
+module _ (s : State) (low high : ExprTree) (iteration : ℕ → State
     → Run State) (start one room : ℕ) (counts : start ≡ one + 1) where
   pub low_stops : (fault : EvalFault) → Stopped (value s low) one 0 fault
-      → Stopped (loop_run s low high turn) start room fault
+      → Stopped (loop_run s low high iteration) start room fault
   low_stops fault h = tick_stops _ start one room fault counts
       (stops_then _ _ one room fault (roomy_stops _ one room fault (value_opens s low) h))
 
   pub high_stops : (a : Word) (two : ℕ) (fault : EvalFault) → Ended (value s low) one 0 a two
-      → Stopped (value s high) two 0 fault → Stopped (loop_run s low high turn) start room fault
+      → Stopped (value s high) two 0 fault → Stopped (loop_run s low high iteration) start room fault
   high_stops a two fault h k =
       tick_stops _ start one room fault counts
       (then_stops _ fault (roomy_ends h)
       (stops_then _ _ two room fault (roomy_stops _ two room fault (value_opens s high) k)))
 
--- its turns, from states in which the counter was set
+-- its iterations, from states in which the counter was set
 module _ (whole : Run State) (known : Runnables) (text : List ℕ) (body : BlockTree) (start room : ℕ) where
-  abbrev turn : ℕ → State → Run State
-  turn i t = run_all known (counting t text i) body
+  abbrev iteration : ℕ → State → Run State
+  iteration i t = run_all known (counting t text i) body
 
-  pub each_turn : (s counted t : State) (i n before now middle : ℕ) → i < n
-      → Leads whole start room (turns (n - i) i turn s) before (λ u. u) → before ≡ now + 1
+  pub each_iteration : (s counted t : State) (i n before now middle : ℕ) → i < n
+      → Leads whole start room (iterations (n - i) i iteration s) before (λ u. u) → before ≡ now + 1
       → counted ≡ counting s text i
       → Ended (run_all known counted body) now room t middle
-      → Leads whole start room (turns (n - (i + 1)) (i + 1) turn t) middle (λ u. u)
-  each_turn s counted t i n before now middle less leads one is h =
-      turns_more whole turn start room s t i n before now middle less leads one (rw is at h)
+      → Leads whole start room (iterations (n - (i + 1)) (i + 1) iteration t) middle (λ u. u)
+  each_iteration s counted t i n before now middle less leads one is h =
+      iterations_more whole iteration start room s t i n before now middle less leads one (rw is at h)
 
-  pub turn_stops : (s counted : State) (i n before now : ℕ) (fault : EvalFault) → i < n
-      → Leads whole start room (turns (n - i) i turn s) before (λ u. u) → before ≡ now + 1
+  pub iteration_stops : (s counted : State) (i n before now : ℕ) (fault : EvalFault) → i < n
+      → Leads whole start room (iterations (n - i) i iteration s) before (λ u. u) → before ≡ now + 1
       → counted ≡ counting s text i
       → Stopped (run_all known counted body) now room fault → Stopped whole start room fault
-  turn_stops s counted i n before now fault less leads one is h =
-      turns_stop whole turn start room s i n before now fault less leads one (rw is at h)
+  iteration_stops s counted i n before now fault less leads one is h =
+      iterations_stop whole iteration start room s i n before now fault less leads one (rw is at h)
 
 -- a call, over the lists that the code goes through
 module _ (earlier front : List Procedure) (callee : Procedure) (s : State) (c : Call) (ps : List Parameter)

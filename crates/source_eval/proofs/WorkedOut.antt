@@ -1,19 +1,19 @@
 -- Each derivation of an end gives the end that is worked out.
 use Rattle.std.proofs.Common.{◌≡◌, ℕ, ◌+◌, ◌-◌, suc, List, [], ◌∷◌, refl, ◌∙◌, arith}
-use Rattle.source_eval.specs.Below.{a_turn, accepts, andthen, Arg, argument_faults, array, assignment}
+use Rattle.source_eval.specs.Below.{an_iteration, accepts, andthen, Arg, argument_faults, array, assignment}
 use Rattle.source_eval.specs.Below.{assignment_faults, assigns, assigns_element, BlockTree, Bodies, body_ends}
 use Rattle.source_eval.specs.Below.{body_faults, body_run, bounds_fault, by_operands, call, call_faults, call_run}
 use Rattle.source_eval.specs.Below.{called, Calls, calls, CallTree, computed, condition_faults, conditional, counting}
 use Rattle.source_eval.specs.Below.{declaration, declaration_faults, declares, declares_array, declines, element}
 use Rattle.source_eval.specs.Below.{element_assignment, element_held, ended, Ending, ends, ends_well, Evaluates}
 use Rattle.source_eval.specs.Below.{EvaluatesAll, expr_faults, ExprTree, faults, first, first_value_faults, Gives}
-use Rattle.source_eval.specs.Below.{gives, goes_on, inside, later_faults, loop, loops, meets_fault, no_turn, none_left}
-use Rattle.source_eval.specs.Below.{nothing, of_call, of_expr, one_more, operand_faults, operands, passed}
+use Rattle.source_eval.specs.Below.{gives, goes_on, inside, later_faults, loop, loops, meets_fault, no_iteration}
+use Rattle.source_eval.specs.Below.{none_left, nothing, of_call, of_expr, one_more, operand_faults, operands, passed}
 use Rattle.source_eval.specs.Below.{ProcedureTree, program_run, ProgramTree, Results, return_faults, Returned, returns}
 use Rattle.source_eval.specs.Below.{returns_nothing, right_faults, right_run, Rights, RightTree, run, run_all, runnable}
 use Rattle.source_eval.specs.Below.{runnables, Runs, RunsAll, State, statements_fault, StatementTree, stops}
-use Rattle.source_eval.specs.Below.{target_faults, this_faults, tick, turn_faults, Turns, turns, value, values, Word}
-use Rattle.source_eval.specs.Below.{written}
+use Rattle.source_eval.specs.Below.{target_faults, this_faults, tick, iteration_faults, Iterations, iterations, value}
+use Rattle.source_eval.specs.Below.{values, Word, written}
 use Rattle.source_eval.proofs.Below.{known-named}
 use Rattle.source_eval.proofs.RunEnds.{first-faults, first-gives, value-by-operands}
 
@@ -109,18 +109,20 @@ mutual
   statement-worked ps s (loop place counter text low high body) ending
       (bounds_fault (later_faults d (later_faults f g))) = elim g [ ]
   statement-worked ps s (loop place counter text low high body) ending (loops {a = a} {b = b} (one_more d
-      (one_more f g)) turns) =
-      rw (value-worked s low _ d, value-worked s high _ f) (turns-worked ps s text body a.value b.value ending turns)
+      (one_more f g)) iterations) =
+      rw (value-worked s low _ d, value-worked s high _ f)
+      (iterations-worked ps s text body a.value b.value ending iterations)
 
-  turns-worked : (ps : List ProcedureTree) (s : State) (text : List ℕ) (body : BlockTree) (i n : ℕ)
-      (ending : Ending State) → Turns ps s text body i n ending
-      → (turns (n - i) i (λ k t. run_all (runnables ps) (counting t text k) body) s).ends ≡ ending
-  turns-worked ps s text body i n ending (no_turn past) = let none : n - i ≡ 0 = omega (arith, past) in rw none
-  turns-worked ps s text body i n ending (turn_faults low d) =
+  iterations-worked : (ps : List ProcedureTree) (s : State) (text : List ℕ) (body : BlockTree) (i n : ℕ)
+      (ending : Ending State) → Iterations ps s text body i n ending
+      → (iterations (n - i) i (λ k t. run_all (runnables ps) (counting t text k) body) s).ends ≡ ending
+  iterations-worked ps s text body i n ending (no_iteration past) = let none : n - i ≡ 0 = omega
+      (arith, past) in rw none
+  iterations-worked ps s text body i n ending (iteration_faults low d) =
       let more : n - i ≡ suc (n - (i + 1)) = omega (arith, low) in rw (more, block-worked ps _ body _ d)
-  turns-worked ps s text body i n ending (a_turn {t = t} low d later) =
+  iterations-worked ps s text body i n ending (an_iteration {t = t} low d later) =
       let more : n - i ≡ suc (n - (i + 1)) = omega (arith, low) in
-      rw (more, block-worked ps _ body _ d) (turns-worked ps t text body (i + 1) n ending later)
+      rw (more, block-worked ps _ body _ d) (iterations-worked ps t text body (i + 1) n ending later)
 
   pub block-worked : (ps : List ProcedureTree) (s : State) (block : BlockTree) (ending : Ending State)
       → RunsAll ps s block ending → (run_all (runnables ps) s block).ends ≡ ending

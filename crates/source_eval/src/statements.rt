@@ -267,7 +267,7 @@ fn branch<'a>(
     }
 }
 
-/// The turns of a loop from one number to another, each bound evaluated once.
+/// The iterations of a loop from one number to another, each bound evaluated once.
 #[cycle(statement)]
 fn repeat<'a>(
     earlier: &'a [Procedure],

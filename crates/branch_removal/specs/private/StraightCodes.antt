@@ -81,7 +81,7 @@ coded_straight =
       p.profile,
       (
         p.parameters,
-        (p.returned, (p.nodes, (p.work, (p.turns, (p.declared, (p.controls, (p.body, p.value))))))),
+        (p.returned, (p.nodes, (p.work, (p.iterations, (p.declared, (p.controls, (p.body, p.value))))))),
       ),
     ))
     (λ t. record {
@@ -90,7 +90,7 @@ coded_straight =
       returned = t.1.1.0;
       nodes = t.1.1.1.0;
       work = t.1.1.1.1.0;
-      turns = t.1.1.1.1.1.0;
+      iterations = t.1.1.1.1.1.0;
       declared = t.1.1.1.1.1.1.0;
       controls = t.1.1.1.1.1.1.1.0;
       body = t.1.1.1.1.1.1.1.1.0;

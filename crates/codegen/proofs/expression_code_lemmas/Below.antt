@@ -21,9 +21,9 @@ pub use Rattle.codegen.specs.expression_code.TermCode.{home_of_term, is_at_home,
 pub use Rattle.codegen.specs.expression_code.TermCode.{load_code, narrow_code, narrowed_in, near_code, near_element}
 pub use Rattle.codegen.specs.expression_code.TermCode.{near_offset, number_code, of_truths, operand, operator_code}
 pub use Rattle.codegen.specs.expression_code.TermCode.{prefix_code, raise_code, rotate_code, row_of, scale_code, Step}
-pub use Rattle.codegen.specs.expression_code.TermCode.{lower_part, move_code, step_code, store_code, turned, upper_part}
-pub use Rattle.codegen.specs.expression_code.TermCode.{choice_or_zero_code, emitted_operator, kind_at, number_step_code}
-pub use Rattle.codegen.specs.expression_code.TermCode.{of_bits}
+pub use Rattle.codegen.specs.expression_code.TermCode.{lower_part, move_code, step_code, store_code, swapped}
+pub use Rattle.codegen.specs.expression_code.TermCode.{upper_part, choice_or_zero_code, emitted_operator, kind_at}
+pub use Rattle.codegen.specs.expression_code.TermCode.{number_step_code, of_bits}
 pub use Rattle.branch_removal.specs.Heights.{height_of}
 pub use Rattle.codegen.specs.declared.expression_code.locations.Location.{Location}
 pub use Rattle.codegen.specs.declared.expression_code.locations.Location.TheVariants.{InRegister, InSlot}
@@ -37,7 +37,7 @@ pub use Rattle.inline.specs.FlatTyping.{HasType, of_binary, of_conversion, of_el
 pub use Rattle.inline.specs.FlatTyping.{of_rotation, of_selection, of_truth, of_variable, Types, types_of}
 pub use Rattle.inline.specs.Path.{AreFine, bounded, decided, divided, indexed, Mark, multiplied, Path}
 pub use Rattle.inline.specs.declared.flat.FlatVariable.{FlatVariable}
-pub use Rattle.language.specs.Operators.{operated, prefix_value, turned_of, width_of}
+pub use Rattle.language.specs.Operators.{operated, prefix_value, swapped_of, width_of}
 pub use Rattle.language.specs.Size.{element_bytes, held_words}
 pub use Rattle.language.specs.declared.signature.Form.{Form}
 pub use Rattle.language.specs.declared.signature.Kind.{Kind}
@@ -54,7 +54,7 @@ pub use Rattle.codegen.proofs.program_logic_lemmas.Face.{All-one, along, along_f
 pub use Rattle.codegen.proofs.program_logic_lemmas.Face.{both_right, branching_at, by_mark, cheaper, Contents}
 pub use Rattle.codegen.proofs.program_logic_lemmas.Face.{contents_of, ends_on, by_test, gives, idle, Known, looping}
 pub use Rattle.codegen.proofs.program_logic_lemmas.Face.{never, none, number_or_zero, Placed, Placed-left, Placed-right}
-pub use Rattle.codegen.proofs.program_logic_lemmas.Face.{quiet, quietly, seq, stands, Still, Straight, Then, turn_ends}
+pub use Rattle.codegen.proofs.program_logic_lemmas.Face.{quiet, quietly, seq, stands, Still, Straight, Then, step_ends}
 pub use Rattle.codegen.proofs.program_logic_lemmas.Face.{weaken, with_result}
 pub use Rattle.rv_code.specs.Words.{IsInstr}
 pub use Rattle.rv_code.specs.declared.instructions.Instr.{Instr}
@@ -64,8 +64,8 @@ pub use Rattle.rv_code.specs.declared.operations.MultiplyOperation.{MultiplyOper
 pub use Rattle.rv_code.specs.declared.operations.StoreOperation.{StoreOperation}
 pub use Rattle.rv_machine.proofs.ByteLaws.{number_at-suc, number_at-with_number, number_at-zero, number_at_same}
 pub use Rattle.rv_machine.proofs.ByteLaws.{with_number_above, with_number_below}
-pub use Rattle.rv_machine.proofs.TurnLaws.{divide_leads, multiply_leads, with_value-bytes, with_value-pc}
-pub use Rattle.rv_machine.proofs.TurnLaws.{with_value-regs}
+pub use Rattle.rv_machine.proofs.StepLaws.{divide_leads, multiply_leads, with_value-bytes, with_value-pc}
+pub use Rattle.rv_machine.proofs.StepLaws.{with_value-regs}
 pub use Rattle.rv_machine.specs.Bytes.{ByteMap, joined, number_at, with_number}
 pub use Rattle.rv_machine.specs.Effects.{address_of, divide_value, immediate_value, load_size, loaded_value}
 pub use Rattle.rv_machine.specs.Effects.{multiply_value, register_value, shift_value, sign_extended, store_size, sum_of}

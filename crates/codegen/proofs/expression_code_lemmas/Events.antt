@@ -8,7 +8,7 @@ use Rattle.codegen.proofs.expression_code_lemmas.Below.{divide_value, divided, D
 use Rattle.codegen.proofs.expression_code_lemmas.Below.{IsAt, IsInside, IsInstr, Known, Leads, Mark, multiplied}
 use Rattle.codegen.proofs.expression_code_lemmas.Below.{multiply_leads, multiply_value, MultiplyOperation, never}
 use Rattle.codegen.proofs.expression_code_lemmas.Below.{Observation, Path, Place, product_shown, Profile, register}
-use Rattle.codegen.proofs.expression_code_lemmas.Below.{stands, State, StraightState, turn_ends, weaken, with_value}
+use Rattle.codegen.proofs.expression_code_lemmas.Below.{stands, State, StraightState, step_ends, weaken, with_value}
 use Rattle.codegen.proofs.expression_code_lemmas.Below.{with_value-bytes, with_value-pc, with_value-regs}
 use Rattle.codegen.proofs.expression_code_lemmas.Frame.{Setting, Before, After, Steps, Runs, setting}
 use Rattle.codegen.proofs.expression_code_lemmas.Moves.{register-at, is_written, is_left}
@@ -56,7 +56,7 @@ module _ (z : Setting) where
     good = λ v path fine. tt;
   }
 
-  -- the bounds of a loop: no more turns than are counted for its counter
+  -- the bounds of a loop: no more steps than are counted for its counter
   abbrev bounds_kind : (x : ℕ) → Kind (setting z) (ℕ × ℕ) (λ b. b.1 - b.0 ≤ slice_index z.counts x)
   bounds_kind x = record {
     mark = λ b. bounded x b.0 b.1;
@@ -99,7 +99,7 @@ module _ (z : Setting) where
         | inr other ↦ never (λ env s given. other (sym given.is ∙ known env))
       ])
 
-  -- code behind bounds with no more turns between them than are counted
+  -- code behind bounds with no more iterations between them than are counted
   pub by_bounds : {n : ℕ} {steps : Steps} {is : List Instr} {P : Before} {Q : After} (x : ℕ)
       (bounds : StraightState → ℕ × ℕ)
       → ((b : ℕ × ℕ) → b.1 - b.0 ≤ slice_index z.counts x
@@ -143,7 +143,7 @@ module _ (z : Setting) where
               let v = made (register s.regs l) (register s.regs r) in
               let first = register-at s.regs l one.nonzero ∙ (operands env s fit).0 in
               let second = register-at s.regs r other.nonzero ∙ (operands env s fit).1 in
-              turn_ends _ (shows (left env) (right env)) (with_value s d v) at
+              step_ends _ (shows (left env) (right env)) (with_value s d v) at
               (leads s (stands z.code p i [] placed ok s at)) (ap₂ shows first second)
               (inside (left env) (right env))
               (record {

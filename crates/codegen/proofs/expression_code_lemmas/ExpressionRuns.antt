@@ -24,7 +24,7 @@ use Rattle.codegen.proofs.expression_code_lemmas.WorkRegisters.{not_written}
 use Rattle.codegen.proofs.expression_code_lemmas.Arithmetic.{chosen, chosen_or_zero, choice, choice_or_zero}
 use Rattle.codegen.proofs.expression_code_lemmas.Moves.{is_written, take, move_runs}
 use Rattle.codegen.proofs.expression_code_lemmas.NumberCode.{known, known_word, left_known, number_means, right_known}
-use Rattle.codegen.proofs.expression_code_lemmas.NumberCode.{row_quiet, turned_quiet, turned_same, zero_known}
+use Rattle.codegen.proofs.expression_code_lemmas.NumberCode.{row_quiet, swapped_quiet, swapped_same, zero_known}
 use Rattle.codegen.proofs.expression_code_lemmas.Operands.{Outcome, took, worked, emitted_runs}
 use Rattle.codegen.proofs.expression_code_lemmas.OperatorCode.{Applies, constant_plain, constant_after, move_applies}
 use Rattle.codegen.proofs.expression_code_lemmas.OperatorCode.{convert_applies, prefix_applies, rotate_applies}
@@ -95,7 +95,7 @@ module _ (z : Setting) (free : ℕ) (aligned : free % 4 ≡ 0) (above : base_of 
     next_own : works next ≡ true
     next_own = place_works count place d (place + 1) 30 (omega arith) (omega arith)
 
-    -- within so many turns its value comes into the register
+    -- within so many steps its value comes into the register
     abbrev Comes : TermTree → ℕ → List Instr → Type 0
     Comes e n is = Runs z n (steps_of e) is (Ready z) (ValuedIn z e free d place)
 
@@ -210,16 +210,16 @@ module _ (z : Setting) (free : ℕ) (aligned : free % 4 ≡ 0) (above : base_of 
         has (omega arith) first))
         (λ not_right. by_option (left_row z.allocation operator left)
         (λ row is.
-        let turned = left_known z.allocation operator left row is in
-        let numbered = turned.numbered in
+        let swapped = left_known z.allocation operator left row is in
+        let numbered = swapped.numbered in
         cheaper (omega arith)
-        (with_number turned.other width numbered.n (known_word has numbered.n numbered.is) row numbered.row_is
+        (with_number swapped.other width numbered.n (known_word has numbered.n numbered.is) row numbered.row_is
         (λ m.
         let k = known left numbered.n numbered.is m in (
-          ap (operated turned.other width (value_in m right)) (sym k.0)
-              ∙ turned_same width (value_in m left) (value_in m right) operator turned.other turned.is,
+          ap (operated swapped.other width (value_in m right)) (sym k.0)
+              ∙ swapped_same width (value_in m left) (value_in m right) operator swapped.other swapped.is,
           ap₂ (λ (p q : Path). p ++ path_in m right ++ q) k.1
-              (turned_quiet source (value_in m left) (value_in m right) operator turned.other turned.is)
+              (swapped_quiet source (value_in m left) (value_in m right) operator swapped.other swapped.is)
               ∙ append-nil (path_in m right),
         ))
         more (omega arith) alone))

@@ -12,7 +12,7 @@ use Rattle.codegen.specs.expression_code.Layout.{Frame}
 use Rattle.codegen.proofs.program_logic_lemmas.Face as logic
 use Rattle.rv_machine.specs.declared.observation.Event.TheVariants as event
 
--- where code and frame lie, how the frame is laid out, how registers are given out, and how many turns are counted
+-- where code and frame lie, how the frame is laid out, how registers are given out, and how many iterations are counted
 -- for each counter
 pub record Setting : Type 0 where
   pub code : Code
@@ -94,7 +94,7 @@ After = StraightState → State → State → Type 0
 abbrev pub Steps : Type 0
 Steps = StraightState → Path
 
--- instructions run wherever they stand, at most so many turns
+-- instructions run wherever they stand, at most so many steps
 abbrev pub Runs : Setting → ℕ → Steps → List Instr → Before → After → Type 0
 Runs z cost steps is P Q = logic.Runs (setting z) cost steps is P Q
 

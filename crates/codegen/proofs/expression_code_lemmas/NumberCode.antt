@@ -15,7 +15,7 @@ use Rattle.codegen.proofs.expression_code_lemmas.Below.{nat_tests, near_element,
 use Rattle.codegen.proofs.expression_code_lemmas.Below.{number_row, NumberRow, of_number, of_truth, and_mask}
 use Rattle.codegen.proofs.expression_code_lemmas.Below.{both_right, only_computes, operated, path_in, Place}
 use Rattle.codegen.proofs.expression_code_lemmas.Below.{registers_after, chooses_zero, false≢true, is_known_zero}
-use Rattle.codegen.proofs.expression_code_lemmas.Below.{right_row, shift_value, sign_extended, TermTree, turned_of}
+use Rattle.codegen.proofs.expression_code_lemmas.Below.{right_row, shift_value, sign_extended, TermTree, swapped_of}
 use Rattle.codegen.proofs.expression_code_lemmas.Below.{Types, value_in, Values, variable_offset, Width, word_of}
 use Rattle.codegen.proofs.expression_code_lemmas.Below.{immediate_value}
 use Rattle.codegen.proofs.expression_code_lemmas.OperatorCode.{cut_composed, cut_plain, cut_value, cut_whole, d0, d32}
@@ -105,10 +105,10 @@ pub record Numbered (operator : BinaryOperator) (e : TermTree) (row : NumberRow)
   pub is : number_of e ≡ Some n
   pub row_is : number_row operator n ≡ Some row
 
--- the same of the operator that makes the same of both operands turned round
-pub record Turned (operator : BinaryOperator) (e : TermTree) (row : NumberRow) : Type 0 where
+-- the same of the operator that makes the same of both operands swapped
+pub record Swapped (operator : BinaryOperator) (e : TermTree) (row : NumberRow) : Type 0 where
   pub other : BinaryOperator
-  pub is : turned_of operator ≡ Some other
+  pub is : swapped_of operator ≡ Some other
   pub numbered : Numbered other e row
 
 numbered_by : (operator : BinaryOperator) (e : TermTree) (row : NumberRow) (m : Option ℕ) → number_of e ≡ m
@@ -122,14 +122,14 @@ right_known a operator e row is =
     numbered_by operator e row (number_of e) refl (when_some a.immediates _ row is).1
 
 pub left_known : (a : Allocation) (operator : BinaryOperator) (e : TermTree) (row : NumberRow)
-    → left_row a operator e ≡ Some row → Turned operator e row
-left_known a operator e row is = by_turned (turned_of operator) refl (when_some a.immediates _ row is).1
+    → left_row a operator e ≡ Some row → Swapped operator e row
+left_known a operator e row is = by_swapped (swapped_of operator) refl (when_some a.immediates _ row is).1
   where
-    by_turned : (p : Option BinaryOperator) → turned_of operator ≡ p → known_row p (number_of e) ≡ Some row
-        → Turned operator e row
-    by_turned (Some other) f same =
+    by_swapped : (p : Option BinaryOperator) → swapped_of operator ≡ p → known_row p (number_of e) ≡ Some row
+        → Swapped operator e row
+    by_swapped (Some other) f same =
         record { other = other; is = f; numbered = numbered_by other e row (number_of e) refl same }
-    by_turned None f same = absurd (none-some row same)
+    by_swapped None f same = absurd (none-some row same)
 
 -- what the third operand is of a choice between a value and 0
 pub zero_known : (a : Allocation) (e : TermTree) → chooses_zero a e ≡ true → number_of e ≡ Some 0
@@ -157,29 +157,29 @@ near_known declared a x index o is = by_number (number_of index) refl (when_some
         record { i = i; is = f; at = both.1; near = subst (λ n. n < 2048) both.1 (ltb-true _ 2048 both.0) }
     by_number None f same = absurd (none-some o same)
 
--- Operators that are turned round.
+-- Operators whose operands are swapped.
 
-sum_turned : (w : Width) (a b : ℕ) → (b + a) % 2 ^ bits w ≡ (a + b) % 2 ^ bits w
-sum_turned w a b = let e : b + a ≡ a + b = omega arith in ap (λ n. n % 2 ^ bits w) e
+sum_swapped : (w : Width) (a b : ℕ) → (b + a) % 2 ^ bits w ≡ (a + b) % 2 ^ bits w
+sum_swapped w a b = let e : b + a ≡ a + b = omega arith in ap (λ n. n % 2 ^ bits w) e
 
 module _ (w : Width) (a b : ℕ) where
-  turned_by : (one other p : BinaryOperator) → Some other ≡ Some p → operated other w b a ≡ operated one w a b
+  swapped_by : (one other p : BinaryOperator) → Some other ≡ Some p → operated other w b a ≡ operated one w a b
       → operated p w b a ≡ operated one w a b
-  turned_by one other p is same = subst (λ q. operated q w b a ≡ operated one w a b) (same_Some other p is) same
+  swapped_by one other p is same = subst (λ q. operated q w b a ≡ operated one w a b) (same_Some other p is) same
 
-  pub turned_same : (operator p : BinaryOperator) → turned_of operator ≡ Some p
+  pub swapped_same : (operator p : BinaryOperator) → swapped_of operator ≡ Some p
       → operated p w b a ≡ operated operator w a b
-  turned_same Equal p is = turned_by Equal Equal p is (grind (arith, nat_tests))
-  turned_same Unequal p is = turned_by Unequal Unequal p is (grind (arith, nat_tests))
-  turned_same Less p is = turned_by Less Greater p is refl
-  turned_same LessOrEqual p is = turned_by LessOrEqual GreaterOrEqual p is refl
-  turned_same Greater p is = turned_by Greater Less p is refl
-  turned_same GreaterOrEqual p is = turned_by GreaterOrEqual LessOrEqual p is refl
-  turned_same BitOr p is = turned_by BitOr BitOr p is (or_comm b a)
-  turned_same BitXor p is = turned_by BitXor BitXor p is (xor_comm b a)
-  turned_same BitAnd p is = turned_by BitAnd BitAnd p is (and_comm b a)
-  turned_same Add p is = turned_by Add Add p is (sum_turned w a b)
-  turned_same operator p is = absurd (none-some p is)
+  swapped_same Equal p is = swapped_by Equal Equal p is (grind (arith, nat_tests))
+  swapped_same Unequal p is = swapped_by Unequal Unequal p is (grind (arith, nat_tests))
+  swapped_same Less p is = swapped_by Less Greater p is refl
+  swapped_same LessOrEqual p is = swapped_by LessOrEqual GreaterOrEqual p is refl
+  swapped_same Greater p is = swapped_by Greater Less p is refl
+  swapped_same GreaterOrEqual p is = swapped_by GreaterOrEqual LessOrEqual p is refl
+  swapped_same BitOr p is = swapped_by BitOr BitOr p is (or_comm b a)
+  swapped_same BitXor p is = swapped_by BitXor BitXor p is (xor_comm b a)
+  swapped_same BitAnd p is = swapped_by BitAnd BitAnd p is (and_comm b a)
+  swapped_same Add p is = swapped_by Add Add p is (sum_swapped w a b)
+  swapped_same operator p is = absurd (none-some p is)
 
 -- operators that have rows with numbers put nothing on the path
 module _ (place : Place) (a b : ℕ) where
@@ -188,10 +188,10 @@ module _ (place : Place) (a b : ℕ) where
   row_quiet Multiply n row is = absurd (none-some row is)
   row_quiet operator n row is = cc
 
-  pub turned_quiet : (operator p : BinaryOperator) → turned_of operator ≡ Some p
+  pub swapped_quiet : (operator p : BinaryOperator) → swapped_of operator ≡ Some p
       → marks_of place operator a b ≡ []
-  turned_quiet Multiply p is = absurd (none-some p is)
-  turned_quiet operator p is = cc
+  swapped_quiet Multiply p is = absurd (none-some p is)
+  swapped_quiet operator p is = cc
 
 -- what is made of an outcome
 abbrev finished : Finish → Width → ℕ → ℕ

@@ -11,7 +11,7 @@ use Rattle.codegen.proofs.expression_code_lemmas.Below.{lt-ltb, move_code, multi
 use Rattle.codegen.proofs.expression_code_lemmas.Below.{nat_tests, of_truths, only_computes, operated, operator_code}
 use Rattle.codegen.proofs.expression_code_lemmas.Below.{plain_append, prefix_code, prefix_value, PrefixOperator}
 use Rattle.codegen.proofs.expression_code_lemmas.Below.{register_left, register_value, registers_after, rotated_left}
-use Rattle.codegen.proofs.expression_code_lemmas.Below.{row_of, shift_value, sign_extended, Step, turned, Width}
+use Rattle.codegen.proofs.expression_code_lemmas.Below.{row_of, shift_value, sign_extended, Step, swapped, Width}
 use Rattle.codegen.proofs.expression_code_lemmas.Below.{with_register, word_of}
 use Rattle.rv_code.specs.declared.instructions.Instr.TheVariants as instr
 use Rattle.codegen.specs.Below.{Addi, Andi, Both, Divide, Either, Mul, Multiply, Remainder, ShiftLeft, ShiftRight, Slli}
@@ -93,7 +93,7 @@ truth_fits c = grind (arith, nat_tests)
 -- a step that only computes
 abbrev pub is_plain : Step → Bool
 is_plain (between operation) = true
-is_plain (turned operation) = true
+is_plain (swapped operation) = true
 is_plain (of_truths operation) = true
 is_plain _ = false
 

@@ -10,7 +10,7 @@ use Rattle.codegen.proofs.expression_code_lemmas.Frame.{Setting, seen_by}
 use Rattle.codegen.proofs.expression_code_lemmas.WorkRegisters.{works_in, lower_stays}
 use Rattle.codegen.proofs.expression_code_lemmas.Values.{Ready, Kept, Leaves, Holds, homes_left, kept_number}
 use Rattle.codegen.proofs.expression_code_lemmas.ExpressionRuns.{expr_runs}
-use Rattle.codegen.proofs.program_logic_lemmas.TurnLaws.{leads_kept}
+use Rattle.codegen.proofs.program_logic_lemmas.StepLaws.{leads_kept}
 
 -- no control value and no loop
 abbrev setting_of : (e : TermTree) (site : Site) → IsSiteOf e site → Setting
@@ -73,7 +73,7 @@ expressions_are_computed e word site has fit =
           let run = ends_on (piece.runs (state_of m) s [] at fine ready) (sym (append-nil path)) in
           let same : run.seen ≡ (piece.leak path).0 = sym (ap (λ (r : List Observation × Path). r.0) run.shown) in
           record {
-            turns = run.turns;
+            step_count = run.step_count;
             end = run.end;
             leads = rw same at (leads_kept run.leads);
             few = run.within;

@@ -119,8 +119,8 @@ module _ (place : Place) where
   increment : code with_numbers (binary place Add W32 a (n 1)) ≡ instr.Immediate Addi 5 13 1 ∷ []
   increment = refl
 
-  increment_turned : code with_numbers (binary place Add W32 (n 1) a) ≡ instr.Immediate Addi 5 13 1 ∷ []
-  increment_turned = refl
+  increment_swapped : code with_numbers (binary place Add W32 (n 1) a) ≡ instr.Immediate Addi 5 13 1 ∷ []
+  increment_swapped = refl
 
   decrement : code with_numbers (binary place Subtract W32 a (n 1)) ≡ instr.Immediate Addi 5 13 4095 ∷ []
   decrement = refl
@@ -150,10 +150,10 @@ module _ (place : Place) where
   unfolding count_leading_zeros
   low_bits = refl
 
-  low_bits_turned : code with_numbers (binary place BitAnd W32 (n 2147483647) a) ≡ instr.Shift Slli 5 13 1
+  low_bits_swapped : code with_numbers (binary place BitAnd W32 (n 2147483647) a) ≡ instr.Shift Slli 5 13 1
       ∷ instr.Shift Srli 5 5 1 ∷ []
   unfolding count_leading_zeros
-  low_bits_turned = refl
+  low_bits_swapped = refl
 
   -- other bits than the low ones are in a register
   high_bits : code with_numbers (binary place BitAnd W32 a (n 8190)) ≡ instr.Upper Lui 6 2

@@ -3,7 +3,7 @@ pub use Rattle.codegen.proofs.program_logic_lemmas.Jumps.{branching_at}
 pub use Rattle.codegen.proofs.program_logic_lemmas.Loops.{looping}
 pub use Rattle.codegen.proofs.program_logic_lemmas.Marks.{Kind, Known, by_mark}
 pub use Rattle.codegen.proofs.program_logic_lemmas.Pieces.{All-one, along, along_fit, as_code, beside, by_test, cheaper}
-pub use Rattle.codegen.proofs.program_logic_lemmas.Pieces.{ends_on, gives, idle, never, quiet, quietly, seq, turn_ends}
+pub use Rattle.codegen.proofs.program_logic_lemmas.Pieces.{ends_on, gives, idle, never, quiet, quietly, seq, step_ends}
 pub use Rattle.codegen.proofs.program_logic_lemmas.Pieces.{weaken}
 pub use Rattle.codegen.proofs.program_logic_lemmas.PlacedLaws.{Placed-left, Placed-right, stands}
 pub use Rattle.codegen.proofs.program_logic_lemmas.StraightRuns.{both_left, both_right, found, shown_allowed}
@@ -11,9 +11,9 @@ pub use Rattle.codegen.proofs.program_logic_lemmas.StraightRuns.{straight_code_l
 pub use Rattle.codegen.proofs.program_logic_lemmas.StraightRuns.{first_fit, first_met, rest_fit, rest_met}
 pub use Rattle.codegen.proofs.program_logic_lemmas.Symbols.{by_symbols, byte_after, byte_kept, data_kept}
 pub use Rattle.codegen.proofs.program_logic_lemmas.Symbols.{register_after, register_kept}
-pub use Rattle.codegen.proofs.program_logic_lemmas.TurnLaws.{LeadsKeeping-append, LeadsKeeping-weaken, leads_kept}
-pub use Rattle.codegen.proofs.program_logic_lemmas.TurnLaws.{still_there, LeadsWithin-append, LeadsWithin-weaken}
-pub use Rattle.codegen.proofs.program_logic_lemmas.TurnLaws.{one_within, both_within}
+pub use Rattle.codegen.proofs.program_logic_lemmas.StepLaws.{LeadsKeeping-append, LeadsKeeping-weaken, leads_kept}
+pub use Rattle.codegen.proofs.program_logic_lemmas.StepLaws.{still_there, LeadsWithin-append, LeadsWithin-weaken}
+pub use Rattle.codegen.proofs.program_logic_lemmas.StepLaws.{one_within, both_within}
 pub use Rattle.codegen.specs.program_logic.Pieces.{Became, Runs, Setting, Still, Straight, Then, always, none}
 pub use Rattle.codegen.specs.program_logic.Placed.{Placed}
 pub use Rattle.codegen.specs.program_logic.StraightCode.{AreFit, AreMet, Contents, IsFit, IsMet, after, after_all}

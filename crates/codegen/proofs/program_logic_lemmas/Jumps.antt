@@ -5,7 +5,7 @@ use Rattle.std.proofs.Common.{length-append, eq-eqb, ne_eqb}
 use Rattle.std.proofs.Math.Path.{fun_ext}
 use Rattle.std.proofs.lemmas.Bool.{cases_eq}
 use Rattle.std.proofs.lemmas.Bool.Decides.{nat_tests}
-use Rattle.codegen.proofs.program_logic_lemmas.Pieces.{cheaper, turn_ends, then_ends, ends_to, along_fit, stop_here}
+use Rattle.codegen.proofs.program_logic_lemmas.Pieces.{cheaper, step_ends, then_ends, ends_to, along_fit, stop_here}
 use Rattle.codegen.proofs.program_logic_lemmas.PlacedLaws.{Placed-left, Placed-right, Placed-below, stands}
 use Rattle.codegen.specs.program_logic.Jumps.{skip, over, back, branch_code}
 use Rattle.codegen.specs.program_logic.Pieces.{Setting, Before, After, Steps, Leak, always, both, Ends, Runs, Still}
@@ -41,7 +41,7 @@ backward p n some near low below = grind (arith, nat_tests)
 pub moved_still : (s : State) (target : ℕ) → Still s (moved_to s target)
 moved_still s target = record { regs = moved_to-regs s target; bytes = moved_to-bytes s target }
 
--- an arm of a choice: turns to a piece, and turns from behind it to the end
+-- an arm of a choice: steps to a piece, and steps from behind it to the end
 pub record Way (z : Setting) (p k l : ℕ) (goes : State → Type 0) (code xs : List Instr) (Back : State → State
     → Type 0) : Type 0 where
   pub start : ℕ
@@ -64,7 +64,7 @@ module _ {z : Setting} where
         regs = with_link-regs s 0 (jump_target s.pc halves) ∙ dropped s.regs (next s);
         bytes = with_link-bytes s 0 (jump_target s.pc halves);
       } in
-      turn_ends None None t at
+      step_ends None None t at
       (jump_leads z.code s 0 halves (stands z.code p _ [] placed (omega arith, small) s at) (ap (λ q. q % 4) there
       ∙ even)) refl z.silence (z.keeps_still s t still) refl
       (with_link-pc s 0 (jump_target s.pc halves) ∙ there) still
@@ -93,7 +93,7 @@ module _ {z : Setting} where
         → Ends z 1 target (always (shown_at p)) rest rest (λ t. Still s t) s
     taken_ends target to even passed =
         let there : branch_target s.pc halves ≡ target = ap (λ q. branch_target q halves) at ∙ to in
-        turn_ends None None (moved_to s (branch_target s.pc halves)) at
+        step_ends None None (moved_to s (branch_target s.pc halves)) at
         (branch_leads z.code s test l r halves (stands z.code p _ [] placed fields s at) passed
         (ap (λ q. q % 4) there ∙ even)) refl z.silence (z.keeps_still s _ (moved_still s _)) refl
         (moved_to-pc s (branch_target s.pc halves) ∙ there) (moved_still s _)
@@ -102,7 +102,7 @@ module _ {z : Setting} where
         → Ends z 1 (p + 4) (always (shown_at p)) rest rest (λ t. Still s t) s
     untaken_ends failed =
         let to : next s ≡ p + 4 = omega arith in
-        turn_ends None None (moved_to s (next s)) at
+        step_ends None None (moved_to s (next s)) at
         (branch_passes z.code s test l r halves (stands z.code p _ [] placed fields s at) failed) refl z.silence
         (z.keeps_still s _ (moved_still s _)) refl (moved_to-pc s (next s) ∙ to) (moved_still s _)
 

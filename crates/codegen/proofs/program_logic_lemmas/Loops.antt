@@ -1,5 +1,5 @@
--- A piece that is run again and again. What holds before each turn is said of how many are left, of the number that
--- the turn is for, and of the states at the loop's begin and now, beside what the piece is run beside now.
+-- A piece that is run again and again. What holds before each iteration is said of how many are left, of the number
+-- that the iteration is for, and of the states at the loop's begin and now, beside what the piece is run beside now.
 use Rattle.std.proofs.Common.{◌≡◌, ◌≢◌, ℕ, zero, suc, ◌+◌, ◌-◌, ◌*◌, ◌^◌, ◌<◌, ◌≤◌, not, List, [], ◌∷◌, ◌++◌, length}
 use Rattle.std.proofs.Common.{refl, sym, ap, ◌∙◌, arith, length-append, append-nil, eq-eqb, ne_eqb}
 use Rattle.std.proofs.lemmas.Bool.Decides.{nat_tests}
@@ -9,7 +9,7 @@ use Rattle.codegen.proofs.program_logic_lemmas.Pieces.{seen_then, seen_nothing, 
 use Rattle.codegen.proofs.program_logic_lemmas.PlacedLaws.{Placed-left, Placed-right}
 use Rattle.codegen.specs.program_logic.Jumps.{skip, over, back, loop_code, again_code}
 use Rattle.codegen.specs.program_logic.Pieces.{Setting, Before, After, Steps, none, Leak, always, both, Ends, Straight}
-use Rattle.codegen.specs.program_logic.Pieces.{Runs, Still, turns_after, turns_path}
+use Rattle.codegen.specs.program_logic.Pieces.{Runs, Still, iterations_after, iterations_path}
 use Rattle.codegen.specs.program_logic.Placed.{Placed}
 use Rattle.codegen.specs.Below.{Bne, branch_target, Instr, IsInstr, register, State}
 use Rattle.rv_code.specs.declared.instructions.Instr.TheVariants as instr
@@ -18,7 +18,7 @@ use Rattle.rv_code.specs.declared.instructions.Instr.TheVariants as instr
 
 module _ {z : Setting} (r : ℕ) (small : r < 32) (nonzero : r ≢ 0) {m n : ℕ} {test body : List Instr} {A : ℕ → ℕ
     → Before z} {B : ℕ → ℕ → After z} {C : ℕ → ℕ → Before z} {D : ℕ → ℕ → After z}
-    (path : ℕ → Steps z) (turn : ℕ → z.Beside → z.Beside)
+    (path : ℕ → Steps z) (iteration : ℕ → z.Beside → z.Beside)
     (Inv : ℕ → ℕ → z.Beside → State → State → Type 0)
     (Over : z.Beside → State → State → Type 0)
     (near : 2 * (length test + length body) + 8 < 2 ^ 19)
@@ -28,8 +28,8 @@ module _ {z : Setting} (r : ℕ) (small : r < 32) (nonzero : r ≢ 0) {m n : ℕ
     (ends' : (i : ℕ) (env : z.Beside) (o s t : State) → Inv 0 i env o s → B 0 i env s t → t.regs r ≡ 0)
     (prepares : (left i : ℕ) (env : z.Beside) (o s t u : State) → Inv (suc left) i env o s → B (suc left) i env s t
     → Still t u → C left i env u)
-    (turned : (left i : ℕ) (env : z.Beside) (o s t u v w : State) → Inv (suc left) i env o s → B (suc left) i env s t
-    → Still t u → D left i env u v → Still v w → Inv left (i + 1) (turn i env) o w)
+    (iterated : (left i : ℕ) (env : z.Beside) (o s t u v w : State) → Inv (suc left) i env o s → B (suc left) i env s t
+    → Still t u → D left i env u v → Still v w → Inv left (i + 1) (iteration i env) o w)
     (leaves : (i : ℕ) (env : z.Beside) (o s t u : State) → Inv 0 i env o s → B 0 i env s t → Still t u → Over env o u)
     (tests : (left i : ℕ) → Runs z m none test (A left i) (B left i))
     (bodies : (left i : ℕ) → Runs z n (path i) body (C left i) (D left i)) where
@@ -97,14 +97,15 @@ module _ {z : Setting} (r : ℕ) (small : r < 32) (nonzero : r ≢ 0) {m n : ℕ
         (omega arith) ended (λ t done. done)
 
     runs_at : (left i : ℕ) (env : z.Beside) (o s : State) (rest : List z.Mark) → s.pc ≡ p
-        → z.Fine (turns_path left i turn path env) → Inv left i env o s
+        → z.Fine (iterations_path left i iteration path env) → Inv left i env o s
         → Ends z ((left + 1) * (m + n + 2)) (p + 4 * length (loop_code r test body)) (leak_at left i)
-        (z.seen (turns_path left i turn path env) ++ rest) rest (Over (turns_after left i turn env) o) s
+        (z.seen (iterations_path left i iteration path env) ++ rest) rest
+        (Over (iterations_after left i iteration env) o) s
     unfolding leak_at
     runs_at zero i env o s rest at fine inv =
         ends_as (ends_on (last_ends i env o s rest at inv) (seen_nothing z rest)) (omega arith) refl (λ t done. done)
     runs_at (suc left) i env o s rest at fine inv =
-        let tail = turns_path left (i + 1) turn path (turn i env) in
+        let tail = iterations_path left (i + 1) iteration path (iteration i env) in
         let more = z.seen tail ++ rest in
         let there' : back_at ≡ p + 4 * (length test + 2 + length body) = omega arith in
         ends_as
@@ -124,15 +125,15 @@ module _ {z : Setting} (r : ℕ) (small : r < 32) (nonzero : r ≢ 0) {m n : ℕ
         then_ends
         (back_ends p (length test + 2 + length body) back_at more from_back (omega arith) (omega arith)
         there' v there)
-        (λ w there back. runs_at left (i + 1) (turn i env) o w rest there (z.fine_right (path i env) tail fine)
-        (turned left i env o s t u v w inv done still made back))))))
+        (λ w there back. runs_at left (i + 1) (iteration i env) o w rest there (z.fine_right (path i env) tail fine)
+        (iterated left i env o s t u v w inv done still made back))))))
         (seen_then z (path i env) tail rest))
         (omega arith) refl (λ t done. done)
 
-  -- so many turns, the first at this number
+  -- so many iterations, the first at this number
   pub looping : (left i : ℕ)
-      → Runs z ((left + 1) * (m + n + 2)) (λ env. turns_path left i turn path env) (loop_code r test body)
-      (λ env s. Inv left i env s s) (λ env s t. Over (turns_after left i turn env) s t)
+      → Runs z ((left + 1) * (m + n + 2)) (λ env. iterations_path left i iteration path env) (loop_code r test body)
+      (λ env s. Inv left i env s s) (λ env s t. Over (iterations_after left i iteration env) s t)
   looping left i = record {
     placed_at = λ p placed. record {
       leak = leak_at p placed left i;
@@ -148,7 +149,7 @@ back_target p n some near low below = grind (arith, nat_tests)
 
 module _ {z : Setting} (r q : ℕ) (small : r < 32) (small' : q < 32) {n : ℕ} {body : List Instr} {C : ℕ → ℕ
     → Before z} {D : ℕ → ℕ → After z}
-    (path : ℕ → Steps z) (turn : ℕ → z.Beside → z.Beside)
+    (path : ℕ → Steps z) (iteration : ℕ → z.Beside → z.Beside)
     (Inv : ℕ → ℕ → z.Beside → State → State → Type 0)
     (Over : z.Beside → State → State → Type 0)
     (some : 0 < length body) (near : 2 * length body ≤ 2 ^ 11)
@@ -157,10 +158,10 @@ module _ {z : Setting} (r q : ℕ) (small : r < 32) (small' : q < 32) {n : ℕ} 
     → register t.regs r ≢ register t.regs q)
     (ends' : (i : ℕ) (env : z.Beside) (o s t : State) → Inv 0 i env o s → D 0 i env s t
     → register t.regs r ≡ register t.regs q)
-    (turned : (left i : ℕ) (env : z.Beside) (o s t u : State) → Inv (suc left) i env o s → D (suc left) i env s t
-    → Still t u → Inv left (i + 1) (turn i env) o u)
+    (iterated : (left i : ℕ) (env : z.Beside) (o s t u : State) → Inv (suc left) i env o s → D (suc left) i env s t
+    → Still t u → Inv left (i + 1) (iteration i env) o u)
     (leaves : (i : ℕ) (env : z.Beside) (o s t u : State) → Inv 0 i env o s → D 0 i env s t → Still t u
-    → Over (turn i env) o u)
+    → Over (iteration i env) o u)
     (bodies : (left i : ℕ) → Runs z n (path i) body (C left i) (D left i)) where
   module _ (p : ℕ) (placed : Placed z.code p (again_code r q body)) where
     -- where the branch stands
@@ -192,24 +193,24 @@ module _ {z : Setting} (r q : ℕ) (small : r < 32) (small' : q < 32) {n : ℕ} 
         both (round_at (suc left) i).leak (both (always (shown_at branch_at)) (again_leak left (i + 1)))
 
     again_at : (left i : ℕ) (env : z.Beside) (o s : State) (rest : List z.Mark) → s.pc ≡ p
-        → z.Fine (turns_path (suc left) i turn path env) → Inv left i env o s
+        → z.Fine (iterations_path (suc left) i iteration path env) → Inv left i env o s
         → Ends z ((left + 1) * (n + 1)) (p + 4 * length (again_code r q body)) (again_leak left i)
-        (z.seen (turns_path (suc left) i turn path env) ++ rest) rest
-        (Over (turns_after (suc left) i turn env) o) s
+        (z.seen (iterations_path (suc left) i iteration path env) ++ rest) rest
+        (Over (iterations_after (suc left) i iteration env) o) s
     unfolding again_leak
     again_at zero i env o s rest at fine inv =
         ends_as
         (ends_on
         (then_ends ((round_at 0 i).runs env s rest at (z.fine_left (path i env) [] fine) (enters 0 i env o s inv))
         (λ t there done.
-        ends_to {R = Over (turn i env) o}
+        ends_to {R = Over (iteration i env) o}
         (untaken_ends Bne r q _ branch_at fields from_branch rest t there
         (ap not (eq-eqb _ _ (ends' i env o s t inv done)))) behind
         (λ u still. leaves i env o s t u inv done still)))
         (ap (λ (marks : List z.Mark). z.seen marks ++ rest) (append-nil (path i env))))
         (omega arith) refl (λ t done. done)
     again_at (suc left) i env o s rest at fine inv =
-        let tail = turns_path (suc left) (i + 1) turn path (turn i env) in
+        let tail = iterations_path (suc left) (i + 1) iteration path (iteration i env) in
         let more = z.seen tail ++ rest in
         ends_as
         (ends_on
@@ -219,15 +220,15 @@ module _ {z : Setting} (r q : ℕ) (small : r < 32) (small' : q < 32) {n : ℕ} 
         then_ends
         (taken_ends Bne r q _ branch_at fields from_branch more t there p target (omega (arith, from_branch.0))
         (ap not (ne_eqb _ _ (goes left i env o s t inv done))))
-        (λ w there still. again_at left (i + 1) (turn i env) o w rest there (z.fine_right (path i env) tail fine)
-        (turned left i env o s t w inv done still))))
+        (λ w there still. again_at left (i + 1) (iteration i env) o w rest there (z.fine_right (path i env) tail fine)
+        (iterated left i env o s t w inv done still))))
         (seen_then z (path i env) tail rest))
         (omega arith) refl (λ t done. done)
 
-  -- one turn more than so many, the first at this number
+  -- one iteration more than so many, the first at this number
   pub repeating : (left i : ℕ)
-      → Runs z ((left + 1) * (n + 1)) (λ env. turns_path (suc left) i turn path env) (again_code r q body)
-      (λ env s. Inv left i env s s) (λ env s t. Over (turns_after (suc left) i turn env) s t)
+      → Runs z ((left + 1) * (n + 1)) (λ env. iterations_path (suc left) i iteration path env) (again_code r q body)
+      (λ env s. Inv left i env s s) (λ env s t. Over (iterations_after (suc left) i iteration env) s t)
   repeating left i = record {
     placed_at = λ p placed. record {
       leak = again_leak p placed left i;

@@ -7,8 +7,8 @@ use Rattle.codegen.proofs.program_logic_lemmas.PlacedLaws.{Placed-left, Placed-r
 use Rattle.codegen.specs.program_logic.Pieces.{Setting, Before, After, Steps, none, Leak, always, both, Ends, Runs}
 use Rattle.codegen.specs.program_logic.Pieces.{Then}
 use Rattle.codegen.specs.Below.{Event, Instr, Leads, Observation, State}
-use Rattle.codegen.proofs.program_logic_lemmas.TurnLaws.{LeadsKeeping-append, one_kept}
-use Rattle.codegen.specs.program_logic.Turns.{stays_kept}
+use Rattle.codegen.proofs.program_logic_lemmas.StepLaws.{LeadsKeeping-append, one_kept}
+use Rattle.codegen.specs.program_logic.MachineSteps.{stays_kept}
 
 -- what is seen of two parts, and then more
 pub seen_then : (z : Setting) (one other rest : List z.Mark)
@@ -24,13 +24,13 @@ pub All-one : (P : Observation → Type 0) (x : Observation) → P x → All P (
 All-one P x h = All-cons P x [] h (All-nil P)
 
 module _ {z : Setting} where
-  -- Turns from one state.
+  -- Steps from one state.
 
   -- none
   pub stop_here : {n q : ℕ} {path : List z.Mark} {Q : State → Type 0} (s : State) → s.pc ≡ q → Q s
       → Ends z n q (always []) path path Q s
   stop_here s at done = record {
-    turns = 0;
+    step_count = 0;
     end = s;
     seen = [];
     leads = stays_kept;
@@ -43,13 +43,13 @@ module _ {z : Setting} where
   }
 
   -- one, which shows this event
-  pub turn_ends : {p q : ℕ} {leak : Leak z} {path rest : List z.Mark} {Q : State
+  pub step_ends : {p q : ℕ} {leak : Leak z} {path rest : List z.Mark} {Q : State
       → Type 0} {s : State} (shows known : Option Event) (t : State)
       → s.pc ≡ p → Leads z.code 1 s (record { pc = s.pc; event = shows } ∷ []) t → shows ≡ known → z.Allows known
       → z.Keeps s t
       → leak path ≡ (record { pc = p; event = known } ∷ [], rest) → t.pc ≡ q → Q t → Ends z 1 q leak path rest Q s
-  turn_ends {p = p} {s = s} shows known t at leads same inside keeps shown there done = record {
-    turns = 1;
+  step_ends {p = p} {s = s} shows known t at leads same inside keeps shown there done = record {
+    step_count = 1;
     end = t;
     seen = record { pc = p; event = known } ∷ [];
     leads =
@@ -73,7 +73,7 @@ module _ {z : Setting} where
   then_ends {s = s} e next =
       let f = next e.end e.at e.done in
       record {
-        turns = e.turns + f.turns;
+        step_count = e.step_count + f.step_count;
         end = f.end;
         seen = e.seen ++ f.seen;
         leads = LeadsKeeping-append e.leads f.leads;
@@ -85,12 +85,12 @@ module _ {z : Setting} where
         done = f.done;
       }
 
-  -- the same turns, with more room, to the same address, and giving less
+  -- the same steps, with more room, to the same address, and giving less
   pub ends_as : {m n q r : ℕ} {leak : Leak z} {path rest : List z.Mark} {Q R : State → Type 0} {s : State}
       → Ends z m q leak path rest Q s → m ≤ n → q ≡ r → ((t : State) → Q t → R t) → Ends z n r leak path rest R s
   ends_as e more same give =
       record {
-        turns = e.turns;
+        step_count = e.step_count;
         end = e.end;
         seen = e.seen;
         leads = e.leads;
@@ -102,7 +102,7 @@ module _ {z : Setting} where
         done = give e.end e.done;
       }
 
-  -- the same turns, to the same address, and giving less
+  -- the same steps, to the same address, and giving less
   pub ends_to : {m q r : ℕ} {leak : Leak z} {path rest : List z.Mark} {Q R : State → Type 0} {s : State}
       → Ends z m q leak path rest Q s → q ≡ r → ((t : State) → Q t → R t) → Ends z m r leak path rest R s
   ends_to e same give = ends_as e (omega arith) same give
@@ -111,7 +111,7 @@ module _ {z : Setting} where
   pub ends_by : {m q : ℕ} {leak leak' : Leak z} {path path' rest : List z.Mark} {Q : State → Type 0} {s : State}
       → Ends z m q leak path rest Q s → leak' path' ≡ leak path → Ends z m q leak' path' rest Q s
   ends_by e same = record {
-    turns = e.turns;
+    step_count = e.step_count;
     end = e.end;
     seen = e.seen;
     leads = e.leads;

@@ -56,7 +56,7 @@ module _ (code : Code) (p : ℕ) (below : p + 4 < 2 ^ 32) (c : Contents) where
         bytes = with_number c.bytes (byte_count (store_size operation)) a value;
       })) e
 
-  -- one turn that shows an event, to a state that is otherwise written
+  -- one step that shows an event, to a state that is otherwise written
   arrives : (e e' : Option Event) (t t' : State) → Leads code 1 (state_at p c) (record { pc = p; event = e } ∷ []) t
       → e ≡ e' → t ≡ t' → Leads code 1 (state_at p c) (record { pc = p; event = e' } ∷ []) t'
   arrives e e' t t' leads same there =

@@ -6,13 +6,13 @@ use Rattle.std.proofs.lemmas.Bool.Decides.{nat_tests}
 use Rattle.codegen.proofs.program_logic_lemmas.Pieces.{seen_nothing, ends_on}
 use Rattle.codegen.proofs.program_logic_lemmas.StraightRuns.{straight_code_leads, shown_allowed, rest_fit, rest_met}
 use Rattle.codegen.proofs.program_logic_lemmas.StraightRuns.{both_left, both_right, first_fit, first_met}
-use Rattle.codegen.proofs.program_logic_lemmas.TurnLaws.{LeadsKeeping-append, one_kept}
+use Rattle.codegen.proofs.program_logic_lemmas.StepLaws.{LeadsKeeping-append, one_kept}
 use Rattle.codegen.specs.program_logic.Placed.{Placed}
 use Rattle.codegen.specs.program_logic.Pieces.{Setting, Before, none, always, Runs, Became}
 use Rattle.codegen.specs.program_logic.StraightCode.{Contents, contents_of, state_at, is_straight, are_straight}
 use Rattle.codegen.specs.program_logic.StraightCode.{next_of, left_by, after, after_all, shown_by, fit_and, AreFit}
 use Rattle.codegen.specs.program_logic.StraightCode.{met_and, AreMet}
-use Rattle.codegen.specs.program_logic.Turns.{LeadsKeeping, stays_kept}
+use Rattle.codegen.specs.program_logic.MachineSteps.{LeadsKeeping, stays_kept}
 use Rattle.codegen.specs.Below.{byte_count, ByteMap, Event, Instr, register, State, Store, store_size, with_number}
 use Rattle.codegen.proofs.program_logic_lemmas.Below.{is_some-with_number}
 use Rattle.rv_machine.specs.declared.memory.Size.{Size}
@@ -24,7 +24,7 @@ EachKeeps z works =
     (i : Instr) (a p : ℕ) (c : Contents) (F : Type 0) → is_straight works i ≡ true → fit_and z.Allows i a F
     → z.Keeps (state_at p c) (state_at (p + 4) (after i a c))
 
--- so straight-line code leads on, turn by turn
+-- so straight-line code leads on, step by step
 straight_keeps : (z : Setting) (works : ℕ → Bool) (p : ℕ) (is : List Instr) (places : List ℕ) (c : Contents)
     → are_straight works is ≡ true → EachKeeps z works → Placed z.code p is → AreFit z.Allows is places
     → AreMet is places c
@@ -62,7 +62,7 @@ module _ {z : Setting} where
           let c = contents_of s in
           ends_on
           (record {
-            turns = length is;
+            step_count = length is;
             end = state_at (p + 4 * length is) (after_all is places c);
             seen = shown_by p is places;
             leads =

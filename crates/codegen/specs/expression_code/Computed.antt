@@ -64,10 +64,10 @@ pub record Has (site : Site) (m : Values) (s : State) : Type 0 where
 
 -- a run from a state to behind the code, which shows this list
 pub record RunsThrough (e : TermTree) (site : Site) (m : Values) (s : State) (list : List Observation) : Type 0 where
-  pub turns : ℕ
+  pub step_count : ℕ
   pub end : State
-  pub leads : Leads site.code turns s list end
-  pub few : turns ≤ 16 * term_nodes e
+  pub leads : Leads site.code step_count s list end
+  pub few : step_count ≤ 16 * term_nodes e
   pub inside : All (λ (o : Observation). IsInside site.frame site.size o.event) list
   pub behind : end.pc ≡ site.start + 4 * length (code_of site e)
   pub value : word_in site end (operand site.allocation site.free site.place e) ≡ Some (value_in m e)

@@ -10,7 +10,7 @@ use Rattle.codegen.specs.declared.expression_code.numbers.NumberRow.{NumberRow}
 use Rattle.codegen.specs.declared.expression_code.numbers.NumberStep.TheVariants.{WithImmediate, ByAmount, AboveZero}
 use Rattle.codegen.specs.declared.expression_code.numbers.NumberStep.TheVariants.{KeepsLow}
 use Rattle.codegen.specs.Below.{Addi, Andi, BinaryOperator, ImmediateOperation, negated, number, Ori, ShiftOperation}
-use Rattle.codegen.specs.Below.{Slli, Sltiu, Srli, TermTree, truth, turned_of, W32, Xori}
+use Rattle.codegen.specs.Below.{Slli, Sltiu, Srli, TermTree, truth, swapped_of, W32, Xori}
 use Rattle.language.specs.declared.operators.BinaryOperator.TheVariants as operators
 use Rattle.word.specs.Operators.{word_of}
 
@@ -78,7 +78,7 @@ right_row allocation operator e = if allocation.immediates then known_row (Some 
 
 abbrev pub left_row : Allocation → BinaryOperator → TermTree → Option NumberRow
 left_row allocation operator e = if allocation.immediates
-    then known_row (turned_of operator) (number_of e) else None
+    then known_row (swapped_of operator) (number_of e) else None
 
 -- whether a word is known, and is 0
 abbrev pub is_known_zero : Option ℕ → Bool

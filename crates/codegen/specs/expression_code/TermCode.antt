@@ -124,18 +124,18 @@ negation_code d r = Register Sub d zero_register r ∷ []
 
 -- Each operator between two operands is a row: a step between them, and what is made of its outcome.
 
--- into d: of both, of both turned round, of what they are as truths, the lower half of their product, or their
+-- into d: of both, of both swapped, of what they are as truths, the lower half of their product, or their
 -- quotient or remainder
 pub data Step : Type 0 where
   between : (operation : RegisterOperation) → Step
-  turned : (operation : RegisterOperation) → Step
+  swapped : (operation : RegisterOperation) → Step
   of_truths : (operation : RegisterOperation) → Step
   product : Step
   division : (operation : DivideOperation) → Step
 
 abbrev pub step_code : ℕ → ℕ → ℕ → ℕ → Step → List Instr
 step_code d t l r (between operation) = Register operation d l r ∷ []
-step_code d t l r (turned operation) = Register operation d r l ∷ []
+step_code d t l r (swapped operation) = Register operation d r l ∷ []
 step_code d t l r (of_truths operation) = both_truths_code d t l r ++ Register operation d d t ∷ []
 step_code d t l r product = Multiply Mul d l r ∷ []
 step_code d t l r (division operation) = Divide operation d l r ∷ []
@@ -152,15 +152,15 @@ pub record Row : Type 0 where
   pub step : Step
 
 -- Whether numbers are equal is read off their difference, and an order that takes equal numbers too is the other
--- order, turned round.
+-- order, swapped.
 abbrev pub row_of : BinaryOperator → Row
 row_of operators.Either = record { finish = Alone; step = of_truths Or }
 row_of operators.Both = record { finish = Alone; step = of_truths And }
 row_of operators.Equal = record { finish = GivesZero; step = between Sub }
 row_of operators.Unequal = record { finish = GivesMore; step = between Sub }
 row_of operators.Less = record { finish = Alone; step = between Sltu }
-row_of operators.LessOrEqual = record { finish = GivesZero; step = turned Sltu }
-row_of operators.Greater = record { finish = Alone; step = turned Sltu }
+row_of operators.LessOrEqual = record { finish = GivesZero; step = swapped Sltu }
+row_of operators.Greater = record { finish = Alone; step = swapped Sltu }
 row_of operators.GreaterOrEqual = record { finish = GivesZero; step = between Sltu }
 row_of operators.BitOr = record { finish = Alone; step = between Or }
 row_of operators.BitXor = record { finish = Alone; step = between Xor }

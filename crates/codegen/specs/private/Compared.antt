@@ -14,20 +14,20 @@ use Rattle.codegen.specs.Below.{GreaterOrEqual, Instr, Less, LessOrEqual, TermTr
 
 -- Comparisons.
 
--- the test that operands pass where a comparison of them does not hold; some take them turned round
+-- the test that operands pass where a comparison of them does not hold; some take them swapped
 abbrev pub failing : BinaryOperator → Option Comparison
-failing Equal = Some (record { test = Bne; is_turned = false })
-failing Unequal = Some (record { test = Beq; is_turned = false })
-failing Less = Some (record { test = Bgeu; is_turned = false })
-failing LessOrEqual = Some (record { test = Bltu; is_turned = true })
-failing Greater = Some (record { test = Bgeu; is_turned = true })
-failing GreaterOrEqual = Some (record { test = Bltu; is_turned = false })
+failing Equal = Some (record { test = Bne; is_swapped = false })
+failing Unequal = Some (record { test = Beq; is_swapped = false })
+failing Less = Some (record { test = Bgeu; is_swapped = false })
+failing LessOrEqual = Some (record { test = Bltu; is_swapped = true })
+failing Greater = Some (record { test = Bgeu; is_swapped = true })
+failing GreaterOrEqual = Some (record { test = Bltu; is_swapped = false })
 failing operator = None
 
 -- that test of a left and a right register
 abbrev pub between : Comparison → ℕ → ℕ → Test
 between comparison left right =
-    if comparison.is_turned
+    if comparison.is_swapped
     then record { test = comparison.test; left = right; right = left }
     else record { test = comparison.test; left = left; right = right }
 

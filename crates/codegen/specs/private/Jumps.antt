@@ -1,4 +1,4 @@
--- Instructions that are run by turns or not at all: what stands between jumps, and how long it may be.
+-- Instructions that are run again and again or not at all: what stands between jumps, and how long it may be.
 use Rattle.std.specs.Prelude.{◌≡◌, ℕ, ◌+◌, ◌*◌, ◌^◌, ◌<◌, ◌≤◌, List}
 use Rattle.codegen.specs.declared.jumping.Test.{Test}
 use Rattle.codegen.specs.declared.unemitted.Unemitted.{Unemitted}

@@ -40,14 +40,14 @@ counting_home (InSlot offset) is_set body = None
 
 -- a body, one more in the home, and a test whether that is below the bound: as long as it is, the body again. In the
 -- end the counter is at the last number.
-abbrev pub turns_code : ℕ → List Instr → List Instr → List Instr
-turns_code home test body =
+abbrev pub iterations_code : ℕ → List Instr → List Instr → List Instr
+iterations_code home test body =
     again_code value_register (body ++ Immediate Addi home home 1 ∷ test) ++ Immediate Addi home home 4095 ∷ []
 
 -- the same from the number in a register on, where another is not 0
 abbrev pub guarded_code : ℕ → ℕ → ℕ → List Instr → List Instr → List Instr
 guarded_code below home start test body =
-    branch_code below (move_code home start ++ turns_code home test body) []
+    branch_code below (move_code home start ++ iterations_code home test body) []
 
 -- a bound that an instruction holds
 abbrev pub short_number : TermTree → Option ℕ
@@ -73,7 +73,7 @@ abbrev pub to_number_code : Frame → ℕ → TermTree → ℕ → List Instr �
 to_number_code layout home low bound body =
     if is_below bound low
     then into_code layout.declared layout.allocation (temporaries_offset layout) home 0 low
-    ++ turns_code home (below_number_code value_register home bound) body
+    ++ iterations_code home (below_number_code value_register home bound) body
     else read_code layout value_register 0 low
     ++ (below_number_code second_register (read_register layout.allocation value_register low) bound
     ++ guarded_code second_register home (read_register layout.allocation value_register low)
@@ -92,7 +92,7 @@ test_code next =
     load_code second_register next ++ load_code value_register (next + 4)
     ++ Register Sltu value_register second_register value_register ∷ []
 
--- the next number into the counter, and one more for the turn after this one
+-- the next number into the counter, and one more for the iteration after this one
 abbrev pub count_code : ℕ → Location → List Instr
 count_code next counter =
     put_word_code second_register counter ++ Immediate Addi second_register second_register 1 ∷ []

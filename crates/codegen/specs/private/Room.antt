@@ -19,7 +19,7 @@ pub record HasRoom (p : StraightProgram) : Type 0 where
   pub declared : 4 * declared_words p.declared ≤ most_variable_bytes
   pub nodes : p.nodes ≤ most_nodes
   pub work : p.work ≤ most_work
-  pub worked : block_work p.turns p.body + value_nodes p.value ≤ p.work
+  pub worked : block_work p.iterations p.body + value_nodes p.value ≤ p.work
   -- the words that lie behind the variables and the result
   pub frame : p.controls + 2 * depth_in_all p.body + program_height p ≤ p.nodes
 

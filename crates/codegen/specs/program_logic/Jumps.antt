@@ -1,4 +1,4 @@
--- Instructions that are run by turns or not at all: what stands between jumps.
+-- Instructions that are run again and again or not at all: what stands between jumps.
 use Rattle.std.specs.Prelude.{ℕ, ◌+◌, ◌-◌, ◌*◌, ◌^◌, List, [], ◌∷◌, ◌++◌, length}
 use Rattle.codegen.specs.Below.{Bne, Branch, Instr, Jump}
 

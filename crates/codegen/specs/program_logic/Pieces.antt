@@ -1,4 +1,4 @@
--- Pieces of code. A piece has a cost, the turns that it takes at most, and what it shows is read off the part of a
+-- Pieces of code. A piece has a cost, the steps that it takes at most, and what it shows is read off the part of a
 -- path that the observer sees, before any state is given: it reads what it puts there and hands on the rest. So a
 -- piece that follows another reads on where that one has ended, and nobody has to say where the path is cut. A branch
 -- and a loop look at the next mark and choose by it. Each piece may count on it that its part of the path is fine.
@@ -9,7 +9,7 @@ use Rattle.std.specs.Prelude.{◌≡◌, ℕ, ◌+◌, ◌*◌, ◌≤◌, List,
 use Rattle.std.proofs.Common.{zero, suc}
 use Rattle.codegen.specs.program_logic.Placed.{Placed}
 use Rattle.codegen.specs.program_logic.StraightCode.{contents_of, after_all}
-use Rattle.codegen.specs.program_logic.Turns.{LeadsKeeping}
+use Rattle.codegen.specs.program_logic.MachineSteps.{LeadsKeeping}
 use Rattle.codegen.specs.Below.{Code, Event, Instr, Observation, State}
 
 -- only the program counter has changed
@@ -61,14 +61,14 @@ abbrev pub both : {M : Type 0} → (List M → List Observation × List M) → (
     → List Observation × List M
 both one two path = ((one path).0 ++ (two (one path).1).0, (two (one path).1).1)
 
--- at most so many turns to an address, on a path of which the rest is left, and the state after them
+-- at most so many steps to an address, on a path of which the rest is left, and the state after them
 pub record Ends (z : Setting) (cost q : ℕ) (leak : Leak z) (path rest : List z.Mark) (Q : State
     → Type 0) (s : State) : Type 0 where
-  pub turns : ℕ
+  pub step_count : ℕ
   pub end : State
   pub seen : List Observation
-  pub leads : LeadsKeeping z.code z.Keeps turns s seen end
-  pub within : turns ≤ cost
+  pub leads : LeadsKeeping z.code z.Keeps step_count s seen end
+  pub within : step_count ≤ cost
   pub shown : leak path ≡ (seen, rest)
   pub inside : All (λ (o : Observation). z.Allows o.event) seen
   pub keeps : z.Keeps s end
@@ -82,7 +82,7 @@ pub record Straight (z : Setting) (p cost : ℕ) (steps : Steps z) (is : List In
   pub runs : (env : z.Beside) (s : State) (rest : List z.Mark) → s.pc ≡ p → z.Fine (steps env) → P env s
       → Ends z cost (p + 4 * length is) leak (z.seen (steps env) ++ rest) rest (Q env s) s
 
--- instructions run wherever they stand, at most so many turns
+-- instructions run wherever they stand, at most so many steps
 pub record Runs (z : Setting) (cost : ℕ) (steps : Steps z) (is : List Instr) (P : Before z) (Q : After z) :
     Type 0 where
   pub placed_at : (p : ℕ) → Placed z.code p is → Straight z p cost steps is P Q
@@ -98,11 +98,11 @@ pub record Became (is : List Instr) (places : List ℕ) (s t : State) : Type 0 w
   pub regs : t.regs ≡ (after_all is places (contents_of s)).regs
   pub bytes : t.bytes ≡ (after_all is places (contents_of s)).bytes
 
--- so many turns, the first at this number: what each makes of a state, and the path of each
-abbrev pub turns_after : {S : Type 0} → ℕ → ℕ → (ℕ → S → S) → S → S
-turns_after zero i turn s = s
-turns_after (suc n) i turn s = turns_after n (i + 1) turn (turn i s)
+-- so many iterations, the first at this number: what each makes of a state, and the path of each
+abbrev pub iterations_after : {S : Type 0} → ℕ → ℕ → (ℕ → S → S) → S → S
+iterations_after zero i iteration s = s
+iterations_after (suc n) i iteration s = iterations_after n (i + 1) iteration (iteration i s)
 
-abbrev pub turns_path : {S M : Type 0} → ℕ → ℕ → (ℕ → S → S) → (ℕ → S → List M) → S → List M
-turns_path zero i turn path s = []
-turns_path (suc n) i turn path s = path i s ++ turns_path n (i + 1) turn path (turn i s)
+abbrev pub iterations_path : {S M : Type 0} → ℕ → ℕ → (ℕ → S → S) → (ℕ → S → List M) → S → List M
+iterations_path zero i iteration path s = []
+iterations_path (suc n) i iteration path s = path i s ++ iterations_path n (i + 1) iteration path (iteration i s)

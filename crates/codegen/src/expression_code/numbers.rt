@@ -166,7 +166,7 @@ pub fn left_row(layout: &Layout<'_>, operator: BinaryOperator, left: &Term) -> O
     ensures { result ≡ left_row layout.now.allocation operator (term_tree left.now) }
 {
     if layout.immediates() {
-        number_row(operator.turned()?, number(left)?)
+        number_row(operator.swapped()?, number(left)?)
     } else {
         None
     }

@@ -39,10 +39,10 @@ impl Operands {
         Instr::Register(operation, self.target, self.left, self.right)
     }
 
-    /// An instruction between both operands, turned round.
-    fn turned(&self, operation: Operation) -> Instr
+    /// An instruction between both operands, swapped.
+    fn swapped(&self, operation: Operation) -> Instr
         ensures { result ∷ [] ≡ step_code self.now.target self.now.scratch self.now.left self.now.right
-            (terms.turned operation) }
+            (terms.swapped operation) }
     {
         Instr::Register(operation, self.target, self.right, self.left)
     }
@@ -235,8 +235,8 @@ pub fn operator(
         BinaryOperator::Equal => gives_zero(code, o.target, o.between(Operation::Sub)),
         BinaryOperator::Unequal => gives_more(code, o.target, o.between(Operation::Sub)),
         BinaryOperator::Less => append(code, o.between(Operation::Sltu)),
-        BinaryOperator::LessOrEqual => gives_zero(code, o.target, o.turned(Operation::Sltu)),
-        BinaryOperator::Greater => append(code, o.turned(Operation::Sltu)),
+        BinaryOperator::LessOrEqual => gives_zero(code, o.target, o.swapped(Operation::Sltu)),
+        BinaryOperator::Greater => append(code, o.swapped(Operation::Sltu)),
         BinaryOperator::GreaterOrEqual => gives_zero(code, o.target, o.between(Operation::Sltu)),
         BinaryOperator::BitOr => append(code, o.between(Operation::Or)),
         BinaryOperator::BitXor => append(code, o.between(Operation::Xor)),

@@ -7,8 +7,8 @@ ghost use Rattle.codegen.specs.program_logic.StraightCode.{state_at};
 ghost use Rattle.codegen.specs.Below.{Code, Event, Instr, Leads};
 
 /// The machine does what straight-line code is run to by symbols: wherever the code stands, and whatever state it begins
-/// in, if each access goes to its address, which is a multiple of its size, and data is there, then as many turns as there
-/// are instructions lead to that state, and show the list that is read off the code and the addresses alone.
+/// in, if each access goes to its address, which is a multiple of its size, and data is there, then as many steps as
+/// there are instructions lead to that state, and show the list that is read off the code and the addresses alone.
 pub fn straight_code_is_run()
     ensures { (works : ℕ → Bool) (code : Code) (p : ℕ) (instructions : List Instr) (places : List ℕ) (c : Contents)
         → are_straight works instructions ≡ true → Placed code p instructions

@@ -1,4 +1,4 @@
-// Arrays between the caller's memory and the frame, an element a turn.
+// Arrays between the caller's memory and the frame, an element a step.
 
 ghost use Rattle.std.specs.Prelude.{◌≡◌, ◌≤◌, ◌<◌, ◌++◌, ◌∷◌, [], length, OnOk, IfOk};
 ghost use Rattle.functions.specs.Below.{array_bytes, bounds_code, copied_in_code, copied_out_code, copy_in_code};

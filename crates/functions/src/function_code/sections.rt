@@ -1,4 +1,4 @@
-// The sections of a function's code: one list of them is what its words, its text and its turns are made of.
+// The sections of a function's code: one list of them is what its words, its text and its steps are made of.
 
 ghost use Rattle.std.specs.Prelude.{◌≡◌, ◌≤◌, ◌++◌, length, OnOk, IfOk};
 ghost use Rattle.functions.specs.Below.{argument_sections, array_section, array_sections, enter_sections};

@@ -6,7 +6,7 @@ use Rattle.std.specs.List.{AllByRecursion}
 use Rattle.hepurita.specs.Below.{AreWithin, Arg, bodies_of, exported, extents_of, flattened, Gives, gives}
 use Rattle.hepurita.specs.Below.{IsGrammatical, IsTypedProgram, most_bodies, most_work, outcome_of, param_of}
 use Rattle.hepurita.specs.Below.{ProcedureTree, Profile, program_run, ProgramTree, range_violations, Run, run_answer}
-use Rattle.hepurita.specs.Below.{turns_of, violations, work_of}
+use Rattle.hepurita.specs.Below.{iterations_of, violations, work_of}
 use Rattle.hepurita.proofs.run_bounds_lemmas.Below.{flat_keeps_meaning, safe_runs_are_within_work, accepted_is_safe}
 use Rattle.hepurita.proofs.run_bounds_lemmas.Below.{safe_runs_meet_no_fault, program_opens, worked-out}
 use Rattle.language.specs.Results.{Results}
@@ -33,9 +33,9 @@ answered profile program before p args budget h is grammatical plain typed shall
     let flat = flattened profile before p in
     let safe = accepted_is_safe flat typed in_range in
     let spent = program_spends profile program before p args h is grammatical plain within in
-    let few = safe_runs_are_within_work flat (turns_of flat) args safe within in
+    let few = safe_runs_are_within_work flat (iterations_of flat) args safe within in
     let opened = program_opens program args before p is in
-    let meant = subst (Gives program args) (safe_runs_meet_no_fault flat (turns_of flat) args safe within)
+    let meant = subst (Gives program args) (safe_runs_meet_no_fault flat (iterations_of flat) args safe within)
     (flat_keeps_meaning profile program before p args h is grammatical plain within) in
     within_budget (program_run program args) budget (outcome_of flat args) (omega (arith, spent, few, worked, enough))
     (omega (arith, opened, shallow)) (worked-out program args (gives (outcome_of flat args)) meant)

@@ -6,13 +6,13 @@ use Rattle.hepurita.specs.Below.{after_all, AreAllSmall, ArePlain, begun as begu
 use Rattle.hepurita.specs.Below.{call_block, call_result, call_run, call_value, call_variables, Callable, callable}
 use Rattle.hepurita.specs.Below.{callables, Callee, CallTree, computed, counting, dropped_block}
 use Rattle.inline.specs.Flat.{counter_type}
-use Rattle.hepurita.specs.Below.{evaluated_all, evaluated_in_turns, ExprTree, gives, IsPlain, IsSmallRight, Label}
+use Rattle.hepurita.specs.Below.{evaluated_all, evaluated_in_iterations, ExprTree, gives, IsPlain, IsSmallRight, Label}
 use Rattle.hepurita.specs.Below.{names_after, names_after_all, naming, Numbers, numbers_taken, numbers_taken_all}
 use Rattle.hepurita.specs.Below.{passed as passed_block, passed_variables, ProcedureTree, Profile, right}
 use Rattle.hepurita.specs.Below.{right_block, right_run, RightTree, Run, run, run_all, Runnable, runnable, runnables}
 use Rattle.hepurita.specs.Below.{Scope, single, StatementTree, term, term_nodes, Types}
 use Rattle.language.specs.State.{State}
-use Rattle.language.specs.Evaluation.{turns}
+use Rattle.language.specs.Evaluation.{iterations}
 use Rattle.hepurita.specs.Below.{types_after_all, value, value_in, value_nodes, value_of, Values, ValueType}
 use Rattle.hepurita.specs.Below.{with_parameters, word_arguments, word_as, WordType, written}
 use Rattle.language.specs.declared.typing.ValueType.TheVariants.{Word as a_word}
@@ -60,18 +60,19 @@ HasBound before scope p = Spends scope.profile before p
 abbrev pub CallsSpend : List ProcedureTree → Scope → Type 0
 CallsSpend earlier scope = EachCallable earlier (IsCallable HasBound earlier) scope
 
--- Turns, where each evaluates no more nodes than are counted for it.
-turns_spend : (turn : ℕ → State → Run State) (step : ℕ → Values → Values) (count : ℕ → Values → ℕ) (names : Numbers)
-    → ((i : ℕ) (s : State) (m : Values) → Shows names s m → IsWithin (turn i s) (count i m))
-    → ((i : ℕ) (s : State) (m : Values) (t : State) → Shows names s m → (turn i s).ends ≡ gives t
+-- Iterations, where each evaluates no more nodes than are counted for it.
+iterations_spend : (iteration : ℕ → State → Run State) (step : ℕ → Values → Values) (count : ℕ → Values → ℕ)
+    (names : Numbers)
+    → ((i : ℕ) (s : State) (m : Values) → Shows names s m → IsWithin (iteration i s) (count i m))
+    → ((i : ℕ) (s : State) (m : Values) (t : State) → Shows names s m → (iteration i s).ends ≡ gives t
     → Shows names t (step i m))
     → (n i : ℕ) (s : State) (m : Values) → Shows names s m
-    → IsWithin (turns n i turn s) (evaluated_in_turns n i step count m)
-turns_spend turn step count names each keeps zero i s m shows = none
-turns_spend turn step count names each keeps (suc n) i s m shows =
+    → IsWithin (iterations n i iteration s) (evaluated_in_iterations n i step count m)
+iterations_spend iteration step count names each keeps zero i s m shows = none
+iterations_spend iteration step count names each keeps (suc n) i s m shows =
     fits
     (ticked (then_within (each i s m shows) (λ t is.
-    turns_spend turn step count names each keeps n (i + 1) t (step i m) (keeps i s m t shows is))))
+    iterations_spend iteration step count names each keeps n (i + 1) t (step i m) (keeps i s m t shows is))))
     (omega arith)
 
 -- one of two arms
@@ -241,7 +242,7 @@ module _ (ps : List ProcedureTree) where
         let flat_body = block (callables ps) inside_names (n + 1) body in
         let step = λ (i : ℕ) (t : Values). after_all (flat.with_value t n (i ∷ [])) flat_body in
         let count = λ (i : ℕ) (t : Values). evaluated_all (flat.with_value t n (i ∷ [])) flat_body in
-        let turn = λ (i : ℕ) (t : State). run_all (runnables ps) (counting t text i) body in
+        let iteration = λ (i : ℕ) (t : State). run_all (runnables ps) (counting t text i) body in
         let began = λ (i : ℕ) (s : State) (m : Values) (shows : Shows names s m).
         shows_declared ready.linked s m shows text {own = own} {v = single (word_at Uint32 i)} {numbers = i ∷ []}
         (record { is = refl; count = refl }) new in
@@ -251,24 +252,24 @@ module _ (ps : List ProcedureTree) where
         block_spends inner inside_names (n + 1) within calls_within plain.2 (counting s text i)
         (flat.with_value m n (i ∷ [])) (began i s m shows) in
         let keeps = λ (i : ℕ) (s : State) (m : Values) (t : State) (shows : Shows names s m)
-        (is : (turn i s).ends ≡ gives t).
+        (is : (iteration i s).ends ≡ gives t).
         let good =
         reached (same_ends inner within plain.2 (counting s text i)
-        (flat.with_value m n (i ∷ [])) (began i s m shows)) (turn i s).ends
+        (flat.with_value m n (i ∷ [])) (began i s m shows)) (iteration i s).ends
         (λ e d. block-worked ps (counting s text i) body e d) t is in
         λ (other : List ℕ) (x : Numbered) (there : found names other ≡ Some x).
         shows_before (callables ps) body inside_names (n + 1) t (step i m) good other x
         (found-kept names text (entry n own) other x there) in
-        let most = evaluated_in_turns (b - a) a step count m in
-        let all = turns_spend turn step count names each keeps (b - a) a s m shows in
+        let most = evaluated_in_iterations (b - a) a step count m in
+        let all = iterations_spend iteration step count names each keeps (b - a) a s m shows in
         fits
         (ticked (then_within (value_spends s low) (λ u is. then_within (value_spends s high) (λ w is'.
         let first = reached ((means ready.linked one plain.0).value s m shows)
         (value s low).ends (λ e d. value-worked s low e d) u is in
         let second = reached ((means ready.linked other plain.1).value s m shows)
         (value s high).ends (λ e d. value-worked s high e d) w is' in
-        subst (λ (y : Word). IsWithin (turns (y.value - u.value) u.value turn s) most) (sym second)
-        (subst (λ (x : Word). IsWithin (turns (b - x.value) x.value turn s) most) (sym first) all)))))
+        subst (λ (y : Word). IsWithin (iterations (y.value - u.value) u.value iteration s) most) (sym second)
+        (subst (λ (x : Word). IsWithin (iterations (b - x.value) x.value iteration s) most) (sym first) all)))))
         (omega (arith, same_nodes names low, same_nodes names high))
 
     pub block_spends : {scope : Scope} {control : Label} {b : BlockTree} → rules.AreWellTyped ps scope control b

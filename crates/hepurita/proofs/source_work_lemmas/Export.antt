@@ -7,7 +7,7 @@ use Rattle.std.specs.List.{AllByRecursion}
 use Rattle.hepurita.specs.Below.{block, bound_of, Callables, callables, declared_in_all, exported, first_bounds}
 use Rattle.hepurita.specs.Below.{flattened, IsGrammatical, parameter_types, ProcedureTree, Profile, ProgramTree}
 use Rattle.hepurita.specs.Below.{Bounds, cost_by, cost_of, return_names, shares_by, stretch_shares, stretches}
-use Rattle.hepurita.specs.Below.{turns_of, violations, with_procedure, work_of}
+use Rattle.hepurita.specs.Below.{iterations_of, violations, with_procedure, work_of}
 use Rattle.hepurita.proofs.source_work_lemmas.Below.{AllCounted, callable_parameters, earlier_within, IsAt}
 use Rattle.hepurita.proofs.source_work_lemmas.Below.{same_result, flat_is_typed, own_typing, enough_all}
 use Rattle.language.specs.declared.signature.Label.TheVariants.{Public}
@@ -21,7 +21,7 @@ export_summed : (profile : Profile) (program : ProgramTree) (before : List Proce
     (p : ProcedureTree) → length (violations profile program) ≡ 0
     → exported [] program.procedures ≡ Some (before, p) → AllByRecursion IsGrammatical before → IsGrammatical p
     → (source_work before p ≡ work_of (flattened profile before p))
-    × (work_shares before p ≡ shares_by (turns_of (flattened profile before p)) (flattened profile before p))
+    × (work_shares before p ≡ shares_by (iterations_of (flattened profile before p)) (flattened profile before p))
 export_summed profile program before p h is earlier plain =
     let whole = flattened profile before p in
     let declared = export_variables before p in
@@ -31,10 +31,10 @@ export_summed profile program before p h is earlier plain =
     let body = summed_one declared before e.scope p e.stand e.typed in
     let start = export_start before p in
     let typed = flat_is_typed profile program before p h is earlier plain in
-    let counted = enough_all declared (turns_of whole) whole.body (parameter_types profile whole.parameters) Public
+    let counted = enough_all declared (iterations_of whole) whole.body (parameter_types profile whole.parameters) Public
     (length whole.parameters) (first_bounds whole) (replicate (length declared) 0) typed.body typed.numbered
     (length-replicate (length declared) 0) (λ y low high. refl) in
-    let one = body_walked declared (turns_of whole) whole.body (first_bounds whole) counted in
+    let one = body_walked declared (iterations_of whole) whole.body (first_bounds whole) counted in
     let later : length declared - length whole.parameters ≡ length (declared_in_all (callables before) p.body) =
     simp (length-append, length-map) (omega arith) in
     let bounds : first_bounds whole ≡ start.bounds =
@@ -46,12 +46,12 @@ export_summed profile program before p h is earlier plain =
     let inside = callable_parameters before (IsAt e.scope) p.parameters (with_procedure e.scope (length before) p)
     (earlier_within (Summed declared) before e.scope e.stand p e.typed.is_new) in
     let counted_there = subst (λ (known : Callables).
-    AllCounted declared (turns_of whole) start.bounds (block known start.names start.next p.body))
+    AllCounted declared (iterations_of whole) start.bounds (block known start.names start.next p.body))
     (sym (numbered_alike declared before))
-    (subst (λ (b : Bounds). AllCounted declared (turns_of whole) b whole.body) bounds counted) in
-    let parts = parts_summed declared (turns_of whole) before e.scope e.stand e.typed.body inside start
+    (subst (λ (b : Bounds). AllCounted declared (iterations_of whole) b whole.body) bounds counted) in
+    let parts = parts_summed declared (iterations_of whole) before e.scope e.stand e.typed.body inside start
     counted_there
-    ∙ ap (λ (known : Callables). stretch_shares (turns_of whole) (stretches known start.names start.next p.body)
+    ∙ ap (λ (known : Callables). stretch_shares (iterations_of whole) (stretches known start.names start.next p.body)
     (block known start.names start.next p.body)) (numbered_alike declared before) in (
       omega (arith, one, alike, summed, value),
       ap₂ ◌++◌ parts (value_shared (return_names (callables before) p) p.returned),
@@ -68,7 +68,7 @@ work_is_that_of_the_body profile program before p h is earlier plain =
 pub cost_is_that_of_the_body : (profile : Profile) (program : ProgramTree) (before : List ProcedureTree)
     (p : ProcedureTree) → length (violations profile program) ≡ 0
     → exported [] program.procedures ≡ Some (before, p) → AllByRecursion IsGrammatical before → IsGrammatical p
-    → work_cost before p ≡ cost_by (turns_of (flattened profile before p)) (flattened profile before p)
+    → work_cost before p ≡ cost_by (iterations_of (flattened profile before p)) (flattened profile before p)
 cost_is_that_of_the_body profile program before p h is earlier plain =
     let both = export_summed profile program before p h is earlier plain in
     ap₂ cost_of both.0 both.1

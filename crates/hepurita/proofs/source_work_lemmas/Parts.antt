@@ -35,10 +35,10 @@ value_shared names None = refl
 value_shared names (Some r) =
     ap (λ (n : ℕ). record { place = r.place; count = n } ∷ []) (sym (same_result names (Some r)))
 
-module _ (declared : List FlatVariable) (turns : List ℕ) where
-  -- turns that are counted for a body are counted for its parts
-  counted_parts : (a b : FlatBlock) (bounds : Bounds) → AllCounted declared turns bounds (chain a b)
-      → AllCounted declared turns bounds a × AllCounted declared turns (bounds_after_all declared bounds a) b
+module _ (declared : List FlatVariable) (iterations : List ℕ) where
+  -- iterations that are counted for a body are counted for its parts
+  counted_parts : (a b : FlatBlock) (bounds : Bounds) → AllCounted declared iterations bounds (chain a b)
+      → AllCounted declared iterations bounds a × AllCounted declared iterations (bounds_after_all declared bounds a) b
   counted_parts flat.nothing b bounds all = (tt, all)
   counted_parts (flat.first s a) b bounds all =
       let later = counted_parts a b (bounds_after declared bounds s) all.1 in
@@ -47,9 +47,9 @@ module _ (declared : List FlatVariable) (turns : List ℕ) where
   module _ (earlier : List ProcedureTree) (at : Scope) (stand : Stand (Summed declared) earlier at) where
     pub parts_summed : {scope : Scope} {control : Label} {b : BlockTree} → AreWellTyped earlier scope control b
         → IsWithin earlier at scope → (h : Here)
-        → AllCounted declared turns h.bounds (block (numberings (works_of declared earlier)) h.names h.next b)
+        → AllCounted declared iterations h.bounds (block (numberings (works_of declared earlier)) h.names h.next b)
         → statement_shares declared (works_of declared earlier) h b
-        ≡ stretch_shares turns (stretches (numberings (works_of declared earlier)) h.names h.next b)
+        ≡ stretch_shares iterations (stretches (numberings (works_of declared earlier)) h.names h.next b)
         (block (numberings (works_of declared earlier)) h.names h.next b)
     parts_summed no_statement inside h all = refl
     parts_summed (one_more {statement = s} {rest = rest} one others) inside h all =
@@ -58,10 +58,11 @@ module _ (declared : List FlatVariable) (turns : List ℕ) where
         let own = statement known h.names h.next s in
         let left = block known next.names next.next rest in
         let parts = counted_parts own left h.bounds all in
-        let work = ap (body_work turns) (taken own left)
-        ∙ (body_walked declared turns own h.bounds parts.0 ∙ statement_summed declared earlier at stand one inside h) in
+        let work = ap (body_work iterations) (taken own left)
+        ∙ (body_walked declared iterations own h.bounds parts.0
+        ∙ statement_summed declared earlier at stand one inside h) in
         let later = parts_summed others (callable_after earlier (IsAt at) one inside) next parts.1
-        ∙ ap (stretch_shares turns (stretches known next.names next.next rest)) (sym (left_over own left)) in
+        ∙ ap (stretch_shares iterations (stretches known next.names next.next rest)) (sym (left_over own left)) in
         ap₂ (λ (n : ℕ) (ps : List Share). record { place = place_of s; count = n } ∷ ps) (sym work) later
 
 -- The parts make the whole.

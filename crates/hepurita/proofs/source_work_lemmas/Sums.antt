@@ -22,8 +22,8 @@ use Rattle.language.specs.WellTyped.{IsCall, of_procedure, Gives, of_call, of_va
 use Rattle.language.specs.WellTyped.{declares_array, assigns, assigns_element, calls, chooses, repeats, AreWellTyped}
 use Rattle.language.specs.WellTyped.{no_statement, one_more, IsProcedure, Returns, nothing_returned, value_returned}
 use Rattle.hepurita.specs.source_work.SourceWork.{Here, here, Worked, Works, numberings, entered, called_work}
-use Rattle.hepurita.specs.source_work.SourceWork.{right_work, behind, turns, in_accepted, in_otherwise, in_turn}
-use Rattle.hepurita.specs.source_work.SourceWork.{statement_work, block_work, worked, works_of}
+use Rattle.hepurita.specs.source_work.SourceWork.{right_work, behind, iterations, in_accepted, in_otherwise}
+use Rattle.hepurita.specs.source_work.SourceWork.{in_iteration, statement_work, block_work, worked, works_of}
 use Rattle.hepurita.proofs.source_work_lemmas.Walked.{walked_all, walked_chain}
 
 -- Results.
@@ -192,8 +192,8 @@ module _ (declared : List FlatVariable) where
       statement_summed (repeats {scope = scope} {counter = counter} {text = text} {low = low} {high = high} has is new
           all) inside h =
           let b = block_summed all (callable_declared earlier (IsAt at) scope counter text _ inside)
-          (in_turn declared h text low high) in
-          let many = ap (λ w. (turns declared h low high + 1) * (1 + w)) b in
+          (in_iteration declared h text low high) in
+          let many = ap (λ w. (iterations declared h low high + 1) * (1 + w)) b in
           omega (arith, many, same_nodes h.names low, same_nodes h.names high)
 
       pub block_summed : {scope : Scope} {control : Label} {b : BlockTree} → AreWellTyped earlier scope control b

@@ -1,7 +1,7 @@
 -- The work of a body with numbered variables, by the intervals where each loop stands.
 use Rattle.std.proofs.Common.{◌≡◌, ℕ, ◌+◌, ◌*◌, List, refl, sym, ap₂, arith}
 use Rattle.hepurita.specs.Below.{assign, body_work, Bounds, bounds_after, bounds_after_all, branch, chain, declare}
-use Rattle.hepurita.specs.Below.{FlatBlock, FlatTree, FlatVariable, hold, in_loop, interval, most_turns, put, skip}
+use Rattle.hepurita.specs.Below.{FlatBlock, FlatTree, FlatVariable, hold, in_loop, interval, most_iterations, put, skip}
 use Rattle.hepurita.specs.Below.{term_nodes, terms_nodes, tree_work, where_false, where_true}
 use Rattle.inline.specs.Flat.{array, loop, nothing, first}
 use Rattle.hepurita.proofs.source_work_lemmas.Below.{AreCounted, AllCounted}
@@ -20,7 +20,7 @@ module _ (declared : List FlatVariable) where
         + walked_all (where_false declared bounds label condition) otherwise
     walked bounds (loop x low high body) =
         term_nodes low + term_nodes high
-        + (most_turns (interval declared bounds low) (interval declared bounds high) + 1)
+        + (most_iterations (interval declared bounds low) (interval declared bounds high) + 1)
         * (1 + walked_all (in_loop declared bounds x low high) body)
 
     pub walked_all : Bounds → FlatBlock → ℕ
@@ -32,11 +32,11 @@ module _ (declared : List FlatVariable) where
   walked_chain bounds nothing b = omega arith
   walked_chain bounds (first s a) b = omega (arith, walked_chain (bounds_after declared bounds s) a b)
 
-  -- where the turns that are counted are those of each loop, the two are one
-  module _ (turns : List ℕ) where
+  -- where the iterations that are counted are those of each loop, the two are one
+  module _ (iterations : List ℕ) where
     mutual
-      tree_walked : (s : FlatTree) (bounds : Bounds) → AreCounted declared turns bounds s
-          → tree_work turns s ≡ walked bounds s
+      tree_walked : (s : FlatTree) (bounds : Bounds) → AreCounted declared iterations bounds s
+          → tree_work iterations s ≡ walked bounds s
       tree_walked (declare x word mutable value) bounds counted = refl
       tree_walked (array x word mutable size values) bounds counted = refl
       tree_walked (assign x value) bounds counted = refl
@@ -51,8 +51,8 @@ module _ (declared : List FlatVariable) where
           ap₂ (λ n w. term_nodes low + term_nodes high + (n + 1) * (1 + w)) (sym counted.0)
           (body_walked body (in_loop declared bounds x low high) counted.1)
 
-      pub body_walked : (b : FlatBlock) (bounds : Bounds) → AllCounted declared turns bounds b
-          → body_work turns b ≡ walked_all bounds b
+      pub body_walked : (b : FlatBlock) (bounds : Bounds) → AllCounted declared iterations bounds b
+          → body_work iterations b ≡ walked_all bounds b
       body_walked nothing bounds counted = refl
       body_walked (first s rest) bounds counted =
           ap₂ ◌+◌ (tree_walked s bounds counted.0) (body_walked rest (bounds_after declared bounds s) counted.1)

@@ -1,6 +1,6 @@
 -- Work, as a sum over the source: how many nodes a run evaluates at most. Each node counts 1 and its parts, but a
--- loop counts its body once for each turn that the intervals of its bounds allow, and once more; an array counts its
--- elements too; and a call counts the words that it passes and the called body, there where it stands.
+-- loop counts its body once for each iteration that the intervals of its bounds allow, and once more; an array counts
+-- its elements too; and a call counts the words that it passes and the called body, there where it stands.
 use Rattle.std.specs.Prelude.{ℕ, ◌+◌, ◌*◌, false, nat_lt, List, [], ◌∷◌, ◌++◌, length, map, replicate, Option, None}
 use Rattle.std.specs.Prelude.{Some}
 use Rattle.std.specs.Option.{option_map}
@@ -9,7 +9,7 @@ use Rattle.hepurita.specs.Below.{call_names, call_start, Callable, callable, Cal
 use Rattle.hepurita.specs.Below.{CallTree, computed, conditional, cost_of, declaration}
 use Rattle.inline.specs.Flat.{counter_type}
 use Rattle.hepurita.specs.Below.{declaration_of, declared_in_all, element_assignment, excess, ExprTree, first}
-use Rattle.hepurita.specs.Below.{FlatVariable, in_loop, interval, Known, known_of, label_in, loop, most_turns}
+use Rattle.hepurita.specs.Below.{FlatVariable, in_loop, interval, Known, known_of, label_in, loop, most_iterations}
 use Rattle.hepurita.specs.Below.{most_work, names_after, naming, nodes_in, nodes_in_all, nodes_passed, nothing}
 use Rattle.hepurita.specs.Below.{Numbers, numbers_taken, numbers_taken_all, param_of, parameter_names, passed}
 use Rattle.hepurita.specs.Below.{place_of, ProcedureTree, return_nodes, return_shares, RightTree, Share, statement}
@@ -70,9 +70,9 @@ module _ (declared : List FlatVariable) where
       here (names_after (numberings works) at.names at.next s) (at.next + numbers_taken (numberings works) s)
       (bounds_after_all declared at.bounds (statement (numberings works) at.names at.next s))
 
-  -- the turns of a loop: as many as the intervals of its bounds allow
-  abbrev pub turns : Here → ExprTree → ExprTree → ℕ
-  turns at low high = most_turns (interval declared at.bounds (term at.names low))
+  -- the iterations of a loop: as many as the intervals of its bounds allow
+  abbrev pub iterations : Here → ExprTree → ExprTree → ℕ
+  iterations at low high = most_iterations (interval declared at.bounds (term at.names low))
       (interval declared at.bounds (term at.names high))
 
   -- where the arms of a conditional and the body of a loop begin
@@ -85,8 +85,8 @@ module _ (declared : List FlatVariable) where
       here at.names (at.next + numbers_taken_all (numberings works) accepted)
       (where_false declared at.bounds (label_in at.names condition) (term at.names condition))
 
-  abbrev pub in_turn : Here → List ℕ → ExprTree → ExprTree → Here
-  in_turn at text low high =
+  abbrev pub in_iteration : Here → List ℕ → ExprTree → ExprTree → Here
+  in_iteration at text low high =
       here (naming at.names text at.next (word_as counter_type false)) (at.next + 1)
       (in_loop declared at.bounds at.next (term at.names low) (term at.names high))
 
@@ -104,8 +104,8 @@ module _ (declared : List FlatVariable) where
         1 + nodes_in condition + block_work works (in_accepted at condition) accepted
         + block_work works (in_otherwise works at condition accepted) otherwise
     statement_work works at (loop place counter text low high body) =
-        nodes_in low + nodes_in high + (turns at low high + 1)
-        * (1 + block_work works (in_turn at text low high) body)
+        nodes_in low + nodes_in high + (iterations at low high + 1)
+        * (1 + block_work works (in_iteration at text low high) body)
 
     pub block_work : Works → Here → BlockTree → ℕ
     block_work works at nothing = 0
@@ -145,8 +145,8 @@ abbrev pub source_work : List ProcedureTree → ProcedureTree → ℕ
 source_work before p = work_in (export_variables before p) (works_of (export_variables before p) before)
     (export_start before p) p
 
--- its parts, each with its work: its statements, with the bodies that they call and the turns of their loops, and its
--- `return`
+-- its parts, each with its work: its statements, with the bodies that they call and the iterations of their loops, and
+-- its `return`
 abbrev pub work_shares : List ProcedureTree → ProcedureTree → List Share
 work_shares before p =
     statement_shares (export_variables before p) (works_of (export_variables before p) before)

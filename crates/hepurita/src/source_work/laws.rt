@@ -3,7 +3,7 @@
 ghost use Rattle.std.specs.List.{AllByRecursion};
 ghost use Rattle.std.specs.Prelude.{◌≡◌, [], List, Some, length};
 ghost use Rattle.hepurita.specs.Below.{cost_by, exported, flattened, IsGrammatical, ProcedureTree, Profile};
-ghost use Rattle.hepurita.specs.Below.{ProgramTree, sum_of, turns_of, violations, work_of};
+ghost use Rattle.hepurita.specs.Below.{ProgramTree, sum_of, iterations_of, violations, work_of};
 ghost use Rattle.hepurita.specs.source_work.SourceWork.{source_work, work_cost, work_shares};
 
 /// The work of the export of a program that violates no rule is that of its one body with numbered variables.
@@ -23,7 +23,7 @@ pub fn cost_is_that_of_the_body()
         → exported [] program.procedures ≡ Some (before, p)
         → AllByRecursion IsGrammatical before
         → IsGrammatical p
-        → work_cost before p ≡ cost_by (turns_of (flattened profile before p)) (flattened profile before p) }
+        → work_cost before p ≡ cost_by (iterations_of (flattened profile before p)) (flattened profile before p) }
 {}
 
 /// What the parts of an export cost of its work together is its work.

@@ -5,7 +5,7 @@ use Rattle.image_reports.specs.Below.{Arg, Code, code_at, code_base, compared, D
 use Rattle.image_reports.specs.Below.{IsLastBefore, IsLineAt, loaded_at, Observation, Paired, SaysRegisters, Shown}
 use Rattle.image_reports.specs.Below.{ShowsAt, ShowsFewer, State, word_at}
 use Rattle.run_reports.proofs.run_places_lemmas.Openings.{difference_reached, word_before}
-use Rattle.run_reports.proofs.run_places_lemmas.Parting.{one_last_turn}
+use Rattle.run_reports.proofs.run_places_lemmas.Parting.{one_last_step}
 use Rattle.run_reports.proofs.run_places_lemmas.Runs.{later_place}
 use Rattle.image_reports.specs.pair_explanations.Explained.{shown_line, SaysRun, SaysOf, Explains}
 
@@ -25,16 +25,16 @@ module _ (code code' : Code) (budget budget' : ℕ) (s s' : State) (same_code : 
       (subst (λ n. IsLastBefore code n s' place seen t) same_budget
       (subst (λ u. IsLastBefore code budget u place seen t) same_state last))
 
-  -- there is the state that the run is in once it has made its turns again, and what it shows from there is at a
+  -- there is the state that the run is in once it has made its steps again, and what it shows from there is at a
   -- place
-  pub said : (seen : List Observation) (t there : State) (turns entries left : ℕ) (registers text : List ℕ)
+  pub said : (seen : List Observation) (t there : State) (steps entries left : ℕ) (registers text : List ℕ)
       (shown : Shown)
-      → IsLastBefore code budget s place seen t → turns ≡ length seen → entries ≡ length (entries_of seen) → there ≡ t
-      → left ≡ budget - turns
+      → IsLastBefore code budget s place seen t → steps ≡ length seen → entries ≡ length (entries_of seen) → there ≡ t
+      → left ≡ budget - steps
       → SaysRegisters code there registers → ShowsAt code left there (place - entries) shown
       → text ≡ registers ++ codes " " ++ shown_line shown
       → SaysRun code' budget' s' place seen there.pc text
-  said seen t there turns entries left registers text shown last made counted here rest reads shows printed =
+  said seen t there steps entries left registers text shown last made counted here rest reads shows printed =
       let last' = last_of seen t last in
       let e : length (entries_of seen) + (place - entries) ≡ place = omega (arith, counted, last.before) in
       let budget_left : left ≡ budget' - length seen = omega (arith, rest, made, same_budget) in
@@ -56,7 +56,7 @@ module _ (code code' : Code) (budget budget' : ℕ) (s s' : State) (same_code : 
         printed = printed;
       }
 
--- a word stands where the last turn before the place begins
+-- a word stands where the last step before the place begins
 pub word_said : (image : Fields) (args : List Arg) (place : ℕ) (seen : List Observation) (pc : ℕ) (text : List ℕ)
     → SaysOf image args place seen pc text → word_at (code_at code_base image) pc ≢ None
 word_said image args place seen pc text says =
@@ -84,26 +84,26 @@ module _ (image : Fields) (one other : List Arg) (place : ℕ)
           whole whole' ends.0 ends'.0 place (ends.1.0, ends.1.1.0, ends.1.1.1) (ends'.1.0, ends'.1.1.0, ends'.1.1.1)
           refl compares
 
-  one_turn : (seen seen' : List Observation) (t t' : State)
+  one_step : (seen seen' : List Observation) (t t' : State)
       → IsLastBefore (code_at code_base image) image.max_steps (loaded_at code_base frame_base image one) place seen t
       → IsLastBefore (code_at code_base image) image.max_steps (loaded_at code_base frame_base image other) place
       seen' t' → (seen ≡ seen') × (t.pc ≡ t'.pc)
-  one_turn seen seen' t t' last last' = by differ
+  one_step seen seen' t t' last last' = by differ
     where
       by : Paired image one other (Ok (Differ place)) → (seen ≡ seen') × (t.pc ≡ t'.pc)
       by (compared {seen = whole} {seen' = whole'} none ends ends' compares) =
-          one_last_turn (code_at code_base image) image.max_steps (loaded_at code_base frame_base image one)
+          one_last_step (code_at code_base image) image.max_steps (loaded_at code_base frame_base image one)
           (loaded_at code_base frame_base image other)
           t t' whole whole' seen seen' ends.0 ends'.0 place (ends.1.0, ends.1.1.0, ends.1.1.1)
           (ends'.1.0, ends'.1.1.0, ends'.1.1.1) compares last last'
 
-  -- what is said of each of them is said of one turn
+  -- what is said of each of them is said of one step
   pub explained : (seen seen' : List Observation) (pc pc' : ℕ) (first second word text : List ℕ)
       → SaysOf image one place seen pc first → SaysOf image other place seen' pc' second
       → IsLineAt (code_at code_base image) pc (Some word)
       → text ≡ word ++ codes "first" ++ first ++ codes "second" ++ second → Explains image one other place text
   explained seen seen' pc pc' first second word text of_first of_second line printed =
-      let same = one_turn seen seen' of_first.there of_second.there of_first.last of_second.last in
+      let same = one_step seen seen' of_first.there of_second.there of_first.last of_second.last in
       let pcs : pc' ≡ pc = sym of_second.at ∙ (sym same.1 ∙ of_first.at) in
       record {
         seen = seen;

@@ -24,27 +24,27 @@ module _ {A : Type 0} (view : A → List ℕ) (lines : List A) where
   left i = vectors_from (i + 1) (map view (drop i lines))
 
   module _ (front : List NamedVector) (i : ℕ) (d : A) (h : i < length lines) where
-    turn : left i ≡ (if says_nothing (view (get_or lines i d)) then left (i + 1)
+    iteration : left i ≡ (if says_nothing (view (get_or lines i d)) then left (i + 1)
         else with_vector (i + 1) (vector_of (view (get_or lines i d))) (left (i + 1)))
-    turn = at_drop_more (λ rest. vectors_from (i + 1) (map view rest)) lines i d h
+    iteration = at_drop_more (λ rest. vectors_from (i + 1) (map view rest)) lines i d h
 
     abbrev by : Option NamedVector → Result (List NamedVector) ℕ
     by said = with_vector (i + 1) said (left (i + 1))
 
     pub left-nothing : says_nothing (view (get_or lines i d)) ≡ true → left i ≡ left (i + 1)
-    left-nothing e = turn ∙ ap (λ b. if b then left (i + 1) else by (vector_of (view (get_or lines i d)))) e
+    left-nothing e = iteration ∙ ap (λ b. if b then left (i + 1) else by (vector_of (view (get_or lines i d)))) e
 
     pub left-vector : (vector : NamedVector) → says_nothing (view (get_or lines i d)) ≡ false
         → Some vector ≡ vector_of (view (get_or lines i d))
         → behind front (left i) ≡ behind (front ++ vector ∷ []) (left (i + 1))
     left-vector vector e is =
-        ap (behind front) (turn ∙ ap (λ b. if b then left (i + 1) else by (vector_of (view (get_or lines i d)))) e
+        ap (behind front) (iteration ∙ ap (λ b. if b then left (i + 1) else by (vector_of (view (get_or lines i d)))) e
         ∙ ap by (sym is)) ∙ behind-more front vector (i + 1) (left (i + 1))
 
     pub left-formless : says_nothing (view (get_or lines i d)) ≡ false → None ≡ vector_of (view (get_or lines i d))
         → behind front (left i) ≡ Err (i + 1)
     left-formless e is =
-        ap (behind front) (turn ∙ ap (λ b. if b then left (i + 1) else by (vector_of (view (get_or lines i d)))) e
+        ap (behind front) (iteration ∙ ap (λ b. if b then left (i + 1) else by (vector_of (view (get_or lines i d)))) e
         ∙ ap by (sym is))
 
   pub left-end : (i : ℕ) → length lines ≤ i → left i ≡ Ok []

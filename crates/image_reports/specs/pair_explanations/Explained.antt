@@ -11,7 +11,7 @@ shown_line (ProgramCounter pc) = entry_line (program_counter pc)
 shown_line (HasEvent e) = entry_line (event e)
 shown_line (Stopped stop) = stop_line stop
 
--- what is said of one run, whose turns show this list up to the last one that begins before the place, at this
+-- what is said of one run, whose steps show this list up to the last one that begins before the place, at this
 -- program counter: what the word there reads, and what the run shows at the place
 pub record SaysRun (code : Code) (budget : ℕ) (s : State) (place : ℕ) (seen : List Observation) (pc : ℕ)
     (text : List ℕ) : Type 0 where

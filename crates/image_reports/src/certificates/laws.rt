@@ -24,7 +24,7 @@ pub fn known_images_cover()
 /// run of the image with its stated steps shows, on all arguments within the parameter types that have the given
 /// values, and each stops so; and where shifts are seen, there is one list of amounts by which each of them shifts
 /// registers. Where it says that an entry may differ, all of them agree on the entries before it, of which the last is
-/// the program counter of the turn that may differ. Runs that a recorder cuts short are no such runs.
+/// the program counter of the step that may differ. Runs that a recorder cuts short are no such runs.
 pub fn certificates_hold()
     ensures same { (image : Fields) (given : List (Option Arg)) (shifts : Shifts) (stop : Stop) (entries : ℕ)
         → IsImage image → Certified image given shifts (Ok (CertifiedEnd.Same stop entries))

@@ -100,7 +100,7 @@ pub fn load_given(
         ≡ known_at code_base frame_base image.now given.now shifts) }
     ensures extent { IfOk result (λ loaded. (a : ℕ)
         → is_some (paged_bytes loaded.known.marks a) ≡ is_some (paged_bytes loaded.run.memory a)) }
-    ensures steps { IfOk result (λ loaded. loaded.run.turns_left ≡ image.now.max_steps) }
+    ensures steps { IfOk result (λ loaded. loaded.run.steps_left ≡ image.now.max_steps) }
 {
     let mut memory = frame(alloc, image)?;
     put_given(&mut memory, FRAME_BASE, image.slots(), given);
@@ -110,7 +110,7 @@ pub fn load_given(
         run: Running {
             hart: Hart::new(CODE_BASE, FRAME_BASE),
             memory,
-            turns_left: image.max_steps(),
+            steps_left: image.max_steps(),
         },
         known,
     })

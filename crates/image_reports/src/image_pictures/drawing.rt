@@ -60,10 +60,10 @@ fn both_of_given(
     requires { fault_of_given (params_of image.now) given.now ≡ None }
     ensures one { IfOk result (λ runs. BeginsAt image.now
         (known_at code_base frame_base image.now given.now Shifts.Hidden).state
-        (state_of runs.one.hart (paged_bytes runs.one.memory)) runs.one.turns_left) }
+        (state_of runs.one.hart (paged_bytes runs.one.memory)) runs.one.steps_left) }
     ensures other { IfOk result (λ runs. BeginsAt image.now
         (known_at code_base frame_base image.now given.now Shifts.Hidden).state
-        (state_of runs.other.hart (paged_bytes runs.other.memory)) runs.other.turns_left) }
+        (state_of runs.other.hart (paged_bytes runs.other.memory)) runs.other.steps_left) }
 {
     let one = load_given(alloc, image, given, Shifts::Hidden)?.run;
     let other = load_given(alloc, image, given, Shifts::Hidden)?.run;
@@ -80,9 +80,9 @@ fn both_of_args(
     requires one { AreWithin (params_of image.now) one.now }
     requires other { AreWithin (params_of image.now) other.now }
     ensures one { IfOk result (λ runs. BeginsAt image.now (loaded_at code_base frame_base image.now one.now)
-        (state_of runs.one.hart (paged_bytes runs.one.memory)) runs.one.turns_left) }
+        (state_of runs.one.hart (paged_bytes runs.one.memory)) runs.one.steps_left) }
     ensures other { IfOk result (λ runs. BeginsAt image.now (loaded_at code_base frame_base image.now other.now)
-        (state_of runs.other.hart (paged_bytes runs.other.memory)) runs.other.turns_left) }
+        (state_of runs.other.hart (paged_bytes runs.other.memory)) runs.other.steps_left) }
 {
     let one = load(alloc, image, one)?;
     let other = load(alloc, image, other)?;
@@ -100,11 +100,11 @@ fn draw(
 ) -> Result<Vec<u8>, AllocError>
     requires allowed { IsImage image.now }
     requires one { BeginsAt image.now (state_of drawn.old.one.hart (paged_bytes drawn.old.one.memory))
-        (state_of counted.old.one.hart (paged_bytes counted.old.one.memory)) counted.old.one.turns_left }
+        (state_of counted.old.one.hart (paged_bytes counted.old.one.memory)) counted.old.one.steps_left }
     requires other { BeginsAt image.now (state_of drawn.old.other.hart (paged_bytes drawn.old.other.memory))
-        (state_of counted.old.other.hart (paged_bytes counted.old.other.memory)) counted.old.other.turns_left }
-    requires one_steps { drawn.old.one.turns_left ≡ image.now.max_steps }
-    requires other_steps { drawn.old.other.turns_left ≡ image.now.max_steps }
+        (state_of counted.old.other.hart (paged_bytes counted.old.other.memory)) counted.old.other.steps_left }
+    requires one_steps { drawn.old.one.steps_left ≡ image.now.max_steps }
+    requires other_steps { drawn.old.other.steps_left ≡ image.now.max_steps }
     ensures { IfOk result (λ page. DrawsImage image.now
         (state_of drawn.old.one.hart (paged_bytes drawn.old.one.memory))
         (state_of drawn.old.other.hart (paged_bytes drawn.old.other.memory))

@@ -9,7 +9,7 @@ use crate::pair_explanations::lines::{Said, lines, push_shown};
 use hepurita::{code, load};
 use image::Image;
 use language::Args;
-use run_reports::run_places::{last_before, make_turns, registers_at, shown_at};
+use run_reports::run_places::{last_before, make_steps, registers_at, shown_at};
 use rv_machine::CodeRegion;
 use std::alloc::{AllocError, Global};
 
@@ -36,7 +36,7 @@ fn said_of_run(
         unreachable!();
     };
     let mut again = load(alloc, image, args)?;
-    make_turns(code, &mut again, before.turns);
+    make_steps(code, &mut again, before.steps);
     let pc = again.hart.pc();
     let mut text = registers_at(alloc, code, &again.hart)?;
     text.extend_from_slice(b" ")?;

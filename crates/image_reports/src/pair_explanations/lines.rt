@@ -16,7 +16,7 @@ const PROGRAM_COUNTER_LINE: usize = 12;
 /// What is said of one run.
 #[derive(Drop)]
 pub(crate) struct Said {
-    /// The program counter of the last turn that begins before the place.
+    /// The program counter of the last step that begins before the place.
     pub(crate) pc: u32,
     /// What is read there, and what is shown at the place.
     pub(crate) text: Vec<u8>,

@@ -47,11 +47,11 @@ number_after-no_digit front d ds h =
 capped_twice : (x v most : ℕ) → min (min (min x most + v) most) most ≡ min (x + v) most
 capped_twice x v most = omega arith
 
--- one turn of the loop over digits
-pub number_after-turn : (front i digit : ℕ) (ds : List ℕ) → i < length ds → digit_value (get_or ds i 0) < 10
+-- one iteration of the loop over digits
+pub number_after-iteration : (front i digit : ℕ) (ds : List ℕ) → i < length ds → digit_value (get_or ds i 0) < 10
     → digit ≡ digit_value (get_or ds i 0) → capped (number_after 10 front (drop i ds))
     ≡ capped (number_after 10 (min (min (front * 10) (2 ^ 64 - 1) + digit) (2 ^ 64 - 1)) (drop (i + 1) ds))
-number_after-turn front i digit ds h is_digit e =
+number_after-iteration front i digit ds h is_digit e =
     at_drop_more (λ rest. capped (number_after 10 front rest)) ds i 0 h
     ∙ ap capped (number_after-digit front (get_or ds i 0) (drop (i + 1) ds) is_digit)
     ∙ number_after-capped (front * 10 + digit_value (get_or ds i 0))

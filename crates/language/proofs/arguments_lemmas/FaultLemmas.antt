@@ -22,11 +22,11 @@ use Rattle.language.specs.declared.arguments.fault.ArgumentRule.TheVariants.{Sha
 -- ---- one argument after another
 module _ {P A : Type 0} (rule : P → A → Option ArgumentRule) where
   -- where the i-th argument breaks a rule, or none
-  pub fault_from-turn : (i : ℕ) (params : List P) (args : List A) (p : P) (a : A) (broken : Option ArgumentRule)
+  pub fault_from-iteration : (i : ℕ) (params : List P) (args : List A) (p : P) (a : A) (broken : Option ArgumentRule)
       → i < length params → i < length args → rule (get_or params i p) (get_or args i a) ≡ broken
       → fault_from rule i (drop i params) (drop i args)
       ≡ fault_at i broken (fault_from rule (i + 1) (drop (i + 1) params) (drop (i + 1) args))
-  fault_from-turn i params args p a broken h k e =
+  fault_from-iteration i params args p a broken h k e =
       at_drop_more (λ rest. fault_from rule i rest (drop i args)) params i p h
       ∙ at_drop_more (λ rest. fault_from rule i (get_or params i p ∷ drop (i + 1) params) rest) args i a k
       ∙ ap (λ o. fault_at i o (fault_from rule (i + 1) (drop (i + 1) params) (drop (i + 1) args))) e
@@ -91,7 +91,7 @@ module _ {P A : Type 0} (rule : P → A → Option ArgumentRule) where
   fault_from-left i params args p a h k e =
       fault_at-None i (rule (get_or params i p) (get_or args i a))
       (fault_from rule (i + 1) (drop (i + 1) params) (drop (i + 1) args))
-      (sym (fault_from-turn rule i params args p a _ h k refl) ∙ e)
+      (sym (fault_from-iteration rule i params args p a _ h k refl) ∙ e)
 
   pub fault_from-next : (i : ℕ) (params : List P) (args : List A) → i < length params → i < length args
       → fault_from rule i (drop i params) (drop i args) ≡ None

@@ -54,12 +54,12 @@ number_after-no_digit base front d ds h =
 capped_twice : (x v most : ℕ) → min (min (min x most + v) most) most ≡ min (x + v) most
 capped_twice x v most = omega arith
 
--- one turn of the loop over digits
-pub number_after-turn : (base front i digit : ℕ) (ds : List ℕ) → 2 ≤ base → i < length ds
+-- one iteration of the loop over digits
+pub number_after-iteration : (base front i digit : ℕ) (ds : List ℕ) → 2 ≤ base → i < length ds
     → digit_value (get_or ds i 0) < base → digit ≡ digit_value (get_or ds i 0)
     → capped (number_after base front (drop i ds))
     ≡ capped (number_after base (min (min (front * base) (2 ^ 64 - 1) + digit) (2 ^ 64 - 1)) (drop (i + 1) ds))
-number_after-turn base front i digit ds two h is_digit e =
+number_after-iteration base front i digit ds two h is_digit e =
     at_drop_more (λ rest. capped (number_after base front rest)) ds i 0 h
     ∙ ap capped (number_after-digit base front (get_or ds i 0) (drop (i + 1) ds) is_digit)
     ∙ number_after-capped base (front * base + digit_value (get_or ds i 0))

@@ -1,10 +1,10 @@
--- Comparisons: what `!` makes of one, and what one is with its operands turned round.
+-- Comparisons: what `!` makes of one, and what one is with its operands swapped.
 use Rattle.std.proofs.Common.{◌≡◌, ℕ, ◌==◌, ◌<◌, Bool, true, false, not, nat_le, nat_lt, [], IfSome, refl, sym, ap, ◌∙◌}
 use Rattle.std.proofs.Common.{arith}
 use Rattle.std.proofs.lemmas.Bool.Decides.{nat_tests}
 use Rattle.std.specs.Option.{option_and}
 use Rattle.optimisation.specs.Below.{BinaryOperator, Equal, Greater, GreaterOrEqual, Less, LessOrEqual, marks_of}
-use Rattle.optimisation.specs.Below.{operated, opposite_of, Place, truth_of, turned_of, Unequal, Width, word_of}
+use Rattle.optimisation.specs.Below.{operated, opposite_of, Place, truth_of, swapped_of, Unequal, Width, word_of}
 use Rattle.optimisation.proofs.constants_lemmas.Bounded.{IsMoved}
 use Rattle.optimisation.proofs.constants_lemmas.Identities.{truth_again}
 
@@ -54,33 +54,33 @@ opposite GreaterOrEqual =
     record { value = λ w a b. not_at_most b a; unmarked = λ place a b. refl; unmoved = λ w a. tt }
 opposite operator = tt
 
--- Operands turned round.
+-- Operands swapped.
 
-equal_turned : (a b : ℕ) → (b == a) ≡ (a == b)
-equal_turned a b = grind (arith, nat_tests)
+equal_swapped : (a b : ℕ) → (b == a) ≡ (a == b)
+equal_swapped a b = grind (arith, nat_tests)
 
--- a comparison holds exactly where another does of the operands turned round, has nothing on the path, and moves
+-- a comparison holds exactly where another does of the operands swapped, has nothing on the path, and moves
 -- nothing
-pub record IsTurnedRound (operator next : BinaryOperator) : Type 0 where
+pub record IsSwapped (operator next : BinaryOperator) : Type 0 where
   pub value : (w : Width) (a b : ℕ) → operated next w b a ≡ operated operator w a b
   pub unmarked : (place : Place) (a b : ℕ) → marks_of place next a b ≡ []
   pub unmoved : (w : Width) (a : ℕ) → IsMoved next w a
 
 -- a comparison has an opposite one
-pub turned_round : (operator : BinaryOperator)
-    → IfSome (option_and (opposite_of operator) (turned_of operator)) (IsTurnedRound operator)
-turned_round Equal = record {
-  value = λ w a b. ap word_of (equal_turned a b);
+pub swapped_alike : (operator : BinaryOperator)
+    → IfSome (option_and (opposite_of operator) (swapped_of operator)) (IsSwapped operator)
+swapped_alike Equal = record {
+  value = λ w a b. ap word_of (equal_swapped a b);
   unmarked = λ place a b. refl;
   unmoved = λ w a. tt;
 }
-turned_round Unequal = record {
-  value = λ w a b. ap (λ c. word_of (not c)) (equal_turned a b);
+swapped_alike Unequal = record {
+  value = λ w a b. ap (λ c. word_of (not c)) (equal_swapped a b);
   unmarked = λ place a b. refl;
   unmoved = λ w a. tt;
 }
-turned_round Less = record { value = λ w a b. refl; unmarked = λ place a b. refl; unmoved = λ w a. tt }
-turned_round LessOrEqual = record { value = λ w a b. refl; unmarked = λ place a b. refl; unmoved = λ w a. tt }
-turned_round Greater = record { value = λ w a b. refl; unmarked = λ place a b. refl; unmoved = λ w a. tt }
-turned_round GreaterOrEqual = record { value = λ w a b. refl; unmarked = λ place a b. refl; unmoved = λ w a. tt }
-turned_round operator = tt
+swapped_alike Less = record { value = λ w a b. refl; unmarked = λ place a b. refl; unmoved = λ w a. tt }
+swapped_alike LessOrEqual = record { value = λ w a b. refl; unmarked = λ place a b. refl; unmoved = λ w a. tt }
+swapped_alike Greater = record { value = λ w a b. refl; unmarked = λ place a b. refl; unmoved = λ w a. tt }
+swapped_alike GreaterOrEqual = record { value = λ w a b. refl; unmarked = λ place a b. refl; unmoved = λ w a. tt }
+swapped_alike operator = tt

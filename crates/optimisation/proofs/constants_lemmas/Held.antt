@@ -9,7 +9,7 @@ use Rattle.optimisation.specs.Below.{counter_type, first, Fits, FlatVariable, ho
 use Rattle.optimisation.specs.Below.{Profile, put, repeats, set, StraightBlock, StraightState, StraightTree, take}
 use Rattle.optimisation.specs.Below.{TermTree, Types, types_but, types_of, value_at, value_in, Values, with_element}
 use Rattle.optimisation.specs.Below.{with_variable, word_as, WordType}
-use Rattle.inline.proofs.Face.{turns_keep}
+use Rattle.inline.proofs.Face.{iterations_keep}
 use Rattle.inline.proofs.Fitting.{value_fits, suited_fits, some_bit}
 use Rattle.inline.proofs.FittingBodies.{fits_assigned, one_held}
 use Rattle.optimisation.proofs.over_lemmas.Variables.{but_within}
@@ -36,7 +36,7 @@ module _ (profile : Profile) (declared : List FlatVariable) where
   pub fewer_fit : (x : ℕ) (m : Values) → Fits types m → Fits (types_but profile declared x) m
   fewer_fit x m fits y d is = fits y d (but_within declared x y d is)
 
-  -- where a turn begins
+  -- where an iteration begins
   pub counted_fits : (x i : ℕ) → IsCounter declared x → i < counter_limit → (s : StraightState)
       → Fits types s.variables → Fits types (counted x i s).variables
   counted_fits x i there below s fits =
@@ -85,7 +85,7 @@ module _ (profile : Profile) (declared : List FlatVariable) where
           (λ (t : StraightState). Fits types t.variables) (λ none. fits_after_all otherwise is.2 s fits)
           (λ some. fits_after_all accepted is.1 s fits)
       fits_after (repeats x low high body) is s fits =
-          turns_keep (λ (t : StraightState). Fits types t.variables) (λ i t. after_all (counted x i t) body)
+          iterations_keep (λ (t : StraightState). Fits types t.variables) (λ i t. after_all (counted x i t) body)
           (value_at s high)
           (λ i t below held. fits_after_all body is.3 (counted x i t) (counted_fits x i is.2
           (omega (arith, value_fits types s.variables fits is.1)) t held))

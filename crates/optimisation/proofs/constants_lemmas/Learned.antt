@@ -9,7 +9,7 @@ use Rattle.inline.proofs.Face.{with_value-other, with_value-same}
 use Rattle.optimisation.specs.declared.constants.known.Constant.{Constant}
 use Rattle.optimisation.specs.constants.private.Folding.{simple, constant, constant_of, decision}
 use Rattle.optimisation.specs.constants.private.Known.{Words, behind, in_loop, with_word}
-use Rattle.optimisation.specs.constants.private.Simplification.{at_turn, knowing_all, set_to}
+use Rattle.optimisation.specs.constants.private.Simplification.{at_iteration, knowing_all, set_to}
 use Rattle.optimisation.proofs.constants_lemmas.CopyLemmas.{read_value, set_by, two_variables}
 use Rattle.optimisation.proofs.constants_lemmas.Held.{counter_limit, IsCounter, counted_fits, fits_after_all}
 use Rattle.optimisation.proofs.constants_lemmas.KnownLemmas.{Fact, Knows, IsFree, IsTrue, word_by, same_truth, Agrees}
@@ -69,16 +69,16 @@ kept words behind_it statement s agrees known_before f is =
     same_truth f s.variables (after s statement).variables (λ y about. left_alone statement f found.1 y about s)
     (agrees f found.0)
 
--- Where a turn and the second arm begin, and in a loop that stays.
+-- Where an iteration and the second arm begin, and in a loop that stays.
 
 module _ (profile : Profile) (declared : List FlatVariable) where
   abbrev pub AllHolds : Words → StraightState → Type 0
   AllHolds words s = Holds (types_of profile declared) words s.variables
 
-  -- where a turn begins, its number is known
-  pub turn_known : (words : Words) (s : StraightState) (x i : ℕ) → IsCounter declared x → i < counter_limit
-      → AllHolds words s → AllHolds (at_turn x i words) (counted x i s)
-  turn_known words s x i there below holds = record {
+  -- where an iteration begins, its number is known
+  pub iteration_known : (words : Words) (s : StraightState) (x i : ℕ) → IsCounter declared x → i < counter_limit
+      → AllHolds words s → AllHolds (at_iteration x i words) (counted x i s)
+  iteration_known words s x i there below holds = record {
     agrees = noted words s.variables x i (Some (constant i counter_type.kind)) holds.agrees
         (λ c is. ap (λ (d : Constant). d.value) (same_Some (constant i counter_type.kind) c is));
     fits = counted_fits profile declared x i there below s holds.fits;
@@ -98,19 +98,19 @@ module _ (profile : Profile) (declared : List FlatVariable) where
 
   module _ (words : Words) (x : ℕ) (body : StraightBlock) (there : IsCounter declared x) (i : ℕ)
       (t : StraightState) (below : i < counter_limit) (holds : AllHolds (in_loop words x body) t) where
-    pub turn_start : AllHolds (in_loop words x body) (counted x i t)
-    turn_start = record {
+    pub iteration_start : AllHolds (in_loop words x body) (counted x i t)
+    iteration_start = record {
       agrees = λ f is. same_truth f t.variables (counted x i t).variables
           (λ y about. with_value-other t.variables x y (i ∷ []) ((within_loop words x body f is).1.0 y about))
           (holds.agrees f is);
       fits = counted_fits profile declared x i there below t holds.fits;
     }
 
-    pub turn_end : (controls : ℕ) → AreTyped profile declared controls body
+    pub iteration_end : (controls : ℕ) → AreTyped profile declared controls body
         → AllHolds (in_loop words x body) (after_all (counted x i t) body)
-    turn_end controls is = record {
+    iteration_end controls is = record {
       agrees = λ f known. same_truth f (counted x i t).variables (after_all (counted x i t) body).variables
           (λ y about. left_alone_all body f (within_loop words x body f known).1.1 y about (counted x i t))
-          (turn_start.agrees f known);
-      fits = fits_after_all profile declared controls body is (counted x i t) turn_start.fits;
+          (iteration_start.agrees f known);
+      fits = fits_after_all profile declared controls body is (counted x i t) iteration_start.fits;
     }

@@ -4,20 +4,22 @@ use Rattle.std.proofs.Common.{◌≡◌, ℕ, zero, suc, ◌+◌, ◌-◌, ◌<�
 use Rattle.std.proofs.Common.{◌++◌, Option, None, Some, refl, sym, ap, ap₂, ◌∙◌, subst, arith}
 use Rattle.optimisation.specs.Below.{after, after_all, AreTyped, array, bounded, branch, chain, counted, counter_type}
 use Rattle.optimisation.specs.Below.{decided as decided_mark, first, FlatVariable, holds as holds_under, IsFilled}
-use Rattle.optimisation.specs.Below.{IsSet, IsTyped, nothing, number, Path, path_along, path_at, path_in, path_of_turns}
-use Rattle.optimisation.specs.Below.{Profile, put, repeats, set, StraightBlock, StraightState, StraightTree, take}
-use Rattle.optimisation.specs.Below.{TermTree, turns, Types, types_but, types_of, value_at, with_element, with_variable}
+use Rattle.optimisation.specs.Below.{IsSet, IsTyped, nothing, number, Path, path_along, path_at, path_in}
+use Rattle.optimisation.specs.Below.{path_of_iterations, Profile, put, repeats, set, StraightBlock, StraightState}
+use Rattle.optimisation.specs.Below.{StraightTree, take, TermTree, iterations, Types, types_but, types_of, value_at}
+use Rattle.optimisation.specs.Below.{with_element, with_variable}
 use Rattle.inline.proofs.Fitting.{value_fits}
 use Rattle.branch_removal.proofs.Sequences.{after-chain, path-chain, fine_back}
 use Rattle.optimisation.specs.constants.private.Folding.{simple}
 use Rattle.optimisation.specs.constants.private.Known.{Words, behind, in_loop, without}
-use Rattle.optimisation.specs.constants.private.Simplification.{at_turn, code_of_turns, knowing, knowing_all, set_to}
-use Rattle.optimisation.specs.constants.private.Simplification.{simplified, simplified_all}
+use Rattle.optimisation.specs.constants.private.Simplification.{at_iteration, code_of_iterations, knowing, knowing_all}
+use Rattle.optimisation.specs.constants.private.Simplification.{set_to, simplified, simplified_all}
 use Rattle.optimisation.proofs.constants_lemmas.Held.{counter_limit, IsCounter, fewer_fit, fits_after}
 use Rattle.optimisation.proofs.constants_lemmas.Held.{fits_after_all}
 use Rattle.optimisation.proofs.constants_lemmas.KnownLemmas.{Agrees, Holds, without_known}
 use Rattle.optimisation.proofs.constants_lemmas.Learned.{AllHolds, arm_begins, decided_here, kept, loop_begins}
-use Rattle.optimisation.proofs.constants_lemmas.Learned.{noted_copy, number_here, turn_end, turn_known, turn_start}
+use Rattle.optimisation.proofs.constants_lemmas.Learned.{noted_copy, number_here, iteration_end, iteration_known}
+use Rattle.optimisation.proofs.constants_lemmas.Learned.{iteration_start}
 use Rattle.optimisation.proofs.constants_lemmas.StatementRules.{branch_by, loop_by}
 use Rattle.optimisation.proofs.constants_lemmas.TermLemmas.{same_value, still_alike, suited_alike, all_alike}
 use Rattle.optimisation.proofs.constants_lemmas.Unset.{behind_part, within_loop}
@@ -25,16 +27,17 @@ use Rattle.optimisation.proofs.over_lemmas.Values.{IsNoWorse, same_path, both, t
 use Rattle.optimisation.proofs.over_lemmas.Beside.{branch_path, loop_path}
 
 module _ (most : List ℕ) where
-  -- two loops whose turns do the same, of numbers below a limit
-  turns_alike : {S : Type 0} (P : S → Type 0) (f g : ℕ → S → S) (p q : ℕ → S → Path) (limit : ℕ)
+  -- two loops whose iterations do the same, of numbers below a limit
+  iterations_alike : {S : Type 0} (P : S → Type 0) (f g : ℕ → S → S) (p q : ℕ → S → Path) (limit : ℕ)
       → ((i : ℕ) (s : S) → i < limit → P s → (f i s ≡ g i s) × IsNoWorse most (q i s) (p i s) × P (g i s))
       → (n i : ℕ) (s : S) → i + n ≤ limit → P s
-      → (turns n i f s ≡ turns n i g s) × IsNoWorse most (path_of_turns n i g q s) (path_of_turns n i f p s)
-  turns_alike P f g p q limit each zero i s below holds = (refl, same_path most)
-  turns_alike P f g p q limit each (suc n) i s below holds =
+      → (iterations n i f s ≡ iterations n i g s) × IsNoWorse most (path_of_iterations n i g q s)
+      (path_of_iterations n i f p s)
+  iterations_alike P f g p q limit each zero i s below holds = (refl, same_path most)
+  iterations_alike P f g p q limit each (suc n) i s below holds =
       let one = each i s (omega arith) holds in
-      let rest = turns_alike P f g p q limit each n (i + 1) (g i s) (omega arith) one.2 in
-      (ap (turns n (i + 1) f) one.0 ∙ rest.0, rw one.0 (both most one.1 rest.1))
+      let rest = iterations_alike P f g p q limit each n (i + 1) (g i s) (omega arith) one.2 in
+      (ap (iterations n (i + 1) f) one.0 ∙ rest.0, rw one.0 (both most one.1 rest.1))
 
   -- from a state code leads to that one, where these words are known, and its path is fine where this one is
   pub record LeadsTo (s : StraightState) (code : StraightBlock) (words : Words) (t : StraightState) (whole : Path)
@@ -51,11 +54,11 @@ module _ (most : List ℕ) where
     path = rw (path-chain s code more, one.same) (both most one.path other.path);
   }
 
-  -- so where a turn begins
-  turn_leads : (x i : ℕ) (s : StraightState) {t : StraightState} {code : StraightBlock} {words : Words} {p : Path}
+  -- so where an iteration begins
+  iteration_leads : (x i : ℕ) (s : StraightState) {t : StraightState} {code : StraightBlock} {words : Words} {p : Path}
       → LeadsTo (counted x i s) code words t p
       → LeadsTo s (first (set None x (number i counter_type.kind)) code) words t p
-  turn_leads x i s one = record { same = one.same; agrees = one.agrees; path = one.path }
+  iteration_leads x i s one = record { same = one.same; agrees = one.agrees; path = one.path }
 
   -- so on a longer path
   along : {s t : StraightState} {code : StraightBlock} {words : Words} {p q : Path} → IsNoWorse most q p
@@ -99,45 +102,50 @@ module _ (most : List ℕ) where
         (subst (λ y. LeadsTo s code words (if y then after_all s otherwise else after_all s accepted)
         (if y then path_along s otherwise else path_along s accepted)) (sym is) one)
 
-    -- so turns between two numbers
-    turns_lead : (s : StraightState) (x : ℕ) (low high : TermTree) (body : StraightBlock) {code : StraightBlock}
+    -- so iterations between two numbers
+    iterations_lead : (s : StraightState) (x : ℕ) (low high : TermTree) (body : StraightBlock) {code : StraightBlock}
         {words : Words} (l h : ℕ) → l ≡ value_at s low → h ≡ value_at s high
-        → LeadsTo s code words (turns (h - l) l (λ i t. after_all (counted x i t) body) s)
-        (path_of_turns (h - l) l (λ i t. after_all (counted x i t) body) (λ i t. path_along (counted x i t) body) s)
+        → LeadsTo s code words (iterations (h - l) l (λ i t. after_all (counted x i t) body) s)
+        (path_of_iterations (h - l) l (λ i t. after_all (counted x i t) body)
+        (λ i t. path_along (counted x i t) body) s)
         → LeadsTo s code words (after s (repeats x low high body)) (path_at s (repeats x low high body))
-    turns_lead s x low high body {code = code} {words = words} l h at_low at_high one =
-        let turn : ℕ → StraightState → StraightState = λ i t. after_all (counted x i t) body in
+    iterations_lead s x low high body {code = code} {words = words} l h at_low at_high one =
+        let iteration : ℕ → StraightState → StraightState = λ i t. after_all (counted x i t) body in
         let path : ℕ → StraightState → Path = λ i t. path_along (counted x i t) body in
         let a = value_at s low in
         let b = value_at s high in
         along (record {
           fine = λ fine. (fine_back most (path_in s.variables low ++ path_in s.variables high)
-              (bounded x a b ∷ path_of_turns (b - a) a turn path s) fine).1;
+              (bounded x a b ∷ path_of_iterations (b - a) a iteration path s) fine).1;
         })
-        (subst (λ k. LeadsTo s code words (turns (k - a) a turn s) (path_of_turns (k - a) a turn path s)) at_high
-        (subst (λ k. LeadsTo s code words (turns (h - k) k turn s) (path_of_turns (h - k) k turn path s)) at_low one))
+        (subst (λ k. LeadsTo s code words (iterations (k - a) a iteration s)
+        (path_of_iterations (k - a) a iteration path s)) at_high
+        (subst (λ k. LeadsTo s code words (iterations (h - k) k iteration s)
+        (path_of_iterations (h - k) k iteration path s)) at_low one))
 
     module _ (copies : List ℕ) where
-      -- so many turns of a loop
-      all_turns_lead : (x : ℕ) (body : StraightBlock) → IsCounter declared x → AreTyped profile declared controls body
+      -- so many iterations of a loop
+      all_iterations_lead : (x : ℕ) (body : StraightBlock) → IsCounter declared x
+          → AreTyped profile declared controls body
           → ((w : Words) (t : StraightState) → AllHolds profile declared w t
           → LeadsTo t (simplified_all copies declared w body) (knowing_all copies declared w body) (after_all t body)
           (path_along t body))
           → (n i : ℕ) (words : Words) (s : StraightState) → i + n ≤ counter_limit → AllHolds profile declared words s
-          → LeadsTo s (code_of_turns n i (λ j w. knowing_all copies declared (at_turn x j w) body)
+          → LeadsTo s (code_of_iterations n i (λ j w. knowing_all copies declared (at_iteration x j w) body)
           (λ j w. first (set None x (number j counter_type.kind))
-          (simplified_all copies declared (at_turn x j w) body)) words)
-          (turns n i (λ j w. knowing_all copies declared (at_turn x j w) body) words)
-          (turns n i (λ j t. after_all (counted x j t) body) s)
-          (path_of_turns n i (λ j t. after_all (counted x j t) body) (λ j t. path_along (counted x j t) body) s)
-      all_turns_lead x body there is inside zero i words s below holds =
+          (simplified_all copies declared (at_iteration x j w) body)) words)
+          (iterations n i (λ j w. knowing_all copies declared (at_iteration x j w) body) words)
+          (iterations n i (λ j t. after_all (counted x j t) body) s)
+          (path_of_iterations n i (λ j t. after_all (counted x j t) body) (λ j t. path_along (counted x j t) body) s)
+      all_iterations_lead x body there is inside zero i words s below holds =
           record { same = refl; agrees = holds.agrees; path = same_path most }
-      all_turns_lead x body there is inside (suc n) i words s below holds =
+      all_iterations_lead x body there is inside (suc n) i words s below holds =
           let here : i < counter_limit = omega arith in
-          let known = turn_known profile declared words s x i there here holds in
-          let a = inside (at_turn x i words) (counted x i s) known in
-          both_lead (turn_leads x i s a)
-          (all_turns_lead x body there is inside n (i + 1) (knowing_all copies declared (at_turn x i words) body)
+          let known = iteration_known profile declared words s x i there here holds in
+          let a = inside (at_iteration x i words) (counted x i s) known in
+          both_lead (iteration_leads x i s a)
+          (all_iterations_lead x body there is inside n (i + 1)
+          (knowing_all copies declared (at_iteration x i words) body)
           (after_all (counted x i s) body) (omega arith) (record {
             agrees = a.agrees;
             fits = fits_after_all profile declared controls body is (counted x i s) known.fits;
@@ -205,13 +213,13 @@ module _ (most : List ℕ) where
             let to = still_alike most types words s.variables holds is.1 in
             let low_fits = value_fits types s.variables holds.fits is.0 in
             let high_fits = value_fits types s.variables holds.fits is.1 in
-            let run = turns_alike (AllHolds profile declared inside) (λ i t. after_all (counted x i t) code)
+            let run = iterations_alike (AllHolds profile declared inside) (λ i t. after_all (counted x i t) code)
             (λ i t. after_all (counted x i t) body) (λ i t. path_along (counted x i t) code)
             (λ i t. path_along (counted x i t) body) counter_limit
             (λ i t below known.
             let one = all_lead inside body is.3 (counted x i t)
-            (turn_start profile declared words x body is.2 i t below known) in
-            (one.same, one.path, turn_end profile declared words x body is.2 i t below known controls is.3))
+            (iteration_start profile declared words x body is.2 i t below known) in
+            (one.same, one.path, iteration_end profile declared words x body is.2 i t below known controls is.3))
             (value_at s high - value_at s low) (value_at s low) s (omega (arith, low_fits, high_fits))
             (loop_begins profile declared words x body s holds) in
             loop_by copies declared
@@ -220,8 +228,9 @@ module _ (most : List ℕ) where
             (λ a b low_is high_is.
             let at_low = number_here types words s holds is.0 a low_is in
             let at_high = number_here types words s holds is.1 b high_is in
-            turns_lead s x low high body a.value b.value at_low at_high
-            (all_turns_lead x body is.2 is.3 (λ w t known. all_lead w body is.3 t known) (b.value - a.value) a.value
+            iterations_lead s x low high body a.value b.value at_low at_high
+            (all_iterations_lead x body is.2 is.3 (λ w t known. all_lead w body is.3 t known)
+            (b.value - a.value) a.value
             words s (omega (arith, at_low, at_high, low_fits, high_fits)) holds))
             (record {
               same = rw (from.value, to.value) run.0;

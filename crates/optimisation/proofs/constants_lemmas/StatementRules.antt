@@ -8,8 +8,8 @@ use Rattle.optimisation.specs.declared.constants.terms.Numbers.{Numbers}
 use Rattle.optimisation.specs.constants.private.Folding.{simple, constant_of, decision, numbers_of}
 use Rattle.optimisation.specs.constants.private.Known.{Words, behind, in_loop}
 use Rattle.optimisation.specs.constants.private.Simplification.{decided, knowing, knowing_all, simplified}
-use Rattle.optimisation.specs.constants.private.Simplification.{simplified_all, single, turns_code, turns_known}
-use Rattle.optimisation.specs.constants.private.Simplification.{unrolled}
+use Rattle.optimisation.specs.constants.private.Simplification.{simplified_all, single, iterations_code}
+use Rattle.optimisation.specs.constants.private.Simplification.{iterations_known, unrolled}
 
 module _ (copies : List ℕ) (declared : List FlatVariable) (P : StraightBlock → Words → Type 0) (words : Words) where
   abbrev made : Words → StraightBlock → StraightBlock
@@ -39,11 +39,11 @@ module _ (copies : List ℕ) (declared : List FlatVariable) (P : StraightBlock �
       by_decision (Some false) is = declines is
       by_decision None is = chooses
 
-  -- a loop between numbers may become its turns
+  -- a loop between numbers may become its iterations
   pub loop_by : (x : ℕ) (low high : TermTree) (body : StraightBlock)
       → ((a b : Constant) → constant_of (simple words low) ≡ Some a → constant_of (simple words high) ≡ Some b
-      → P (turns_code copies declared words x (record { low = a.value; high = b.value }) body)
-      (turns_known copies declared words x (record { low = a.value; high = b.value }) body))
+      → P (iterations_code copies declared words x (record { low = a.value; high = b.value }) body)
+      (iterations_known copies declared words x (record { low = a.value; high = b.value }) body))
       → P (single (repeats x (simple words low) (simple words high) (made (in_loop words x body) body)))
       (behind (then_known (in_loop words x body) body) body)
       → P (simplified copies declared words (repeats x low high body))
@@ -52,9 +52,9 @@ module _ (copies : List ℕ) (declared : List FlatVariable) (P : StraightBlock �
       by_bounds (constant_of (simple words low)) (constant_of (simple words high)) refl refl
     where
       By : Option Numbers → Type 0
-      By o = P (unrolled o (λ each. turns_code copies declared words x each body)
+      By o = P (unrolled o (λ each. iterations_code copies declared words x each body)
           (single (repeats x (simple words low) (simple words high) (made (in_loop words x body) body))))
-          (unrolled o (λ each. turns_known copies declared words x each body)
+          (unrolled o (λ each. iterations_known copies declared words x each body)
           (behind (then_known (in_loop words x body) body) body))
 
       by_bounds : (a b : Option Constant) → constant_of (simple words low) ≡ a → constant_of (simple words high) ≡ b

@@ -13,7 +13,7 @@ use Rattle.optimisation.specs.Below.{binary, BinaryOperator, BitAnd, bits, conve
 use Rattle.optimisation.specs.Below.{Kind, marks_of, multiplied, Multiply, Not, number, operated, operation_kind}
 use Rattle.optimisation.specs.Below.{operation_of, opposite_of, Path, path_in, Place, prefix, prefix_value}
 use Rattle.optimisation.specs.Below.{PrefixOperator, Remainder, rotate, rotated_left, select, ShiftLeft, ShiftRight}
-use Rattle.optimisation.specs.Below.{TermTree, truth, truth_of, turned_of, Uint32, value_in, Values, W32, Width}
+use Rattle.optimisation.specs.Below.{TermTree, truth, truth_of, swapped_of, Uint32, value_in, Values, W32, Width}
 use Rattle.optimisation.specs.Below.{width_of, word_of}
 use Rattle.branch_removal.proofs.Sequences.{fine_both, fine_front, fine_back}
 use Rattle.optimisation.specs.declared.constants.fields.Field.{Field}
@@ -24,13 +24,13 @@ use Rattle.optimisation.specs.constants.private.Folding.{applied, between, binar
 use Rattle.optimisation.specs.constants.private.Folding.{converted_to, decided, decided_by_left, decided_by_right}
 use Rattle.optimisation.specs.constants.private.Folding.{decision, is_among, is_left_identity, is_right_identity}
 use Rattle.optimisation.specs.constants.private.Folding.{known_or, negation_of, operated_on, operation, prefixed}
-use Rattle.optimisation.specs.constants.private.Folding.{reduced, rotated, stepped, stepped_or, truth_or, turned}
-use Rattle.optimisation.specs.constants.private.Folding.{turned_by}
-use Rattle.optimisation.specs.constants.private.Powers.{exponent_of, step_by, step_of, turned_step}
+use Rattle.optimisation.specs.constants.private.Folding.{reduced, rotated, stepped, stepped_or, truth_or, swapped}
+use Rattle.optimisation.specs.constants.private.Folding.{swapped_by}
+use Rattle.optimisation.specs.constants.private.Powers.{exponent_of, step_by, step_of, swapped_step}
 use Rattle.optimisation.proofs.constants_lemmas.Bounded.{IsNegated, IsMoved, IsBounded, AreTaken, divided_fits}
 use Rattle.optimisation.proofs.constants_lemmas.Bounded.{moved_fits, word_moved}
-use Rattle.optimisation.proofs.constants_lemmas.Comparisons.{IsOpposite, IsTurnedRound, denied_twice, opposite}
-use Rattle.optimisation.proofs.constants_lemmas.Comparisons.{turned_round}
+use Rattle.optimisation.proofs.constants_lemmas.Comparisons.{IsOpposite, IsSwapped, denied_twice, opposite}
+use Rattle.optimisation.proofs.constants_lemmas.Comparisons.{swapped_alike}
 use Rattle.optimisation.proofs.constants_lemmas.Identities.{left_leaves, right_leaves}
 use Rattle.optimisation.proofs.constants_lemmas.OneOperand.{left_value, right_value}
 use Rattle.optimisation.proofs.constants_lemmas.Powers.{IsPower, is_power, quotient_below}
@@ -171,8 +171,8 @@ module _ (most : List ℕ) (m : Values) where
     right_path : IsNoWorse most all_path (path_in m right)
     right_path = record { fine = λ fine. fine_back most (path_in m left) (path_in m right) (operands.fine fine) }
 
-    turned_path : IsNoWorse most all_path (path_in m right ++ path_in m left)
-    turned_path = record {
+    swapped_path : IsNoWorse most all_path (path_in m right ++ path_in m left)
+    swapped_path = record {
       fine = λ fine. fine_both most (path_in m right) (path_in m left) (right_path.fine fine) (left_path.fine fine);
     }
 
@@ -310,21 +310,21 @@ module _ (most : List ℕ) (m : Values) where
           operation_becomes place operator width left right at_left
           (moved_fits operator width taken.one.kind (value_in m left) taken.left)
 
-      turned_becomes : MayStand (at operator) (turned place operator width left right)
-      turned_becomes =
+      swapped_becomes : MayStand (at operator) (swapped place operator width left right)
+      swapped_becomes =
           let plain = operation place operator width left right in
-          option_by (λ o. MayStand (at operator) (binary_or (turned_by operator o) place width right left plain))
+          option_by (λ o. MayStand (at operator) (binary_or (swapped_by operator o) place width right left plain))
           (constant_of left)
-          (λ c is. some_by (IsTurnedRound operator)
+          (λ c is. some_by (IsSwapped operator)
           (λ o. MayStand (at operator) (binary_or o place width right left plain))
-          (option_and (opposite_of operator) (turned_of operator)) (turned_round operator)
+          (option_and (opposite_of operator) (swapped_of operator)) (swapped_alike operator)
           (λ next found. record {
             alike = record {
               value = found.value width (value_in m left) (value_in m right);
               path = subst (λ (marks : Path). IsNoWorse most (path_in m (at operator))
                   ((path_in m right ++ path_in m left) ++ marks))
                   (sym (found.unmarked place (value_in m right) (value_in m left)))
-                  (alone most (turned_path place operator width left right));
+                  (alone most (swapped_path place operator width left right));
             };
             bounded = found.unmoved width (value_in m right);
           })
@@ -334,26 +334,26 @@ module _ (most : List ℕ) (m : Values) where
     -- by a power of two on the left
     left_becomes : (operator : BinaryOperator) → AreTaken operator width (value_in m left) (value_in m right)
         → MayStand (at operator)
-        (stepped_or (turned_step operator (constant_of left)) place width right
-        (turned place operator width left right))
+        (stepped_or (swapped_step operator (constant_of left)) place width right
+        (swapped place operator width left right))
     left_becomes Multiply taken =
-        step_becomes place width (at Multiply) right left (turned place Multiply width left right)
-        (turned_becomes Multiply taken) at_right Multiply (record {
+        step_becomes place width (at Multiply) right left (swapped place Multiply width left right)
+        (swapped_becomes Multiply taken) at_right Multiply (record {
           value = ap (λ v. v % 2 ^ bits width) (mul_comm (value_in m right) (value_in m left));
           path = record {
             fine = λ fine. fine_both most (path_in m right ++ path_in m left)
                 (multiplied (value_in m right) (value_in m left) ∷ [])
-                ((turned_path place Multiply width left right).fine fine) (tt, tt);
+                ((swapped_path place Multiply width left right).fine fine) (tt, tt);
           };
         }) (λ h. absurd (false≢true h))
-    left_becomes operator taken = turned_becomes operator taken
+    left_becomes operator taken = swapped_becomes operator taken
 
     stepped_becomes : (operator : BinaryOperator) → AreTaken operator width (value_in m left) (value_in m right)
         → MayStand (at operator) (stepped place operator width left right)
     stepped_becomes operator taken =
         step_becomes place width (at operator) left right
-        (stepped_or (turned_step operator (constant_of left)) place width right
-        (turned place operator width left right)) (left_becomes operator taken) at_left operator
+        (stepped_or (swapped_step operator (constant_of left)) place width right
+        (swapped place operator width left right)) (left_becomes operator taken) at_left operator
         (record { value = refl; path = same_path most })
         (divided_fits operator width (value_in m left) (value_in m right) taken)
 

@@ -3,13 +3,13 @@ use Rattle.std.proofs.Common.{◌≡◌, ℕ, zero, suc, ◌+◌, ◌-◌, ◌==
 use Rattle.std.proofs.Common.{inl, Option, None, Some, refl, ◌∙◌}
 use Rattle.std.proofs.lemmas.Bool.{cond_both}
 use Rattle.optimisation.specs.Below.{after, after_all, array, branch, counted, first, FlatVariable, holds, nothing, put}
-use Rattle.optimisation.specs.Below.{repeats, set, StraightBlock, StraightState, StraightTree, take, TermTree, turns}
-use Rattle.optimisation.specs.Below.{value_at, with_variable}
-use Rattle.inline.proofs.Face.{turns_keep, with_value-other}
+use Rattle.optimisation.specs.Below.{repeats, set, StraightBlock, StraightState, StraightTree, take, TermTree}
+use Rattle.optimisation.specs.Below.{iterations, value_at, with_variable}
+use Rattle.inline.proofs.Face.{iterations_keep, with_value-other}
 use Rattle.optimisation.specs.constants.private.Folding.{simple}
 use Rattle.optimisation.specs.constants.private.Known.{Words, without, all_short, behind, forgotten, forgotten_all}
 use Rattle.optimisation.specs.constants.private.Known.{in_loop}
-use Rattle.optimisation.specs.constants.private.Simplification.{at_turn, knowing, knowing_all, set_to}
+use Rattle.optimisation.specs.constants.private.Simplification.{at_iteration, knowing, knowing_all, set_to}
 use Rattle.optimisation.proofs.constants_lemmas.CopyLemmas.{set_by}
 use Rattle.optimisation.proofs.constants_lemmas.KnownLemmas.{Fact, Knows, IsAbout, IsFree, known_beside}
 use Rattle.optimisation.proofs.constants_lemmas.KnownLemmas.{without_known, short_same}
@@ -71,14 +71,15 @@ within_loop words x body f is =
 
 -- nothing is learned of what is not set
 module _ (copies : List ℕ) (declared : List FlatVariable) (f : Fact) where
-  -- in so many turns of a loop
-  unlearned_turns : (x : ℕ) (body : StraightBlock) → IsFree x f
+  -- in so many iterations of a loop
+  unlearned_iterations : (x : ℕ) (body : StraightBlock) → IsFree x f
       → ((w : Words) → Knows (knowing_all copies declared w body) f → Knows w f) → (n i : ℕ) (words : Words)
-      → Knows (turns n i (λ j w. knowing_all copies declared (at_turn x j w) body) words) f → Knows words f
-  unlearned_turns x body free inside zero i words is = is
-  unlearned_turns x body free inside (suc n) i words is =
-      known_beside words x _ f free (inside (at_turn x i words)
-      (unlearned_turns x body free inside n (i + 1) (knowing_all copies declared (at_turn x i words) body) is))
+      → Knows (iterations n i (λ j w. knowing_all copies declared (at_iteration x j w) body) words) f → Knows words f
+  unlearned_iterations x body free inside zero i words is = is
+  unlearned_iterations x body free inside (suc n) i words is =
+      known_beside words x _ f free (inside (at_iteration x i words)
+      (unlearned_iterations x body free inside n (i + 1)
+      (knowing_all copies declared (at_iteration x i words) body) is))
 
   mutual
     unlearned : (words : Words) (statement : StraightTree) → IsUnset f statement
@@ -97,7 +98,7 @@ module _ (copies : List ℕ) (declared : List FlatVariable) (f : Fact) where
     unlearned words (repeats x low high body) unset =
         let inside = in_loop words x body in
         loop_by copies declared (λ code after. Knows after f → Knows words f) words x low high body
-        (λ a b low_is high_is. unlearned_turns x body unset.0 (λ w. unlearned_all w body unset.1)
+        (λ a b low_is high_is. unlearned_iterations x body unset.0 (λ w. unlearned_all w body unset.1)
         (b.value - a.value) a.value words)
         (λ is. (within_loop words x body f (unlearned_all inside body unset.1
         (remembered_all (knowing_all copies declared inside body) body f is).0)).0)
@@ -108,7 +109,7 @@ module _ (copies : List ℕ) (declared : List FlatVariable) (f : Fact) where
     unlearned_all words (first statement rest) unset is =
         unlearned words statement unset.0 (unlearned_all (knowing copies declared words statement) rest unset.1 is)
 
--- what is known behind an arm or a turn
+-- what is known behind an arm or an iteration
 pub behind_part : (copies : List ℕ) (declared : List FlatVariable) (words : Words) (body : StraightBlock) (f : Fact)
     → Knows (behind (knowing_all copies declared words body) body) f → Knows words f × AreUnset f body
 behind_part copies declared words body f is =
@@ -136,7 +137,7 @@ mutual
       (λ (t : StraightState). t.variables y ≡ s.variables y) (λ is. left_alone_all otherwise f unset.1 y about s)
       (λ is. left_alone_all accepted f unset.0 y about s)
   left_alone (repeats x low high body) f unset y about s =
-      turns_keep (λ (t : StraightState). t.variables y ≡ s.variables y) (λ i t. after_all (counted x i t) body)
+      iterations_keep (λ (t : StraightState). t.variables y ≡ s.variables y) (λ i t. after_all (counted x i t) body)
       (value_at s high)
       (λ i t below so_far. left_alone_all body f unset.1 y about (counted x i t)
       ∙ (with_value-other t.variables x y (i ∷ []) (unset.0 y about) ∙ so_far))

@@ -29,10 +29,11 @@ module _ (copies : List ℕ) (p : StraightProgram) where
         fits = given_fits p.parameters p.declared args within typed.parameters;
       }
 
-      leads : LeadsTo p.turns (start p args) (simplified_all copies p.declared (nothing_known p) p.body) last_words
+      leads : LeadsTo p.iterations (start p args) (simplified_all copies p.declared (nothing_known p) p.body) last_words
           (after_all (start p args) p.body) (path_along (start p args) p.body)
       leads =
-          all_lead p.turns p.profile p.declared p.controls copies (nothing_known p) p.body typed.body (start p args)
+          all_lead p.iterations p.profile p.declared p.controls copies (nothing_known p) p.body typed.body
+          (start p args)
           first_holds
 
       last_holds : Holds types last_words (end_of p args)
@@ -44,18 +45,18 @@ module _ (copies : List ℕ) (p : StraightProgram) where
       same_end : end_of (simplified_program copies p) args ≡ end_of p args
       same_end = ap (λ (s : StraightState). s.variables) leads.same
 
-      result : IsResultAlike p.turns (end_of p args) (end_of p args) p.value (simplified_program copies p).value
-      result = result_alike p.turns types last_words (end_of p args) last_holds p.returned p.value typed.result
+      result : IsResultAlike p.iterations (end_of p args) (end_of p args) p.value (simplified_program copies p).value
+      result = result_alike p.iterations types last_words (end_of p args) last_holds p.returned p.value typed.result
 
       same_outcome : outcome_of (simplified_program copies p) args ≡ outcome_of p args
       same_outcome =
           ap (results_of p.parameters (simplified_program copies p).value) same_end
           ∙ ap (λ (v : Option ℕ). record { returned = v; arrays = (outcome_of p args).arrays }) result.value
 
-      path : IsNoWorse p.turns (path_of p args) (path_of (simplified_program copies p) args)
+      path : IsNoWorse p.iterations (path_of p args) (path_of (simplified_program copies p) args)
       path =
-          both p.turns leads.path
-          (subst (λ (m : Values). IsNoWorse p.turns (path_of_result (end_of p args) p.value)
+          both p.iterations leads.path
+          (subst (λ (m : Values). IsNoWorse p.iterations (path_of_result (end_of p args) p.value)
           (path_of_result m (simplified_program copies p).value)) (sym same_end) result.path)
 
   pub replaced : IsStraight p → IsStraight (simplified_program copies p) → IsReplaced p (simplified_program copies p)

@@ -99,17 +99,17 @@ module _ (p : StraightProgram) (is_straight : IsStraight p) (parts : Parts)
       controls = refl;
     }
 
-    ends : Follows (InStep p.declared new parts is_splitting) p.turns (start p args) (start made_of args) p.body
+    ends : Follows (InStep p.declared new parts is_splitting) p.iterations (start p args) (start made_of args) p.body
         (split_all parts p.body)
     ends =
-        all_follow p.declared new parts is_splitting p.turns p.profile p.controls p.body is_straight.typed.body
+        all_follow p.declared new parts is_splitting p.iterations p.profile p.controls p.body is_straight.typed.body
         (candidates (length p.parameters) p.declared)
         (before_result parts p.value (narrowed_by_all (candidates (length p.parameters) p.declared) p.body) below)
         starts
 
-    result : IsResultAlike p.turns (end_of p args) (end_of made_of args) p.value made_of.value
+    result : IsResultAlike p.iterations (end_of p args) (end_of made_of args) p.value made_of.value
     result =
-        result_alike p.declared new parts is_splitting p.turns p.profile (λ y. slice_get p.declared y)
+        result_alike p.declared new parts is_splitting p.iterations p.profile (λ y. slice_get p.declared y)
         (λ y d there. there) p.returned p.value is_straight.typed.result
         (narrowed_by_all (candidates (length p.parameters) p.declared) p.body) below ends.beside.variables
 
@@ -135,7 +135,7 @@ module _ (p : StraightProgram) (is_straight : IsStraight p) (parts : Parts)
       is_replaced p new (split_all parts p.body) (option_map (split parts) p.value)
       (λ args within. (
         same_outcome args within,
-        both p.turns (ends args within).path (result args within).path,
+        both p.iterations (ends args within).path (result args within).path,
       ))
 
 -- The arrays that are chosen.

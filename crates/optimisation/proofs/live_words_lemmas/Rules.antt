@@ -33,19 +33,22 @@ module _ (table : Table) where
       (not-true (is_live table held x) inner.1, outer.1)
 
   -- what fits where a loop is closed
-  pub record IsClosed (x : ℕ) (head turn : Held) : Type 0 where
-    pub turn_fits : turn.fits ≡ true
+  pub record IsClosed (x : ℕ) (head iteration : Held) : Type 0 where
+    pub iteration_fits : iteration.fits ≡ true
     pub own : share table x ≡ x
-    pub free : (counting table turn x).fits ≡ true
-    pub covered : covers head.holders 0 (counting table turn x).holders ≡ true
+    pub free : (counting table iteration x).fits ≡ true
+    pub covered : covers head.holders 0 (counting table iteration x).holders ≡ true
 
-  pub is_closed : (x : ℕ) (head turn : Held) → (closed table x head turn).fits ≡ true → IsClosed x head turn
-  is_closed x head turn f =
-      let outer = and_parts (counting table turn x).fits (covers head.holders 0 (counting table turn x).holders) f in
-      let inner = and_parts (turn.fits && (share table x == x)) (is_free turn.holders (share table x) x) outer.0 in
-      let parts = and_parts turn.fits (share table x == x) inner.0 in
+  pub is_closed : (x : ℕ) (head iteration : Held) → (closed table x head iteration).fits ≡ true
+      → IsClosed x head iteration
+  is_closed x head iteration f =
+      let outer = and_parts (counting table iteration x).fits
+      (covers head.holders 0 (counting table iteration x).holders) f in
+      let inner = and_parts (iteration.fits && (share table x == x))
+      (is_free iteration.holders (share table x) x) outer.0 in
+      let parts = and_parts iteration.fits (share table x == x) inner.0 in
       record {
-        turn_fits = parts.0;
+        iteration_fits = parts.0;
         own = eqb-true (share table x) x parts.1;
         free = outer.0;
         covered = outer.1;

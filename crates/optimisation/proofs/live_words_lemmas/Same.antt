@@ -145,17 +145,18 @@ module _ (table : Table) where
           },
         )
 
-    -- where a turn begins
-    turn_begins : (x : ℕ) (head turn : Held) → IsClosed table x head turn → (i : ℕ) (s u : StraightState)
-        → AreBeside (Alike head.holders) s u → AreReady turn (counted x i s) (counted x i u)
-    turn_begins x head turn parts i s u beside =
-        let inside = counting table turn x in
+    -- where an iteration begins
+    iteration_begins : (x : ℕ) (head iteration : Held) → IsClosed table x head iteration → (i : ℕ) (s u : StraightState)
+        → AreBeside (Alike head.holders) s u → AreReady iteration (counted x i s) (counted x i u)
+    iteration_begins x head iteration parts i s u beside =
+        let inside = counting table iteration x in
         record {
-          fits = parts.turn_fits;
+          fits = parts.iteration_fits;
           beside = record {
-            variables = subst (λ z. AreAlike table turn.holders (counted x i s).variables (counted z i u).variables)
+            variables = subst (λ z. AreAlike table iteration.holders (counted x i s).variables
+                (counted z i u).variables)
                 parts.own
-                (set_alike table (fitting turn (share table x == x)) x (i ∷ []) s.variables u.variables parts.free
+                (set_alike table (fitting iteration (share table x == x)) x (i ∷ []) s.variables u.variables parts.free
                 (λ y is. beside.variables y (covers_holds head.holders 0 inside.holders parts.covered (share table y)
                 (share table y) y (omega arith) is)));
             controls = beside.controls;
@@ -214,14 +215,14 @@ module _ (table : Table) where
           (second_arm.0, branch_follows (Alike held.holders) most chooser.0 first_arm.1 second_arm.1)
       follows held (repeats x low high body) {s} {u} ready =
           let head = at_head table held x body in
-          let turn = before_all table head body in
-          let last = closed table x head turn in
+          let iteration = before_all table head body in
+          let last = closed table x head iteration in
           let from = reads (reading table [] last high) low ready in
           let to = reads last high from.1 in
-          let parts = is_closed table x head turn to.1.fits in
-          let fits = (all_follow head body (turn_begins x head turn parts 0 s u to.1.beside)).0 in
+          let parts = is_closed table x head iteration to.1.fits in
+          let fits = (all_follow head body (iteration_begins x head iteration parts 0 s u to.1.beside)).0 in
           let run = loop_follows (Alike head.holders) most x to.1.beside from.0 to.0
-          (λ i v w at. (all_follow head body (turn_begins x head turn parts i v w at)).1) in (
+          (λ i v w at. (all_follow head body (iteration_begins x head iteration parts i v w at)).1) in (
             (grows_head table held x body).fits fits,
             rw parts.own (record {
               beside = (ready_before (grows_head table held x body) (record {

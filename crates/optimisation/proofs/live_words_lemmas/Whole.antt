@@ -83,9 +83,9 @@ module _ (table : Table) where
 
     module _ (args : List Arg) where
       runs : ((at_end table held p).fits ≡ true)
-          × Follows (Alike table (at_end table held p).holders) p.turns (start p args) (start p args) p.body code
+          × Follows (Alike table (at_end table held p).holders) p.iterations (start p args) (start p args) p.body code
       runs =
-          all_follow table p.turns (at_end table held p) p.body (record {
+          all_follow table p.iterations (at_end table held p) p.body (record {
             fits = fits;
             beside = record {
               variables = alike_first table (at_start table held p).holders own (start p args).variables;
@@ -96,9 +96,9 @@ module _ (table : Table) where
       last : AreReady table (at_end table held p) (after_all (start p args) p.body) (after_all (start p args) code)
       last = record { fits = runs.0; beside = runs.1.beside }
 
-      result : IsResultAlike p.turns (end_of p args) (end_of (over table held p) args) p.value
+      result : IsResultAlike p.iterations (end_of p args) (end_of (over table held p) args) p.value
           (option_map (renamed table) p.value)
-      result = any_alike p.turns (with_results table 0 p.parameters held) p.value last
+      result = any_alike p.iterations (with_results table 0 p.parameters held) p.value last
 
       same_outcome : outcome_of (over table held p) args ≡ outcome_of p args
       same_outcome =
@@ -109,7 +109,7 @@ module _ (table : Table) where
     pub shared_replaced : IsStraight (over table held p) → IsReplaced p (over table held p)
     shared_replaced =
         is_replaced p p.declared code (option_map (renamed table) p.value)
-        (λ args within. (same_outcome args, both p.turns (runs args).1.path (result args).path))
+        (λ args within. (same_outcome args, both p.iterations (runs args).1.path (result args).path))
 
 -- a program whose sharing fits
 pub replaced : (table : Table) (p : StraightProgram) → all_fits (at_start table (nothing_live p 0) p) ≡ true

@@ -3,8 +3,8 @@
 use Rattle.std.proofs.Common.{◌≡◌, ℕ, zero, suc, ◌+◌, ◌-◌, ◌==◌, ◌&&◌, not, Bool, true, false, if◌then◌else◌, List}
 use Rattle.std.proofs.Common.{◌∷◌, Option, None, Some, refl, ap}
 use Rattle.optimisation.specs.Below.{after, after_all, bounded, branch, chain, counted, decided, first, holds, Path}
-use Rattle.optimisation.specs.Below.{path_along, path_at, path_of_turns, repeats, StraightBlock, StraightState}
-use Rattle.optimisation.specs.Below.{StraightTree, TermTree, turns, value_at, Values, with_controls}
+use Rattle.optimisation.specs.Below.{path_along, path_at, path_of_iterations, repeats, StraightBlock, StraightState}
+use Rattle.optimisation.specs.Below.{StraightTree, TermTree, iterations, value_at, Values, with_controls}
 use Rattle.branch_removal.proofs.Sequences.{after-chain, path-chain}
 use Rattle.optimisation.specs.element_words.private.Splitting.{single}
 use Rattle.optimisation.proofs.over_lemmas.Values.{IsNoWorse, same_path, both, alone, IsAlike}
@@ -35,19 +35,19 @@ module _ (most : List ℕ) where
 
   pub loop_path : (s t : StraightState) (x : ℕ) (body code : StraightBlock) {low high a b : TermTree}
       → IsAlike most s.variables t.variables low a → IsAlike most s.variables t.variables high b
-      → IsNoWorse most (path_of_turns (value_at s high - value_at s low) (value_at s low)
+      → IsNoWorse most (path_of_iterations (value_at s high - value_at s low) (value_at s low)
       (λ i u. after_all (counted x i u) body) (λ i u. path_along (counted x i u) body) s)
-      (path_of_turns (value_at s high - value_at s low) (value_at s low) (λ i u. after_all (counted x i u) code)
+      (path_of_iterations (value_at s high - value_at s low) (value_at s low) (λ i u. after_all (counted x i u) code)
       (λ i u. path_along (counted x i u) code) t)
       → IsNoWorse most (path_at s (repeats x low high body)) (path_at t (repeats x a b code))
-  loop_path s t x body code {low} {high} {a} {b} from to turn =
+  loop_path s t x body code {low} {high} {a} {b} from to iteration =
       let l = value_at s low in
       let h = value_at s high in
-      let path : IsNoWorse most (bounded x l h ∷ path_of_turns (h - l) l (λ i u. after_all (counted x i u) body)
+      let path : IsNoWorse most (bounded x l h ∷ path_of_iterations (h - l) l (λ i u. after_all (counted x i u) body)
       (λ i u. path_along (counted x i u) body) s)
-      (bounded x (value_at t a) (value_at t b) ∷ path_of_turns (value_at t b - value_at t a) (value_at t a)
+      (bounded x (value_at t a) (value_at t b) ∷ path_of_iterations (value_at t b - value_at t a) (value_at t a)
       (λ i u. after_all (counted x i u) code) (λ i u. path_along (counted x i u) code) t) =
-      rw (from.value, to.value) (record { fine = λ fine. (fine.0, turn.fine fine.1) }) in
+      rw (from.value, to.value) (record { fine = λ fine. (fine.0, iteration.fine fine.1) }) in
       both most (both most from.path to.path) path
 
 module _ (R : Values → Values → Type 0) where
@@ -94,17 +94,17 @@ module _ (R : Values → Values → Type 0) where
           path = alone most (branch_path most s t accepted otherwise one other chooser first_arm.path second_arm.path);
         }
 
-    -- turns of two loops
-    turns_follow : (f g : ℕ → StraightState → StraightState) (p q : ℕ → StraightState → Path)
+    -- iterations of two loops
+    iterations_follow : (f g : ℕ → StraightState → StraightState) (p q : ℕ → StraightState → Path)
         → ((i : ℕ) (s t : StraightState) → AreBeside R s t
         → AreBeside R (f i s) (g i t) × IsNoWorse most (p i s) (q i t))
         → (n i : ℕ) (s t : StraightState) → AreBeside R s t
-        → AreBeside R (turns n i f s) (turns n i g t)
-        × IsNoWorse most (path_of_turns n i f p s) (path_of_turns n i g q t)
-    turns_follow f g p q each zero i s t beside = (beside, same_path most)
-    turns_follow f g p q each (suc n) i s t beside =
+        → AreBeside R (iterations n i f s) (iterations n i g t)
+        × IsNoWorse most (path_of_iterations n i f p s) (path_of_iterations n i g q t)
+    iterations_follow f g p q each zero i s t beside = (beside, same_path most)
+    iterations_follow f g p q each (suc n) i s t beside =
         let here = each i s t beside in
-        let rest = turns_follow f g p q each n (i + 1) (f i s) (g i t) here.0 in
+        let rest = iterations_follow f g p q each n (i + 1) (f i s) (g i t) here.0 in
         (rest.0, both most here.1 rest.1)
 
     pub loop_follows : {s t : StraightState} (x : ℕ) {low high a b : TermTree} {body code : StraightBlock}
@@ -112,9 +112,10 @@ module _ (R : Values → Values → Type 0) where
         → ((i : ℕ) (u v : StraightState) → AreBeside R u v → Follows (counted x i u) (counted x i v) body code)
         → FollowsAt s t (repeats x low high body) (single (repeats x a b code))
     loop_follows {s} {t} x {low} {high} {a} {b} {body} {code} beside from to each =
-        let run = turns_follow (λ i u. after_all (counted x i u) body) (λ i u. after_all (counted x i u) code)
+        let run = iterations_follow (λ i u. after_all (counted x i u) body) (λ i u. after_all (counted x i u) code)
         (λ i u. path_along (counted x i u) body) (λ i u. path_along (counted x i u) code)
-        (λ i u v at. let turn = each i u v at in (turn.beside, turn.path)) (value_at s high - value_at s low)
+        (λ i u v at. let iteration = each i u v at in (iteration.beside, iteration.path))
+        (value_at s high - value_at s low)
         (value_at s low) s t beside in
         record {
           beside = rw (from.value, to.value) run.0;

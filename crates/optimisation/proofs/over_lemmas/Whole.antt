@@ -10,7 +10,7 @@ module _ (p : StraightProgram) (declared : List FlatVariable) (body : StraightBl
   made = with_variables p declared body value
 
   pub is_replaced : ((args : List Arg) → AreWithin p.parameters args
-      → (outcome_of made args ≡ outcome_of p args) × IsNoWorse p.turns (path_of p args) (path_of made args))
+      → (outcome_of made args ≡ outcome_of p args) × IsNoWorse p.iterations (path_of p args) (path_of made args))
       → IsStraight made → IsReplaced p made
   is_replaced runs straight = record {
     profile = refl;
@@ -18,7 +18,7 @@ module _ (p : StraightProgram) (declared : List FlatVariable) (body : StraightBl
     returned = refl;
     nodes = refl;
     work = refl;
-    turns = refl;
+    iterations = refl;
     straight = straight;
     outcome = λ args within. (runs args within).0;
     fine = λ args within. (runs args within).1.fine;

@@ -5,10 +5,10 @@ use Rattle.optimisation.specs.Below.{checked, StraightProgram}
 use Rattle.optimisation.specs.constants.private.Choice.{copies_of}
 use Rattle.optimisation.specs.constants.private.Simplification.{simplified_program}
 
--- all loops that make turns stay
+-- all loops that make iterations stay
 unfoldable pub simplified_of : StraightProgram → Option StraightProgram
 simplified_of straight = checked (simplified_program [] straight)
 
--- loops become their turns, as far as there is room for them
+-- loops become their iterations, as far as there is room for them
 unfoldable pub unrolled_of : StraightProgram → Option StraightProgram
 unrolled_of straight = checked (simplified_program (copies_of straight) straight)

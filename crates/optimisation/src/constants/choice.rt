@@ -1,4 +1,4 @@
-// Which loops become their turns.
+// Which loops become their iterations.
 
 ghost use Rattle.std.specs.Prelude.{◌≡◌, map, slice_index, slice_set, IfOk};
 ghost use Rattle.optimisation.specs.Below.{straight_block, straight_tree, term_tree};
@@ -9,19 +9,19 @@ use branch_removal::{StraightCode, StraightStatement};
 use inline::Term;
 use std::alloc::{AllocError, Global};
 
-/// How many nodes the turns of loops have room for, for each node of the source.
+/// How many nodes the iterations of loops have room for, for each node of the source.
 const ROOM_FACTOR: u64 = 32;
 
 /// The most room that there is, however large the source is.
 const MOST_ROOM: u64 = 48_000;
 
-/// How many nodes a turn may have.
-const MOST_IN_TURN: u64 = 384;
+/// How many nodes an iteration may have.
+const MOST_IN_ITERATION: u64 = 384;
 
-/// So few turns take little room even where they are long.
-const FEW_TURNS: u32 = 3;
+/// So few iterations take little room even where they are long.
+const FEW_ITERATIONS: u32 = 3;
 
-/// How many nodes each of few turns may have.
+/// How many nodes each of few iterations may have.
 const MOST_IN_EACH_OF_FEW: u64 = 4_096;
 
 /// How many nodes there are in setting a counter.
@@ -63,35 +63,35 @@ fn nodes_in_all(terms: &[Term]) -> u64
     sum
 }
 
-/// How many turns the loop of a counter may become.
+/// How many iterations the loop of a counter may become.
 pub fn copies_of(copies: &[u32], counter: u32) -> u32
     ensures { result ≡ slice_index copies.now counter }
 {
     copies.get(counter as usize).copied().unwrap_or(0)
 }
 
-/// How many nodes a turn may have, by how many turns there are.
-fn most_nodes_of(turns: u32) -> u64
-    ensures { result ≡ most_nodes_of turns }
+/// How many nodes an iteration may have, by how many iterations there are.
+fn most_nodes_of(iterations: u32) -> u64
+    ensures { result ≡ most_nodes_of iterations }
 {
-    if turns <= FEW_TURNS {
+    if iterations <= FEW_ITERATIONS {
         MOST_IN_EACH_OF_FEW
     } else {
-        MOST_IN_TURN
+        MOST_IN_ITERATION
     }
 }
 
-/// The loop of a counter may not become turns.
+/// The loop of a counter may not become iterations.
 fn refuse(copies: &mut Vec<u32>, counter: u32)
     ensures { copies.new.items ≡ slice_set copies.old.items counter 0 }
 {
-    if let Some(turns) = copies.get_mut(counter as usize) {
-        *turns = 0;
+    if let Some(iterations) = copies.get_mut(counter as usize) {
+        *iterations = 0;
     }
 }
 
-/// How many turns the loop of each counter may become, at the counter's number, how many nodes there is still room for,
-/// and how many there are so far.
+/// How many iterations the loop of each counter may become, at the counter's number, how many nodes there is still room
+/// for, and how many there are so far.
 #[derive(Drop)]
 pub struct Choice {
     pub copies: Vec<u32>,
@@ -105,7 +105,7 @@ impl Choice {
         ensures { IfOk result (λ choice. choice_of choice ≡ chosen_all (begun straight.now) straight.now.body) }
     {
         let mut choice = Choice {
-            copies: straight.turns().to_vec(alloc)?,
+            copies: straight.iterations().to_vec(alloc)?,
             room: (u64::from(straight.nodes()) * ROOM_FACTOR).min(MOST_ROOM),
             nodes: 0,
         };
@@ -121,16 +121,16 @@ impl Choice {
     }
 
     /// Behind so many nodes, where there was so much room, a loop of so many nodes without its body, for which all is
-    /// chosen: it becomes its turns where each is short and there is room for all.
+    /// chosen: it becomes its iterations where each is short and there is room for all.
     fn settle(&mut self, before: u64, room: u64, counter: u32, own: u64)
         ensures { choice_of self.new ≡ settled before room counter own (choice_of self.old) }
     {
-        let turns = copies_of(self.copies.as_slice(), counter);
+        let iterations = copies_of(self.copies.as_slice(), counter);
         let cost = self
             .nodes
             .saturating_add(COUNTER_NODES)
-            .saturating_mul(u64::from(turns));
-        if turns >= 1 && self.nodes <= most_nodes_of(turns) && cost <= room {
+            .saturating_mul(u64::from(iterations));
+        if iterations >= 1 && self.nodes <= most_nodes_of(iterations) && cost <= room {
             self.room = room - cost;
             self.nodes = before.saturating_add(cost);
         } else {

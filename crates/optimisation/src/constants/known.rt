@@ -179,9 +179,9 @@ impl Known {
         }
     }
 
-    /// From here on in a loop, in each of its turns: of its counter and of what its body sets nothing is known. Long
-    /// numbers are forgotten too: each turn would make them anew by two instructions, where their variables are read by
-    /// one at most.
+    /// From here on in a loop, in each of its iterations: of its counter and of what its body sets nothing is known.
+    /// Long numbers are forgotten too: each iteration would make them anew by two instructions, where their variables
+    /// are read by one at most.
     pub fn begin_loop(&mut self, counter: u32, body: &[StraightStatement])
         ensures { words_of self.new ≡ in_loop (words_of self.old) counter (straight_block body.now) }
     {

@@ -63,9 +63,9 @@ pub fn step_of(operator: BinaryOperator, right: Option<Constant>) -> Option<Step
     step_by(operator, power, exponent)
 }
 
-/// What makes the same as an operator with this on its left: only a product may be turned round.
-pub fn turned_step(operator: BinaryOperator, left: Option<Constant>) -> Option<Step>
-    ensures { result ≡ powers.turned_step operator left }
+/// What makes the same as an operator with this on its left: only a product's operands may be swapped.
+pub fn swapped_step(operator: BinaryOperator, left: Option<Constant>) -> Option<Step>
+    ensures { result ≡ powers.swapped_step operator left }
 {
     if matches!(operator, BinaryOperator::Multiply) {
         step_of(operator, left)

@@ -11,8 +11,8 @@ use branch_removal::StraightCode;
 use language::Refusal;
 use std::alloc::{AllocError, Global};
 
-/// Simpler straight code, in which the loop of each counter may become so many turns, where it is well typed and within
-/// the limits on size.
+/// Simpler straight code, in which the loop of each counter may become so many iterations, where it is well typed and
+/// within the limits on size.
 fn simpler<'f>(
     alloc: Global,
     straight: &StraightCode<'f>,
@@ -35,9 +35,9 @@ fn simpler<'f>(
 }
 
 /// Simpler straight code: a word that is known is a number, a copy is read as its source, an operator between numbers
-/// is what it comes to, a branch that a number decides is its one arm, and a loop without turns is gone. It may stand
-/// in the place of the code that it is made of, which alone decides it; there is none where it would not be well typed
-/// or not within the limits on size. Running out of memory alone refuses it.
+/// is what it comes to, a branch that a number decides is its one arm, and a loop without iterations is gone. It may
+/// stand in the place of the code that it is made of, which alone decides it; there is none where it would not be well
+/// typed or not within the limits on size. Running out of memory alone refuses it.
 pub fn simplify<'f>(
     alloc: Global,
     straight: &StraightCode<'f>,
@@ -49,11 +49,11 @@ pub fn simplify<'f>(
     Ok(simpler(alloc, straight, &[])?)
 }
 
-/// Simpler straight code, as `simplify` makes it, in which loops are their turns, one after the other: those whose
-/// bounds are numbers once they are reached, innermost loops first, where a turn is short, and as far as 32 times as
-/// many nodes as the source has go. It may stand in the place of the code that it is made of, which alone decides it;
-/// there is none where it would not be well typed or not within the limits on size. Running out of memory alone refuses
-/// it.
+/// Simpler straight code, as `simplify` makes it, in which loops are their iterations, one after the other: those whose
+/// bounds are numbers once they are reached, innermost loops first, where an iteration is short, and as far as 32 times
+/// as many nodes as the source has go. It may stand in the place of the code that it is made of, which alone decides
+/// it; there is none where it would not be well typed or not within the limits on size. Running out of memory alone
+/// refuses it.
 pub fn unroll<'f>(
     alloc: Global,
     straight: &StraightCode<'f>,

@@ -1,4 +1,5 @@
-// Statements in which what is known is a number, each put behind what there is. A loop becomes its turns where it may.
+// Statements in which what is known is a number, each put behind what there is. A loop becomes its iterations where it
+// may.
 
 ghost use Rattle.std.specs.Prelude.{◌≡◌, IfOk, OnOk};
 ghost use Rattle.branch_removal.specs.Straight as straight;
@@ -6,7 +7,7 @@ ghost use Rattle.optimisation.specs.Below.{chain, set, straight_block, straight_
 ghost use Rattle.optimisation.specs.constants.private.Folding.{simple};
 ghost use Rattle.optimisation.specs.constants.private.Known.{forgotten_all, words_of};
 ghost use Rattle.optimisation.specs.constants.private.Simplification.{knowing, knowing_all, set_to, simplified};
-ghost use Rattle.optimisation.specs.constants.private.Simplification.{simplified_all, single, turns_code, turns_known};
+ghost use Rattle.optimisation.specs.constants.private.Simplification.{simplified_all, single, iterations_code, iterations_known};
 
 use crate::constants::choice::copies_of;
 use crate::constants::copies::learn;
@@ -21,7 +22,7 @@ use std::alloc::{AllocError, Global};
 #[derive(Drop)]
 pub struct Pass<'p> {
     pub alloc: Global,
-    /// How many turns the loop of each counter may become, at the counter's number.
+    /// How many iterations the loop of each counter may become, at the counter's number.
     pub copies: &'p [u32],
     pub declared: &'p [FlatVariable],
 }
@@ -147,7 +148,7 @@ fn branch(
     }
 }
 
-/// A loop: where its bounds are numbers, and it may become its turns, these.
+/// A loop: where its bounds are numbers, and it may become its iterations, these.
 #[cycle(simplification)]
 fn repeat(
     pass: &Pass<'_>,
@@ -171,18 +172,18 @@ fn repeat(
     let high = simple(pass.alloc, known, bounds.high)?;
     let most = copies_of(pass.copies, counter);
     match numbers_of(most, &low, &high) {
-        Some(numbers) => turns(pass, known, code, counter, numbers, body),
+        Some(numbers) => iterations(pass, known, code, counter, numbers, body),
         None => {
             known.begin_loop(counter, body);
-            let turn = part(pass, known, body)?;
-            push(code, loop_of(counter, low, high, turn))
+            let iteration = part(pass, known, body)?;
+            push(code, loop_of(counter, low, high, iteration))
         }
     }
 }
 
-/// The turns of a loop, one after the other: for each number its counter is set, and then its body runs.
+/// The iterations of a loop, one after the other: for each number its counter is set, and then its body runs.
 #[cycle(simplification)]
-fn turns(
+fn iterations(
     pass: &Pass<'_>,
     known: &mut Known,
     code: &mut Vec<StraightStatement>,
@@ -191,9 +192,9 @@ fn turns(
     body: &[StraightStatement],
 ) -> Result<(), AllocError>
     ensures code { OnOk result (straight_block code.new.items
-        ≡ chain (straight_block code.old.items) (turns_code pass.now.copies.now pass.now.declared.now
+        ≡ chain (straight_block code.old.items) (iterations_code pass.now.copies.now pass.now.declared.now
         (words_of known.old) counter numbers (straight_block body.now))) }
-    ensures known { OnOk result (words_of known.new ≡ turns_known pass.now.copies.now pass.now.declared.now
+    ensures known { OnOk result (words_of known.new ≡ iterations_known pass.now.copies.now pass.now.declared.now
         (words_of known.old) counter numbers (straight_block body.now)) }
 {
     for value in numbers.low..numbers.high {

@@ -13,7 +13,7 @@ use crate::constants::known::{Constant, Known};
 use crate::constants::operators::{
     decided_by_left, decided_by_right, folded, is_left_identity, is_right_identity,
 };
-use crate::constants::powers::{step_of, turned_step};
+use crate::constants::powers::{step_of, swapped_step};
 use inline::Term;
 use language::{BinaryOperator, Kind, Place, PrefixOperator, is_true};
 use std::alloc::{AllocError, Global};
@@ -173,20 +173,20 @@ fn leaves_right(operator: BinaryOperator, width: Width, left: &Term) -> bool
     }
 }
 
-/// The comparison that one with a number on its left is, its operands turned round. `opposite` tells whether an
-/// operator is a comparison: only these have an opposite one, and `turned` alone turns others round too.
-fn turned_by(operator: BinaryOperator, left: &Term) -> Option<BinaryOperator>
-    ensures { result ≡ folding.turned_by operator (constant_of (term_tree left.now)) }
+/// The comparison that one with a number on its left is, its operands swapped. `opposite` tells whether an
+/// operator is a comparison: only these have an opposite one, and `swapped` alone swaps the operands of others too.
+fn swapped_by(operator: BinaryOperator, left: &Term) -> Option<BinaryOperator>
+    ensures { result ≡ folding.swapped_by operator (constant_of (term_tree left.now)) }
 {
     match constant_of(left) {
-        Some(_) => operator.opposite().and(operator.turned()),
+        Some(_) => operator.opposite().and(operator.swapped()),
         None => None,
     }
 }
 
-/// An operator and its two operands: a comparison with a number on its left is turned round, and where they leave some
-/// bits of a word, two shifts.
-fn turned(
+/// An operator and its two operands: those of a comparison with a number on its left are swapped, and where they leave
+/// some bits of a word, two shifts.
+fn swapped(
     alloc: Global,
     place: Place,
     operator: BinaryOperator,
@@ -195,16 +195,16 @@ fn turned(
     right: Term,
 ) -> Result<Term, AllocError>
     ensures { IfOk result (λ term.
-        term_tree term ≡ folding.turned place operator width (term_tree left) (term_tree right)) }
+        term_tree term ≡ folding.swapped place operator width (term_tree left) (term_tree right)) }
 {
-    match turned_by(operator, &left) {
+    match swapped_by(operator, &left) {
         Some(comparison) => operation(alloc, place, comparison, width, right, left),
         None => narrowed(alloc, place, operator, width, left, right),
     }
 }
 
 /// An operator and its two operands: where one is a power of two, a shift or a mask of the other, and else what they
-/// are turned round or narrowed.
+/// are swapped or narrowed.
 fn stepped(
     alloc: Global,
     place: Place,
@@ -220,12 +220,12 @@ fn stepped(
         let number = number_of(step.number);
         return narrowed(alloc, place, step.operator, width, left, number);
     }
-    match turned_step(operator, constant_of(&left)) {
+    match swapped_step(operator, constant_of(&left)) {
         Some(step) => {
             let number = number_of(step.number);
             narrowed(alloc, place, step.operator, width, right, number)
         }
-        None => turned(alloc, place, operator, width, left, right),
+        None => swapped(alloc, place, operator, width, left, right),
     }
 }
 
@@ -271,7 +271,7 @@ fn binary(
     }
 }
 
-/// An operand, turned.
+/// An operand, rotated.
 fn rotate(alloc: Global, width: Width, operand: Term, amount: u32) -> Result<Term, AllocError>
     ensures { IfOk result (λ term. term_tree term ≡ folding.rotated width (term_tree operand) amount) }
 {
@@ -387,7 +387,7 @@ pub fn simple_where_any(
     }
 }
 
-/// The numbers of a loop's counter, where both its bounds are numbers, and it makes no more turns than this.
+/// The numbers of a loop's counter, where both its bounds are numbers, and it makes no more iterations than this.
 pub fn numbers_of(most: u32, low: &Term, high: &Term) -> Option<Numbers>
     ensures { result ≡ numbers_of most (constant_of (term_tree low.now)) (constant_of (term_tree high.now)) }
 {

@@ -123,8 +123,8 @@ fn statement(
         StraightStatement::Repeat(counter, low, high, body) => {
             let low = split(alloc, parts, low)?;
             let high = split(alloc, parts, high)?;
-            let turn = block(alloc, parts, body)?;
-            push(code, loop_of(*counter, low, high, turn))
+            let iteration = block(alloc, parts, body)?;
+            push(code, loop_of(*counter, low, high, iteration))
         }
     }
 }

@@ -124,7 +124,7 @@ fn gather_all(
     Ok(())
 }
 
-/// What is live where a turn of a loop may begin, or the loop is over.
+/// What is live where an iteration of a loop may begin, or the loop is over.
 pub fn gather_loop(
     alloc: Global,
     live: &mut Live,

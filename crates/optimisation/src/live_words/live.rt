@@ -242,8 +242,8 @@ impl Live {
         self.set(table, counter);
     }
 
-    /// These are the holders where a turn of a loop may begin or the loop is over. What is live before a turn has to be
-    /// live there.
+    /// These are the holders where an iteration of a loop may begin or the loop is over. What is live before an
+    /// iteration has to be live there.
     pub fn close(&mut self, table: &[u32], counter: u32, head: Vec<Option<u32>>)
         ensures { (before : Held)
             → before.holders ≡ head.items

@@ -168,7 +168,7 @@ fn branch(
     Ok(Some(branch_of(condition, one, other)))
 }
 
-/// A loop: its body begins and ends where a turn may begin or the loop is over.
+/// A loop: its body begins and ends where an iteration may begin or the loop is over.
 #[cycle(sharing)]
 fn repeat(
     alloc: Global,
@@ -186,14 +186,14 @@ fn repeat(
 {
     gather_loop(alloc, live, table, bounds.counter, body)?;
     let head = live.copy_holders(alloc)?;
-    let turn = statements(alloc, live, table, body)?;
+    let iteration = statements(alloc, live, table, body)?;
     live.close(table, bounds.counter, head);
     read(live, table, &[], bounds.high);
     read(live, table, &[], bounds.low);
     let low = renamed(alloc, table, bounds.low)?;
     let high = renamed(alloc, table, bounds.high)?;
     let counter = share(table, bounds.counter);
-    Ok(Some(loop_of(counter, low, high, turn)))
+    Ok(Some(loop_of(counter, low, high, iteration)))
 }
 
 /// Statements, from the last one back to the first.

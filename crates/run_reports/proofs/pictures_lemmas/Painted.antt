@@ -4,7 +4,7 @@ use Rattle.std.proofs.Common.{append_assoc, append-nil, refl, sym, ap, ◌∙◌
 use Rattle.std.proofs.lemmas.Option.{none-some}
 use Rattle.run_reports.specs.Below.{Budget, Code, followed_by, IsShown, Observation, spent, State, stays}
 use Rattle.rv_machine.proofs.RunLaws.{Runs-determined}
-use Rattle.rv_machine.proofs.Shown.{runs_no_turns}
+use Rattle.rv_machine.proofs.Shown.{runs_no_steps}
 use Rattle.run_reports.specs.pictures.Grid.{IsGrid}
 use Rattle.run_reports.specs.pictures.Marks.{marks_of_both, marks_from}
 use Rattle.run_reports.specs.pictures.private.Added.{Adds}
@@ -28,7 +28,7 @@ fewer_left None None fewer fewer' none none' some = absurd (some (refl, refl))
 
 -- where no steps are left, nothing is shown
 ended_shows : {code : Code} {n : ℕ} {s : State} {seen : List Observation} → n ≡ 0 → IsShown code n s seen → seen ≡ []
-ended_shows none shown = runs_no_turns (rw none at shown.2)
+ended_shows none shown = runs_no_steps (rw none at shown.2)
 
 ended : {code : Code} {n : ℕ} {s : State} → n ≡ 0 → IsShown code n s []
 ended {s = s} none = rw none (Budget, s, spent stays, λ e. cc)

@@ -1,23 +1,23 @@
--- A certified run in pieces: turns that lead on, and then a run.
+-- A certified run in pieces: steps that lead on, and then a run.
 use Rattle.std.proofs.Common.{◌≡◌, ℕ, zero, suc, ◌+◌, ◌*◌, ◌≤◌, ◌<◌, ◌⊎◌, List, [], ◌∷◌, ◌++◌, length, suc-add}
 use Rattle.std.proofs.Common.{zero-add, inl, inr, ap, arith}
-use Rattle.certified_runs.proofs.KnownTurns.{few_entries}
-use Rattle.certified_runs.proofs.OneEnd.{KnownTurn-determined}
+use Rattle.certified_runs.proofs.KnownSteps.{few_entries}
+use Rattle.certified_runs.proofs.OneEnd.{KnownStep-determined}
 use Rattle.run_reports.specs.Below.{CertifiedEnd, CertifiedRun, Code, cut, end_of, entries_of, Known, KnownLeads, leads}
 use Rattle.run_reports.specs.Below.{may_differ, MayDiffer, Observation, RunEnding, Same, same}
-use Rattle.certified_runs.specs.Certified.{spent, halts, turns, stays}
+use Rattle.certified_runs.specs.Certified.{spent, halts, steps_on, stays}
 use Rattle.run_reports.specs.progress.Certified.{GoesOnKnown, entries_at, end_behind}
 use Rattle.run_reports.specs.progress.GoingOn.{HasLines}
-use Rattle.run_reports.specs.progress.Lines.{turns_a_line}
+use Rattle.run_reports.specs.progress.Lines.{steps_a_line}
 use Rattle.rv_machine.proofs.Face.{count-few, entry_count-append}
 
--- turns that lead on, and then others
+-- steps that lead on, and then others
 pub leads_append : {code : Code} {m n : ℕ} {k now later : Known} {seen more : List Observation}
     → KnownLeads code m k seen now → KnownLeads code n now more later → KnownLeads code (m + n) k (seen ++ more) later
 leads_append stays then = rw zero-add then
 leads_append (leads first rest) then = rw suc-add (leads first (leads_append rest then))
 
--- of turns that lead on, those behind some
+-- of steps that lead on, those behind some
 pub leads_rest : {code : Code} {m n all : ℕ} {k now later : Known} {seen others : List Observation}
     → KnownLeads code m k seen now → KnownLeads code all k others later → all ≡ m + n
     → (rest : List Observation) × KnownLeads code n now rest later
@@ -26,38 +26,38 @@ leads_rest {n = n} {all = all} {others = others} stays then is =
     (others, rw e at then)
 leads_rest (leads first rest) stays is = absurd (omega (arith, is))
 leads_rest (leads {next = next} first rest) (leads {next = next'} other then) is =
-    let e = KnownTurn-determined first other in
+    let e = KnownStep-determined first other in
     let same : next' ≡ next = cc in
     leads_rest rest (rw same at then) (omega (arith, is))
 
--- a run that ends within some turns ends so within more
+-- a run that ends within some steps ends so within more
 pub stretched : {code : Code} {m n : ℕ} {k : Known} {seen : List Observation} {ending : RunEnding}
     → CertifiedRun code m k seen ending
     → ((others : List Observation) (later : Known) → KnownLeads code m k others later → ⊥) → m ≤ n
     → CertifiedRun code n k seen ending
 stretched spent short within = absurd (short [] _ stays)
-stretched {n = suc n} (halts turn) short within = halts turn
-stretched {n = suc n} (cut turn) short within = cut turn
-stretched {n = suc n} (turns {o = o} turn rest) short within =
-    turns turn
-    (stretched rest (λ others later all. short (o ∷ others) later (leads turn all)) (omega (arith, within)))
-stretched {n = zero} (halts turn) short within = absurd (omega (arith, within))
-stretched {n = zero} (cut turn) short within = absurd (omega (arith, within))
-stretched {n = zero} (turns turn rest) short within = absurd (omega (arith, within))
+stretched {n = suc n} (halts step) short within = halts step
+stretched {n = suc n} (cut step) short within = cut step
+stretched {n = suc n} (steps_on {o = o} step rest) short within =
+    steps_on step
+    (stretched rest (λ others later all. short (o ∷ others) later (leads step all)) (omega (arith, within)))
+stretched {n = zero} (halts step) short within = absurd (omega (arith, within))
+stretched {n = zero} (cut step) short within = absurd (omega (arith, within))
+stretched {n = zero} (steps_on step rest) short within = absurd (omega (arith, within))
 
--- a turn shows two entries at most
+-- a step shows two entries at most
 pub few_of_run : {code : Code} {n : ℕ} {k : Known} {seen : List Observation} {ending : RunEnding}
     → CertifiedRun code n k seen ending → length (entries_of seen) ≤ 2 * n
 few_of_run spent = omega arith
-few_of_run {n = suc n} (halts turn) = omega (arith, few_entries turn)
-few_of_run (cut turn) = omega arith
-few_of_run {n = suc n} (turns {o = o} {seen = seen} turn rest) =
+few_of_run {n = suc n} (halts step) = omega (arith, few_entries step)
+few_of_run (cut step) = omega arith
+few_of_run {n = suc n} (steps_on {o = o} {seen = seen} step rest) =
     omega (arith, entry_count-append (o ∷ []) seen, count-few o, few_of_run rest)
 
 pub few_of_leads : {code : Code} {n : ℕ} {k later : Known} {seen : List Observation}
     → KnownLeads code n k seen later → length (entries_of seen) ≤ 2 * n
 few_of_leads stays = omega arith
-few_of_leads {n = suc n} (leads {o = o} {seen = seen} turn rest) =
+few_of_leads {n = suc n} (leads {o = o} {seen = seen} step rest) =
     omega (arith, entry_count-append (o ∷ []) seen, count-few o, few_of_leads rest)
 
 at_end : (seen : List Observation) (ending : RunEnding)
@@ -80,9 +80,9 @@ end_of_both seen more (may_differ pc) before is =
 
 -- so many pieces were made, and the run does not go on after one more
 pub lines_of_known : {code : Code} {budget left count : ℕ} {k now : Known}
-    → (seen : List Observation) × KnownLeads code (count * turns_a_line) k seen now
-    → count * turns_a_line + left ≡ budget → (count ≡ 0) ⊎ (0 < left)
-    → ((seen : List Observation) (later : Known) → KnownLeads code turns_a_line now seen later → ⊥)
+    → (seen : List Observation) × KnownLeads code (count * steps_a_line) k seen now
+    → count * steps_a_line + left ≡ budget → (count ≡ 0) ⊎ (0 < left)
+    → ((seen : List Observation) (later : Known) → KnownLeads code steps_a_line now seen later → ⊥)
     → HasLines (GoesOnKnown code budget k) count
 lines_of_known {now = now} led made more over = record {
   reached = elim more [ inl none ↦ inl none | inr some ↦ inr (omega (arith, made, some), (led.0, now, led.1)) ];
@@ -93,8 +93,8 @@ lines_of_known {now = now} led made more over = record {
 
 -- and at most one more may be
 pub lines_of_known_at_end : {code : Code} {budget left count : ℕ} {k now : Known}
-    → (seen : List Observation) × KnownLeads code (count * turns_a_line) k seen now
-    → count * turns_a_line + left ≡ budget → (count ≡ 0) ⊎ (0 < left) → left ≤ turns_a_line
+    → (seen : List Observation) × KnownLeads code (count * steps_a_line) k seen now
+    → count * steps_a_line + left ≡ budget → (count ≡ 0) ⊎ (0 < left) → left ≤ steps_a_line
     → HasLines (GoesOnKnown code budget k) count
 lines_of_known_at_end {now = now} led made more last = record {
   reached = elim more [ inl none ↦ inl none | inr some ↦ inr (omega (arith, made, some), (led.0, now, led.1)) ];

@@ -1,17 +1,17 @@
--- A run in pieces: turns that go on, and then a run.
+-- A run in pieces: steps that go on, and then a run.
 use Rattle.std.proofs.Common.{◌≡◌, ◌≢◌, ℕ, ◌+◌, ◌≤◌, List, ◌++◌, refl, arith, sym}
-use Rattle.rv_machine.proofs.Face.{Leads-append, Halts-after, no_longer, turn_within_budget}
+use Rattle.rv_machine.proofs.Face.{Leads-append, Halts-after, no_longer, step_within_budget}
 use Rattle.run_reports.specs.Below.{Budget, Code, cut_short, halted, halts, Leads, Observation, RecorderRefused, Runs}
 use Rattle.run_reports.specs.Below.{spent, State, Stop}
 
--- a run of turns that stops by the budget has made them all
+-- a run of steps that stops by the budget has made them all
 pub all_made : {code : Code} {n : ℕ} {s t : State} {seen : List Observation} {stop : Stop}
     → Runs code n s seen stop t → stop ≡ Budget → Leads code n s seen t
-all_made (halted le (halts first end is)) budget = absurd (turn_within_budget end budget)
+all_made (halted le (halts first end is)) budget = absurd (step_within_budget end budget)
 all_made (cut_short lt first end shows) budget = cc
 all_made (spent all) budget = all
 
--- turns that go on, and then a run
+-- steps that go on, and then a run
 pub run_after : {code : Code} {m n budget : ℕ} {s t u : State} {seen more : List Observation} {stop : Stop}
     → Leads code m s seen t → Runs code n t more stop u → m + n ≡ budget → stop ≢ RecorderRefused
     → Runs code budget s (seen ++ more) stop u
@@ -19,7 +19,7 @@ run_after first (halted le end) all calm = halted (omega (arith, le, all)) (Halt
 run_after first (cut_short lt then end shows) all calm = absurd (calm refl)
 run_after first (spent then) all calm = rw (sym all) (spent (Leads-append first then))
 
--- one that stops within fewer turns
+-- one that stops within fewer steps
 pub stop_after : {code : Code} {m n budget : ℕ} {s t u : State} {seen more : List Observation} {stop : Stop}
     → Leads code m s seen t → Runs code n t more stop u → m + n ≤ budget → stop ≢ RecorderRefused → stop ≢ Budget
     → Runs code budget s (seen ++ more) stop u

@@ -5,7 +5,7 @@ use Rattle.run_reports.specs.progress.GoingOn.{GoesOn, Reaches, HasLines, IsTold
 use Rattle.run_reports.specs.Below.{Code, Collected, GainsPart, Leads, Observation, one_more, State}
 use Rattle.std.proofs.Math.Seq.{take-append-add}
 use Rattle.std.proofs.lemmas.List.{take-append-le}
-use Rattle.run_reports.specs.progress.Lines.{turns_a_line, progress_line, progress_lines, WentOut, AreTold}
+use Rattle.run_reports.specs.progress.Lines.{steps_a_line, progress_line, progress_lines, WentOut, AreTold}
 
 -- a part of some bytes is one of more bytes
 part_of_more : {before after : List ℕ} (piece rest : List ℕ) → GainsPart before after piece
@@ -34,17 +34,17 @@ none_yet false count now is none = cc
 
 -- the next line, where all went out and it does
 pub told_next : (count : ℕ) (before now after : Collected) → WentOut true count before now
-    → after.bytes ≡ now.bytes ++ progress_line (suc count * turns_a_line) → after.failures ≡ now.failures
+    → after.bytes ≡ now.bytes ++ progress_line (suc count * steps_a_line) → after.failures ≡ now.failures
     → WentOut true (suc count) before after
 unfolding progress_lines
 told_next count before now after so_far line calm = (
-  rw (line, so_far.0) (append_assoc before.bytes (progress_lines count) (progress_line (suc count * turns_a_line))),
+  rw (line, so_far.0) (append_assoc before.bytes (progress_lines count) (progress_line (suc count * steps_a_line))),
   calm ∙ so_far.1,
 )
 
 -- where it does not
 pub cut_next : (count : ℕ) (before now after : Collected) → WentOut true count before now
-    → GainsPart now.bytes after.bytes (progress_line (suc count * turns_a_line))
+    → GainsPart now.bytes after.bytes (progress_line (suc count * steps_a_line))
     → after.failures ≡ one_more now.failures → WentOut false (suc count) before after
 unfolding progress_lines
 cut_next count before now after so_far line failed =
@@ -64,21 +64,21 @@ all_told false count before after went = inr went
 
 -- so many pieces were made, and the run does not go on after one more
 pub lines_of_run : {code : Code} {budget left count : ℕ} {s t : State}
-    → (seen : List Observation) × Leads code (count * turns_a_line) s seen t → count * turns_a_line + left ≡ budget
+    → (seen : List Observation) × Leads code (count * steps_a_line) s seen t → count * steps_a_line + left ≡ budget
     → (count ≡ 0) ⊎ (0 < left)
-    → ((seen : List Observation) (u : State) → Leads code (count * turns_a_line + turns_a_line) s seen u → ⊥)
+    → ((seen : List Observation) (u : State) → Leads code (count * steps_a_line + steps_a_line) s seen u → ⊥)
     → HasLines (GoesOn code budget s) count
 lines_of_run {count = count} {t = t} led made more over = record {
   reached = elim more [ inl none ↦ inl none | inr some ↦ inr (omega (arith, made, some), (led.0, t, led.1)) ];
   no_more = λ on.
-      let next : suc count * turns_a_line ≡ count * turns_a_line + turns_a_line = omega arith in
+      let next : suc count * steps_a_line ≡ count * steps_a_line + steps_a_line = omega arith in
       over on.1.0 on.1.1 (rw next at on.1.2);
 }
 
 -- so many pieces were made, and at most one more may be
 pub lines_at_end : {code : Code} {budget left count : ℕ} {s t : State}
-    → (seen : List Observation) × Leads code (count * turns_a_line) s seen t → count * turns_a_line + left ≡ budget
-    → (count ≡ 0) ⊎ (0 < left) → left ≤ turns_a_line → HasLines (GoesOn code budget s) count
+    → (seen : List Observation) × Leads code (count * steps_a_line) s seen t → count * steps_a_line + left ≡ budget
+    → (count ≡ 0) ⊎ (0 < left) → left ≤ steps_a_line → HasLines (GoesOn code budget s) count
 lines_at_end {count = count} {t = t} led made more last = record {
   reached = elim more [ inl none ↦ inl none | inr some ↦ inr (omega (arith, made, some), (led.0, t, led.1)) ];
   no_more = λ on. omega (arith, made, last, on.0);

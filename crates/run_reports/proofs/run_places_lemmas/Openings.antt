@@ -5,12 +5,12 @@ use Rattle.std.proofs.Common.{take, refl, sym, ap, ◌∙◌, inl, inr, arith}
 use Rattle.rv_code.specs.Words.{word_of}
 use Rattle.run_reports.specs.Below.{Code, cut_short, effect_of, Ending, entries_of, Entry, executes, goes_on, halted}
 use Rattle.run_reports.specs.Below.{halts, IsFirstDifference, no_instruction, not_code, Observation, pc_misaligned}
-use Rattle.run_reports.specs.Below.{program_counter, RecorderRefused, Runs, spent, State, stays, Stop, stops, Turn}
-use Rattle.run_reports.specs.Below.{turns, word_at}
+use Rattle.run_reports.specs.Below.{program_counter, RecorderRefused, Runs, spent, State, stays, Stop, stops, Step}
+use Rattle.run_reports.specs.Below.{steps_on, word_at}
 use Rattle.run_reports.proofs.run_places_lemmas.Below.{IsOwn, goes_own, stops_own, effect_own, Runs-determined}
 use Rattle.run_reports.specs.run_places.Places.{Ends, ShowsNext, IsLastBefore, ShowsFewer}
 
--- A turn shows its program counter first where a word stands there, and nothing where none does.
+-- A step shows its program counter first where a word stands there, and nothing where none does.
 
 abbrev shown_by : Ending → List Observation
 shown_by (goes_on o t) = o ∷ []
@@ -33,11 +33,11 @@ opens_here : {s : State} {e : Ending} → IsOwn s e → first_entry (shown_by e)
 opens_here goes_own = refl
 opens_here (stops_own calm more) = refl
 
-turn_opens : {code : Code} {s : State} {e : Ending} → Turn code s e → Opens code s.pc (first_entry (shown_by e))
-turn_opens (pc_misaligned odd) = inl (refl, λ there. odd there.0)
-turn_opens (not_code even none) = inl (refl, λ there. there.1 none)
-turn_opens {code} {s} (no_instruction {word = word} even is misfit) = inr (refl, stands code s.pc word even is)
-turn_opens {code} {s} (executes {ending = e} i even is ok ends) =
+step_opens : {code : Code} {s : State} {e : Ending} → Step code s e → Opens code s.pc (first_entry (shown_by e))
+step_opens (pc_misaligned odd) = inl (refl, λ there. odd there.0)
+step_opens (not_code even none) = inl (refl, λ there. there.1 none)
+step_opens {code} {s} (no_instruction {word = word} even is misfit) = inr (refl, stands code s.pc word even is)
+step_opens {code} {s} (executes {ending = e} i even is ok ends) =
     inr (
       opens_here {s = s} {e = e} (rw ends (effect_own code.profile (effect_of i s.pc s.regs) s)),
       stands code s.pc (word_of i) even is,
@@ -45,8 +45,8 @@ turn_opens {code} {s} (executes {ending = e} i even is ok ends) =
 
 shown_opens : (code : Code) (t : State) (o : Observation) → ShowsNext code t o
     → Opens code t.pc (Some (program_counter o.pc))
-shown_opens code t o (inl (u, turn)) = turn_opens turn
-shown_opens code t o (inr (stop, turn)) = turn_opens turn
+shown_opens code t o (inl (u, step)) = step_opens step
+shown_opens code t o (inr (stop, step)) = step_opens step
 
 pub word_before : (code : Code) (budget : ℕ) (s t : State) (place : ℕ) (seen : List Observation)
     → IsLastBefore code budget s place seen t → word_at code t.pc ≢ None
@@ -56,20 +56,20 @@ word_before code budget s t place seen last = by (shown_opens code t last.next l
     by (inl (none, missing)) = cc
     by (inr (is, there)) = there.1
 
--- A run begins as its first turn does, where it makes any.
+-- A run begins as its first step does, where it makes any.
 
 abbrev Begins : Code → ℕ → State → List Observation → Type 0
 Begins code budget s whole = ((budget ≡ 0) × (whole ≡ [])) ⊎ ((0 < budget) × Opens code s.pc (first_entry whole))
 
 begins : (code : Code) (budget : ℕ) (s end : State) (whole : List Observation) (stop : Stop)
     → Runs code budget s whole stop end → stop ≢ RecorderRefused → Begins code budget s whole
-begins code budget s end whole stop (halted within (halts stays turn is)) calm =
-    inr (omega (arith, within), rw is (turn_opens turn))
-begins code budget s end whole stop (halted within (halts (turns first rest) turn is)) calm =
-    inr (omega (arith, within), rw is (turn_opens first))
-begins code budget s end whole stop (cut_short within led turn shows) calm = absurd (calm refl)
+begins code budget s end whole stop (halted within (halts stays step is)) calm =
+    inr (omega (arith, within), rw is (step_opens step))
+begins code budget s end whole stop (halted within (halts (steps_on first rest) step is)) calm =
+    inr (omega (arith, within), rw is (step_opens first))
+begins code budget s end whole stop (cut_short within led step shows) calm = absurd (calm refl)
 begins code budget s end whole stop (spent stays) calm = inl (refl, refl)
-begins code budget s end whole stop (spent (turns first rest)) calm = inr (omega arith, turn_opens first)
+begins code budget s end whole stop (spent (steps_on first rest)) calm = inr (omega arith, step_opens first)
 
 -- Two runs that begin at one program counter show the same first, and each reaches the place of their first
 -- difference.

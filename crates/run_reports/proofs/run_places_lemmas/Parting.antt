@@ -1,16 +1,16 @@
--- The last turns before the first difference of two runs are one turn.
+-- The last steps before the first difference of two runs are one step.
 use Rattle.std.proofs.Common.{◌≡◌, ℕ, zero, suc, ◌+◌, ◌-◌, ◌<◌, ◌≤◌, List, [], ◌∷◌, ◌++◌, Option, Some, None, length}
 use Rattle.std.proofs.Common.{take, refl, sym, ap, ◌∙◌, inl, inr, arith}
 use Rattle.std.proofs.Math.Seq.{take-append-add}
 use Rattle.run_reports.specs.Below.{Code, effect_of, Ending, entries_of, Entry, Event, events_of, executes, goes_on}
 use Rattle.run_reports.specs.Below.{here, IsFirstDifference, no_instruction, not_code, Observation, pc_misaligned}
-use Rattle.run_reports.specs.Below.{program_counter, State, Stop, stops, Turn}
+use Rattle.run_reports.specs.Below.{program_counter, State, Stop, stops, Step}
 use Rattle.run_reports.proofs.run_places_lemmas.Below.{IsOwn, goes_own, stops_own, effect_own, entry_count-append}
 use Rattle.run_reports.proofs.run_places_lemmas.Below.{entries_of-injective, Runs-determined, entries_of-append}
 use Rattle.run_reports.specs.run_places.Places.{Ends, ShowsNext, IsLastBefore}
 use Rattle.run_reports.proofs.run_places_lemmas.Runs.{ends_next}
 
--- What a turn shows, it shows of its own program counter.
+-- What a step shows, it shows of its own program counter.
 
 abbrev IsHere : ℕ → Ending → Type 0
 IsHere pc (goes_on o t) = o.pc ≡ pc
@@ -24,11 +24,11 @@ here_alone : (s : State) (o : Observation) → here s ≡ o ∷ [] → o.pc ≡ 
 unfolding first_pc
 here_alone s o same = sym (ap first_pc same)
 
-turn_here : {code : Code} {s : State} {e : Ending} → Turn code s e → IsHere s.pc e
-turn_here (pc_misaligned odd) = λ o same. cc
-turn_here (not_code even none) = λ o same. cc
-turn_here {s = s} (no_instruction even is misfit) = here_alone s
-turn_here {code} {s} (executes {ending = e} i even is ok ends) =
+step_here : {code : Code} {s : State} {e : Ending} → Step code s e → IsHere s.pc e
+step_here (pc_misaligned odd) = λ o same. cc
+step_here (not_code even none) = λ o same. cc
+step_here {s = s} (no_instruction even is misfit) = here_alone s
+step_here {code} {s} (executes {ending = e} i even is ok ends) =
     from_own {e = e} (rw ends (effect_own code.profile (effect_of i s.pc s.regs) s))
   where
     from_own : {e : Ending} → IsOwn s e → IsHere s.pc e
@@ -36,10 +36,10 @@ turn_here {code} {s} (executes {ending = e} i even is ok ends) =
     from_own (stops_own calm more) = here_alone s
 
 next_here : (code : Code) (t : State) (o : Observation) → ShowsNext code t o → o.pc ≡ t.pc
-next_here code t o (inl (u, turn)) = turn_here turn
-next_here code t o (inr (stop, turn)) = turn_here turn o refl
+next_here code t o (inl (u, step)) = step_here step
+next_here code t o (inr (stop, step)) = step_here step o refl
 
--- The entries before the place are those of whole turns, but that the last one's event may not be before it.
+-- The entries before the place are those of whole steps, but that the last one's event may not be before it.
 
 cut : (pc : ℕ) (ev : Option Event) (rest : List Entry) (k : ℕ) → 0 < k
     → k ≤ length (program_counter pc ∷ events_of ev ++ [])
@@ -96,13 +96,13 @@ last_apart (x ∷ a) (y ∷ b) p q same =
     let tail : a ≡ b = parts.0 in
     (cc, parts.1)
 
-pub one_last_turn : (code : Code) (budget : ℕ) (s s' t t' : State) (whole whole' seen seen' : List Observation)
+pub one_last_step : (code : Code) (budget : ℕ) (s s' t t' : State) (whole whole' seen seen' : List Observation)
     (stop stop' : Stop) (place : ℕ)
     → Ends code budget s whole stop → Ends code budget s' whole' stop'
     → IsFirstDifference (entries_of whole) (entries_of whole') place
     → IsLastBefore code budget s place seen t → IsLastBefore code budget s' place seen' t'
     → (seen ≡ seen') × (t.pc ≡ t'.pc)
-one_last_turn code budget s s' t t' whole whole' seen seen' stop stop' place ends ends' differ last last' =
+one_last_step code budget s s' t t' whole whole' seen seen' stop stop' place ends ends' differ last last' =
     let one = entries_before code budget s whole stop ends place seen t last in
     let other = entries_before code budget s' whole' stop' ends' place seen' t' last' in
     let same : entries_of (seen ++ one.0 ∷ []) ≡ entries_of (seen' ++ other.0 ∷ []) = sym one.2

@@ -1,4 +1,4 @@
--- A run, a turn at a time, and what it shows.
+-- A run, a step at a time, and what it shows.
 use Rattle.std.proofs.Common.{◌≡◌, ℕ, zero, suc, true, is_some, ◌+◌, ◌-◌, ◌<◌, ◌≤◌, List, [], ◌∷◌, ◌++◌, Option, Some}
 use Rattle.std.proofs.Common.{None, length, refl, sym, ap, ◌∙◌, append_assoc, append-nil, add-one, zero-add, suc-add}
 use Rattle.std.proofs.Common.{inl, inr, arith}
@@ -6,35 +6,35 @@ use Rattle.std.specs.Option.{option_map}
 use Rattle.std.specs.Prelude.{slice_get}
 use Rattle.std.proofs.lemmas.Option.{same_Some, slice_get_past, slice_get_within}
 use Rattle.run_reports.specs.Below.{Budget, Code, entries_of, Entry, goes_on, halted, halts, Leads, listed, Observation}
-use Rattle.run_reports.specs.Below.{Runs, spent, State, stays, Stop, stops, Turn, Turned, turns}
+use Rattle.run_reports.specs.Below.{Runs, spent, State, stays, Stop, stops, Step, OneStep, steps_on}
 use Rattle.run_reports.proofs.run_places_lemmas.Below.{Leads-more, entries_of-append, entry_count-append, Runs-more}
-use Rattle.run_reports.proofs.run_places_lemmas.Below.{turn_stops, some_of, run_of_state, stopped_at, went_to}
+use Rattle.run_reports.proofs.run_places_lemmas.Below.{step_stops, some_of, run_of_state, stopped_at, went_to}
 use Rattle.run_reports.specs.run_places.Places.{Ends, ShowsNext, IsLastBefore, ShowsFewer}
 use Rattle.run_reports.specs.run_places.Shown.{entry_or_stop, shown_entry, ShowsAt}
-use Rattle.rv_machine.specs.Turned as turned
+use Rattle.rv_machine.specs.OneStep as one_step
 use Rattle.run_reports.specs.declared.run_places.shown.Shown.{Shown}
 use Rattle.run_reports.specs.declared.run_places.shown.Shown.TheVariants.{Stopped}
 
-shows_next : (code : Code) (t u : State) (o : Observation) (answer : Option Stop) → Turned code t (Some o) answer u
+shows_next : (code : Code) (t u : State) (o : Observation) (answer : Option Stop) → OneStep code t (Some o) answer u
     → ShowsNext code t o
-shows_next code t u o None (turned.went_on turn) = inl (u, turn)
-shows_next code t u o (Some stop) (turned.stopped turn) = inr (stop, turn)
+shows_next code t u o None (one_step.went_on step) = inl (u, step)
+shows_next code t u o (Some stop) (one_step.stopped step) = inr (stop, step)
 
-silent : (code : Code) (t u : State) (answer : Option Stop) → Turned code t None answer u
-    → (stop : Stop) × Turn code t (stops [] stop)
-silent code t u None turned = elim turned [ ]
-silent code t u (Some stop) (turned.stopped turn) = (stop, turn)
+silent : (code : Code) (t u : State) (answer : Option Stop) → OneStep code t None answer u
+    → (stop : Stop) × Step code t (stops [] stop)
+silent code t u None one_step = elim one_step [ ]
+silent code t u (Some stop) (one_step.stopped step) = (stop, step)
 
 pub Leads-length : {code : Code} {k : ℕ} {s t : State} {seen : List Observation} → Leads code k s seen t
     → length seen ≡ k
 Leads-length stays = refl
-Leads-length (turns first rest) = ap suc (Leads-length rest)
+Leads-length (steps_on first rest) = ap suc (Leads-length rest)
 
--- turns, and then a run
+-- steps, and then a run
 pub Runs-after : {code : Code} {k n : ℕ} {s t u : State} {seen more : List Observation} {stop : Stop}
     → Leads code k s seen t → Runs code n t more stop u → Runs code (k + n) s (seen ++ more) stop u
 Runs-after stays run = rw zero-add run
-Runs-after (turns first rest) run = rw suc-add (Runs-more first (Runs-after rest run))
+Runs-after (steps_on first rest) run = rw suc-add (Runs-more first (Runs-after rest run))
 
 -- an element behind others, and one of the first of them
 get_after : {A : Type 0} (xs ys : List A) (n : ℕ) → slice_get (xs ++ ys) (length xs + n) ≡ slice_get ys n
@@ -46,26 +46,26 @@ get_within [] ys n x is = absurd (omega (arith, slice_get_within [] n x is))
 get_within (y ∷ xs) ys zero x is = is
 get_within (y ∷ xs) ys (suc n) x is = get_within xs ys n x is
 
--- so many turns were made from a state, which showed this
+-- so many steps were made from a state, which showed this
 module _ {code : Code} {s : State} {k : ℕ} {t : State} {seen : List Observation} (led : Leads code k s seen t) where
   -- the next one goes on
-  leads_on : {o : Observation} {u : State} → Turn code t (goes_on o u) → Leads code (k + 1) s (seen ++ o ∷ []) u
-  leads_on turn = rw add-one (Leads-more led turn)
+  leads_on : {o : Observation} {u : State} → Step code t (goes_on o u) → Leads code (k + 1) s (seen ++ o ∷ []) u
+  leads_on step = rw add-one (Leads-more led step)
 
   -- the next one shows this and goes on
   pub went_on_by : {u : State} {last : Option Observation} {o : Observation} {answer : Option Stop}
-      → Turned code t last answer u → last ≡ Some o → answer ≡ None → Leads code (k + 1) s (seen ++ o ∷ []) u
-  went_on_by {u} {last} {o} {answer} turned is none =
-      let went = went_to code t u last answer turned none in
+      → OneStep code t last answer u → last ≡ Some o → answer ≡ None → Leads code (k + 1) s (seen ++ o ∷ []) u
+  went_on_by {u} {last} {o} {answer} one_step is none =
+      let went = went_to code t u last answer one_step none in
       rw (same_Some went.0 o (sym went.1 ∙ is)) at (leads_on went.2)
 
 module _ {code : Code} {budget : ℕ} {s : State} {k : ℕ} {t : State} {seen : List Observation}
     (led : Leads code k s seen t) where
   -- the next one stops
-  pub ends_here : {last : List Observation} {stop : Stop} → k < budget → Turn code t (stops last stop)
+  pub ends_here : {last : List Observation} {stop : Stop} → k < budget → Step code t (stops last stop)
       → Ends code budget s (seen ++ last) stop
-  ends_here {last} {stop} within turn =
-      (t, halted (omega arith) (halts led turn refl), (turn_stops code t last stop turn).0)
+  ends_here {last} {stop} within step =
+      (t, halted (omega arith) (halts led step refl), (step_stops code t last stop step).0)
 
   -- no more are allowed
   pub ends_spent : k ≡ budget → Ends code budget s seen Budget
@@ -73,42 +73,42 @@ module _ {code : Code} {budget : ℕ} {s : State} {k : ℕ} {t : State} {seen : 
 
   -- the next one shows nothing and stops
   pub ends_silently : {u : State} {last : Option Observation} {answer : Option Stop} → k < budget
-      → Turned code t last answer u → last ≡ None → (stop : Stop) × Ends code budget s seen stop
-  ends_silently {u} {answer = answer} within turned is =
-      let end = silent code t u answer (rw is at turned) in
+      → OneStep code t last answer u → last ≡ None → (stop : Stop) × Ends code budget s seen stop
+  ends_silently {u} {answer = answer} within one_step is =
+      let end = silent code t u answer (rw is at one_step) in
       (end.0, rw append-nil at (ends_here within end.1))
 
   -- the next one is the last whose program counter comes before a place
   pub is_last : {u : State} {last : Option Observation} {o : Observation} {answer : Option Stop} {place : ℕ}
-      → k < budget → Turned code t last answer u → last ≡ Some o
+      → k < budget → OneStep code t last answer u → last ≡ Some o
       → length (entries_of seen) < place → place ≤ length (entries_of seen) + length (entries_of (o ∷ []))
       → IsLastBefore code budget s place seen t
-  is_last {u} {o = o} {answer = answer} within turned is before reached = record {
+  is_last {u} {o = o} {answer = answer} within one_step is before reached = record {
     leads = rw (Leads-length led) led;
     within = omega (arith, Leads-length led, within);
     next = o;
-    shown = shows_next code t u o answer (rw is at turned);
+    shown = shows_next code t u o answer (rw is at one_step);
     before = before;
     reached = omega (arith, entry_count-append seen (o ∷ []), reached);
   }
 
   -- and stops: then the run shows no more
   pub fewer_here : {u : State} {last : Option Observation} {o : Observation} {answer : Option Stop} {place : ℕ}
-      → k < budget → Turned code t last answer u → last ≡ Some o → is_some answer ≡ true
+      → k < budget → OneStep code t last answer u → last ≡ Some o → is_some answer ≡ true
       → length (entries_of seen) + length (entries_of (o ∷ [])) < place → ShowsFewer code budget s place
-  fewer_here {u} {o = o} {answer = answer} within turned is ended few =
+  fewer_here {u} {o = o} {answer = answer} within one_step is ended few =
       let stop = some_of answer ended in
-      let turn = stopped_at code t u (Some o) answer stop.0 (rw is at turned) stop.1 in
-      (seen ++ o ∷ [], stop.0, ends_here within turn, omega (arith, entry_count-append seen (o ∷ []), few))
+      let step = stopped_at code t u (Some o) answer stop.0 (rw is at one_step) stop.1 in
+      (seen ++ o ∷ [], stop.0, ends_here within step, omega (arith, entry_count-append seen (o ∷ []), few))
 
   -- it shows something, and the run goes on to its end
   pub ends_next : (o : Observation) → ShowsNext code t o → k < budget
       → (more : List Observation) × (stop : Stop) × Ends code budget s (seen ++ o ∷ more) stop
-  ends_next o (inl (u, turn)) within =
+  ends_next o (inl (u, step)) within =
       let run = run_of_state code (budget - (k + 1)) u in
       let e : (k + 1) + (budget - (k + 1)) ≡ budget = omega (arith, within) in
-      (run.0, run.1, (run.2, rw (e, append_assoc) at (Runs-after (leads_on led turn) run.3), run.4))
-  ends_next o (inr (stop, turn)) within = ([], stop, ends_here within turn)
+      (run.0, run.1, (run.2, rw (e, append_assoc) at (Runs-after (leads_on led step) run.3), run.4))
+  ends_next o (inr (stop, step)) within = ([], stop, ends_here within step)
 
   -- it shows an entry at a place
   shows_entry : (o : Observation) (place left : ℕ) (entry : Entry) → ShowsNext code t o → k < budget
@@ -125,11 +125,11 @@ module _ {code : Code} {budget : ℕ} {s : State} {k : ℕ} {t : State} {seen : 
       (seen ++ o ∷ more, ends.1, ends.2, ap (λ e. entry_or_stop e ends.1) (sym at_place))
 
   pub shows_shown : {u : State} {last : Option Observation} {answer : Option Stop} {place : ℕ} {shown : Shown}
-      (left : ℕ) → k < budget → Turned code t last answer u → length (entries_of seen) + left ≡ place
+      (left : ℕ) → k < budget → OneStep code t last answer u → length (entries_of seen) + left ≡ place
       → option_map shown_entry (slice_get (entries_of (listed last)) left) ≡ Some shown
       → ShowsAt code budget s place shown
-  shows_shown {last = None} left within turned there is = cc
-  shows_shown {u = u} {last = Some o} {answer = answer} {place = place} {shown = shown} left within turned there is =
+  shows_shown {last = None} left within one_step there is = cc
+  shows_shown {u = u} {last = Some o} {answer = answer} {place = place} {shown = shown} left within one_step there is =
       from_entry (slice_get (entries_of (o ∷ [])) left) refl is
     where
       from_entry : (e : Option Entry) → slice_get (entries_of (o ∷ [])) left ≡ e
@@ -137,7 +137,7 @@ module _ {code : Code} {budget : ℕ} {s : State} {k : ℕ} {t : State} {seen : 
       from_entry None at none = cc
       from_entry (Some entry) at some =
           rw (same_Some (shown_entry entry) shown some) at
-          (shows_entry o place left entry (shows_next code t u o answer turned) within there at)
+          (shows_entry o place left entry (shows_next code t u o answer one_step) within there at)
 
 -- behind all entries of a run there is its stop
 pub shows_stop : (code : Code) (budget : ℕ) (s : State) (seen : List Observation) (stop : Stop) (place : ℕ)
@@ -145,7 +145,7 @@ pub shows_stop : (code : Code) (budget : ℕ) (s : State) (seen : List Observati
 shows_stop code budget s seen stop place ends past =
     (seen, stop, ends, ap (λ e. entry_or_stop e stop) (sym (slice_get_past (entries_of seen) place past)))
 
--- what a run shows at a place behind the entries of turns is what the state after them shows
+-- what a run shows at a place behind the entries of steps is what the state after them shows
 pub later_place : (code : Code) (budget : ℕ) (s t : State) (seen : List Observation) (place : ℕ) (shown : Shown)
     → Leads code (length seen) s seen t → length seen ≤ budget
     → ShowsAt code (budget - length seen) t place shown
@@ -160,7 +160,7 @@ later_place code budget s t seen place shown led within shows =
       rw (entries_of-append seen more, get_after (entries_of seen) (entries_of more) place) shows.3,
     )
 
--- what is left of the entries before a place, once a turn has shown some
+-- what is left of the entries before a place, once a step has shown some
 pub left_after : (seen : List Observation) (last : Option Observation) (left left' place : ℕ)
     → length (entries_of seen) + left ≡ place → length (entries_of (listed last)) + left' ≡ left
     → length (entries_of (seen ++ listed last)) + left' ≡ place

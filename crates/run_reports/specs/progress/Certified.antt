@@ -1,11 +1,11 @@
--- Certified runs that go on after so many turns, and the end of one of which entries were counted before.
+-- Certified runs that go on after so many steps, and the end of one of which entries were counted before.
 use Rattle.std.specs.Prelude.{ℕ, ◌+◌, ◌<◌, List}
 use Rattle.run_reports.specs.Below.{CertifiedEnd, Code, Known, KnownLeads, MayDiffer, Observation, Same}
 
--- so many turns of what is known are made, of which none stops or depends, and more may be made
+-- so many steps of what is known are made, of which none stops or depends, and more may be made
 abbrev pub GoesOnKnown : Code → ℕ → Known → ℕ → Type 0
-GoesOnKnown code budget k turns =
-    (turns < budget) × ((seen : List Observation) × (later : Known) × KnownLeads code turns k seen later)
+GoesOnKnown code budget k steps =
+    (steps < budget) × ((seen : List Observation) × (later : Known) × KnownLeads code steps k seen later)
 
 -- how many entries are counted at an end
 abbrev pub entries_at : CertifiedEnd → ℕ

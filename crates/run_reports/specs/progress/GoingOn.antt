@@ -1,29 +1,29 @@
--- Runs that go on after so many turns, and how many lines there are to a run.
+-- Runs that go on after so many steps, and how many lines there are to a run.
 use Rattle.std.specs.Prelude.{◌≡◌, ℕ, ◌*◌, ◌<◌, ◌⊎◌, List}
 use Rattle.std.proofs.Common.{suc}
-use Rattle.run_reports.specs.progress.Lines.{turns_a_line, AreTold}
+use Rattle.run_reports.specs.progress.Lines.{steps_a_line, AreTold}
 use Rattle.run_reports.specs.Below.{Code, Collected, Leads, Observation, State}
 
--- so many turns are made from this state, of which none stops, and more may be made
+-- so many steps are made from this state, of which none stops, and more may be made
 abbrev pub GoesOn : Code → ℕ → State → ℕ → Type 0
-GoesOn code budget s turns = (turns < budget) × ((seen : List Observation) × (t : State) × Leads code turns s seen t)
+GoesOn code budget s steps = (steps < budget) × ((seen : List Observation) × (t : State) × Leads code steps s seen t)
 
--- so many turns are made from each of two states, which show the same and of which none stops, and more may be made
+-- so many steps are made from each of two states, which show the same and of which none stops, and more may be made
 abbrev pub BothGoOn : Code → ℕ → State → State → ℕ → Type 0
-BothGoOn code budget s s' turns =
-    (turns < budget)
-    × ((seen : List Observation) × (t t' : State) × Leads code turns s seen t × Leads code turns s' seen t')
+BothGoOn code budget s s' steps =
+    (steps < budget)
+    × ((seen : List Observation) × (t t' : State) × Leads code steps s seen t × Leads code steps s' seen t')
 
--- a run reaches so many lines: it goes on after as many times so many turns, or there is no line
+-- a run reaches so many lines: it goes on after as many times so many steps, or there is no line
 abbrev pub Reaches : (ℕ → Type 0) → ℕ → Type 0
-Reaches GoesOnAfter count = (count ≡ 0) ⊎ GoesOnAfter (count * turns_a_line)
+Reaches GoesOnAfter count = (count ≡ 0) ⊎ GoesOnAfter (count * steps_a_line)
 
 -- and has so many: it does not reach one more
 pub record HasLines (GoesOnAfter : ℕ → Type 0) (count : ℕ) : Type 0 where
   pub reached : Reaches GoesOnAfter count
-  pub no_more : GoesOnAfter (suc count * turns_a_line) → ⊥
+  pub no_more : GoesOnAfter (suc count * steps_a_line) → ⊥
 
--- how many lines a run has or reaches, by the counts of turns after which it goes on
+-- how many lines a run has or reaches, by the counts of steps after which it goes on
 abbrev pub Counting : Type 1
 Counting = (ℕ → Type 0) → ℕ → Type 0
 

@@ -1,17 +1,17 @@
--- The turns of a run, by the places of the entries that they show.
+-- The steps of a run, by the places of the entries that they show.
 use Rattle.std.specs.Prelude.{◌≢◌, ◌⊎◌, ℕ, ◌<◌, ◌≤◌, List, [], ◌∷◌, ◌++◌, length}
 use Rattle.run_reports.specs.Below.{Code, entries_of, goes_on, Leads, Observation, RecorderRefused, Runs, State, Stop}
-use Rattle.run_reports.specs.Below.{stops, Turn}
+use Rattle.run_reports.specs.Below.{stops, Step}
 
--- a run of at most so many turns, which no recorder cuts short, shows this and stops so
+-- a run of at most so many steps, which no recorder cuts short, shows this and stops so
 abbrev pub Ends : Code → ℕ → State → List Observation → Stop → Type 0
 Ends code budget s seen stop = (end : State) × Runs code budget s seen stop end × (stop ≢ RecorderRefused)
 
--- the turn from a state shows this, and goes on or stops
+-- the step from a state shows this, and goes on or stops
 abbrev pub ShowsNext : Code → State → Observation → Type 0
-ShowsNext code t o = ((u : State) × Turn code t (goes_on o u)) ⊎ ((stop : Stop) × Turn code t (stops (o ∷ []) stop))
+ShowsNext code t o = ((u : State) × Step code t (goes_on o u)) ⊎ ((stop : Stop) × Step code t (stops (o ∷ []) stop))
 
--- turns that show this list lead to a state, and the next one is the last whose program counter is an entry before
+-- steps that show this list lead to a state, and the next one is the last whose program counter is an entry before
 -- the place, so that the place is at most the one behind its entries
 pub record IsLastBefore (code : Code) (budget : ℕ) (s : State) (place : ℕ) (seen : List Observation) (t : State) :
     Type 0 where

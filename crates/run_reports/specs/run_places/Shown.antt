@@ -14,7 +14,7 @@ abbrev pub entry_or_stop : Option Entry → Stop → Shown
 entry_or_stop (Some entry) stop = shown_entry entry
 entry_or_stop None stop = Stopped stop
 
--- a run of at most so many turns shows this at a place, counted from 0
+-- a run of at most so many steps shows this at a place, counted from 0
 abbrev pub ShowsAt : Code → ℕ → State → ℕ → Shown → Type 0
 ShowsAt code budget s place shown =
     (seen : List Observation) × (stop : Stop) × Ends code budget s seen stop

@@ -37,16 +37,16 @@ pub fn picture<M: Memory>(
     drawn: &mut Runs<M>,
     drawing: &Drawing<'_>,
 ) -> Result<Vec<u8>, AllocError>
-    requires few { (drawn.old.one.turns_left < 2 ^ 63) × (drawn.old.other.turns_left < 2 ^ 63) }
-    requires steps { (counted.old.one.turns_left ≡ drawn.old.one.turns_left)
-        × (counted.old.other.turns_left ≡ drawn.old.other.turns_left) }
+    requires few { (drawn.old.one.steps_left < 2 ^ 63) × (drawn.old.other.steps_left < 2 ^ 63) }
+    requires steps { (counted.old.one.steps_left ≡ drawn.old.one.steps_left)
+        × (counted.old.other.steps_left ≡ drawn.old.other.steps_left) }
     requires one { state_of counted.old.one.hart (M.bytes counted.old.one.memory)
         ≡ state_of drawn.old.one.hart (M.bytes drawn.old.one.memory) }
     requires other { state_of counted.old.other.hart (M.bytes counted.old.other.memory)
         ≡ state_of drawn.old.other.hart (M.bytes drawn.old.other.memory) }
     ensures exact { IfOk result (λ page. IsPicture (code_of code.now)
-        drawn.old.one.turns_left (state_of drawn.old.one.hart (M.bytes drawn.old.one.memory))
-        drawn.old.other.turns_left (state_of drawn.old.other.hart (M.bytes drawn.old.other.memory))
+        drawn.old.one.steps_left (state_of drawn.old.one.hart (M.bytes drawn.old.one.memory))
+        drawn.old.other.steps_left (state_of drawn.old.other.hart (M.bytes drawn.old.other.memory))
         drawing.now.code drawing.now.frame drawing.now.said.now drawing.now.are_two page.items) }
     ensures small { IfOk result (λ page. length page.items ≤ 1_000_000 + length drawing.now.said.now) }
 {

@@ -6,7 +6,7 @@ ghost use Rattle.run_reports.specs.Below.{state_of};
 ghost use Rattle.run_reports.specs.progress.Certified.{GoesOnKnown, entries_at, end_behind};
 ghost use Rattle.run_reports.specs.progress.GoingOn.{HasLines, IsTold};
 
-use crate::progress::lines::{ProgressLines, TURNS_A_LINE};
+use crate::progress::lines::{ProgressLines, STEPS_A_LINE};
 use certified_runs::{CertifiedEnd, KnownParts, certify};
 use rv_machine::{CodeRegion, Memory, Running};
 use streams::Sink;
@@ -38,24 +38,24 @@ fn end_behind(before: u64, end: CertifiedEnd) -> CertifiedEnd
     }
 }
 
-/// Makes turns of a run of which these parts are known, as `certify` does. A line goes out behind each `TURNS_A_LINE`
-/// turns after which the run goes on.
+/// Makes steps of a run of which these parts are known, as `certify` does. A line goes out behind each `STEPS_A_LINE`
+/// steps after which the run goes on.
 pub fn certify_in_pieces<M: Memory, E: Sink>(
     code: &CodeRegion,
     run: &mut Running<M>,
     known: &mut KnownParts<M>,
     err: &mut E,
 ) -> CertifiedEnd
-    requires few { run.old.turns_left < 2 ^ 62 }
+    requires few { run.old.steps_left < 2 ^ 62 }
     requires extent { (a : ℕ) → is_some (M.bytes known.old.marks a) ≡ is_some (M.bytes run.old.memory a) }
     ensures certified { (seen : List Observation) × (ending : RunEnding)
-        × CertifiedRun (code_of code.now) run.old.turns_left
+        × CertifiedRun (code_of code.now) run.old.steps_left
         (known_of (state_of run.old.hart (M.bytes run.old.memory)) known.old.registers (M.bytes known.old.marks)
         known.old.shifts) seen ending
         × (result ≡ end_of seen ending) }
     ensures told { IsTrue E.TELLS
         → IsTold HasLines
-        (GoesOnKnown (code_of code.now) run.old.turns_left
+        (GoesOnKnown (code_of code.now) run.old.steps_left
         (known_of (state_of run.old.hart (M.bytes run.old.memory)) known.old.registers (M.bytes known.old.marks)
         known.old.shifts))
         (collected (E.taken err.old) (E.failures err.old))
@@ -63,18 +63,18 @@ pub fn certify_in_pieces<M: Memory, E: Sink>(
 {
     let mut lines = ProgressLines::new();
     let mut entries = 0;
-    let mut left = run.turns_left;
-    while left > TURNS_A_LINE {
-        run.turns_left = TURNS_A_LINE;
+    let mut left = run.steps_left;
+    while left > STEPS_A_LINE {
+        run.steps_left = STEPS_A_LINE;
         let end = certify(code, run, known);
-        if run.turns_left > 0 {
+        if run.steps_left > 0 {
             return end_behind(entries, end);
         }
         entries += entries_at(end);
-        left -= TURNS_A_LINE;
+        left -= STEPS_A_LINE;
         lines.tell(err);
     }
-    run.turns_left = left;
+    run.steps_left = left;
     let end = certify(code, run, known);
     end_behind(entries, end)
 }

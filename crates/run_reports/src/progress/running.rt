@@ -1,11 +1,11 @@
 // A run in pieces.
 
 ghost use Rattle.std.specs.Prelude.{◌≡◌, ◌≢◌, ℕ, ◌^◌, ◌<◌, ◌≤◌, true, false, List, [], IsTrue};
-ghost use Rattle.run_reports.specs.progress.Lines.{turns_a_line};
+ghost use Rattle.run_reports.specs.progress.Lines.{steps_a_line};
 ghost use Rattle.run_reports.specs.Below.{code_of, collected, Observation, Runs, state_of};
 ghost use Rattle.run_reports.specs.progress.GoingOn.{GoesOn, HasLines, IsTold};
 
-use crate::progress::lines::{ProgressLines, TURNS_A_LINE};
+use crate::progress::lines::{ProgressLines, STEPS_A_LINE};
 use rv_machine::{CodeRegion, Memory, Observation, Recorder, Running, Stop, run};
 use std::alloc::AllocError;
 use streams::Sink;
@@ -31,15 +31,15 @@ impl Recorder for Unrecorded {
     }
 }
 
-/// How many turns the next piece has, where so many are left.
+/// How many steps the next piece has, where so many are left.
 fn piece_of(left: u64) -> u64
-    ensures last { left ≤ turns_a_line → result ≡ left }
-    ensures whole { turns_a_line < left → result ≡ turns_a_line }
+    ensures last { left ≤ steps_a_line → result ≡ left }
+    ensures whole { steps_a_line < left → result ≡ steps_a_line }
 {
-    left.min(TURNS_A_LINE)
+    left.min(STEPS_A_LINE)
 }
 
-/// Whether a run has used up its turns.
+/// Whether a run has used up its steps.
 fn is_spent(stop: Stop) -> bool
     ensures spent { result ≡ true → stop ≡ Stop.Budget }
     ensures stopped { result ≡ false → stop ≢ Stop.Budget }
@@ -47,23 +47,23 @@ fn is_spent(stop: Stop) -> bool
     stop == Stop::Budget
 }
 
-/// Makes turns of a run until one stops, at most as many as it may still make, and then it stops by `Budget`. A line
-/// goes out behind each `TURNS_A_LINE` turns after which the run goes on.
-// It is never compiled in line: beside a caller's own values, those of the turns do not fit the registers.
+/// Makes steps of a run until one stops, at most as many as it may still make, and then it stops by `Budget`. A line
+/// goes out behind each `STEPS_A_LINE` steps after which the run goes on.
+// It is never compiled in line: beside a caller's own values, those of the steps do not fit the registers.
 #[inline(never)]
 pub fn run_in_pieces<M: Memory, E: Sink>(
     code: &CodeRegion,
     running: &mut Running<M>,
     err: &mut E,
 ) -> Stop
-    requires few { running.old.turns_left < 2 ^ 63 }
+    requires few { running.old.steps_left < 2 ^ 63 }
     ensures ran { (seen : List Observation)
-        × Runs (code_of code.now) running.old.turns_left
+        × Runs (code_of code.now) running.old.steps_left
         (state_of running.old.hart (M.bytes running.old.memory)) seen result
         (state_of running.new.hart (M.bytes running.new.memory)) }
     ensures calm { result ≢ Stop.RecorderRefused }
     ensures told { IsTrue E.TELLS → IsTold HasLines
-        (GoesOn (code_of code.now) running.old.turns_left (state_of running.old.hart (M.bytes running.old.memory)))
+        (GoesOn (code_of code.now) running.old.steps_left (state_of running.old.hart (M.bytes running.old.memory)))
         (collected (E.taken err.old) (E.failures err.old)) (collected (E.taken err.new) (E.failures err.new)) }
 {
     let mut lines = ProgressLines::new();
@@ -73,15 +73,15 @@ pub fn run_in_pieces<M: Memory, E: Sink>(
             code,
             &mut running.memory,
             &mut Unrecorded,
-            piece_of(running.turns_left),
+            piece_of(running.steps_left),
         );
-        if running.turns_left <= TURNS_A_LINE {
+        if running.steps_left <= STEPS_A_LINE {
             return stop;
         }
         if !is_spent(stop) {
             return stop;
         }
-        running.turns_left -= TURNS_A_LINE;
+        running.steps_left -= STEPS_A_LINE;
         lines.tell(err);
     }
 }

@@ -7,17 +7,17 @@ ghost use Rattle.run_reports.specs.run_places.Places.{Ends, IsLastBefore, ShowsF
 ghost use Rattle.run_reports.specs.run_places.Shown.{ShowsAt};
 ghost use Rattle.run_reports.specs.declared.run_places.shown.Shown.{Shown};
 
-/// What a run shows at a place behind the entries of turns that it made is what the state that they lead to shows.
-pub fn places_behind_turns()
+/// What a run shows at a place behind the entries of steps that it made is what the state that they lead to shows.
+pub fn places_behind_steps()
     ensures { (code : Code) (budget : ℕ) (s t : State) (seen : List Observation) (place : ℕ) (shown : Shown)
         → Leads code (length seen) s seen t → length seen ≤ budget
         → ShowsAt code (budget - length seen) t place shown
         → ShowsAt code budget s (length (entries_of seen) + place) shown }
 {}
 
-/// The last turns before the first difference of two runs are one turn: both runs have shown one list before it, and
+/// The last steps before the first difference of two runs are one step: both runs have shown one list before it, and
 /// come to one program counter.
-pub fn one_turn_before_a_difference()
+pub fn one_step_before_a_difference()
     ensures { (code : Code) (budget : ℕ) (s s' t t' : State) (whole whole' seen seen' : List Observation)
         (stop stop' : Stop) (place : ℕ)
         → Ends code budget s whole stop
@@ -40,7 +40,7 @@ pub fn a_difference_is_reached()
         → (0 < place) × (ShowsFewer code budget s place → ⊥) × (ShowsFewer code budget s' place → ⊥) }
 {}
 
-/// The last turn before a place begins where a word stands.
+/// The last step before a place begins where a word stands.
 pub fn a_word_before_a_place()
     ensures { (code : Code) (budget : ℕ) (s t : State) (place : ℕ) (seen : List Observation)
         → IsLastBefore code budget s place seen t → word_at code t.pc ≢ None }

@@ -5,22 +5,22 @@ ghost use Rattle.std.specs.Option.{option_map};
 ghost use Rattle.run_reports.specs.Below.{code_of, entries_of, listed, state_of};
 ghost use Rattle.run_reports.specs.run_places.Shown.{shown_entry, ShowsAt};
 
-use crate::run_places::turns::turn;
+use crate::run_places::steps::one_step;
 use rv_machine::{CodeRegion, Event, Memory, Observation, Running, Stop, entry_count};
 use std::alloc::Global;
 
 /// What a run shows at a place.
 #[derive(Clone, Copy)]
 pub enum Shown {
-    /// The entry for a turn's program counter.
+    /// The entry for a step's program counter.
     ProgramCounter(u32),
-    /// The entry for what a turn shows besides.
+    /// The entry for what a step shows besides.
     HasEvent(Event),
     /// No entry: the run has stopped so.
     Stopped(Stop),
 }
 
-/// One of a turn's entries, of which the one for the program counter is at 0. `None` where there is none at that place.
+/// One of a step's entries, of which the one for the program counter is at 0. `None` where there is none at that place.
 fn entry_at(seen: &Observation, place: u64) -> Option<Shown>
     ensures entry { result ≡ option_map shown_entry (slice_get (entries_of (seen.now ∷ [])) place) }
     ensures past { result ≡ None → length (entries_of (seen.now ∷ [])) ≤ place }
@@ -37,7 +37,7 @@ fn entry_at(seen: &Observation, place: u64) -> Option<Shown>
     }
 }
 
-/// What a turn shows at a place, or else how many entries are before the place behind those of the turn.
+/// What a step shows at a place, or else how many entries are before the place behind those of the step.
 fn entry_or_rest(seen: Option<Observation>, place: u64) -> Result<Shown, u64>
     ensures entry { IfOk result (λ shown.
         option_map shown_entry (slice_get (entries_of (listed seen)) place) ≡ Some shown) }
@@ -59,12 +59,12 @@ pub fn shown_at<M: Memory>(
     run: &mut Running<M>,
     place: u64,
 ) -> Shown
-    ensures { ShowsAt (code_of code.now) run.old.turns_left (state_of run.old.hart (M.bytes run.old.memory)) place
+    ensures { ShowsAt (code_of code.now) run.old.steps_left (state_of run.old.hart (M.bytes run.old.memory)) place
         result }
 {
     let mut left = place;
-    for _turn in 0..run.turns_left {
-        let (seen, stop) = turn(alloc, code, run);
+    for _step in 0..run.steps_left {
+        let (seen, stop) = one_step(alloc, code, run);
         match entry_or_rest(seen, left) {
             Ok(shown) => return shown,
             Err(rest) => left = rest,

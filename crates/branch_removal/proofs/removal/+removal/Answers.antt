@@ -87,7 +87,7 @@ pub push_removed-returns-in_ok-repeat-in-Loop : goal.push_removed-returns-in_ok-
 push_removed-returns-in_ok-repeat-in-Loop t c =
     rw (code_of_loop c.args.statement.now c.in-Loop.counter c.in-Loop.low c.in-Loop.high c.in-Loop.body c.in-Loop.is
     c.args.within c.args.control _ _ c.deref-in-Loop.result.now c.deref-in-Loop.ensures.value
-    c.in_ok-turn-in-Loop.ensures c.in_ok-repeat-in-Loop.ensures) at c.push-in-Loop.ensures
+    c.in_ok-iteration-in-Loop.ensures c.in_ok-repeat-in-Loop.ensures) at c.push-in-Loop.ensures
 
 pub push_secret-returns : goal.push_secret-returns
 push_secret-returns t c =

@@ -4,7 +4,7 @@ use Rattle.branch_removal.specs.Heights.{depth_in, height_in}
 use Rattle.branch_removal.specs.Straight.{straight_block}
 use Rattle.branch_removal.proofs.StatementTrees.{tree_of_branch, tree_of_loop, accepted_smaller, otherwise_smaller}
 use Rattle.branch_removal.proofs.StatementTrees.{body_smaller, item_here, smaller_here}
-use Rattle.branch_removal.proofs.CheckedSizes.{turns_counted}
+use Rattle.branch_removal.proofs.CheckedSizes.{iterations_counted}
 use Rattle.branch_removal.specs.Below.{term_nodes, term_tree}
 use Rattle.branch_removal.proofs.sizes.+sizes.Goals as goal
 
@@ -18,8 +18,8 @@ statement_size-block_size-other-requires t c =
     let b = c.in-Branch in
     search (rules, otherwise_smaller b.accepted b.otherwise b.is refl c.deref-in-Branch-2.ensures.value)
 
-pub statement_size-block_size-turn-requires : goal.statement_size-block_size-turn-requires
-statement_size-block_size-turn-requires t c =
+pub statement_size-block_size-iteration-requires : goal.statement_size-block_size-iteration-requires
+statement_size-block_size-iteration-requires t c =
     search (rules, body_smaller c.in-Repeat.body c.in-Repeat.is c.deref-in-Repeat.ensures.value)
 
 pub block_size-statement_size-one-requires : goal.block_size-statement_size-one-requires
@@ -34,7 +34,7 @@ statement_size-returns-in-Branch-clause-work t c =
     let b = c.in-Branch in
     let tree = tree_of_branch b.accepted b.otherwise b.is c.deref-in-Branch.ensures.value
     c.deref-in-Branch-2.ensures.value in
-    omega (arith, ap (statement_work c.args.turns.now) tree)
+    omega (arith, ap (statement_work c.args.iterations.now) tree)
 
 pub statement_size-returns-in-Branch-clause-height : goal.statement_size-returns-in-Branch-clause-height
 statement_size-returns-in-Branch-clause-height t c =
@@ -54,11 +54,12 @@ pub statement_size-returns-in-Repeat-clause-work : goal.statement_size-returns-i
 statement_size-returns-in-Repeat-clause-work t c =
     let r = c.in-Repeat in
     let tree = tree_of_loop r.body r.is c.deref-in-Repeat.ensures.value in
-    let turns = c.args.turns.now in
+    let iterations = c.args.iterations.now in
     let body = straight_block c.deref-in-Repeat.result.now in
-    rw (c.loop_size.ensures.work, c.turns_of.ensures, c.block_size-turn.ensures.work, tree)
-    (turns_counted (term_nodes (term_tree r.low) + term_nodes (term_tree r.high)) (slice_index turns r.counter)
-    (block_work turns body))
+    rw (c.loop_size.ensures.work, c.iterations_of.ensures, c.block_size-iteration.ensures.work, tree)
+    (iterations_counted (term_nodes (term_tree r.low) + term_nodes (term_tree r.high))
+    (slice_index iterations r.counter)
+    (block_work iterations body))
 
 pub statement_size-returns-in-Repeat-clause-height : goal.statement_size-returns-in-Repeat-clause-height
 statement_size-returns-in-Repeat-clause-height t c =

@@ -12,7 +12,7 @@ invariant-block_size-loop-statement l =
     let all = straight_block l.statements in
     record {
       few : l.work ≤ 2 ^ 64 - 1;
-      work : counted (l.work + block_work l.turns rest) ≡ counted (block_work l.turns all);
+      work : counted (l.work + block_work l.iterations rest) ≡ counted (block_work l.iterations all);
       height : max l.height (counted (height_in_all rest)) ≡ counted (height_in_all all);
       depth : max l.depth (counted (depth_in_all rest)) ≡ counted (depth_in_all all);
     }

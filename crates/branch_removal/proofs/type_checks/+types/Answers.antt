@@ -20,8 +20,8 @@ is_typed-are_typed-other-requires t c =
     let b = c.in-Branch in
     search (rules, otherwise_smaller b.accepted b.otherwise b.is refl c.deref-in-Branch-2.ensures.value)
 
-pub is_typed-are_typed-turn-requires : goal.is_typed-are_typed-turn-requires
-is_typed-are_typed-turn-requires t c =
+pub is_typed-are_typed-iteration-requires : goal.is_typed-are_typed-iteration-requires
+is_typed-are_typed-iteration-requires t c =
     search (rules, body_smaller c.in-Repeat.body c.in-Repeat.is c.deref-in-Repeat.ensures.value)
 
 pub is_typed-returns-in-Branch : goal.is_typed-returns-in-Branch
@@ -49,6 +49,6 @@ is_typed-returns-in-Repeat t c =
       c.type_of-in-Repeat.ensures,
       c.counts-to.ensures,
       c.type_of-in-Repeat-2.ensures,
-      c.are_typed-turn.ensures,
+      c.are_typed-iteration.ensures,
       tree_of_loop c.in-Repeat.body c.in-Repeat.is c.deref-in-Repeat.ensures.value,
     ) refl

@@ -20,8 +20,8 @@ extent_of-extent_of_all-other-requires t c =
       (omega (arith, ap height_in tree, c.requires.height), omega (arith, ap depth_in tree, c.requires.depth)),
     )
 
-pub extent_of-extent_of_all-turn-requires : goal.extent_of-extent_of_all-turn-requires
-extent_of-extent_of_all-turn-requires t c =
+pub extent_of-extent_of_all-iteration-requires : goal.extent_of-extent_of_all-iteration-requires
+extent_of-extent_of_all-iteration-requires t c =
     let tree = tree_of_loop c.in-Repeat.body c.in-Repeat.is c.deref-in-Repeat.ensures.value in (
       search (rules, body_smaller c.in-Repeat.body c.in-Repeat.is c.deref-in-Repeat.ensures.value),
       (omega (arith, ap height_in tree, c.requires.height), omega (arith, ap depth_in tree, c.requires.depth)),
@@ -30,7 +30,7 @@ extent_of-extent_of_all-turn-requires t c =
 pub extent_of-overflow_add-result : goal.extent_of-overflow_add-result
 extent_of-overflow_add-result t c =
     let tree = tree_of_loop c.in-Repeat.body c.in-Repeat.is c.deref-in-Repeat.ensures.value in
-    omega (arith, ap depth_in tree, c.requires.depth, c.extent_of_all-turn.ensures.depth)
+    omega (arith, ap depth_in tree, c.requires.depth, c.extent_of_all-iteration.ensures.depth)
 
 pub extent_of-returns-in-Branch : goal.extent_of-returns-in-Branch
 extent_of-returns-in-Branch t c =

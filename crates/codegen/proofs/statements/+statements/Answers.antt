@@ -46,7 +46,8 @@ statement-returns-in_ok-statements-in-Repeat t c =
     let code =
     loop_is c.args.layout.now c.args.depth r.counter
     (tree_of_loop r.body r.is c.deref-in-Repeat.ensures.value)
-    (c.as_slice-in-Repeat.ensures.value ∙ emitted c.in_ok-statements-in-Repeat.ensures.code c.new-turn.ensures.items)
+    (c.as_slice-in-Repeat.ensures.value ∙ emitted c.in_ok-statements-in-Repeat.ensures.code
+    c.new-iteration.ensures.items)
     c.any_sets.result set in
     record {
       code = subst (λ (l : List Instr). OnOk c.repeat.result (c.repeat.new.code.items ≡ c.args.code.now.items ++ l))

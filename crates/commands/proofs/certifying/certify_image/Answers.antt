@@ -8,7 +8,7 @@ use Rattle.commands.specs.Images.{HoldsImage}
 use Rattle.commands.specs.Progress.{CertificateGoesOn, Tells, FileCertificateTells}
 use Rattle.commands.specs.ImageRefusals.{no_image, no_arguments, no_answer, out_of_memory}
 use Rattle.commands.specs.Words.{IsFaultOfWords, AreGiven}
-use Rattle.commands.proofs.AnswerLemmas.{finds_fault, finds_turned, read_fault, read_memory}
+use Rattle.commands.proofs.AnswerLemmas.{finds_fault, finds_converted, read_fault, read_memory}
 use Rattle.commands.proofs.CertificateLemmas.{stands_in_code}
 use Rattle.commands.proofs.ProgressLemmas.{on_err, file_certificate_tells, certificate_reaches}
 use Rattle.commands.proofs.WordLemmas.{fault_of_words, given_from}
@@ -35,7 +35,7 @@ returns-in_err-certificate-clause-finds g c = λ tells.
     let words = map (λ word. word.now) c.args.arguments.now in
     let image = c.in_ok-image.image in
     let why = c.in_err-certificate.field-0.0 in
-    finds_turned _ c.from_residual-in_err-certificate.ensures.1 (λ e is. (
+    finds_converted _ c.from_residual-in_err-certificate.ensures.1 (λ e is. (
       no_answer (c.in_ok-image.ensures.said tells) (
         c.in_ok-given.given.items,
         why,
@@ -55,7 +55,7 @@ text_of-requires g c = stands_in_code c.in_ok-image.image c.as_slice-2.result.no
 
 pub returns-in_err-text-clause-finds : goal.returns-in_err-text-clause-finds
 returns-in_err-text-clause-finds g c = λ tells.
-    finds_turned _ c.from_residual-in_err-text.ensures.1 (λ e memory. (out_of_memory memory, refl))
+    finds_converted _ c.from_residual-in_err-text.ensures.1 (λ e memory. (out_of_memory memory, refl))
 
 pub returns-clause-finds : goal.returns-clause-finds
 returns-clause-finds g c = λ tells.

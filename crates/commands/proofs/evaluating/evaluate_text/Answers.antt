@@ -6,7 +6,7 @@ use Rattle.commands.specs.Meanings.{evaluation_budget, no_text, not_accepted, no
 use Rattle.commands.specs.OutcomeText.{outcome_text}
 use Rattle.commands.specs.Words.{IsFaultOfWords}
 use Rattle.commands.specs.declared.fault.Fault.TheVariants.{Eval}
-use Rattle.commands.proofs.AnswerLemmas.{finds_answer, finds_fault, finds_turned, read_fault, read_memory}
+use Rattle.commands.proofs.AnswerLemmas.{finds_answer, finds_fault, finds_converted, read_fault, read_memory}
 use Rattle.commands.proofs.Counting.{told_calm}
 use Rattle.commands.proofs.MeaningLemmas.{program_held, only_memory, same_outcome, answered}
 use Rattle.commands.proofs.WordLemmas.{fault_of_words, spelled_from}
@@ -59,7 +59,7 @@ returns-in_err-outcome-clause-finds g c = λ tells.
 
 pub returns-in_err-lines-clause-finds : goal.returns-in_err-lines-clause-finds
 returns-in_err-lines-clause-finds g c = λ tells.
-    finds_turned _ c.from_residual-in_err-lines.ensures.1 (λ e memory. (out_of_memory memory, refl))
+    finds_converted _ c.from_residual-in_err-lines.ensures.1 (λ e memory. (out_of_memory memory, refl))
 
 pub returns-clause-finds : goal.returns-clause-finds
 returns-clause-finds g c = λ tells.

@@ -1,7 +1,7 @@
 use Rattle.std.proofs.Common.{refl}
 use Rattle.commands.specs.Images.{not_read}
 use Rattle.commands.specs.Unread.{out_of_memory}
-use Rattle.commands.proofs.AnswerLemmas.{finds_answer, finds_fault, finds_turned, read_fault, read_memory}
+use Rattle.commands.proofs.AnswerLemmas.{finds_answer, finds_fault, finds_converted, read_fault, read_memory}
 use Rattle.commands.proofs.images.list_image.Goals as goal
 
 pub returns-in_err-image-clause-finds : goal.returns-in_err-image-clause-finds
@@ -10,7 +10,7 @@ returns-in_err-image-clause-finds g c = λ tells.
 
 pub returns-in_err-lines-clause-finds : goal.returns-in_err-lines-clause-finds
 returns-in_err-lines-clause-finds g c = λ tells.
-    finds_turned _ c.from_residual-in_err-lines.ensures.1 (λ e memory. (not_read (out_of_memory memory), refl))
+    finds_converted _ c.from_residual-in_err-lines.ensures.1 (λ e memory. (not_read (out_of_memory memory), refl))
 
 pub returns-clause-finds : goal.returns-clause-finds
 returns-clause-finds g c = λ tells.

@@ -3,7 +3,7 @@ use Rattle.std.proofs.Common.{List, map, inr, refl, ◌∙◌, subst}
 use Rattle.commands.specs.Below.{AreWithin, HasLines, Param}
 use Rattle.commands.specs.ImageRefusals.{no_image, no_arguments, no_answer, out_of_memory}
 use Rattle.commands.specs.Words.{AreBothSpelled, IsFaultOfWords, fault_of_both}
-use Rattle.commands.proofs.AnswerLemmas.{finds_answer, finds_fault, finds_turned, read_fault, read_memory}
+use Rattle.commands.proofs.AnswerLemmas.{finds_answer, finds_fault, finds_converted, read_fault, read_memory}
 use Rattle.commands.proofs.ProgressLemmas.{on_err, file_pair_tells, pair_reaches}
 use Rattle.commands.proofs.images.pair_image.Goals as goal
 
@@ -24,7 +24,7 @@ returns-in_err-first-clause-finds g c = λ tells.
 
 pub returns-in_err-pairing-clause-finds : goal.returns-in_err-pairing-clause-finds
 returns-in_err-pairing-clause-finds g c = λ tells.
-    finds_turned _ c.from_residual-in_err-pairing.ensures.1 (λ e is. (
+    finds_converted _ c.from_residual-in_err-pairing.ensures.1 (λ e is. (
       no_answer (c.in_ok-image.ensures.said tells) (
         c.in_ok-first.first,
         c.in_ok-first.second,
@@ -48,7 +48,7 @@ pairing_lines-requires-clause-second g c =
 
 pub returns-in_err-text-clause-finds : goal.returns-in_err-text-clause-finds
 returns-in_err-text-clause-finds g c = λ tells.
-    finds_turned _ c.from_residual-in_err-text.ensures.1 (λ e memory. (out_of_memory memory, refl))
+    finds_converted _ c.from_residual-in_err-text.ensures.1 (λ e memory. (out_of_memory memory, refl))
 
 pub returns-clause-finds : goal.returns-clause-finds
 returns-clause-finds g c = λ tells.

@@ -2,7 +2,7 @@ use Rattle.std.proofs.Common.{Err, List, inr, refl, ap, ◌∙◌}
 use Rattle.commands.specs.Below.{HasLines, Param, Reaches}
 use Rattle.commands.specs.ImageRefusals.{no_answer, out_of_memory}
 use Rattle.commands.specs.OutcomeText.{outcome_text}
-use Rattle.commands.proofs.AnswerLemmas.{finds_answer, finds_fault, finds_turned, read_fault, read_memory}
+use Rattle.commands.proofs.AnswerLemmas.{finds_answer, finds_fault, finds_converted, read_fault, read_memory}
 use Rattle.commands.proofs.ImageLemmas.{refused_anyway}
 use Rattle.commands.proofs.ProgressLemmas.{on_err, file_run_tells, run_reaches}
 use Rattle.commands.proofs.images.run_image.Goals as goal
@@ -13,7 +13,7 @@ returns-in_err-image-clause-finds g c = λ tells.
 
 pub returns-in_err-outcome-clause-finds : goal.returns-in_err-outcome-clause-finds
 returns-in_err-outcome-clause-finds g c = λ tells.
-    finds_turned _ c.from_residual-in_err-outcome.ensures.1 (λ e is. (
+    finds_converted _ c.from_residual-in_err-outcome.ensures.1 (λ e is. (
       no_answer (c.in_ok-image.ensures.said tells) (
         c.in_ok-image.args,
         c.in_err-outcome.field-0.0,
@@ -27,7 +27,7 @@ returns-in_err-outcome-clause-finds g c = λ tells.
 
 pub returns-in_err-text-clause-finds : goal.returns-in_err-text-clause-finds
 returns-in_err-text-clause-finds g c = λ tells.
-    finds_turned _ c.from_residual-in_err-text.ensures.1 (λ e memory. (out_of_memory memory, refl))
+    finds_converted _ c.from_residual-in_err-text.ensures.1 (λ e memory. (out_of_memory memory, refl))
 
 pub returns-clause-finds : goal.returns-clause-finds
 returns-clause-finds g c = λ tells.

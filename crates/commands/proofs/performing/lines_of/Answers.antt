@@ -1,9 +1,9 @@
 use Rattle.std.proofs.Common.{refl, ◌∙◌}
-use Rattle.commands.proofs.AnswerLemmas.{finds_answer, finds_turned, read_memory}
+use Rattle.commands.proofs.AnswerLemmas.{finds_answer, finds_converted, read_memory}
 use Rattle.commands.proofs.performing.lines_of.Goals as goal
 
 pub returns-in_err-lines-clause-finds : goal.returns-in_err-lines-clause-finds
-returns-in_err-lines-clause-finds c = λ files. finds_turned _ c.from_residual.ensures.1 (λ e memory. (memory, refl))
+returns-in_err-lines-clause-finds c = λ files. finds_converted _ c.from_residual.ensures.1 (λ e memory. (memory, refl))
 
 pub returns-in_err-lines-clause-read : goal.returns-in_err-lines-clause-read
 returns-in_err-lines-clause-read c = λ files. read_memory _ c.from_residual.ensures.1 refl

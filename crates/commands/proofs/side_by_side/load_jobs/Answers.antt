@@ -1,6 +1,6 @@
 -- One job more.
 use Rattle.std.proofs.Common.{refl, ◌∙◌, arith}
-use Rattle.language.proofs.Handed.{handed_on, turned_on}
+use Rattle.language.proofs.Handed.{handed_on, converted_on}
 use Rattle.commands.proofs.AnswerLemmas.{read_fault, read_memory}
 use Rattle.commands.proofs.HartLemmas.{one_job_more, job_from, job_refused, spelled_by}
 use Rattle.commands.specs.Harts.{jobs_want_memory}
@@ -31,7 +31,7 @@ returns-in_err-image-clause-refused g c = λ tells.
 
 pub returns-in_err-push-clause-refused : goal.returns-in_err-push-clause-refused
 returns-in_err-push-clause-refused g c = λ tells.
-    turned_on _ c.from_residual-in_err-push.ensures.1 (λ e memory. jobs_want_memory memory)
+    converted_on _ c.from_residual-in_err-push.ensures.1 (λ e memory. jobs_want_memory memory)
 
 pub returns-in_err-image-clause-read : goal.returns-in_err-image-clause-read
 returns-in_err-image-clause-read g c =

@@ -4,7 +4,7 @@ use Rattle.std.specs.List.{AllZip}
 use Rattle.commands.specs.Harts.{IsJobOf, RefusesJobs, by_jobs, plan_wants_memory}
 use Rattle.commands.specs.Below.{hart_of, job_of}
 use Rattle.input_files.specs.declared.harts_file.jobs.Job.{Job}
-use Rattle.language.proofs.Handed.{handed_on, turned_on}
+use Rattle.language.proofs.Handed.{handed_on, converted_on}
 use Rattle.commands.proofs.AnswerLemmas.{read_fault, read_memory}
 use Rattle.commands.proofs.HartLemmas.{plan_said, plan_refused, run_refused}
 use Rattle.commands.proofs.side_by_side.run_side_by_side.Goals as goal
@@ -53,7 +53,7 @@ returns-in_err-ends-clause-refused g c = λ tells.
 
 pub returns-in_err-text-clause-refused : goal.returns-in_err-text-clause-refused
 returns-in_err-text-clause-refused g c = λ tells.
-    turned_on _ c.from_residual-in_err-text.ensures.1 (λ e memory. plan_wants_memory memory)
+    converted_on _ c.from_residual-in_err-text.ensures.1 (λ e memory. plan_wants_memory memory)
 
 pub returns-in_err-plan-clause-read : goal.returns-in_err-plan-clause-read
 returns-in_err-plan-clause-read g c = read_fault _ _ _ _ c.from_residual.ensures.1 refl

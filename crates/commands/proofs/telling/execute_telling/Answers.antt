@@ -60,7 +60,7 @@ returns-clause-executed g c =
     let end = c.run_in_pieces-stop.new.running in
     let ran = c.run_in_pieces-stop.ensures.ran in
     ran_executed c.args.image.now c.args.args.now false [] [] c.answer.result (code_of c.in_ok-code.code)
-    loaded.turns_left (state_of loaded.hart (paged_bytes loaded.memory))
+    loaded.steps_left (state_of loaded.hart (paged_bytes loaded.memory))
     (state_of end.hart (paged_bytes end.memory)) c.run_in_pieces-stop.result
     (sym c.first_fault.ensures.first ∙ c.in_default.is) c.in_ok-code.ensures c.in_ok-loaded.ensures.steps
     c.in_ok-loaded.ensures.state (ran.0, ran.1, refl) c.answer.ensures

@@ -55,10 +55,10 @@ returns-clause-paired g c =
     let other = c.in_ok-other.other in
     let both = c.compare_telling.ensures.compared in
     compared (sym c.fault_of_both.ensures.first ∙ c.in_default.is)
-    (observed_from image c.args.one.now (code_of c.in_ok-code.code) one.turns_left
+    (observed_from image c.args.one.now (code_of c.in_ok-code.code) one.steps_left
     (state_of one.hart (paged_bytes one.memory)) both.0 c.in_ok-code.ensures c.in_ok-one.ensures.steps
     c.in_ok-one.ensures.state both.2)
-    (observed_from image c.args.other.now (code_of c.in_ok-code.code) other.turns_left
+    (observed_from image c.args.other.now (code_of c.in_ok-code.code) other.steps_left
     (state_of other.hart (paged_bytes other.memory)) both.1 c.in_ok-code.ensures c.in_ok-other.ensures.steps
     c.in_ok-other.ensures.state both.3)
     both.4

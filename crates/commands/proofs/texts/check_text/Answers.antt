@@ -5,7 +5,7 @@ use Rattle.commands.specs.Below.{program_tree}
 use Rattle.commands.specs.FileTexts.{not_read}
 use Rattle.commands.specs.Judged.{no_text, not_accepted}
 use Rattle.commands.specs.Unread.{out_of_memory}
-use Rattle.commands.proofs.AnswerLemmas.{finds_answer, finds_fault, finds_turned, read_fault, read_memory}
+use Rattle.commands.proofs.AnswerLemmas.{finds_answer, finds_fault, finds_converted, read_fault, read_memory}
 use Rattle.commands.proofs.Counting.{told_calm}
 use Rattle.commands.proofs.texts.check_text.Goals as goal
 
@@ -15,7 +15,7 @@ returns-in_err-text-clause-finds g c = λ tells.
 
 pub returns-in_err-line-in-Ok-clause-finds : goal.returns-in_err-line-in-Ok-clause-finds
 returns-in_err-line-in-Ok-clause-finds g c = λ tells.
-    finds_turned _ c.from_residual-in_err-line-in-Ok.ensures.1
+    finds_converted _ c.from_residual-in_err-line-in-Ok.ensures.1
     (λ e memory. (no_text (not_read (out_of_memory memory)), refl))
 
 pub returns-in-Ok-clause-finds : goal.returns-in-Ok-clause-finds

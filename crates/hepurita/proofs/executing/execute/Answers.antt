@@ -29,10 +29,10 @@ returns-clause-executed g c =
     let loaded = c.in_ok-loaded.loaded in
     ran_executed c.args.image.now c.args.args.now g.R.Recorder.KEEPS (g.R.Recorder.list c.args.recorder.now)
     (g.R.Recorder.list c.run-stop.new.recorder) c.answer.result
-    (code_of c.in_ok-code.code) loaded.turns_left (state_of loaded.hart (paged_bytes loaded.memory))
+    (code_of c.in_ok-code.code) loaded.steps_left (state_of loaded.hart (paged_bytes loaded.memory))
     (state_of c.run-stop.new.hart (paged_bytes c.run-stop.new.memory)) c.run-stop.result
     (sym c.first_fault.ensures.first ∙ c.in_default.is)
-    c.in_ok-code.ensures c.in_ok-loaded.ensures.steps c.in_ok-loaded.ensures.state c.run-stop.ensures.turns
+    c.in_ok-code.ensures c.in_ok-loaded.ensures.steps c.in_ok-loaded.ensures.state c.run-stop.ensures.steps
     c.answer.ensures
 
 pub answer-requires-clause-frame : goal.answer-requires-clause-frame

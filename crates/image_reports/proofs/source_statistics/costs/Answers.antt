@@ -5,6 +5,6 @@ use Rattle.image_reports.proofs.source_statistics.costs.Goals as goal
 
 pub push_sizes-requires : goal.push_sizes-requires
 push_sizes-requires c =
-    let counted = c.program_cost-work.ensures ∙ ap₂ cost_by c.turns.ensures c.flat.ensures.flat in
+    let counted = c.program_cost-work.ensures ∙ ap₂ cost_by c.iterations.ensures c.flat.ensures.flat in
     subst (λ (work : Cost). IfSome (exported [] (program_tree c.args.program.now).procedures)
     (λ export. work ≡ work_cost export.0 export.1)) (sym counted) c.requires

@@ -45,9 +45,9 @@ costs-requires c =
     let counted = c.in_ok-ranged.ensures.accepted c.args.profile c.args.source.now is in
     let program = program_tree c.in_ok-flattened.flattened.program in
     let plain = grammatical_export c.args.source.now program is.read in
-    let same = ap (λ (r : RangedProgram). cost_by r.turns r.flat) counted.0 in
+    let same = ap (λ (r : RangedProgram). cost_by r.iterations r.flat) counted.0 in
     subst (λ (o : Option (List ProcedureTree × ProcedureTree)).
-    IfSome o (λ export. cost_by c.in_ok-ranged.ranged.turns c.in_ok-ranged.ranged.flat
+    IfSome o (λ export. cost_by c.in_ok-ranged.ranged.iterations c.in_ok-ranged.ranged.flat
     ≡ work_cost export.0 export.1))
     (sym is.small.well_formed.is_export)
     (same ∙ sym (same_cost c.args.profile program is.before is.export plain is.small))

@@ -7,5 +7,5 @@ use Rattle.intervals.proofs.costs.largest_stretch.Given as goal
 abbrev pub invariant-loop-stretch : goal.invariant-loop-stretch
 invariant-loop-stretch l =
     fold larger l.most
-    (map counted_share (stretch_shares l.turns (drop l.stretch-index l.stretches) (flat_block l.left)))
-    ≡ fold larger None (map counted_share (stretch_shares l.turns l.stretches (flat_block l.body)))
+    (map counted_share (stretch_shares l.iterations (drop l.stretch-index l.stretches) (flat_block l.left)))
+    ≡ fold larger None (map counted_share (stretch_shares l.iterations l.stretches (flat_block l.body)))

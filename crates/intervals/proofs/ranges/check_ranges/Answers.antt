@@ -54,7 +54,7 @@ with_work-requires c =
     let in_range = found_none (range_violations c.args.flat.now)
     (sym c.in_ok-walk.ensures.found ∙ c.in-None.is) in
     record {
-      turns = c.in_ok-walk.ensures.turns;
-      safe = subst (IsSafe c.args.flat.now) (sym c.in_ok-walk.ensures.turns)
+      iterations = c.in_ok-walk.ensures.iterations;
+      safe = subst (IsSafe c.args.flat.now) (sym c.in_ok-walk.ensures.iterations)
           (c.in_ok-walk.ensures.safe in_range);
     }

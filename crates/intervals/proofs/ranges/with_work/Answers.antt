@@ -9,13 +9,13 @@ use Rattle.intervals.proofs.ranges.with_work.Goals as goal
 pub new-requires : goal.new-requires
 new-requires c =
     let p = c.args.flat.now in
-    let turns = c.requires.turns in
-    let same = ap (λ ts. body_work ts p.body + value_nodes p.value) (c.as_slice.ensures.value ∙ turns) in
-    let made : List ℕ → ℕ → RangedProgram = λ ts w. record { flat = p; turns = ts; work = w } in
+    let iterations = c.requires.iterations in
+    let same = ap (λ ts. body_work ts p.body + value_nodes p.value) (c.as_slice.ensures.value ∙ iterations) in
+    let made : List ℕ → ℕ → RangedProgram = λ ts w. record { flat = p; iterations = ts; work = w } in
     let few : c.program_work-work.result ≤ most_work = omega (arith, c.if-work-gt-MOST_WORK.false) in
     let work : c.program_work-work.result ≡ work_of p = omega (arith, few, c.program_work-work.ensures, same) in
     record {
-      counted = ap₂ made turns work;
+      counted = ap₂ made iterations work;
       worked = few;
       safe = c.requires.safe;
     }
@@ -23,7 +23,8 @@ new-requires c =
 pub returns-then-work-gt-MOST_WORK-clause-refused : goal.returns-then-work-gt-MOST_WORK-clause-refused
 returns-then-work-gt-MOST_WORK-clause-refused c =
     let p = c.args.flat.now in
-    let same = ap (λ ts. body_work ts p.body + value_nodes p.value) (c.as_slice.ensures.value ∙ c.requires.turns) in
+    let same = ap (λ ts. body_work ts p.body + value_nodes p.value)
+    (c.as_slice.ensures.value ∙ c.requires.iterations) in
     let many : work_of p ≤ most_work → ⊥ = λ few. omega (arith, same, few, c.if-work-gt-MOST_WORK.true, c.program_work-work.ensures) in (
       too_much p,
       above_limit p many,

@@ -5,7 +5,8 @@ use Rattle.intervals.specs.Intervals.{interval}
 use Rattle.intervals.specs.Ranges.{bounds_after, bounds_after_all, counted_all}
 use Rattle.intervals.specs.Ranges.{violations, violations_all, term_violations}
 use Rattle.intervals.proofs.UndoingLemmas.{bounds_back, from_before}
-use Rattle.intervals.proofs.WalkLemmas.{on_ok, branch_turns, branch_seen, loop_turns, loop_seen, next_statement}
+use Rattle.intervals.proofs.WalkLemmas.{on_ok, branch_iterations, branch_seen, loop_iterations, loop_seen}
+use Rattle.intervals.proofs.WalkLemmas.{next_statement}
 use Rattle.intervals.proofs.walk.+walk.Goals as goal
 
 pub accepted_arm-returns-clause-bounds : goal.accepted_arm-returns-clause-bounds
@@ -19,22 +20,22 @@ otherwise_arm-returns-clause-bounds t c =
     c.mark-outside.result c.mark-outside.ensures c.in_ok-learn_false.ensures.from
     c.in_ok-statements.ensures.from
 
-pub turns-returns-clause-bounds : goal.turns-returns-clause-bounds
-turns-returns-clause-bounds t c =
+pub iterations-returns-clause-bounds : goal.iterations-returns-clause-bounds
+iterations-returns-clause-bounds t c =
     c.rewind.ensures.bounds ∙ bounds_back c.args.walk.now.known c.set.new.self c.statements.new.walk.known
     c.mark-outside.result c.mark-outside.ensures c.in_ok-set.ensures.from c.in_ok-statements.ensures.from
 
-pub statement-returns-in_ok-accepted_arm-in-Branch-clause-turns :
-    goal.statement-returns-in_ok-accepted_arm-in-Branch-clause-turns
-statement-returns-in_ok-accepted_arm-in-Branch-clause-turns t c =
-    on_ok c.otherwise_arm.result (λ last. branch_turns c.args.declared.now c.args.walk.now.known.bounds.items
+pub statement-returns-in_ok-accepted_arm-in-Branch-clause-iterations :
+    goal.statement-returns-in_ok-accepted_arm-in-Branch-clause-iterations
+statement-returns-in_ok-accepted_arm-in-Branch-clause-iterations t c =
+    on_ok c.otherwise_arm.result (λ last. branch_iterations c.args.declared.now c.args.walk.now.known.bounds.items
     c.args.statement.now c.in-Branch.label c.in-Branch.condition c.in-Branch.accepted c.in-Branch.otherwise
     c.in-Branch.is
     c.as_slice-in-Branch.result.now c.as_slice-in-Branch-2.result.now c.as_slice-in-Branch.ensures.value
     c.as_slice-in-Branch-2.ensures.value c.accepted_arm.new.walk.known.bounds.items
     c.in_ok-accepted_arm-in-Branch.ensures.bounds
-    c.args.walk.now.turns.items c.accepted_arm.new.walk.turns.items c.otherwise_arm.new.walk.turns.items
-    c.in_ok-accepted_arm-in-Branch.ensures.turns last) c.otherwise_arm.ensures.turns
+    c.args.walk.now.iterations.items c.accepted_arm.new.walk.iterations.items c.otherwise_arm.new.walk.iterations.items
+    c.in_ok-accepted_arm-in-Branch.ensures.iterations last) c.otherwise_arm.ensures.iterations
 
 pub statement-returns-in_ok-accepted_arm-in-Branch-clause-first :
     goal.statement-returns-in_ok-accepted_arm-in-Branch-clause-first
@@ -53,9 +54,9 @@ statement-returns-in_ok-accepted_arm-in-Branch-clause-first t c =
     c.as_slice-bounds.ensures.value) c.in_ok-accepted_arm-in-Branch.ensures.first last)
     c.otherwise_arm.ensures.first
 
-pub statement-returns-in-Loop-clause-turns : goal.statement-returns-in-Loop-clause-turns
-statement-returns-in-Loop-clause-turns t c =
-    on_ok c.turns.result (λ last. loop_turns c.args.declared.now c.args.walk.now.known.bounds.items
+pub statement-returns-in-Loop-clause-iterations : goal.statement-returns-in-Loop-clause-iterations
+statement-returns-in-Loop-clause-iterations t c =
+    on_ok c.iterations.result (λ last. loop_iterations c.args.declared.now c.args.walk.now.known.bounds.items
     c.args.statement.now c.in-Loop.counter c.in-Loop.low c.in-Loop.high c.in-Loop.body c.in-Loop.is
     c.as_slice-in-Loop.result.now c.as_slice-in-Loop.ensures.value c.note_term-low.result c.note_term-high.result
     c.counter_interval-numbers.result
@@ -66,12 +67,13 @@ statement-returns-in-Loop-clause-turns t c =
     ∙ ap (λ bounds. interval c.args.declared.now bounds (term_tree c.in-Loop.high))
     c.as_slice-bounds.ensures.value)
     c.counter_interval-numbers.ensures
-    c.args.walk.now.turns.items c.count.new.turns.items c.turns.new.walk.turns.items c.most_turns.result
-    c.most_turns.ensures c.count.ensures last) c.turns.ensures.turns
+    c.args.walk.now.iterations.items c.count.new.iterations.items c.iterations.new.walk.iterations.items
+    c.most_iterations.result
+    c.most_iterations.ensures c.count.ensures last) c.iterations.ensures.iterations
 
 pub statement-returns-in-Loop-clause-first : goal.statement-returns-in-Loop-clause-first
 statement-returns-in-Loop-clause-first t c =
-    on_ok c.turns.result (λ last. loop_seen c.args.declared.now c.args.walk.now.known.bounds.items
+    on_ok c.iterations.result (λ last. loop_seen c.args.declared.now c.args.walk.now.known.bounds.items
     c.args.statement.now c.in-Loop.counter c.in-Loop.low c.in-Loop.high c.in-Loop.body c.in-Loop.is
     c.as_slice-in-Loop.result.now c.as_slice-in-Loop.ensures.value c.note_term-low.result c.note_term-high.result
     c.counter_interval-numbers.result
@@ -83,14 +85,14 @@ statement-returns-in-Loop-clause-first t c =
     c.as_slice-bounds.ensures.value)
     c.counter_interval-numbers.ensures
     c.args.walk.now.first.seen c.note_term-low.new.first.seen c.note_term-high.new.first.seen
-    c.turns.new.walk.first.seen
+    c.iterations.new.walk.first.seen
     (c.note_term-low.ensures.first
     ∙ ap (λ bounds. fold sooner c.args.walk.now.first.seen
     (term_violations c.args.declared.now bounds (term_tree c.in-Loop.low))) c.as_slice-bounds.ensures.value)
     (c.note_term-high.ensures.first
     ∙ ap (λ bounds. fold sooner c.note_term-low.new.first.seen
     (term_violations c.args.declared.now bounds (term_tree c.in-Loop.high))) c.as_slice-bounds.ensures.value)
-    last) c.turns.ensures.first
+    last) c.iterations.ensures.first
 
 pub statements-loop-one-preserved : goal.statements-loop-one-preserved
 statements-loop-one-preserved t c =
@@ -106,8 +108,9 @@ statements-loop-one-preserved t c =
           ∙ (sym (ap (bounds_after_all declared bounds) next) ∙ c.loop-one.invariant.bounds);
       from = from_before c.args.walk.now.known c.loop-one.walk.known c.statement.new.walk.known
           c.loop-one.invariant.from done.from;
-      turns = ap₂ (λ b t. counted_all declared b t rest) done.bounds done.turns
-          ∙ (sym (ap (counted_all declared bounds c.loop-one.walk.turns.items) next) ∙ c.loop-one.invariant.turns);
+      iterations = ap₂ (λ b t. counted_all declared b t rest) done.bounds done.iterations
+          ∙ (sym (ap (counted_all declared bounds c.loop-one.walk.iterations.items) next)
+          ∙ c.loop-one.invariant.iterations);
       first = ap₂ (λ b f. fold sooner f (violations_all declared b rest)) done.bounds done.first
           ∙ (sym (fold-append sooner c.loop-one.walk.first.seen (violations declared bounds one)
           (violations_all declared (bounds_after declared bounds one) rest))

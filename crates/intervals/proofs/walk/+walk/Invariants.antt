@@ -14,8 +14,8 @@ invariant-statements-loop-one l =
       bounds : bounds_after_all l.declared l.walk.known.bounds.items rest
           ≡ bounds_after_all l.fn.declared l.fn.walk.known.bounds.items all;
       from : CameFrom l.fn.walk.known l.walk.known;
-      turns : counted_all l.declared l.walk.known.bounds.items l.walk.turns.items rest
-          ≡ counted_all l.fn.declared l.fn.walk.known.bounds.items l.fn.walk.turns.items all;
+      iterations : counted_all l.declared l.walk.known.bounds.items l.walk.iterations.items rest
+          ≡ counted_all l.fn.declared l.fn.walk.known.bounds.items l.fn.walk.iterations.items all;
       first : fold sooner l.walk.first.seen (violations_all l.declared l.walk.known.bounds.items rest)
           ≡ fold sooner l.fn.walk.first.seen (violations_all l.fn.declared l.fn.walk.known.bounds.items all);
       declared : l.declared ≡ l.fn.declared;

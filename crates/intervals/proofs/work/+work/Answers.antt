@@ -6,8 +6,8 @@ use Rattle.intervals.proofs.work.+work.Goals as goal
 
 pub work_of-returns-in-Branch : goal.work_of-returns-in-Branch
 work_of-returns-in-Branch t c =
-    let turns = c.args.turns.now in
-    let whole = branch_work turns c.args.statement.now _ c.in-Branch.condition c.in-Branch.accepted
+    let iterations = c.args.iterations.now in
+    let whole = branch_work iterations c.args.statement.now _ c.in-Branch.condition c.in-Branch.accepted
     c.in-Branch.otherwise c.in-Branch.is in
     simp (whole, ← c.as_slice-in-Branch.ensures.value, ← c.as_slice-in-Branch-2.ensures.value)
     (omega (
@@ -22,27 +22,27 @@ work_of-returns-in-Branch t c =
 
 pub work_of-returns-in-Loop : goal.work_of-returns-in-Loop
 work_of-returns-in-Loop t c =
-    let turns = c.args.turns.now in
-    let whole = loop_work turns c.args.statement.now c.in-Loop.counter c.in-Loop.low c.in-Loop.high c.in-Loop.body
+    let iterations = c.args.iterations.now in
+    let whole = loop_work iterations c.args.statement.now c.in-Loop.counter c.in-Loop.low c.in-Loop.high c.in-Loop.body
     c.in-Loop.is in
     simp (whole, ← c.as_slice-in-Loop.ensures.value)
     (omega (
       arith,
       c.nodes_in-in-Loop.ensures,
       c.nodes_in-in-Loop-2.ensures,
-      c.work_of_turns.ensures,
+      c.work_of_iterations.ensures,
       c.saturating_add-in-Loop.ensures,
       c.saturating_add-in-Loop-2.ensures,
     ))
 
-pub work_of_turns-returns : goal.work_of_turns-returns
-work_of_turns-returns t c =
-    let turns = c.args.turns.now in
-    let body = body_work turns (flat_block c.args.body.now) in
-    let times : c.from-times.result + 1 ≡ slice_index turns c.args.counter + 1 =
-    ap (λ n. n + 1) (c.from-times.ensures ∙ c.turns_at.ensures) in
-    let turn : c.saturating_add-turn.result ≡ counted (1 + body) =
-    omega (arith, c.saturating_add-turn.ensures, c.work_of_all.ensures) in
+pub work_of_iterations-returns : goal.work_of_iterations-returns
+work_of_iterations-returns t c =
+    let iterations = c.args.iterations.now in
+    let body = body_work iterations (flat_block c.args.body.now) in
+    let times : c.from-times.result + 1 ≡ slice_index iterations c.args.counter + 1 =
+    ap (λ n. n + 1) (c.from-times.ensures ∙ c.iterations_at.ensures) in
+    let iteration : c.saturating_add-iteration.result ≡ counted (1 + body) =
+    omega (arith, c.saturating_add-iteration.ensures, c.work_of_all.ensures) in
     c.saturating_mul.ensures
-    ∙ (ap₂ (λ t n. counted (t * n)) times turn
-    ∙ times_counted (slice_index turns c.args.counter + 1) (1 + body) (omega arith))
+    ∙ (ap₂ (λ t n. counted (t * n)) times iteration
+    ∙ times_counted (slice_index iterations c.args.counter + 1) (1 + body) (omega arith))

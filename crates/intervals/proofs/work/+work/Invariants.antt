@@ -7,5 +7,5 @@ use Rattle.intervals.proofs.work.+work.Given as goal
 abbrev pub invariant-work_of_all-loop-statement : goal.invariant-work_of_all-loop-statement
 invariant-work_of_all-loop-statement l =
     (l.sum ≤ most_counted)
-    × (counted (l.sum + body_work l.turns (flat_block (drop l.statement-index l.body)))
-    ≡ counted (body_work l.turns (flat_block l.body)))
+    × (counted (l.sum + body_work l.iterations (flat_block (drop l.statement-index l.body)))
+    ≡ counted (body_work l.iterations (flat_block l.body)))

@@ -1,7 +1,7 @@
 use Rattle.std.proofs.Common.{map, false, ◌∙◌, ap, ap₂}
 use Rattle.labels.specs.Below.{block_tree, counter_as, declared, procedure_tree, scope_after_all, shortened, Variable}
 use Rattle.std.proofs.lemmas.Result.{on_ok_weaker}
-use Rattle.labels.proofs.TreeLemmas.{conditional_seen, loop_seen, scope_before, scope_before_turns}
+use Rattle.labels.proofs.TreeLemmas.{conditional_seen, loop_seen, scope_before, scope_before_iterations}
 use Rattle.labels.proofs.statements.+statement.Goals as goal
 
 pub arm-returns-clause-names : goal.arm-returns-clause-names
@@ -10,14 +10,14 @@ arm-returns-clause-names t c =
     ∙ scope_before c.len-outside.result c.args.names.now (block_tree c.args.arm.now) c.len-outside.ensures.names
     c.len-outside.ensures.places
 
-pub turns-returns-clause-names : goal.turns-returns-clause-names
-turns-returns-clause-names t c =
+pub iterations-returns-clause-names : goal.iterations-returns-clause-names
+iterations-returns-clause-names t c =
     c.truncate.ensures
     ∙ ap (shortened c.len-before.result) (c.in_ok-statements.ensures.names
     ∙ ap (λ scope. scope_after_all scope (block_tree c.args.body.now)) (c.in_ok-taken.ensures.ok
     ∙ ap₂ (λ text value. declared c.args.names.now c.args.counter.now.place text
     (Variable (record { value = value; mutable = false }))) c.as_str.ensures c.word.ensures))
-    ∙ scope_before_turns c.len-before.result c.args.names.now c.args.counter.now.place c.args.counter.now.name
+    ∙ scope_before_iterations c.len-before.result c.args.names.now c.args.counter.now.place c.args.counter.now.name
     counter_as (block_tree c.args.body.now) c.len-before.ensures.names c.len-before.ensures.places
 
 pub statement-returns-in_ok-arm-in-If-clause-first :
@@ -37,12 +37,12 @@ statement-returns-in_ok-arm-in-If-clause-first t c =
 
 pub statement-returns-in-For-clause-first : goal.statement-returns-in-For-clause-first
 statement-returns-in-For-clause-first t c =
-    on_ok_weaker c.turns.result (λ last. loop_seen c.args.first.now.seen c.expression-low.new.first.seen
-    c.expression-high.new.first.seen c.note_bounds.new.first.seen c.turns.new.first.seen
+    on_ok_weaker c.iterations.result (λ last. loop_seen c.args.first.now.seen c.expression-low.new.first.seen
+    c.expression-high.new.first.seen c.note_bounds.new.first.seen c.iterations.new.first.seen
     (map procedure_tree c.args.earlier.now) c.args.names.now c.args.control c.expression-low.result
     c.expression-high.result
     c.args.statement.now c.in-For.place c.in-For.counter c.in-For.low c.in-For.high c.in-For.body
     c.as_slice-in-For.result.now c.in-For.is
     c.as_slice-in-For.ensures.value c.expression-low.ensures.typed c.expression-high.ensures.typed
     c.expression-low.ensures.first c.expression-high.ensures.first c.note_bounds.ensures last)
-    c.turns.ensures.first
+    c.iterations.ensures.first

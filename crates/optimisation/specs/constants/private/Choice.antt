@@ -1,8 +1,9 @@
--- Which loops become their turns: innermost loops first, in the order of the text, each whose turns are short and for
--- which there is still room. All turns together have room for 32 times as many nodes as the source has, up to a limit
--- that keeps the building of large sources short. Counted are about the nodes that a turn will have: an index is mostly
--- made of counters and numbers, so a quarter of its nodes counts. The turns of a loop that makes only few may be far
--- longer: they take little more room than the loop did, and what hangs on the counter is known in each of them.
+-- Which loops become their iterations: innermost loops first, in the order of the text, each whose iterations are short
+-- and for which there is still room. All iterations together have room for 32 times as many nodes as the source has, up
+-- to a limit that keeps the building of large sources short. Counted are about the nodes that an iteration will have:
+-- an index is mostly made of counters and numbers, so a quarter of its nodes counts. The iterations of a loop that
+-- makes only few may be far longer: they take little more room than the loop did, and what hangs on the counter is
+-- known in each of them.
 use Rattle.std.specs.Prelude.{ℕ, ◌+◌, ◌-◌, ◌*◌, ◌/◌, ◌^◌, ◌&&◌, List, [], ◌∷◌, min, nat_le, slice_index, slice_set}
 use Rattle.std.specs.Prelude.{if◌then◌else◌}
 use Rattle.optimisation.specs.Below.{array, binary, branch, convert, element, first, nothing, number, prefix, put}
@@ -32,12 +33,12 @@ abbrev pub terms_size : List TermTree → ℕ
 terms_size [] = 0
 terms_size (e ∷ es) = term_size e + terms_size es
 
--- how many nodes a turn may have, by how many turns there are
+-- how many nodes an iteration may have, by how many iterations there are
 abbrev pub most_nodes_of : ℕ → ℕ
-most_nodes_of turns = if nat_le turns 3 then 4096 else 384
+most_nodes_of iterations = if nat_le iterations 3 then 4096 else 384
 
--- what is chosen so far: how many turns the loop of each counter may become, at its number; how many nodes there is
--- room for; and how many there are, with the turns of the loops that are chosen
+-- what is chosen so far: how many iterations the loop of each counter may become, at its number; how many nodes there
+-- is room for; and how many there are, with the iterations of the loops that are chosen
 pub record Chosen : Type 0 where
   pub copies : List ℕ
   pub room : ℕ
@@ -50,13 +51,13 @@ abbrev pub grown : Chosen → ℕ → Chosen
 grown so_far n = record { copies = so_far.copies; room = so_far.room; nodes = counted (so_far.nodes + n) }
 
 -- behind so many nodes, where there was so much room, a loop of so many nodes without its body, for which all is
--- chosen: its turns, each a counter that is set and the body, where each is short and there is room for all of them; or
--- else the loop
+-- chosen: its iterations, each a counter that is set and the body, where each is short and there is room for all of
+-- them; or else the loop
 abbrev pub settled : ℕ → ℕ → ℕ → ℕ → Chosen → Chosen
 settled before room x own inner =
-    let turns = slice_index inner.copies x in
-    let cost = counted (counted (inner.nodes + 2) * turns) in
-    if nat_le 1 turns && nat_le inner.nodes (most_nodes_of turns) && nat_le cost room
+    let iterations = slice_index inner.copies x in
+    let cost = counted (counted (inner.nodes + 2) * iterations) in
+    if nat_le 1 iterations && nat_le inner.nodes (most_nodes_of iterations) && nat_le cost room
     then record { copies = inner.copies; room = room - cost; nodes = counted (before + cost) }
     else record {
       copies = slice_set inner.copies x 0;
@@ -87,10 +88,10 @@ abbrev mutual
 abbrev pub room_for : ℕ → ℕ
 room_for nodes = min (32 * nodes) 48000
 
--- where nothing is chosen yet, all turns that are counted are allowed
+-- where nothing is chosen yet, all iterations that are counted are allowed
 abbrev pub begun : StraightProgram → Chosen
-begun p = record { copies = p.turns; room = room_for p.nodes; nodes = 0 }
+begun p = record { copies = p.iterations; room = room_for p.nodes; nodes = 0 }
 
--- how many turns the loop of each counter may become
+-- how many iterations the loop of each counter may become
 abbrev pub copies_of : StraightProgram → List ℕ
 copies_of p = (chosen_all (begun p) p.body).copies

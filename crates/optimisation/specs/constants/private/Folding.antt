@@ -1,8 +1,8 @@
 -- Expressions in which what is known is a number: an operator between numbers is what it comes to, one that a number on
 -- one side decides is that bool, one that leaves its operand as it is is that operand, one by a power of two is a shift
--- or a mask, a comparison that `!` stands before is the opposite one, one with a number on its left is turned round,
--- and bits of a word are had by two shifts. A division by 0 stays, since it comes to nothing. A word that is another
--- one's copy is read as that one.
+-- or a mask, a comparison that `!` stands before is the opposite one, one with a number on its left has its operands
+-- swapped, and bits of a word are had by two shifts. A division by 0 stays, since it comes to nothing. A word that is
+-- another one's copy is read as that one.
 use Rattle.std.specs.Prelude.{ℕ, ◌-◌, ◌==◌, ◌&&◌, Bool, true, false, nat_le, Option, None, Some, if◌then◌else◌}
 use Rattle.std.specs.Bool.{then_some}
 use Rattle.std.specs.Option.{option_and, option_and_then, option_map, option_or}
@@ -11,13 +11,13 @@ use Rattle.optimisation.specs.Below.{complemented, convert, converted, Divide, d
 use Rattle.optimisation.specs.Below.{GreaterOrEqual, Kind, Less, LessOrEqual, Multiply, Negate, Not, number, operated}
 use Rattle.optimisation.specs.Below.{operation_kind, operation_of, opposite_of, Place, prefix, prefix_value}
 use Rattle.optimisation.specs.Below.{PrefixOperator, rotate, rotated_left, select, ShiftLeft, ShiftRight, Subtract}
-use Rattle.optimisation.specs.Below.{TermTree, truth, truth_of, turned_of, variable, Width, width_of, word_of}
+use Rattle.optimisation.specs.Below.{TermTree, truth, truth_of, swapped_of, variable, Width, width_of, word_of}
 use Rattle.optimisation.specs.declared.constants.known.Constant.{Constant}
 use Rattle.optimisation.specs.declared.constants.terms.Numbers.{Numbers}
 use Rattle.optimisation.specs.constants.private.Fields.{amount_of, field_of, mask_of, moved_or}
 use Rattle.optimisation.specs.declared.constants.powers.Step.{Step}
 use Rattle.optimisation.specs.constants.private.Known.{Words, known, source_in}
-use Rattle.optimisation.specs.constants.private.Powers.{step_of, turned_step}
+use Rattle.optimisation.specs.constants.private.Powers.{step_of, swapped_step}
 
 -- a number of this value and kind
 abbrev pub constant : ℕ → Kind → Constant
@@ -44,11 +44,11 @@ decision e = option_map (λ c. truth_of c.value) (constant_of e)
 
 -- Nodes with their operands.
 
--- the comparison that one with a number on its left is, its operands turned round; `opposite_of` tells whether an
--- operator is a comparison, since `turned_of` alone turns others round too
-abbrev pub turned_by : BinaryOperator → Option Constant → Option BinaryOperator
-turned_by operator None = None
-turned_by operator (Some c) = option_and (opposite_of operator) (turned_of operator)
+-- the comparison that one with a number on its left is, its operands swapped; `opposite_of` tells whether an
+-- operator is a comparison, since `swapped_of` alone swaps the operands of others too
+abbrev pub swapped_by : BinaryOperator → Option Constant → Option BinaryOperator
+swapped_by operator None = None
+swapped_by operator (Some c) = option_and (opposite_of operator) (swapped_of operator)
 
 -- two operands with this operator between them, where there is one, else an expression
 abbrev pub binary_or : Option BinaryOperator → Place → Width → TermTree → TermTree → TermTree → TermTree
@@ -159,10 +159,10 @@ abbrev pub operation : Place → BinaryOperator → Width → TermTree → TermT
 operation place operator width left right =
     narrowed place (mask_of operator (constant_of right)) left (binary place operator width left right)
 
--- and a comparison turned round that has a number on its left: a 0 on the right takes no instruction
-abbrev pub turned : Place → BinaryOperator → Width → TermTree → TermTree → TermTree
-turned place operator width left right =
-    binary_or (turned_by operator (constant_of left)) place width right left
+-- and a comparison with a number on its left, its operands swapped: a 0 on the right takes no instruction
+abbrev pub swapped : Place → BinaryOperator → Width → TermTree → TermTree → TermTree
+swapped place operator width left right =
+    binary_or (swapped_by operator (constant_of left)) place width right left
     (operation place operator width left right)
 
 -- an operand and a step that makes the same of it, where there is one, else an expression
@@ -173,7 +173,7 @@ stepped_or (Some step) place width word e = operation place step.operator width 
 -- an operator between two operands, and a shift or a mask in its place where one of them is a power of two
 abbrev pub stepped : Place → BinaryOperator → Width → TermTree → TermTree → TermTree
 stepped place operator width left right = stepped_or (step_of operator (constant_of right)) place width left
-    (stepped_or (turned_step operator (constant_of left)) place width right (turned place operator width left right))
+    (stepped_or (swapped_step operator (constant_of left)) place width right (swapped place operator width left right))
 
 -- an operator whose one operand is an identity is the other operand
 abbrev pub reduced : Place → BinaryOperator → Width → TermTree → TermTree → TermTree
@@ -217,7 +217,7 @@ simple words (select condition accepted otherwise) =
     (simple words otherwise)
 simple words (element place x size index) = element place x size (simple words index)
 
--- the numbers of a loop's counter, where both its bounds are known, and it makes no more turns than this
+-- the numbers of a loop's counter, where both its bounds are known, and it makes no more iterations than this
 abbrev pub numbers_of : ℕ → Option Constant → Option Constant → Option Numbers
 numbers_of most (Some low) (Some high) = if nat_le (high.value - low.value) most
     then Some (record { low = low.value; high = high.value }) else None

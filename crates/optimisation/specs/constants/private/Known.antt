@@ -74,10 +74,10 @@ short (Some c) = if nat_lt c.value 2048 then Some c else None
 abbrev pub all_short : Words → Words
 all_short words = record { numbers = map short words.numbers; copies = words.copies }
 
--- within a loop, in each of its turns: longer numbers are read from their variables there
+-- within a loop, in each of its iterations: longer numbers are read from their variables there
 abbrev pub in_loop : Words → ℕ → StraightBlock → Words
 in_loop words x body = forgotten_all (without (all_short words) x) body
 
--- behind an arm or a turn, which may have run or not: of what it sets nothing is known
+-- behind an arm or an iteration, which may have run or not: of what it sets nothing is known
 abbrev pub behind : Words → StraightBlock → Words
 behind words body = forgotten_all words body

@@ -25,6 +25,6 @@ abbrev pub step_of : BinaryOperator → Option Constant → Option Step
 step_of operator None = None
 step_of operator (Some power) = option_and_then (step_by operator power) (exponent_of power.value)
 
--- by the left operand: only a product is the same with its operands turned round
-abbrev pub turned_step : BinaryOperator → Option Constant → Option Step
-turned_step operator left = if multiplies operator then step_of operator left else None
+-- by the left operand: only a product is the same with its operands swapped
+abbrev pub swapped_step : BinaryOperator → Option Constant → Option Step
+swapped_step operator left = if multiplies operator then step_of operator left else None

@@ -1,12 +1,12 @@
 -- How straight code with these variables is made simpler: from the first statement on, what is known of them is carried
--- along. A loop whose bounds are numbers becomes its turns, where these are no more than are allowed: how many are is
--- in a list, at the counter's number.
+-- along. A loop whose bounds are numbers becomes its iterations, where these are no more than are allowed: how many are
+-- is in a list, at the counter's number.
 use Rattle.std.specs.Prelude.{ℕ, zero, suc, ◌+◌, ◌-◌, ◌==◌, ◌&&◌, Bool, true, false, not, List, [], map, length}
 use Rattle.std.specs.Prelude.{replicate, slice_get, slice_index, Option, None, Some}
 use Rattle.std.specs.Option.{option_map}
 use Rattle.optimisation.specs.Below.{array, branch, chain, counter_type, first, FlatVariable, nothing, number, put}
-use Rattle.optimisation.specs.Below.{repeats, set, StraightBlock, StraightProgram, StraightTree, take, TermTree, turns}
-use Rattle.optimisation.specs.Below.{variable, with_body}
+use Rattle.optimisation.specs.Below.{repeats, set, StraightBlock, StraightProgram, StraightTree, take, TermTree}
+use Rattle.optimisation.specs.Below.{iterations, variable, with_body}
 use Rattle.optimisation.specs.private.SameWords.{are_alike}
 use Rattle.optimisation.specs.declared.constants.terms.Numbers.{Numbers}
 use Rattle.optimisation.specs.constants.private.Folding.{simple, constant, constant_of, decision, numbers_of}
@@ -18,14 +18,14 @@ decided (Some true) one other both = one
 decided (Some false) one other both = other
 decided None one other both = both
 
--- one of two, by whether a loop becomes its turns
+-- one of two, by whether a loop becomes its iterations
 abbrev pub unrolled : {A : Type 0} → Option Numbers → (Numbers → A) → A → A
-unrolled (Some numbers) as_turns as_loop = as_turns numbers
-unrolled None as_turns as_loop = as_loop
+unrolled (Some numbers) as_iterations as_loop = as_iterations numbers
+unrolled None as_iterations as_loop = as_loop
 
 -- what is known where a counter is at this number
-abbrev pub at_turn : ℕ → ℕ → Words → Words
-at_turn x i words = with_word words x (Some (constant i counter_type.kind))
+abbrev pub at_iteration : ℕ → ℕ → Words → Words
+at_iteration x i words = with_word words x (Some (constant i counter_type.kind))
 
 -- Copies.
 
@@ -52,16 +52,16 @@ abbrev pub set_to : List FlatVariable → Words → Option ℕ → ℕ → TermT
 set_to declared words None x e = copied declared x (variable_of e) (with_word words x (constant_of e))
 set_to declared words (Some control) x e = without words x
 
--- the code of so many turns, the first at this number. Each has its own, by its number and by what is known where it
--- begins, and so has what is known behind it
-abbrev pub code_of_turns : ℕ → ℕ → (ℕ → Words → Words) → (ℕ → Words → StraightBlock) → Words → StraightBlock
-code_of_turns zero i behind_turn code words = nothing
-code_of_turns (suc n) i behind_turn code words =
-    chain (code i words) (code_of_turns n (i + 1) behind_turn code (behind_turn i words))
+-- the code of so many iterations, the first at this number. Each has its own, by its number and by what is known where
+-- it begins, and so has what is known behind it
+abbrev pub code_of_iterations : ℕ → ℕ → (ℕ → Words → Words) → (ℕ → Words → StraightBlock) → Words → StraightBlock
+code_of_iterations zero i behind_iteration code words = nothing
+code_of_iterations (suc n) i behind_iteration code words =
+    chain (code i words) (code_of_iterations n (i + 1) behind_iteration code (behind_iteration i words))
 
 abbrev mutual
-  -- what is known after a statement. Of two arms one runs, and a loop makes some turns: of what they set nothing is
-  -- known
+  -- what is known after a statement. Of two arms one runs, and a loop makes some iterations: of what they set nothing
+  -- is known
   pub knowing : List ℕ → List FlatVariable → Words → StraightTree → Words
   knowing copies declared words (set within x value) = set_to declared words within x (simple words value)
   knowing copies declared words (array x size values) = without words x
@@ -74,7 +74,8 @@ abbrev mutual
       otherwise)
   knowing copies declared words (repeats x low high body) =
       unrolled (numbers_of (slice_index copies x) (constant_of (simple words low)) (constant_of (simple words high)))
-      (λ each. turns (each.high - each.low) each.low (λ i w. knowing_all copies declared (at_turn x i w) body) words)
+      (λ each. iterations (each.high - each.low) each.low
+      (λ i w. knowing_all copies declared (at_iteration x i w) body) words)
       (behind (knowing_all copies declared (in_loop words x body) body) body)
 
   pub knowing_all : List ℕ → List FlatVariable → Words → StraightBlock → Words
@@ -101,8 +102,10 @@ abbrev mutual
       (simplified_all copies declared (behind (knowing_all copies declared words accepted) accepted) otherwise)))
   simplified copies declared words (repeats x low high body) =
       unrolled (numbers_of (slice_index copies x) (constant_of (simple words low)) (constant_of (simple words high)))
-      (λ each. code_of_turns (each.high - each.low) each.low (λ i w. knowing_all copies declared (at_turn x i w) body)
-      (λ i w. first (set None x (number i counter_type.kind)) (simplified_all copies declared (at_turn x i w) body))
+      (λ each. code_of_iterations (each.high - each.low) each.low
+      (λ i w. knowing_all copies declared (at_iteration x i w) body)
+      (λ i w. first (set None x (number i counter_type.kind))
+      (simplified_all copies declared (at_iteration x i w) body))
       words)
       (single (repeats x (simple words low) (simple words high)
       (simplified_all copies declared (in_loop words x body) body)))
@@ -113,16 +116,17 @@ abbrev mutual
       chain (simplified copies declared words statement)
       (simplified_all copies declared (knowing copies declared words statement) rest)
 
--- So of the turns of a loop between two numbers.
+-- So of the iterations of a loop between two numbers.
 
-abbrev pub turns_known : List ℕ → List FlatVariable → Words → ℕ → Numbers → StraightBlock → Words
-turns_known copies declared words x each body =
-    turns (each.high - each.low) each.low (λ i w. knowing_all copies declared (at_turn x i w) body) words
+abbrev pub iterations_known : List ℕ → List FlatVariable → Words → ℕ → Numbers → StraightBlock → Words
+iterations_known copies declared words x each body =
+    iterations (each.high - each.low) each.low (λ i w. knowing_all copies declared (at_iteration x i w) body) words
 
-abbrev pub turns_code : List ℕ → List FlatVariable → Words → ℕ → Numbers → StraightBlock → StraightBlock
-turns_code copies declared words x each body =
-    code_of_turns (each.high - each.low) each.low (λ i w. knowing_all copies declared (at_turn x i w) body)
-    (λ i w. first (set None x (number i counter_type.kind)) (simplified_all copies declared (at_turn x i w) body)) words
+abbrev pub iterations_code : List ℕ → List FlatVariable → Words → ℕ → Numbers → StraightBlock → StraightBlock
+iterations_code copies declared words x each body =
+    code_of_iterations (each.high - each.low) each.low (λ i w. knowing_all copies declared (at_iteration x i w) body)
+    (λ i w. first (set None x (number i counter_type.kind)) (simplified_all copies declared (at_iteration x i w) body))
+    words
 
 -- nothing is known where a program begins
 abbrev pub nothing_known : StraightProgram → Words

@@ -21,13 +21,13 @@ before_put table held x index value =
 abbrev pub before_arms : Table → TermTree → Held → Held → Held
 before_arms table condition second one = reading table [] (joined one 0 second.holders) condition
 
--- where a turn of a loop may begin or the loop is over, and this is live before a turn with its counter: what is live
--- before a turn has to be live there
+-- where an iteration of a loop may begin or the loop is over, and this is live before an iteration with its counter:
+-- what is live before an iteration has to be live there
 abbrev pub closed_by : Held → Held → Held
-closed_by head turn = fitting (anew turn head.holders) (covers head.holders 0 turn.holders)
+closed_by head iteration = fitting (anew iteration head.holders) (covers head.holders 0 iteration.holders)
 
 abbrev pub closed : Table → ℕ → Held → Held → Held
-closed table x head turn = closed_by head (counting table turn x)
+closed table x head iteration = closed_by head (counting table iteration x)
 
 abbrev pub before_bounds : Table → TermTree → TermTree → Held → Held
 before_bounds table low high held = reading table [] (reading table [] held high) low

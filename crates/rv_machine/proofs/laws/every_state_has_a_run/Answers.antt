@@ -1,9 +1,9 @@
-use Rattle.rv_machine.proofs.TotalLaws.{turn_of_state, turn_stops, run_of_state}
+use Rattle.rv_machine.proofs.TotalLaws.{step_of_state, step_stops, run_of_state}
 use Rattle.rv_machine.proofs.laws.every_state_has_a_run.Goals as goal
 
 pub returns : goal.returns
 returns c = record {
-  turn = turn_of_state;
-  stop = turn_stops;
+  step = step_of_state;
+  stop = step_stops;
   run = run_of_state;
 }

@@ -8,6 +8,6 @@ pub returns : goal.returns
 returns c = record {
   leads = λ code m n s t u a b. Leads-append;
   halts = λ code m n s t u a b stop. Halts-after;
-  runs = λ code budget s t u o seen stop turn run.
-      subst (λ n. Runs code n s (o ∷ seen) stop u) (sym (add-one budget)) (Runs-more turn run);
+  runs = λ code budget s t u o seen stop step run.
+      subst (λ n. Runs code n s (o ∷ seen) stop u) (sym (add-one budget)) (Runs-more step run);
 }

@@ -5,18 +5,18 @@ use Rattle.rv_machine.specs.Regions.{code_of}
 use Rattle.rv_machine.proofs.Progressing.{InStep}
 use Rattle.rv_machine.proofs.pairing.compare.Given as goal
 
-abbrev pub invariant-turns : goal.invariant-turns
-invariant-turns g l =
+abbrev pub invariant-steps : goal.invariant-steps
+invariant-steps g l =
     let bytes = g.M.Memory.bytes in
     record {
       steps : InStep (code_of l.code)
-          l.fn.one.turns_left (state_of l.fn.one.hart (bytes l.fn.one.memory)) l.one.turns_left
+          l.fn.one.steps_left (state_of l.fn.one.hart (bytes l.fn.one.memory)) l.one.steps_left
           (state_of l.one.hart (bytes l.one.memory))
-          l.fn.other.turns_left (state_of l.fn.other.hart (bytes l.fn.other.memory)) l.other.turns_left
+          l.fn.other.steps_left (state_of l.fn.other.hart (bytes l.fn.other.memory)) l.other.steps_left
           (state_of l.other.hart (bytes l.other.memory))
           l.place;
-      few : l.place + 2 * l.one.turns_left ≤ 2 * l.fn.one.turns_left;
+      few : l.place + 2 * l.one.steps_left ≤ 2 * l.fn.one.steps_left;
     }
 
-abbrev pub decreases-turns : goal.decreases-turns
-decreases-turns g l = l.one.turns_left
+abbrev pub decreases-steps : goal.decreases-steps
+decreases-steps g l = l.one.steps_left

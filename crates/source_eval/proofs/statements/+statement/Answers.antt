@@ -6,10 +6,10 @@ use Rattle.source_eval.proofs.Below.{known-none}
 use Rattle.source_eval.specs.Metering.{known_of}
 use Rattle.source_eval.specs.Views.{held, word_of}
 use Rattle.source_eval.proofs.LoopLemmas.{all_statements, each_statement, passes, statement_halts}
-use Rattle.source_eval.proofs.RunLemmas.{bounds_end, memory_stops, tick_lacks, turns_end, turns_lack}
-use Rattle.source_eval.proofs.StatementLemmas.{argument_stops, body_stops, call_none, each_turn, for_run, high_stops}
-use Rattle.source_eval.proofs.StatementLemmas.{if_run, low_stops, ok_along, room_lacks, stops_along, turn_stops}
-use Rattle.source_eval.proofs.StatementLemmas.{whole_ends}
+use Rattle.source_eval.proofs.RunLemmas.{bounds_end, memory_stops, tick_lacks, iterations_end, iterations_lack}
+use Rattle.source_eval.proofs.StatementLemmas.{argument_stops, body_stops, call_none, each_iteration, for_run}
+use Rattle.source_eval.proofs.StatementLemmas.{high_stops, if_run, low_stops, ok_along, room_lacks, stops_along}
+use Rattle.source_eval.proofs.StatementLemmas.{iteration_stops, whole_ends}
 use Rattle.source_eval.proofs.statements.+statement.Goals as goal
 
 pub block-returns-in_err-statement-clause-err : goal.block-returns-in_err-statement-clause-err
@@ -135,7 +135,8 @@ pub repeat-returns-in_err-spend-2-clause-err : goal.repeat-returns-in_err-spend-
 repeat-returns-in_err-spend-2-clause-err t c =
     let l = c.loop-number in
     passes _ _ _ c.from_residual-in_err-spend-2.ensures.1
-    (turns_lack _ _ _ _ (held l.running.variables) l.number _ l.running.left _ c.loop-number-test.true l.invariant.leads
+    (iterations_lack _ _ _ _ (held l.running.variables) l.number _ l.running.left _ c.loop-number-test.true
+    l.invariant.leads
     c.in_err-spend-2.ensures.err c.in_err-spend-2.ensures.budget)
 
 pub repeat-returns-in_err-set-clause-err : goal.repeat-returns-in_err-set-clause-err
@@ -146,7 +147,7 @@ pub repeat-returns-in_err-block-clause-err : goal.repeat-returns-in_err-block-cl
 repeat-returns-in_err-block-clause-err t c =
     let l = c.loop-number in
     passes _ _ _ c.from_residual-in_err-block.ensures.1
-    (turn_stops _ (known_of c.args.earlier.now) c.args.counter.now.name (block_tree c.args.body.now) _ _
+    (iteration_stops _ (known_of c.args.earlier.now) c.args.counter.now.name (block_tree c.args.body.now) _ _
     (held l.running.variables) _ l.number _ l.running.left _ _ c.loop-number-test.true l.invariant.leads
     c.in_ok-spend-2.ensures.ok c.in_ok-set.ensures.ok c.in_err-block.ensures.err)
 
@@ -154,7 +155,7 @@ pub repeat-loop-number-preserved : goal.repeat-loop-number-preserved
 repeat-loop-number-preserved t c =
     let l = c.loop-number in
     record {
-      leads = each_turn _ (known_of c.args.earlier.now) c.args.counter.now.name (block_tree c.args.body.now) _ _
+      leads = each_iteration _ (known_of c.args.earlier.now) c.args.counter.now.name (block_tree c.args.body.now) _ _
           (held l.running.variables) _ _ l.number _ l.running.left _ _ c.loop-number-test.true l.invariant.leads
           c.in_ok-spend-2.ensures.ok c.in_ok-set.ensures.ok c.in_ok-block.ensures.ok;
       spends = omega (arith, c.in_ok-spend-2.ensures.ok, c.in_ok-block.ensures.ok.spends);
@@ -163,7 +164,8 @@ repeat-loop-number-preserved t c =
 pub repeat-returns-clause-ok : goal.repeat-returns-clause-ok
 repeat-returns-clause-ok t c =
     let l = c.loop-number in
-    turns_end _ _ _ _ (held l.running.variables) l.number _ l.running.left c.loop-number-test.false l.invariant.leads
+    iterations_end _ _ _ _ (held l.running.variables) l.number _ l.running.left c.loop-number-test.false
+    l.invariant.leads
 
 pub statement-returns-in-If-clause-ok : goal.statement-returns-in-If-clause-ok
 statement-returns-in-If-clause-ok t c =

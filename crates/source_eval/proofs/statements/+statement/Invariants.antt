@@ -1,5 +1,5 @@
 use Rattle.std.proofs.Common.{◌+◌, ◌-◌, ◌*◌, ◌≤◌, ℕ, drop}
-use Rattle.source_eval.specs.Below.{block_tree, counting, expr_tree, loop_run, Run, run_all, State, turns}
+use Rattle.source_eval.specs.Below.{block_tree, counting, expr_tree, loop_run, Run, run_all, State, iterations}
 use Rattle.source_eval.specs.Metering.{known_of}
 use Rattle.source_eval.specs.Views.{held}
 use Rattle.source_eval.proofs.RunLemmas.{Leads}
@@ -43,13 +43,13 @@ invariant-block-loop-one l = record {
   spends : l.running.left ≤ l.fn.running.left;
 }
 
--- the turns left lead to the end of all
+-- the iterations left lead to the end of all
 abbrev pub invariant-repeat-loop-number : goal.invariant-repeat-loop-number
-invariant-repeat-loop-number l = let turn : ℕ → State
+invariant-repeat-loop-number l = let iteration : ℕ → State
     → Run State = λ i t. run_all (known_of l.earlier) (counting t l.counter.name i) (block_tree l.body) in
     record {
-      leads : Leads (loop_run (held l.fn.running.variables) (expr_tree l.fn.low) (expr_tree l.fn.high) turn)
+      leads : Leads (loop_run (held l.fn.running.variables) (expr_tree l.fn.low) (expr_tree l.fn.high) iteration)
           l.fn.running.left l.room
-          (turns (l.number-end - l.number) l.number turn (held l.running.variables)) l.running.left (λ s. s);
+          (iterations (l.number-end - l.number) l.number iteration (held l.running.variables)) l.running.left (λ s. s);
       spends : l.running.left ≤ l.fn.running.left;
     }

@@ -34,7 +34,7 @@ returns-clause-certified g c =
     let loaded = c.in_ok-loaded.loaded in
     let none = first_is _ c.slots.ensures.slots c.first_fault.ensures c.in_default.is in
     let run = c.certify_in_pieces.ensures.certified in
-    run_certified c.args.image.now c.args.given.now c.args.shifts (code_of c.in_ok-code.code) loaded.run.turns_left
+    run_certified c.args.image.now c.args.given.now c.args.shifts (code_of c.in_ok-code.code) loaded.run.steps_left
     (known_of (state_of loaded.run.hart (paged_bytes loaded.run.memory)) loaded.known.registers
     (paged_bytes loaded.known.marks) loaded.known.shifts) run.0 run.1 c.certify_in_pieces.result
     none c.in_ok-code.ensures c.in_ok-loaded.ensures.steps c.in_ok-loaded.ensures.known run.2 run.3

@@ -53,13 +53,13 @@ branch-returns-clause-block t c =
       length-append,
     ) at c.push.ensures
 
-pub turns-returns-clause-block : goal.turns-returns-clause-block
-turns-returns-clause-block t c =
+pub iterations-returns-clause-block : goal.iterations-returns-clause-block
+iterations-returns-clause-block t c =
     rw (
       loop_tree,
       c.in_ok-low.ensures,
       c.in_ok-high.ensures,
-      c.in_ok-turn.ensures.block,
+      c.in_ok-iteration.ensures.block,
       c.in_ok-number.ensures.number,
       c.in_ok-number.ensures.names,
       c.in_ok-number.ensures.declared,
@@ -67,11 +67,11 @@ turns-returns-clause-block t c =
       c.counter.ensures,
     ) at c.push.ensures
 
-pub turns-returns-clause-names : goal.turns-returns-clause-names
-turns-returns-clause-names t c =
+pub iterations-returns-clause-names : goal.iterations-returns-clause-names
+iterations-returns-clause-names t c =
     ok_any c.push.result
     (c.truncate.ensures
-    ∙ ap₂ take c.len-names.ensures (c.in_ok-turn.ensures.names ∙ c.in_ok-number.ensures.names)
+    ∙ ap₂ take c.len-names.ensures (c.in_ok-iteration.ensures.names ∙ c.in_ok-number.ensures.names)
     ∙ names_before_one c.args.self.now.names c.args.counted.now.name _)
 
 pub statement-branch-self-requires : goal.statement-branch-self-requires
@@ -80,8 +80,8 @@ statement-branch-self-requires t c =
     c.in-If.is c.deref.ensures.value c.deref-in-If.ensures.value in
     search (rules, smaller)
 
-pub statement-turns-requires : goal.statement-turns-requires
-statement-turns-requires t c =
+pub statement-iterations-requires : goal.statement-iterations-requires
+statement-iterations-requires t c =
     let smaller = loop_smaller c.args.earlier.now _ c.in-For.counted c.in-For.low c.in-For.high c.in-For.body
     c.in-For.is c.deref-in-For.ensures.value in
     search (rules, smaller)
@@ -97,7 +97,7 @@ pub statement-returns-in-For : goal.statement-returns-in-For
 statement-returns-in-For t c =
     let whole = loop_whole _ c.in-For.counted c.in-For.low c.in-For.high c.in-For.body c.in-For.is
     c.deref-in-For.ensures.value in
-    let made = c.turns.ensures in
+    let made = c.iterations.ensures in
     record { block = rw whole made.block; names = rw whole made.names; declared = rw whole made.declared }
 
 pub word-returns-clause-block : goal.word-returns-clause-block

@@ -58,7 +58,7 @@ decreases-branch l = 8 * (1 + nodes_in (expr_tree l.condition.now) + nodes_of_bl
 abbrev pub decreases-arm : goal.decreases-arm
 decreases-arm l = 8 * nodes_of_block l.earlier.now l.arm.now + 8
 
-abbrev pub decreases-turns : goal.decreases-turns
-decreases-turns l =
+abbrev pub decreases-iterations : goal.decreases-iterations
+decreases-iterations l =
     8 * (1 + nodes_in (expr_tree l.low.now) + nodes_in (expr_tree l.high.now)
     + nodes_of_block l.earlier.now l.body.now) + 5

@@ -2,7 +2,7 @@ use Rattle.std.proofs.Common.{◌≡◌, ◌<◌, ◌≤◌, ◌+◌, ◌*◌, �
 use Rattle.std.proofs.lemmas.Bool.Decides.{nat_tests}
 use Rattle.std.specs.Char.{digit_value}
 use Rattle.input_files.specs.Below.{number_after}
-use Rattle.input_files.proofs.harts_file_lemmas.NumberLemmas.{capped, number_after-turn, number_after-stops}
+use Rattle.input_files.proofs.harts_file_lemmas.NumberLemmas.{capped, number_after-iteration, number_after-stops}
 use Rattle.input_files.proofs.harts_file_lemmas.NumberLemmas.{number_after-ends}
 use Rattle.input_files.proofs.harts_file_lemmas.NumberLemmas.{number_in-after}
 use Rattle.input_files.proofs.harts_file.numerals.decimal.Goals as goal
@@ -27,7 +27,7 @@ loop-byte-preserved c =
     let read : digit_value c.from.result ≡ digit_value (get_or bytes at 0) = ap digit_value code in
     let is_digit : digit_value (get_or bytes at 0) < 10 = omega (arith, c.in_ok-digit.ensures.value) in
     let value : c.in_ok-digit.digit ≡ digit_value (get_or bytes at 0) = omega (arith, c.in_ok-digit.ensures.value) in
-    let turn = number_after-turn c.loop-byte.number at c.in_ok-digit.digit bytes c.loop-byte-test.true
+    let turn = number_after-iteration c.loop-byte.number at c.in_ok-digit.digit bytes c.loop-byte-test.true
     is_digit value in
     let next : c.saturating_add-number.result
     ≡ min (min (c.loop-byte.number * 10) (2 ^ 64 - 1) + c.in_ok-digit.digit) (2 ^ 64 - 1) = cc in

@@ -2,8 +2,8 @@ use Rattle.std.proofs.Common.{◌≡◌, ◌<◌, ◌≤◌, ◌+◌, ◌*◌, �
 use Rattle.std.proofs.lemmas.Bool.Decides.{nat_tests}
 use Rattle.std.specs.Char.{digit_value}
 use Rattle.language.specs.arguments.Texts.{number_after}
-use Rattle.language.proofs.arguments_lemmas.NumberLemmas.{capped, number_after-turn, number_after-stops, number_after-ends}
-use Rattle.language.proofs.arguments_lemmas.NumberLemmas.{number_in-after}
+use Rattle.language.proofs.arguments_lemmas.NumberLemmas.{capped, number_after-iteration, number_after-stops}
+use Rattle.language.proofs.arguments_lemmas.NumberLemmas.{number_after-ends, number_in-after}
 use Rattle.language.proofs.arguments.numerals.number_from_digits.Goals as goal
 
 pub returns-in_err-digit : goal.returns-in_err-digit
@@ -26,13 +26,13 @@ loop-byte-preserved c =
     let read : digit_value c.from.result ≡ digit_value (get_or bytes at 0) = ap digit_value code in
     let is_digit : digit_value (get_or bytes at 0) < c.args.base = omega (arith, c.in_ok-digit.ensures.value) in
     let value : c.in_ok-digit.digit ≡ digit_value (get_or bytes at 0) = omega (arith, c.in_ok-digit.ensures.value) in
-    let turn = number_after-turn c.args.base c.loop-byte.number at c.in_ok-digit.digit bytes c.requires.low
+    let iteration = number_after-iteration c.args.base c.loop-byte.number at c.in_ok-digit.digit bytes c.requires.low
     c.loop-byte-test.true is_digit value in
     let next : c.saturating_add-number.result
     ≡ min (min (c.loop-byte.number * c.args.base) (2 ^ 64 - 1) + c.in_ok-digit.digit) (2 ^ 64 - 1) = cc in
     record {
       fits = omega arith;
-      goes_on = ap (λ front. capped (number_after c.args.base front (drop (at + 1) bytes))) next ∙ sym turn
+      goes_on = ap (λ front. capped (number_after c.args.base front (drop (at + 1) bytes))) next ∙ sym iteration
           ∙ c.loop-byte.invariant.goes_on;
     }
 

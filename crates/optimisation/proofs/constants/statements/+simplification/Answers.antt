@@ -65,11 +65,11 @@ statements-returns-clause-code t c =
     let none = at_drop_all (λ xs. straight_block xs) c.args.body.now l.each-index c.loop-each-test.false in
     rw (← l.invariant.code, none, chain-nothing) refl
 
-pub turns-loop-value-init : goal.turns-loop-value-init
-turns-loop-value-init t c = record { code = refl; known = refl }
+pub iterations-loop-value-init : goal.iterations-loop-value-init
+iterations-loop-value-init t c = record { code = refl; known = refl }
 
-pub turns-loop-value-preserved : goal.turns-loop-value-preserved
-turns-loop-value-preserved t c =
+pub iterations-loop-value-preserved : goal.iterations-loop-value-preserved
+iterations-loop-value-preserved t c =
     let l = c.loop-value in
     let more : c.args.numbers.high - l.value ≡ suc (c.args.numbers.high - (l.value + 1)) =
     omega (arith, c.loop-value-test.true) in
@@ -86,12 +86,12 @@ turns-loop-value-preserved t c =
       known = rw (c.in_ok-statements.ensures.known, c.note.ensures, ← l.invariant.known, more) refl;
     }
 
-pub turns-returns-clause-code : goal.turns-returns-clause-code
-turns-returns-clause-code t c =
+pub iterations-returns-clause-code : goal.iterations-returns-clause-code
+iterations-returns-clause-code t c =
     let none : c.args.numbers.high - c.loop-value.value ≡ 0 = omega (arith, c.loop-value-test.false) in
     rw (← c.loop-value.invariant.code, none, chain-nothing) refl
 
-pub turns-returns-clause-known : goal.turns-returns-clause-known
-turns-returns-clause-known t c =
+pub iterations-returns-clause-known : goal.iterations-returns-clause-known
+iterations-returns-clause-known t c =
     let none : c.args.numbers.high - c.loop-value.value ≡ 0 = omega (arith, c.loop-value-test.false) in
     rw (← c.loop-value.invariant.known, none) refl

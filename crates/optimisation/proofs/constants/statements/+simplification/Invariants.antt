@@ -1,7 +1,8 @@
 use Rattle.std.proofs.Common.{◌≡◌, ◌+◌, ◌*◌, drop}
 use Rattle.optimisation.specs.Below.{block_nodes, chain, statement_nodes, straight_block, straight_tree}
 use Rattle.optimisation.specs.constants.private.Known.{words_of}
-use Rattle.optimisation.specs.constants.private.Simplification.{knowing_all, simplified_all, turns_code, turns_known}
+use Rattle.optimisation.specs.constants.private.Simplification.{knowing_all, simplified_all, iterations_code}
+use Rattle.optimisation.specs.constants.private.Simplification.{iterations_known}
 use Rattle.optimisation.specs.declared.constants.terms.Numbers.{Numbers}
 use Rattle.optimisation.proofs.constants.statements.+simplification.Given as goal
 
@@ -20,19 +21,20 @@ invariant-statements-loop-each l =
           ≡ knowing_all l.pass.copies.now l.pass.declared.now (words_of l.fn.known) all;
     }
 
--- the code so far and that of the turns that are left are the code of all turns
-abbrev pub invariant-turns-loop-value : goal.invariant-turns-loop-value
-invariant-turns-loop-value l =
+-- the code so far and that of the iterations that are left are the code of all iterations
+abbrev pub invariant-iterations-loop-value : goal.invariant-iterations-loop-value
+invariant-iterations-loop-value l =
     let copies = l.pass.copies.now in
     let declared = l.pass.declared.now in
     let body = straight_block l.fn.body in
     let left : Numbers = record { low = l.value; high = l.value-end } in
     record {
-      code : chain (straight_block l.code.items) (turns_code copies declared (words_of l.known) l.counter left body)
+      code : chain (straight_block l.code.items)
+          (iterations_code copies declared (words_of l.known) l.counter left body)
           ≡ chain (straight_block l.fn.code.items)
-          (turns_code copies declared (words_of l.fn.known) l.counter l.fn.numbers body);
-      known : turns_known copies declared (words_of l.known) l.counter left body
-          ≡ turns_known copies declared (words_of l.fn.known) l.counter l.fn.numbers body;
+          (iterations_code copies declared (words_of l.fn.known) l.counter l.fn.numbers body);
+      known : iterations_known copies declared (words_of l.known) l.counter left body
+          ≡ iterations_known copies declared (words_of l.fn.known) l.counter l.fn.numbers body;
     }
 
 -- Each call is for a part of what it is called in.
@@ -53,5 +55,5 @@ decreases-branch l = 4 * (block_nodes (straight_block l.accepted.now) + block_no
 abbrev pub decreases-repeat : goal.decreases-repeat
 decreases-repeat l = 4 * block_nodes (straight_block l.body.now) + 3
 
-abbrev pub decreases-turns : goal.decreases-turns
-decreases-turns l = 4 * block_nodes (straight_block l.body.now) + 2
+abbrev pub decreases-iterations : goal.decreases-iterations
+decreases-iterations l = 4 * block_nodes (straight_block l.body.now) + 2

@@ -43,13 +43,13 @@ statement-returns-in_ok-other-in-Branch t c =
       ← c.branch_of.ensures,
     ) c.push-in-Branch.ensures
 
-pub statement-returns-in_ok-turn-in-Repeat : goal.statement-returns-in_ok-turn-in-Repeat
-statement-returns-in_ok-turn-in-Repeat t c =
+pub statement-returns-in_ok-iteration-in-Repeat : goal.statement-returns-in_ok-iteration-in-Repeat
+statement-returns-in_ok-iteration-in-Repeat t c =
     rw (
       tree_of_loop c.in-Repeat.body c.in-Repeat.is c.deref-in-Repeat.ensures.value,
       ← c.in_ok-low-in-Repeat.ensures,
       ← c.in_ok-high-in-Repeat.ensures,
-      ← c.in_ok-turn-in-Repeat.ensures,
+      ← c.in_ok-iteration-in-Repeat.ensures,
       ← c.loop_of.ensures,
     ) c.push-in-Repeat.ensures
 

@@ -7,17 +7,17 @@ steps-init g c = record { counted = count_begins; few = omega arith }
 
 pub overflow_add-steps : goal.overflow_add-steps
 overflow_add-steps g c =
-    let fewer = c.turn.ensures.fewer (ap is_some c.in-Some.is) in
+    let fewer = c.step.ensures.fewer (ap is_some c.in-Some.is) in
     omega arith
 
 pub steps-preserved : goal.steps-preserved
 steps-preserved g c =
-    let fewer = c.turn.ensures.fewer (ap is_some c.in-Some.is) in
+    let fewer = c.step.ensures.fewer (ap is_some c.in-Some.is) in
     record {
-      counted = count_on c.steps.invariant.counted c.in-Some.is c.turn.ensures.shown;
+      counted = count_on c.steps.invariant.counted c.in-Some.is c.step.ensures.shown;
       few = omega arith;
     }
 
 pub returns-in_default-clause-counted : goal.returns-in_default-clause-counted
 returns-in_default-clause-counted g c =
-    count_ends c.steps.invariant.counted c.in_default.is (c.turn.ensures.ended c.in_default.is) c.turn.ensures.shown
+    count_ends c.steps.invariant.counted c.in_default.is (c.step.ensures.ended c.in_default.is) c.step.ensures.shown

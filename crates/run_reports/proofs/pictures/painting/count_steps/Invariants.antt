@@ -8,10 +8,10 @@ abbrev pub invariant-steps : goal.invariant-steps
 invariant-steps g l =
     let bytes = g.M.Memory.bytes in
     record {
-      counted : Counted (code_of l.code) l.fn.run.turns_left (state_of l.fn.run.hart (bytes l.fn.run.memory))
-          l.run.turns_left (state_of l.run.hart (bytes l.run.memory)) l.steps;
-      few : l.steps + l.run.turns_left ≤ l.fn.run.turns_left;
+      counted : Counted (code_of l.code) l.fn.run.steps_left (state_of l.fn.run.hart (bytes l.fn.run.memory))
+          l.run.steps_left (state_of l.run.hart (bytes l.run.memory)) l.steps;
+      few : l.steps + l.run.steps_left ≤ l.fn.run.steps_left;
     }
 
 abbrev pub decreases-steps : goal.decreases-steps
-decreases-steps g l = l.run.turns_left
+decreases-steps g l = l.run.steps_left

@@ -10,28 +10,28 @@ steps-init g c = record { painted = paint_begins c.requires.empty; few = omega a
 
 pub returns-then-is_none-2-clause-painted : goal.returns-then-is_none-2-clause-painted
 returns-then-is_none-2-clause-painted g c =
-    let one : c.turn-seen.result ≡ None = none_of c.turn-seen.result c.if-is_none.ensures in
-    let other : c.turn-seen_other.result ≡ None = none_of c.turn-seen_other.result c.if-is_none-2.ensures in
-    paint_ends c.steps.invariant.painted one other (c.turn-seen.ensures.ended one)
-    (c.turn-seen_other.ensures.ended other) c.turn-seen.ensures.shown c.turn-seen_other.ensures.shown
+    let one : c.step-seen.result ≡ None = none_of c.step-seen.result c.if-is_none.ensures in
+    let other : c.step-seen_other.result ≡ None = none_of c.step-seen_other.result c.if-is_none-2.ensures in
+    paint_ends c.steps.invariant.painted one other (c.step-seen.ensures.ended one)
+    (c.step-seen_other.ensures.ended other) c.step-seen.ensures.shown c.step-seen_other.ensures.shown
 
 pub steps-preserved : goal.steps-preserved
 steps-preserved g c =
     let adds = rw c.steps.invariant.axes at c.put_step.ensures.put in
-    let some : (c.turn-seen.result ≡ None) × (c.turn-seen_other.result ≡ None) → ⊥ = elim c.else-is_none.branch [
+    let some : (c.step-seen.result ≡ None) × (c.step-seen_other.result ≡ None) → ⊥ = elim c.else-is_none.branch [
       | else-is_none-via-then-is_none+else-is_none-2 w ↦
-          λ h. some_shown c.turn-seen_other.result w.if-is_none-2.ensures h.1
-      | else-is_none-via-else-is_none w ↦ λ h. some_shown c.turn-seen.result w.if-is_none.ensures h.0
+          λ h. some_shown c.step-seen_other.result w.if-is_none-2.ensures h.1
+      | else-is_none-via-else-is_none w ↦ λ h. some_shown c.step-seen.result w.if-is_none.ensures h.0
     ] in
     record {
-      painted = paint_on c.turn-seen.result c.turn-seen_other.result c.steps.invariant.painted adds
-          c.turn-seen.ensures.shown
-          c.turn-seen_other.ensures.shown c.turn-seen.ensures.ended c.turn-seen_other.ensures.ended some;
+      painted = paint_on c.step-seen.result c.step-seen_other.result c.steps.invariant.painted adds
+          c.step-seen.ensures.shown
+          c.step-seen_other.ensures.shown c.step-seen.ensures.ended c.step-seen_other.ensures.ended some;
       few =
           let left =
-          fewer_left c.turn-seen.result c.turn-seen_other.result c.turn-seen.ensures.fewer
-          c.turn-seen_other.ensures.fewer
-          c.turn-seen.ensures.ended c.turn-seen_other.ensures.ended some in
+          fewer_left c.step-seen.result c.step-seen_other.result c.step-seen.ensures.fewer
+          c.step-seen_other.ensures.fewer
+          c.step-seen.ensures.ended c.step-seen_other.ensures.ended some in
           omega arith;
       axes = c.put_step.ensures.axes ∙ c.steps.invariant.axes;
     }

@@ -9,14 +9,14 @@ invariant-steps g l =
     let bytes = g.M.Memory.bytes in
     record {
       painted : Painted l.fn.grid.axes (code_of l.code)
-          l.fn.one.turns_left (state_of l.fn.one.hart (bytes l.fn.one.memory)) l.one.turns_left
+          l.fn.one.steps_left (state_of l.fn.one.hart (bytes l.fn.one.memory)) l.one.steps_left
           (state_of l.one.hart (bytes l.one.memory))
-          l.fn.other.turns_left (state_of l.fn.other.hart (bytes l.fn.other.memory)) l.other.turns_left
+          l.fn.other.steps_left (state_of l.fn.other.hart (bytes l.fn.other.memory)) l.other.steps_left
           (state_of l.other.hart (bytes l.other.memory))
           l.step l.grid.cells.items;
-      few : l.step + l.one.turns_left + l.other.turns_left ≤ l.fn.one.turns_left + l.fn.other.turns_left;
+      few : l.step + l.one.steps_left + l.other.steps_left ≤ l.fn.one.steps_left + l.fn.other.steps_left;
       axes : l.grid.axes ≡ l.fn.grid.axes;
     }
 
 abbrev pub decreases-steps : goal.decreases-steps
-decreases-steps g l = l.one.turns_left + l.other.turns_left
+decreases-steps g l = l.one.steps_left + l.other.steps_left

@@ -6,14 +6,14 @@ use Rattle.run_reports.proofs.progress_lemmas.KnownPieces.{leads_append, stretch
 use Rattle.run_reports.proofs.progress_lemmas.KnownPieces.{end_of_both, lines_of_known, lines_of_known_at_end}
 use Rattle.run_reports.proofs.progress_lemmas.Told.{none_yet, all_told}
 use Rattle.run_reports.specs.progress.Certified.{entries_at, end_behind}
-use Rattle.run_reports.specs.progress.Lines.{turns_a_line}
+use Rattle.run_reports.specs.progress.Lines.{steps_a_line}
 use Rattle.run_reports.specs.Below.{collected, entries_of}
 use Rattle.rv_machine.proofs.Face.{entry_count-append}
 use Rattle.run_reports.proofs.progress.certifying.certify_in_pieces.Goals as goal
 
 pub loop-left-init : goal.loop-left-init
 loop-left-init g c =
-    let none : 0 ≡ c.new-lines.result.count * turns_a_line = omega arith in
+    let none : 0 ≡ c.new-lines.result.count * steps_a_line = omega arith in
     record {
       made = omega arith;
       more = inl c.new-lines.ensures.none;
@@ -63,7 +63,7 @@ pub loop-left-preserved : goal.loop-left-preserved
 loop-left-preserved g c =
     let led = c.loop-left.invariant.led in
     let spent = c.certify-end.ensures.spent (omega arith) in
-    let next : c.loop-left.lines.count * turns_a_line + turns_a_line ≡ c.tell.new.self.count * turns_a_line =
+    let next : c.loop-left.lines.count * steps_a_line + steps_a_line ≡ c.tell.new.self.count * steps_a_line =
     omega arith in
     let more : c.entries_at-entries.result ≡ length (entries_of spent.0) =
     c.entries_at-entries.ensures ∙ ap entries_at spent.2 in

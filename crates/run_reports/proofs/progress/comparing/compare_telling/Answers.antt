@@ -1,4 +1,4 @@
--- Another turn of each, or the comparison's end.
+-- Another step of each, or the comparison's end.
 use Rattle.std.proofs.Common.{◌≡◌, ℕ, List, [], ◌∷◌, ◌++◌, length, length-append, is_some, inl, inr, refl, sym, ap}
 use Rattle.std.proofs.Common.{add-zero, arith}
 use Rattle.run_reports.proofs.progress_lemmas.Together.{InStep, both_step, both_go_on, told_at_end, one_ended}
@@ -19,8 +19,8 @@ in_step : {code : Code} {m m' n n' place : ℕ} {s t s' t' : State} {seen : List
     → machine.InStep code m s n t m' s' n' t' place
 in_step {seen = seen} is made equal = (seen, is, made.0, rw equal made.1)
 
-pub turns-init : goal.turns-init
-turns-init g c = record {
+pub steps-init : goal.steps-init
+steps-init g c = record {
   shown = ([], refl, refl, (begins, rw c.requires.equal begins));
   few = omega arith;
   few_entries = omega arith;
@@ -35,73 +35,73 @@ turns-init g c = record {
 
 pub returns-in_default-seen_other : goal.returns-in_default-seen_other
 returns-in_default-seen_other g c =
-    let all = c.turns.invariant in
-    let one = c.turn-seen.ensures in
-    let other = c.turn-seen_other.ensures in
+    let all = c.steps.invariant in
+    let one = c.step-seen.ensures in
+    let other = c.step-seen_other.ensures in
     let none = c.in_default-seen_other.is in
     let last = other.ended none in
     let shown = something_shown (rw c.in-Some.is at one.made) in
     record {
-      compared = rw (sym (add-zero c.turns.place))
+      compared = rw (sym (add-zero c.steps.place))
           (differ_after (in_step all.shown.2 all.shown.3 c.requires.equal) shown.1
           (nothing_shown (rw (none, last) at other.made)) (other-ends c.in-Some.seen shown.0));
-      told = λ tells. told_at_end c.turns.lines.whole c.turns.lines.count all.shown.3 all.shown.1 one.made other.made
+      told = λ tells. told_at_end c.steps.lines.whole c.steps.lines.count all.shown.3 all.shown.1 one.made other.made
           all.due all.next (other_ended none) all.reached (all.told tells);
     }
 
 pub returns-in-Some-first_difference : goal.returns-in-Some-first_difference
 returns-in-Some-first_difference g c =
-    let all = c.turns.invariant in
-    let one = c.turn-seen.ensures in
-    let other = c.turn-seen_other.ensures in
+    let all = c.steps.invariant in
+    let one = c.step-seen.ensures in
+    let other = c.step-seen_other.ensures in
     let differ = c.in-Some-first_difference.ensures.differ in
     let shown = something_shown (rw c.in-Some.is at one.made) in
     let shown' = something_shown (rw c.in-Some-seen_other-2.is at other.made) in
     record {
       compared = differ_after (in_step all.shown.2 all.shown.3 c.requires.equal) shown.1 shown'.1
           (differ shown.0 shown'.0);
-      told = λ tells. told_at_end c.turns.lines.whole c.turns.lines.count all.shown.3 all.shown.1 one.made other.made
+      told = λ tells. told_at_end c.steps.lines.whole c.steps.lines.count all.shown.3 all.shown.1 one.made other.made
           all.due all.next (they_differ c.in-Some.is c.in-Some-seen_other-2.is (differ [] [])) all.reached
           (all.told tells);
     }
 
 pub returns-in-Some-seen_other : goal.returns-in-Some-seen_other
 returns-in-Some-seen_other g c =
-    let all = c.turns.invariant in
-    let one = c.turn-seen.ensures in
-    let other = c.turn-seen_other.ensures in
+    let all = c.steps.invariant in
+    let one = c.step-seen.ensures in
+    let other = c.step-seen_other.ensures in
     let last = one.ended c.in_default.is in
     let shown = something_shown (rw c.in-Some-seen_other.is at other.made) in
     record {
-      compared = rw (sym (add-zero c.turns.place))
+      compared = rw (sym (add-zero c.steps.place))
           (differ_after (in_step all.shown.2 all.shown.3 c.requires.equal)
           (nothing_shown (rw (c.in_default.is, last) at one.made)) shown.1
           (one-ends c.in-Some-seen_other.field-0 shown.0));
-      told = λ tells. told_at_end c.turns.lines.whole c.turns.lines.count all.shown.3 all.shown.1 one.made other.made
+      told = λ tells. told_at_end c.steps.lines.whole c.steps.lines.count all.shown.3 all.shown.1 one.made other.made
           all.due all.next (one_ended c.in_default.is) all.reached (all.told tells);
     }
 
 pub returns-in-None : goal.returns-in-None
 returns-in-None g c =
-    let all = c.turns.invariant in
-    let one = c.turn-seen.ensures in
-    let other = c.turn-seen_other.ensures in
+    let all = c.steps.invariant in
+    let one = c.step-seen.ensures in
+    let other = c.step-seen_other.ensures in
     let last = one.ended c.in_default.is in
     let last' = other.ended c.in-None.is in
     record {
       compared = same_after (in_step all.shown.2 all.shown.3 c.requires.equal)
           (nothing_shown (rw (c.in_default.is, last) at one.made))
           (nothing_shown (rw (c.in-None.is, last') at other.made));
-      told = λ tells. told_at_end c.turns.lines.whole c.turns.lines.count all.shown.3 all.shown.1 one.made other.made
+      told = λ tells. told_at_end c.steps.lines.whole c.steps.lines.count all.shown.3 all.shown.1 one.made other.made
           all.due all.next (one_ended c.in_default.is) all.reached (all.told tells);
     }
 
-pub turns-preserved-then-other-gt0 : goal.turns-preserved-then-other-gt0
-turns-preserved-then-other-gt0 g c =
-    let all = c.turns.invariant in
+pub steps-preserved-then-other-gt0 : goal.steps-preserved-then-other-gt0
+steps-preserved-then-other-gt0 g c =
+    let all = c.steps.invariant in
     let shown = all.shown in
-    let one = c.turn-seen.ensures in
-    let other = c.turn-seen_other.ensures in
+    let one = c.step-seen.ensures in
+    let other = c.step-seen_other.ensures in
     let seen = c.in-Some.seen in
     let same = c.in_default-first_difference.ensures.equal refl in
     let longer = length-append shown.0 (seen ∷ []) in
@@ -129,12 +129,12 @@ turns-preserved-then-other-gt0 g c =
           tells (all.told tells);
     }
 
-pub turns-preserved : goal.turns-preserved
-turns-preserved g c =
-    let all = c.turns.invariant in
+pub steps-preserved : goal.steps-preserved
+steps-preserved g c =
+    let all = c.steps.invariant in
     let shown = all.shown in
-    let one = c.turn-seen.ensures in
-    let other = c.turn-seen_other.ensures in
+    let one = c.step-seen.ensures in
+    let other = c.step-seen_other.ensures in
     let seen = c.in-Some.seen in
     let same = c.in_default-first_difference.ensures.equal refl in
     let fewer = one.fewer (ap is_some c.in-Some.is) in

@@ -1,15 +1,15 @@
 -- So many pieces were made, none of which stopped, and a line went out behind each.
 use Rattle.std.proofs.Common.{◌≡◌, ◌+◌, ◌*◌, ◌<◌, ◌⊎◌, List, IsTrue}
-use Rattle.run_reports.specs.progress.Lines.{turns_a_line, WentOut}
+use Rattle.run_reports.specs.progress.Lines.{steps_a_line, WentOut}
 use Rattle.run_reports.specs.Below.{code_of, collected, Leads, Observation, state_of}
 use Rattle.run_reports.proofs.progress.running.run_in_pieces.Given as goal
 
 abbrev pub invariant-pieces : goal.invariant-pieces
 invariant-pieces g l = record {
-  made : l.lines.count * turns_a_line + l.running.turns_left ≡ l.fn.running.turns_left;
-  more : (l.lines.count ≡ 0) ⊎ (0 < l.running.turns_left);
+  made : l.lines.count * steps_a_line + l.running.steps_left ≡ l.fn.running.steps_left;
+  more : (l.lines.count ≡ 0) ⊎ (0 < l.running.steps_left);
   led : (seen : List Observation)
-      × Leads (code_of l.code) (l.lines.count * turns_a_line)
+      × Leads (code_of l.code) (l.lines.count * steps_a_line)
       (state_of l.fn.running.hart (g.M.Memory.bytes l.fn.running.memory)) seen
       (state_of l.running.hart (g.M.Memory.bytes l.running.memory));
   told : IsTrue g.E.Sink.TELLS → WentOut l.lines.whole l.lines.count
@@ -18,4 +18,4 @@ invariant-pieces g l = record {
 }
 
 abbrev pub decreases-pieces : goal.decreases-pieces
-decreases-pieces g l = l.running.turns_left
+decreases-pieces g l = l.running.steps_left

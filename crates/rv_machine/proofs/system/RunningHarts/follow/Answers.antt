@@ -16,8 +16,8 @@ loop-number-init g c = record {
   count = refl;
 }
 
-pub turn-requires : goal.turn-requires
-turn-requires g c =
+pub step-requires : goal.step-requires
+step-requires g c =
     let n = length c.args.self.now.harts.items in
     rw c.loop-number.invariant.count
     (All-get_or (λ number. number < n) c.args.schedule.now c.loop-number.number-index 0 c.loop-number-test.true
@@ -26,12 +26,12 @@ turn-requires g c =
 pub returns-in_err-note-clause-cut_short : goal.returns-in_err-note-clause-cut_short
 returns-in_err-note-clause-cut_short g c =
     let items = c.args.self.now.harts.items in
-    let now = c.turn.new.self.harts.items in
+    let now = c.step.new.self.harts.items in
     let count : length items ≡ length (map member_now now) = sym c.loop-number.invariant.count
-    ∙ sym c.turn.ensures.count ∙ sym (length-map now member_now) in
+    ∙ sym c.step.ensures.count ∙ sym (length-map now member_now) in
     on_err c.from_residual.result (rw c.in_err-note.ensures.refused
     (Followed-short g.R.HartRecorder.KEEPS c.args.schedule.now c.loop-number.number-index c.loop-number-test.true
-    _ _ _ _ _ _ c.loop-number.invariant.followed c.turn.ensures.turn (length items) count c.requires))
+    _ _ _ _ _ _ c.loop-number.invariant.followed c.step.ensures.step (length items) count c.requires))
 
 pub loop-number-preserved : goal.loop-number-preserved
 loop-number-preserved g c =
@@ -41,17 +41,17 @@ loop-number-preserved g c =
     let i = c.loop-number.number-index in
     let list = g.R.HartRecorder.list in
     let refusals = g.R.HartRecorder.refusals in
-    let count = c.turn.ensures.count ∙ before.count in
-    elim c.match-turn.branch [
+    let count = c.step.ensures.count ∙ before.count in
+    elim c.match-step.branch [
       | in-Some+in_ok-note w ↦ record {
         followed = Followed-more keeps schedule i c.loop-number-test.true _ _ _ _ _ _ before.followed
-            w.in-Some.ensures.turn _ (ap list w.recorder-is ∙ w.in_ok-note.ensures.taken);
+            w.in-Some.ensures.step _ (ap list w.recorder-is ∙ w.in_ok-note.ensures.taken);
         calm = ap refusals w.recorder-is ∙ w.in_ok-note.ensures.calm ∙ before.calm;
         count = count;
       }
       | in_default w ↦ record {
         followed = Followed-more keeps schedule i c.loop-number-test.true _ _ _ _ _ _ before.followed
-            w.in_default.ensures.turn _ (ap list w.recorder-is
+            w.in_default.ensures.step _ (ap list w.recorder-is
             ∙ sym (kept-nothing keeps (list c.loop-number.recorder)));
         calm = ap refusals w.recorder-is ∙ before.calm;
         count = count;

@@ -2,7 +2,7 @@ use Rattle.std.proofs.Common.{◌≡◌, ◌-◌, ◌≤◌, length}
 use Rattle.optimisation.specs.live_words.private.Choice.{placed_all, placing_by}
 use Rattle.optimisation.proofs.live_words.choice.Placed.place_all.Given as goal
 
--- with as many more as turns are left, all are placed
+-- with as many more as iterations are left, all are placed
 abbrev pub invariant-loop : goal.invariant-loop
 invariant-loop l = record {
   placed : placed_all l.words.declared.now l.words.starts.now l.words.width (l.words.width - l.counter) l.weights.items

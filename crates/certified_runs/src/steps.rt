@@ -1,0 +1,85 @@
+// One step of what is known: it is asked what decides it, and then made by the machine.
+
+ghost use Rattle.std.specs.Prelude.{◌≡◌, [], List, length};
+ghost use Rattle.certified_runs.specs.Below.{code_of, Ending, entries_of, followed_by, Instr, IsAt, Observation};
+ghost use Rattle.certified_runs.specs.Below.{pc_of, state_of, Step};
+ghost use Rattle.certified_runs.specs.Parts.{known_of};
+ghost use Rattle.certified_runs.specs.private.Stepped.{HaveOneExtent, HasStepped};
+
+use crate::changes::{accessed, change, decides};
+use crate::known_parts::KnownParts;
+use rv_machine::{CodeRegion, Hart, Memory, Observation, Stop, entry_count, step_unrecorded};
+
+/// How a step of what is known ends.
+#[derive(Clone, Copy)]
+pub(crate) enum StepEnd {
+    /// It shows so many entries and goes on.
+    LeadsOn(u64),
+    /// It shows so many entries and stops.
+    Ends(u64, Stop),
+    /// What it shows may depend on what is unknown. It was not made.
+    Depends,
+}
+
+// How many entries a step shows.
+#[inline(always)]
+fn entries_in(seen: Option<Observation>) -> u64
+    ensures { result ≡ length (entries_of (followed_by seen [])) }
+{
+    match seen {
+        Some(observation) => entry_count(&observation),
+        None => 0,
+    }
+}
+
+// Makes the step where no instruction stands at the program counter, and answers how many entries it shows, and
+// why it stops. It is apart, so that the other steps need not ask again whether an instruction does.
+#[cold]
+#[inline(never)]
+fn halt<M: Memory>(code: &CodeRegion, hart: &mut Hart, memory: &mut M) -> (u64, Stop)
+    requires { (i : Instr) → ¬ IsAt (code_of code.now) (pc_of hart.old) i }
+    ensures stops { (seen : List Observation)
+        × Step (code_of code.now) (state_of hart.old (M.bytes memory.old)) (Ending.stops seen result.1)
+        × (length (entries_of seen) ≡ result.0) }
+    ensures extent { HaveOneExtent (M.bytes memory.new) (M.bytes memory.old) }
+{
+    let (seen, stop) = step_unrecorded(hart, code, memory);
+    match stop {
+        Some(stop) => (entries_in(seen), stop),
+        None => unreachable!(),
+    }
+}
+
+/// Makes the next step of what is known, unless what it shows may depend on what is unknown.
+#[inline(always)]
+pub(crate) fn known_step<M: Memory>(
+    code: &CodeRegion,
+    hart: &mut Hart,
+    memory: &mut M,
+    known: &mut KnownParts<M>,
+) -> StepEnd
+    requires { HaveOneExtent (M.bytes known.old.marks) (M.bytes memory.old) }
+    ensures stepped { HasStepped (code_of code.now)
+        (known_of (state_of hart.old (M.bytes memory.old)) known.old.registers (M.bytes known.old.marks)
+        known.old.shifts) result
+        (known_of (state_of hart.new (M.bytes memory.new)) known.new.registers (M.bytes known.new.marks)
+        known.new.shifts) }
+    ensures extent { HaveOneExtent (M.bytes known.new.marks) (M.bytes memory.new) }
+{
+    let Some(instr) = code.instruction_at(hart.pc()) else {
+        let (entries, stop) = halt(code, hart, memory);
+        return StepEnd::Ends(entries, stop);
+    };
+    if !decides(code.profile(), instr, known) {
+        return StepEnd::Depends;
+    }
+    // The step may change the register that the address is made of.
+    let a = accessed(instr, hart);
+    let (seen, stop) = step_unrecorded(hart, code, memory);
+    let entries = entries_in(seen);
+    if let Some(stop) = stop {
+        return StepEnd::Ends(entries, stop);
+    }
+    change(instr, a, known);
+    StepEnd::LeadsOn(entries)
+}

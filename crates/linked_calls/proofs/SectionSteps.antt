@@ -1,0 +1,93 @@
+-- How many steps the sections make, before the body and behind it.
+use Rattle.std.specs.List.{sum_by}
+use Rattle.std.proofs.Common.{◌≡◌, ℕ, ◌+◌, ◌==◌, Bool, true, false, if◌then◌else◌, List, [], ◌∷◌, ◌++◌, length}
+use Rattle.std.proofs.Common.{refl, ap, ap₂, ◌∙◌, arith, length-append}
+use Rattle.std.proofs.lemmas.List.Sums.{sum_by-cons, sum_by-append, sum-map}
+use Rattle.linked_calls.proofs.Below.{Add, argument_sections, argument_steps, ArgumentIn, array_section, array_sections}
+use Rattle.linked_calls.proofs.Below.{array_steps, block_steps, CallersStack, ClearedFrame, ClearedRegisters}
+use Rattle.linked_calls.proofs.Below.{constant_code, Fields, FixedArray, Form, frame_room, frame_sections, frame_steps}
+use Rattle.linked_calls.proofs.Below.{FrameBase, FrameTop, leave_sections, MutableArray, Register, RestoredRegisters}
+use Rattle.linked_calls.proofs.Below.{result_code, ResultOut, Return, room_of, Section, section_steps, SingleWord, Slot}
+use Rattle.linked_calls.proofs.Below.{Sub, WipedRoom}
+use Rattle.linked_calls.specs.declared.section.Section.TheVariants.{RoomAboveFrame, SavedRegisters, ArgumentRegisters}
+use Rattle.linked_calls.proofs.Between.{enter_steps, leave_steps}
+
+module _ (image : Fields) where
+  abbrev steps_of : List Section → ℕ
+  steps_of sections = sum_by (section_steps image) sections
+
+  abbrev room : ℕ
+  room = frame_room image
+
+  -- of all arguments from the i-th on
+  abbrev pub arguments_steps : ℕ → List Slot → ℕ
+  arguments_steps i [] = 0
+  arguments_steps i (slot ∷ slots) = argument_steps image i slot slot.param.form + arguments_steps (i + 1) slots
+
+  -- of an array that is handed back
+  abbrev pub output_steps : ℕ → Slot → Form → ℕ
+  output_steps i slot SingleWord = 0
+  output_steps i slot FixedArray = 0
+  output_steps i slot MutableArray = array_steps image i slot
+
+  abbrev pub outputs_steps : ℕ → List Slot → ℕ
+  outputs_steps i [] = 0
+  outputs_steps i (slot ∷ slots) = output_steps i slot slot.param.form + outputs_steps (i + 1) slots
+
+  -- Before the body.
+
+  frame_steps_by : (b : Bool) → steps_of (if b then [] else FrameBase ∷ ClearedFrame ∷ [])
+      ≡ (if b then 0 else length (constant_code 5 room) + 1 + block_steps room)
+  frame_steps_by true = refl
+  frame_steps_by false =
+      let e = length-append (constant_code 5 room) (Register Sub 5 2 5 ∷ []) in
+      let steps : 0 + length (constant_code 5 room ++ Register Sub 5 2 5 ∷ []) + block_steps room
+      ≡ length (constant_code 5 room) + 1 + block_steps room = omega arith in
+      steps
+
+  arguments_steps_are : (i : ℕ) (slots : List Slot) → steps_of (argument_sections i slots) ≡ arguments_steps i slots
+  arguments_steps_are i [] = refl
+  arguments_steps_are i (slot ∷ slots) =
+      sum_by-cons (section_steps image) (ArgumentIn i slot) (argument_sections (i + 1) slots)
+      ∙ ap (λ n. argument_steps image i slot slot.param.form + n) (arguments_steps_are (i + 1) slots)
+
+  -- the entry makes 21 steps, and then come the frame's and the arguments'
+  pub enter_steps_are : enter_steps image ≡ 21 + frame_steps room + arguments_steps 0 image.slots
+  enter_steps_are =
+      let entry = RoomAboveFrame ∷ SavedRegisters ∷ ArgumentRegisters ∷ [] in
+      let framed = frame_sections room in
+      let arguments = argument_sections 0 image.slots in
+      sum-map (section_steps image) (entry ++ framed ++ arguments)
+      ∙ sum_by-append (section_steps image) (entry ++ framed) arguments
+      ∙ ap₂ (λ a b. a + b) (sum_by-append (section_steps image) entry framed
+      ∙ ap (λ n. 21 + n) (frame_steps_by (room == 0))) (arguments_steps_are 0 image.slots)
+
+  -- Behind it.
+
+  array_steps_are : (i : ℕ) (slot : Slot) (form : Form)
+      → steps_of (array_section i slot form) ≡ output_steps i slot form
+  array_steps_are i slot MutableArray = omega arith
+  array_steps_are i slot form = refl
+
+  arrays_steps_are : (i : ℕ) (slots : List Slot) → steps_of (array_sections i slots) ≡ outputs_steps i slots
+  arrays_steps_are i [] = refl
+  arrays_steps_are i (slot ∷ slots) =
+      sum_by-append (section_steps image) (array_section i slot slot.param.form) (array_sections (i + 1) slots)
+      ∙ ap₂ (λ m n. m + n) (array_steps_are i slot slot.param.form) (arrays_steps_are (i + 1) slots)
+
+  abbrev lasts : List Section
+  lasts = FrameTop ∷ RestoredRegisters ∷ CallersStack ∷ WipedRoom ∷ ClearedRegisters ∷ Return ∷ []
+
+  -- the registers restored and cleared, and the room wiped
+  abbrev pub last_steps : ℕ
+  last_steps = length (constant_code 5 room ++ Register Add 5 5 2 ∷ []) + block_steps (room_of image) + 28
+
+  pub leave_steps_are : leave_steps image ≡ length (result_code image.returned) +
+      (outputs_steps 0 image.slots + last_steps)
+  leave_steps_are =
+      let counted : steps_of lasts ≡ last_steps = omega arith in
+      sum-map (section_steps image) (leave_sections image)
+      ∙ sum_by-cons (section_steps image) ResultOut (array_sections 0 image.slots ++ lasts)
+      ∙ ap (λ n. length (result_code image.returned) + n)
+      (sum_by-append (section_steps image) (array_sections 0 image.slots) lasts
+      ∙ ap₂ (λ m n. m + n) (arrays_steps_are 0 image.slots) counted)

@@ -1,5 +1,0 @@
-use Rattle.run_reports.proofs.run_places_lemmas.Runs.{later_place}
-use Rattle.run_reports.proofs.run_places.laws.places_behind_turns.Goals as goal
-
-pub returns : goal.returns
-returns c = later_place
