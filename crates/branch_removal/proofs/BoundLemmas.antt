@@ -55,15 +55,15 @@ most_of_two a b m n p q = max-le (omega (arith, p)) (omega (arith, q))
 
 -- straight code has no more nodes and no more work than what it is made for, and takes the conditions that its control
 -- values are for
-record Fits (most : List ℕ) (nodes work controls : ℕ) (code : StraightBlock) : Type 0 where
+record IsNoLarger (most : List ℕ) (nodes work controls : ℕ) (code : StraightBlock) : Type 0 where
   few_nodes : block_nodes code ≤ nodes
   few_work : block_work most code ≤ work
   taken : controls ≤ 2 * taken_in_all code
 
 module _ (most : List ℕ) where
   -- of two parts one behind the other, of which the control values may be the same
-  fits_chain : {n w c m v d : ℕ} (xs ys : StraightBlock) → Fits most n w c xs → Fits most m v d ys
-      → Fits most (n + m) (w + v) (max c d) (chain xs ys)
+  fits_chain : {n w c m v d : ℕ} (xs ys : StraightBlock) → IsNoLarger most n w c xs → IsNoLarger most m v d ys
+      → IsNoLarger most (n + m) (w + v) (max c d) (chain xs ys)
   fits_chain {c = c} {d = d} xs ys one other =
       let few = one.few_nodes in
       let more = other.few_nodes in
@@ -78,7 +78,7 @@ module _ (most : List ℕ) where
 
   mutual
     fits : (within : Option ℕ) (control : ℕ) (s : FlatTree)
-        → Fits most (tree_nodes s) (tree_work most s) (controls_in s) (removed within control s)
+        → IsNoLarger most (tree_nodes s) (tree_work most s) (controls_in s) (removed within control s)
     fits within control (declare x word mutable value) =
         record { few_nodes = omega arith; few_work = omega (arith, set_little None value); taken = omega arith }
     fits within control (assign x value) =
@@ -117,7 +117,7 @@ module _ (most : List ℕ) where
     fits within control other = record { few_nodes = omega arith; few_work = omega arith; taken = omega arith }
 
     fits_all : (within : Option ℕ) (control : ℕ) (b : FlatBlock)
-        → Fits most (body_nodes b) (body_work most b) (controls_in_all b) (removed_all within control b)
+        → IsNoLarger most (body_nodes b) (body_work most b) (controls_in_all b) (removed_all within control b)
     fits_all within control nothing = record { few_nodes = omega arith; few_work = omega arith; taken = omega arith }
     fits_all within control (first s rest) = fits_chain (removed within control s) (removed_all within control rest)
         (fits within control s) (fits_all within control rest)

@@ -6,14 +6,15 @@ use Rattle.std.proofs.lemmas.Bool.{and_parts, eqb-true, false≢true, ltb-true, 
 use Rattle.std.proofs.lemmas.Option.{none-some, same_Some}
 use Rattle.std.specs.Option.{option_map}
 use Rattle.branch_removal.specs.Below.{AllSuit, are_met, array_as, binary, binary_rules, BinaryOperator, bits, bits_of}
-use Rattle.branch_removal.specs.Below.{Boolean, convert, counter_type, element, FlatVariable, HasCount, HasType}
+use Rattle.branch_removal.specs.Below.{Boolean, convert, counter_type, element, FlatVariable, HasCount, TermHasType}
 use Rattle.branch_removal.specs.Below.{is_hidden, is_narrow, is_secret, IsResult, joined, Label, labelled, Makes}
 use Rattle.branch_removal.specs.Below.{number, number_rules, of_binary, of_conversion, of_element, of_number, of_one}
 use Rattle.branch_removal.specs.Below.{of_prefix, of_rotation, of_selection, of_three, of_truth, of_two, of_variable}
 use Rattle.branch_removal.specs.Below.{operation_kind, operation_of, Place, prefix, prefix_rules, PrefixOperator}
 use Rattle.branch_removal.specs.Below.{Profile, Public, public_flows, rotate, rotate_rules, Secret, secret_flows}
-use Rattle.branch_removal.specs.Below.{select, select_rules, Suits, suits as flow_suits, Takes, TermTree, truth, Types}
-use Rattle.branch_removal.specs.Below.{types_of, unless, ValueType, variable, Width, width_of, Word, word_as, WordType}
+use Rattle.branch_removal.specs.Below.{select, select_rules, TermSuits, suits as flow_suits, Takes, TermTree, truth}
+use Rattle.branch_removal.specs.Below.{Types, types_of, unless, ValueType, variable, Width, width_of, Word, word_as}
+use Rattle.branch_removal.specs.Below.{WordType}
 use Rattle.language.specs.Grammatical.{IsNumberKind}
 use Rattle.language.specs.WellTyped.{Suits as SuitsWord}
 use Rattle.language.specs.declared.rule.Rule.{Rule}
@@ -87,74 +88,77 @@ an_array size (Some d) word is = (d.mutable, ap Some (declared d.elements refl i
 -- Expressions.
 
 -- what has a type by the test has it by the rules of inference, and it is a word's
-pub data Typed (types : Types) (e : TermTree) : Option ValueType → Type 0 where
-  typed : {w : WordType} → HasType types e w → Typed types e (Some (Word w))
-  untyped : Typed types e None
+pub data TypedByRules (types : Types) (e : TermTree) : Option ValueType → Type 0 where
+  typed : {w : WordType} → TermHasType types e w → TypedByRules types e (Some (Word w))
+  untyped : TypedByRules types e None
 
 module _ {types : Types} {e : TermTree} where
-  where_true : (b : Bool) {type : Option ValueType} → (b ≡ true → Typed types e type)
-      → Typed types e (if b then type else None)
+  where_true : (b : Bool) {type : Option ValueType} → (b ≡ true → TypedByRules types e type)
+      → TypedByRules types e (if b then type else None)
   where_true true so = so refl
   where_true false so = untyped
 
-  where_met : (rules : List Rule) {type : ValueType} → (rules ≡ [] → Typed types e (Some type))
-      → Typed types e (unless rules type)
+  where_met : (rules : List Rule) {type : ValueType} → (rules ≡ [] → TypedByRules types e (Some type))
+      → TypedByRules types e (unless rules type)
   where_met [] so = so refl
   where_met (rule ∷ rules) so = untyped
 
-  where_known : (word : Option WordType) → ((w : WordType) → word ≡ Some w → HasType types e w)
-      → Typed types e (option_map Word word)
+  where_known : (word : Option WordType) → ((w : WordType) → word ≡ Some w → TermHasType types e w)
+      → TypedByRules types e (option_map Word word)
   where_known (Some w) so = typed (so w refl)
   where_known None so = untyped
 
-  of_part : {f : TermTree} (make : ValueType → Option ValueType) {type : Option ValueType} → Typed types f type
-      → ((w : WordType) → HasType types f w → Typed types e (make (Word w))) → Typed types e (of_one None make type)
+  of_part : {f : TermTree} (make : ValueType → Option ValueType) {type : Option ValueType} → TypedByRules types f type
+      → ((w : WordType) → TermHasType types f w → TypedByRules types e (make (Word w))) → TypedByRules types e
+      (of_one None make type)
   of_part make (typed {w = w} has) so = so w has
   of_part make untyped so = untyped
 
   of_parts : {f g : TermTree} (make : ValueType → ValueType → Option ValueType) {type other : Option ValueType}
-      → Typed types f type → Typed types g other
-      → ((v w : WordType) → HasType types f v → HasType types g w → Typed types e (make (Word v) (Word w)))
-      → Typed types e (of_two None make type other)
+      → TypedByRules types f type → TypedByRules types g other
+      → ((v w : WordType) → TermHasType types f v → TermHasType types g w → TypedByRules types e
+      (make (Word v) (Word w)))
+      → TypedByRules types e (of_two None make type other)
   of_parts make (typed {w = v} has) (typed {w = w} more) so = so v w has more
   of_parts make (typed has) untyped so = untyped
   of_parts make untyped _ so = untyped
 
   of_all_parts : {f g h : TermTree} (make : ValueType → ValueType → ValueType → Option ValueType)
-      {type other last : Option ValueType} → Typed types f type → Typed types g other → Typed types h last
-      → ((u v w : WordType) → HasType types f u → HasType types g v → HasType types h w
-      → Typed types e (make (Word u) (Word v) (Word w)))
-      → Typed types e (of_three None make type other last)
+      {type other last : Option ValueType} → TypedByRules types f type → TypedByRules types g other
+      → TypedByRules types h last
+      → ((u v w : WordType) → TermHasType types f u → TermHasType types g v → TermHasType types h w
+      → TypedByRules types e (make (Word u) (Word v) (Word w)))
+      → TypedByRules types e (of_three None make type other last)
   of_all_parts make (typed {w = u} has) (typed {w = v} more) (typed {w = w} most) so = so u v w has more most
   of_all_parts make (typed has) (typed more) untyped so = untyped
   of_all_parts make (typed has) untyped _ so = untyped
   of_all_parts make untyped _ _ so = untyped
 
   -- what is tested of its type is so of a word that it has
-  where_passed : (test : ValueType → Bool) {A : Type 0} {type : Option ValueType} → Typed types e type
-      → ((w : WordType) → HasType types e w → test (Word w) ≡ true → A) → of_one false test type ≡ true → A
+  where_passed : (test : ValueType → Bool) {A : Type 0} {type : Option ValueType} → TypedByRules types e type
+      → ((w : WordType) → TermHasType types e w → test (Word w) ≡ true → A) → of_one false test type ≡ true → A
   where_passed test (typed {w = w} has) so h = so w has h
   where_passed test untyped so h = absurd (false≢true h)
 
-  has_counter : {w : WordType} → HasType types e w → is_counter (Word w) ≡ true → HasType types e counter_type
+  has_counter : {w : WordType} → TermHasType types e w → is_counter (Word w) ≡ true → TermHasType types e counter_type
   has_counter {w = w} has h =
       let parts = both (both (λ number. number) (not-true (is_narrow (Word w)))) (not-true (is_hidden (Word w))) h in
       let index = public_index (Word w) parts.0.1 parts.0.0 parts.1 in
       let same : w ≡ counter_type = cc in
-      subst (HasType types e) same has
+      subst (TermHasType types e) same has
 
 module _ (types : Types) where
-  has_sign : (operator : PrefixOperator) (width : Width) (e : TermTree) (w : WordType) → HasType types e w
-      → width ≡ width_of w.kind → prefix_rules operator (Word w) ≡ [] → HasType types (prefix operator width e) w
+  has_sign : (operator : PrefixOperator) (width : Width) (e : TermTree) (w : WordType) → TermHasType types e w
+      → width ≡ width_of w.kind → prefix_rules operator (Word w) ≡ [] → TermHasType types (prefix operator width e) w
   has_sign operator width e w has wide none =
       let taken = taken_by_sign operator (Word w) none in
       let same : taken.0 ≡ w = cc in
       of_prefix {kind = w.kind} {label = w.label} has (subst (λ v. Takes operator v.kind) same taken.2) wide
 
   has_binary : (place : Place) (operator : BinaryOperator) (width : Width) (e f : TermTree) (v w : WordType)
-      → HasType types e v → HasType types f w → width ≡ width_of v.kind
+      → TermHasType types e v → TermHasType types f w → width ≡ width_of v.kind
       → binary_rules types.profile operator (Word v) (Word w) ≡ []
-      → HasType types (binary place operator width e f)
+      → TermHasType types (binary place operator width e f)
       (labelled (operation_kind (operation_of operator) v.kind) (joined v.label w.label))
   has_binary place operator width e f v w has more wide none =
       let x = is_operated types.profile (operation_of operator) (Word v) (Word w) none in
@@ -163,31 +167,32 @@ module _ (types : Types) where
       let makes : Makes types.profile (operation_of operator) v w x.whole =
       subst (λ (u : WordType). Makes types.profile (operation_of operator) v u x.whole) other
       (subst (λ (u : WordType). Makes types.profile (operation_of operator) u x.other x.whole) one x.makes) in
-      subst (HasType types (binary place operator width e f)) (sym (made makes).whole_is)
+      subst (TermHasType types (binary place operator width e f)) (sym (made makes).whole_is)
       (of_binary has more makes wide)
 
-  has_rotation : (width : Width) (e : TermTree) (amount : ℕ) (w : WordType) → HasType types e w
-      → width ≡ width_of w.kind → rotate_rules amount (Word w) ≡ [] → HasType types (rotate width e amount) w
+  has_rotation : (width : Width) (e : TermTree) (amount : ℕ) (w : WordType) → TermHasType types e w
+      → width ≡ width_of w.kind → rotate_rules amount (Word w) ≡ [] → TermHasType types (rotate width e amount) w
   has_rotation width e amount w has wide none =
       let x = is_rotated amount (Word w) none in
       let same : x.of ≡ w = cc in
       of_rotation {kind = w.kind} {label = w.label} has (subst (λ (v : WordType). IsNumberKind v.kind) same x.number)
       x.low (subst (λ (v : WordType). amount < bits_of v.kind) same x.high) wide
 
-  has_selection : (e f g : TermTree) (u v w : WordType) → HasType types e u → HasType types f v → HasType types g w
+  has_selection : (e f g : TermTree) (u v w : WordType) → TermHasType types e u → TermHasType types f v
+      → TermHasType types g w
       → select_rules (Word u) (Word v) (Word w) ≡ []
-      → HasType types (select e f g) (labelled v.kind (joined u.label (joined v.label w.label)))
+      → TermHasType types (select e f g) (labelled v.kind (joined u.label (joined v.label w.label)))
   has_selection e f g u v w has more most none =
       let x = is_selected (Word u) (Word v) (Word w) none in
       let chooser : u ≡ labelled Boolean x.condition = cc in
       let one : v ≡ labelled x.kind x.one = cc in
       let other : w ≡ labelled x.kind x.other = cc in
-      subst (HasType types (select e f g))
+      subst (TermHasType types (select e f g))
       (λ i. labelled (sym one i).kind (joined (sym chooser i).label (joined (sym one i).label (sym other i).label)))
-      (of_selection (subst (HasType types e) chooser has) (subst (HasType types f) one more)
-      (subst (HasType types g) other most))
+      (of_selection (subst (TermHasType types e) chooser has) (subst (TermHasType types f) one more)
+      (subst (TermHasType types g) other most))
 
-  pub is_typed_term : (e : TermTree) → Typed types e (type_of types e)
+  pub is_typed_term : (e : TermTree) → TypedByRules types e (type_of types e)
   is_typed_term (number value kind) =
       where_met (number_rules value kind) (λ none. typed (of_number (ltb-true _ _ (is_met _ none))))
   is_typed_term (truth value) = typed of_truth
@@ -217,7 +222,7 @@ module _ (types : Types) where
 
   -- Values.
 
-  flowing : {wanted w : WordType} {e : TermTree} → SuitsWord w wanted → HasType types e w → Suits types wanted e
+  flowing : {wanted w : WordType} {e : TermTree} → SuitsWord w wanted → TermHasType types e w → TermSuits types wanted e
   flowing (flow_suits public_flows) has = record { word = _; has_type = has; kind = refl; label = λ is. refl }
   flowing (flow_suits secret_flows) has = record { word = _; has_type = has; kind = refl; label = λ is. cc }
 
@@ -225,27 +230,27 @@ module _ (types : Types) where
   no_rule [] h = refl
   no_rule (rule ∷ rules) h = absurd (false≢true h)
 
-  pub it_suits : (wanted : WordType) (e : TermTree) → passes (suits wanted) types e ≡ true → Suits types wanted e
+  pub it_suits : (wanted : WordType) (e : TermTree) → passes (suits wanted) types e ≡ true → TermSuits types wanted e
   it_suits wanted e = where_passed _ (is_typed_term e) (λ w has h.
       let suited = is_suited wanted (Word w) (no_rule _ h) in
       let same : w ≡ suited.0 = cc in
-      flowing suited.2 (subst (HasType types e) same has))
+      flowing suited.2 (subst (TermHasType types e) same has))
 
   pub they_suit : (wanted : WordType) (es : List TermTree) → all_suit types wanted es ≡ true
       → AllSuit types wanted es
   they_suit wanted [] h = tt
   they_suit wanted (e ∷ es) h = both (it_suits wanted e) (they_suit wanted es) h
 
-  pub it_counts : (e : TermTree) → passes is_counter types e ≡ true → HasType types e counter_type
+  pub it_counts : (e : TermTree) → passes is_counter types e ≡ true → TermHasType types e counter_type
   it_counts e = where_passed _ (is_typed_term e) (λ w has h. has_counter has h)
 
   pub it_decides : (public : Bool) (e : TermTree) → passes (decides public) types e ≡ true
-      → (label : Label) × HasType types e (labelled Boolean label) × (public ≡ true → label ≡ Public)
+      → (label : Label) × TermHasType types e (labelled Boolean label) × (public ≡ true → label ≡ Public)
   it_decides public e = where_passed _ (is_typed_term e) (λ w has h.
       let parts = both (bool_word (Word w)) (λ (open_to : not (public && is_hidden (Word w)) ≡ true). open_to) h in
       let same : w ≡ labelled Boolean parts.0.0 = cc in (
         parts.0.0,
-        subst (HasType types e) same has,
+        subst (TermHasType types e) same has,
         λ is. sym (ap (λ (v : WordType). v.label) same) ∙ a_public w.label (rw is at parts.1),
       ))
 
@@ -282,15 +287,15 @@ module _ (profile : Profile) (declared : List FlatVariable) (controls : ℕ) whe
       λ other is. rw (same_Some other d (sym is ∙ there)) (a_secret d.word.label h)
 
   -- a word that is set, and is secret under a control value
-  record IsGiven (within : Option ℕ) (o : Option WordType) (e : TermTree) : Type 0 where
+  record IsWordSet (within : Option ℕ) (o : Option WordType) (e : TermTree) : Type 0 where
     pub word : WordType
     pub known : o ≡ Some word
     pub among : IsAmong controls within
-    pub suits : Suits types word e
+    pub suits : TermSuits types word e
     pub hidden : may_keep within word.label ≡ true
 
   given : (within : Option ℕ) (o : Option WordType) (e : TermTree) → may_set types controls within o e ≡ true
-      → IsGiven within o e
+      → IsWordSet within o e
   given within None e h = absurd (false≢true h)
   given within (Some word) e h =
       let all = both (both (among within) (λ (keeps : may_keep within word.label ≡ true). keeps)) (it_suits types word e) h in
@@ -347,7 +352,7 @@ module _ (profile : Profile) (declared : List FlatVariable) (controls : ℕ) whe
         let parts = both (both (it_decides types true condition) (all_fit accepted)) (all_fit otherwise) h in
         let decides = parts.0.0 in (
           (
-            subst (λ l. HasType types condition (labelled Boolean l)) (decides.2 refl) decides.1,
+            subst (λ l. TermHasType types condition (labelled Boolean l)) (decides.2 refl) decides.1,
             parts.0.1.typed,
             parts.1.typed,
           ),

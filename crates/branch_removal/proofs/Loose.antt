@@ -6,12 +6,13 @@ use Rattle.std.proofs.Common.{[], ◌∷◌, ◌++◌, map, replicate, Option, N
 use Rattle.std.proofs.Common.{subst, arith}
 use Rattle.branch_removal.specs.Below.{an_iteration, AreFine, AreTyped, array, array_as, assign, assigns, Boolean}
 use Rattle.branch_removal.specs.Below.{bounded, branch, chooses, counter_type, declare, declares, declares_array, ends}
-use Rattle.branch_removal.specs.Below.{first, FlatBlock, FlatTree, FlatVariable, goes_on, HasType, hold, holds, indexed}
-use Rattle.branch_removal.specs.Below.{IsPut, IsTyped, Label, labelled, LeadAll, Leads, loop, no_iteration, none_left}
-use Rattle.branch_removal.specs.Below.{nothing, Path, path_in, path_in_all, path_of_iterations, Place, Profile, Public}
-use Rattle.branch_removal.specs.Below.{put, puts, repeats, Secret, skip, skips, TermTree, to_anything, Iterations}
-use Rattle.branch_removal.specs.Below.{iterations, Types, types_after, types_after_all, types_of, value_in, Values}
-use Rattle.branch_removal.specs.Below.{with_type, with_value, word_as, WordType}
+use Rattle.branch_removal.specs.Below.{first, FlatBlock, FlatTree, FlatVariable, goes_on, TermHasType, hold, holds}
+use Rattle.branch_removal.specs.Below.{indexed, IsElementAssigned, IsTyped, Label, labelled, LooselyLeadAll}
+use Rattle.branch_removal.specs.Below.{LooselyLeads, loop, no_iteration, none_left, nothing, Path, path_in, path_in_all}
+use Rattle.branch_removal.specs.Below.{path_of_iterations, Place, Profile, Public, put, puts, repeats, Secret, skip}
+use Rattle.branch_removal.specs.Below.{skips, TermTree, to_anything, Iterations, iterations, Types, types_after}
+use Rattle.branch_removal.specs.Below.{types_after_all, types_of, value_in, Values, with_type, with_value, word_as}
+use Rattle.branch_removal.specs.Below.{WordType}
 use Rattle.inline.proofs.Face.{types_kept}
 use Rattle.intervals.proofs.StrictRuns.{comes, come_all}
 use Rattle.branch_removal.specs.private.Removal.{take_within, removed, removed_all}
@@ -80,9 +81,9 @@ module _ (profile : Profile) (declared : List FlatVariable) (most : List ℕ) wh
 
   -- a statement alone, whose path is as fine as this loose run's
   alone : {types : Types} {m : Values} {statement : FlatTree} (s : StraightState) (code : StraightTree) (end : Values)
-      (path : Path) → Leads all m statement end path → Agree what_is_public types (after s code).variables end
+      (path : Path) → LooselyLeads all m statement end path → Agree what_is_public types (after s code).variables end
       → (AreFine most path → AreFine most (path_at s code))
-      → Beside (Leads all m statement) types (after_all s (straight.first code straight.nothing))
+      → Beside (LooselyLeads all m statement) types (after_all s (straight.first code straight.nothing))
       (path_along s (straight.first code straight.nothing))
   alone s code end path runs agree fine = record {
     end = end;
@@ -96,7 +97,7 @@ module _ (profile : Profile) (declared : List FlatVariable) (most : List ℕ) wh
   follow_iterations : (types : Types) (x : ℕ) (body : FlatBlock) (iteration : ℕ → StraightState → StraightState)
       (along : ℕ → StraightState → Path)
       → ((i : ℕ) (s : StraightState) (m : Values) → Agree what_is_public types s.variables m
-      → Beside (LeadAll all (with_value m x (i ∷ [])) body) types (iteration i s) (along i s))
+      → Beside (LooselyLeadAll all (with_value m x (i ∷ [])) body) types (iteration i s) (along i s))
       → (n i : ℕ) (s : StraightState) (m : Values) → Agree what_is_public types s.variables m
       → Beside (Iterations all x body n i m) types (iterations n i iteration s)
       (path_of_iterations n i iteration along s)
@@ -124,23 +125,23 @@ module _ (profile : Profile) (declared : List FlatVariable) (most : List ℕ) wh
   -- a condition on a secret may be true, or false
   either_way : (types : Types) → AreAmong types all
       → (m : Values) (condition : TermTree) (accepted otherwise : FlatBlock)
-      → HasType types condition (labelled Boolean Secret)
+      → TermHasType types condition (labelled Boolean Secret)
       → (bit : ℕ) → bit < 2 → (t : Values) (q : Path)
-      → LeadAll all m (if bit == 0 then otherwise else accepted) t q
-      → Leads all m (branch Secret condition accepted otherwise) t (path_in m condition ++ q)
+      → LooselyLeadAll all m (if bit == 0 then otherwise else accepted) t q
+      → LooselyLeads all m (branch Secret condition accepted otherwise) t (path_in m condition ++ q)
   either_way types among m condition accepted otherwise has bit small t q run =
       chooses (to_anything (comes all m condition) (has_type_among types all among has) refl small) run
 
   module _ (types : Types) (s : StraightState) (m : Values) (agree : Agree what_is_public types s.variables m) where
     -- an expression's path is fine where a loose run's is
-    fine_term : (e : TermTree) {word : WordType} → HasType types e word → AreFine most (path_in m e)
+    fine_term : (e : TermTree) {word : WordType} → TermHasType types e word → AreFine most (path_in m e)
         → AreFine most (path_in s.variables e)
     fine_term e has fine = fine_alike most types.profile (path_in s.variables e) (path_in m e)
         (one_seen types s.variables m agree has) fine
 
     -- an element that is set, or kept
     fine_put : (label : Label) (place : Place) (x size : ℕ) (index value : TermTree)
-        → IsPut types label x size index value
+        → IsElementAssigned types label x size index value
         → AreFine most (path_in m index ++ indexed place size (value_in m index) ∷ path_in m value)
         → AreFine most
         (path_in s.variables index ++ indexed place size (value_at s index) ∷ path_in s.variables value)
@@ -158,23 +159,23 @@ module _ (profile : Profile) (declared : List FlatVariable) (most : List ℕ) wh
 
     -- both take the same of two arms, by a condition on what is public
     follow_arm : (condition : TermTree) (accepted otherwise : FlatBlock)
-        → HasType types condition (labelled Boolean Public) → (one_code other_code : StraightBlock)
-        → Beside (LeadAll all m accepted) types (after_all s one_code) (path_along s one_code)
-        → Beside (LeadAll all m otherwise) types (after_all s other_code) (path_along s other_code)
+        → TermHasType types condition (labelled Boolean Public) → (one_code other_code : StraightBlock)
+        → Beside (LooselyLeadAll all m accepted) types (after_all s one_code) (path_along s one_code)
+        → Beside (LooselyLeadAll all m otherwise) types (after_all s other_code) (path_along s other_code)
         → (b : Bool) → (value_in m condition == 0) ≡ b
-        → Beside (Leads all m (branch Public condition accepted otherwise)) types
+        → Beside (LooselyLeads all m (branch Public condition accepted otherwise)) types
         (after s (straight.branch condition one_code other_code))
         (path_along s (straight.first (straight.branch condition one_code other_code) straight.nothing))
     follow_arm condition accepted otherwise has one_code other_code one other b is =
         let test = ap (λ v. v == 0) (public_value types s.variables m agree has refl) ∙ is in
-        let arm : Beside (LeadAll all m (cond b otherwise accepted)) types
+        let arm : Beside (LooselyLeadAll all m (cond b otherwise accepted)) types
         (cond b (after_all s other_code) (after_all s one_code))
         (cond b (path_along s other_code) (path_along s one_code)) =
-        elim b as (λ b. Beside (LeadAll all m (cond b otherwise accepted)) types
+        elim b as (λ b. Beside (LooselyLeadAll all m (cond b otherwise accepted)) types
         (cond b (after_all s other_code) (after_all s one_code))
         (cond b (path_along s other_code) (path_along s one_code))) [ true ↦ other | false ↦ one ] in
-        let way : (t : Values) (q : Path) → LeadAll all m (cond b otherwise accepted) t q
-        → Leads all m (branch Public condition accepted otherwise) t (path_in m condition ++ q) =
+        let way : (t : Values) (q : Path) → LooselyLeadAll all m (cond b otherwise accepted) t q
+        → LooselyLeads all m (branch Public condition accepted otherwise) t (path_in m condition ++ q) =
         λ t q run. chooses (comes all m condition) (rw is run) in
         rw test (record {
           end = arm.end;
@@ -191,7 +192,7 @@ module _ (profile : Profile) (declared : List FlatVariable) (most : List ℕ) wh
     pub follow : (types : Types) (label : Label) (statement : FlatTree) → IsTyped declared types label statement
         → AreAmong types all → (within : Option ℕ) (control : ℕ) → IsUnder within label
         → (s : StraightState) (m : Values) → Agree what_is_public types s.variables m
-        → Beside (Leads all m statement) (types_after types statement)
+        → Beside (LooselyLeads all m statement) (types_after types statement)
         (after_all s (removed within control statement)) (path_along s (removed within control statement))
     follow types label (declare x word mutable value) typed among within control under s m agree =
         alone s (straight.set None x value) _ _ (declares (comes all m value))
@@ -321,7 +322,7 @@ module _ (profile : Profile) (declared : List FlatVariable) (most : List ℕ) wh
     pub follow_all : (types : Types) (label : Label) (body : FlatBlock) → AreTyped declared types label body
         → AreAmong types all → (within : Option ℕ) (control : ℕ) → IsUnder within label
         → (s : StraightState) (m : Values) → Agree what_is_public types s.variables m
-        → Beside (LeadAll all m body) (types_after_all types body)
+        → Beside (LooselyLeadAll all m body) (types_after_all types body)
         (after_all s (removed_all within control body)) (path_along s (removed_all within control body))
     follow_all types label nothing typed among within control under s m agree =
         record { end = m; path = []; runs = ends; agree = agree; fine = λ safe. tt }
@@ -331,6 +332,6 @@ module _ (profile : Profile) (declared : List FlatVariable) (most : List ℕ) wh
         let more = follow_all (types_after types statement) label rest typed.1
         (among_after profile declared types label statement typed.0 among) within control under in
         rw (after-chain s code (removed_all within control rest), path-chain s code (removed_all within control rest))
-        (both_beside {Rest = λ t. LeadAll all t rest} (λ t o p q run onward. goes_on run onward)
+        (both_beside {Rest = λ t. LooselyLeadAll all t rest} (λ t o p q run onward. goes_on run onward)
         (λ t. let next = more (holding t) t (λ y d known public. refl) in (next.end, next.path, next.runs))
         one (more (after_all s code) one.end one.agree))

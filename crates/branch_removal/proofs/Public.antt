@@ -3,14 +3,14 @@
 use Rattle.std.proofs.Common.{◌≡◌, ℕ, zero, suc, ◌+◌, ◌-◌, ◌==◌, cond, List, [], ◌∷◌, ◌++◌, Option, None, Some}
 use Rattle.std.proofs.Common.{inl, inr, slice_set, slice_get, refl, sym, ap, ap₂, ◌∙◌}
 use Rattle.std.proofs.lemmas.Bool.{cases_Bool}
-use Rattle.branch_removal.specs.Below.{AllSuit, array_as, Boolean, bounded, decided, FlatVariable, HasType, indexed}
+use Rattle.branch_removal.specs.Below.{AllSuit, array_as, Boolean, bounded, decided, FlatVariable, TermHasType, indexed}
 use Rattle.branch_removal.specs.Below.{labelled, Path, path_in, path_of_iterations, Profile, Public, Secret, seen}
 use Rattle.branch_removal.specs.Below.{TermTree, iterations, Types, types_of, WordType}
 use Rattle.branch_removal.specs.Straight.{StraightTree, set, array, put, take, branch}
 use Rattle.branch_removal.specs.Straight.{repeats, StraightBlock, nothing, first}
 use Rattle.branch_removal.specs.StraightMeaning.{StraightState, holds, with_variable, value_at, counted, after}
 use Rattle.branch_removal.specs.StraightMeaning.{after_all, path_at, path_along}
-use Rattle.branch_removal.specs.StraightTyping.{IsTyped, AreTyped, IsPut, types_but, IsSecretWithin, IsHidden}
+use Rattle.branch_removal.specs.StraightTyping.{IsTyped, AreTyped, IsElementSet, types_but, IsSecretWithin, IsHidden}
 use Rattle.branch_removal.specs.StraightTyping.{AreHidden}
 use Rattle.branch_removal.proofs.Scopes.{but_among, suit_among}
 use Rattle.branch_removal.proofs.Agreement.{Agree, what_is_public, set_in_both}
@@ -56,10 +56,11 @@ module _ (profile : Profile) (declared : List FlatVariable) (controls : ℕ) whe
       (iterations_alike iteration along each n (i + 1) (iteration i s) (iteration i t) one.state)
 
   module _ (s t : StraightState) (agree : InStep s t) where
-    value : {e : TermTree} {word : WordType} → HasType all e word → word.label ≡ Public → value_at s e ≡ value_at t e
+    value : {e : TermTree} {word : WordType} → TermHasType all e word → word.label ≡ Public
+        → value_at s e ≡ value_at t e
     value has public = public_value all s.variables t.variables agree has public
 
-    term_alike : {e : TermTree} {word : WordType} → HasType all e word
+    term_alike : {e : TermTree} {word : WordType} → TermHasType all e word
         → Alike s t (path_in s.variables e) (path_in t.variables e)
     term_alike has = record { state = agree; shown = one_seen all s.variables t.variables agree has }
 
@@ -80,7 +81,7 @@ module _ (profile : Profile) (declared : List FlatVariable) (controls : ℕ) whe
         (hidden refl (λ e p. p)) y d there public))
 
     -- an element of a public array
-    put_equal : (x size : ℕ) (index value : TermTree) (is : IsPut profile declared x size index value)
+    put_equal : (x size : ℕ) (index value : TermTree) (is : IsElementSet profile declared x size index value)
         → what_is_public (array_as is.word is.mutable size)
         → slice_set (s.variables x) (value_at s index) (value_at s value)
         ≡ slice_set (t.variables x) (value_at t index) (value_at t value)
@@ -92,7 +93,7 @@ module _ (profile : Profile) (declared : List FlatVariable) (controls : ℕ) whe
 
     -- of two arms both take the same
     branch_alike : (condition : TermTree) (accepted otherwise : StraightBlock)
-        → HasType all condition (labelled Boolean Public)
+        → TermHasType all condition (labelled Boolean Public)
         → Alike (after_all s accepted) (after_all t accepted) (path_along s accepted) (path_along t accepted)
         → Alike (after_all s otherwise) (after_all t otherwise) (path_along s otherwise) (path_along t otherwise)
         → Alike (after s (branch condition accepted otherwise)) (after t (branch condition accepted otherwise))

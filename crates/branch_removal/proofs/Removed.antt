@@ -2,7 +2,7 @@
 use Rattle.std.proofs.Common.{◌≡◌, ℕ, ◌≤◌, List, [], Option, None, Some, slice_get, refl, ap, ap₂, ◌∙◌, subst, sym}
 use Rattle.std.proofs.Common.{arith}
 use Rattle.branch_removal.specs.Below.{AreFine, AreWithin, Arg, declaration_of, end_types, FlatBlock, FlatProgram}
-use Rattle.branch_removal.specs.Below.{given, IsFlat, IsSafe, IsSized, IsTypedProgram, most_work, Param}
+use Rattle.branch_removal.specs.Below.{given, IsFlat, IsSafe, IsSized, IsTypedFlat, most_work, Param}
 use Rattle.branch_removal.specs.Below.{parameter_types, path_of_result, Public, ranged, RangedProgram, TermTree}
 use Rattle.branch_removal.specs.Below.{types_of}
 use Rattle.inline.specs.FlatMeaning as flat
@@ -28,7 +28,7 @@ use Rattle.branch_removal.proofs.SeenLemmas.{fine_alike}
 use Rattle.branch_removal.proofs.Shown.{same_paths, same_public}
 use Rattle.branch_removal.proofs.Values.{one_result, result_seen}
 
-module _ (p : FlatProgram) (typed : IsTypedProgram p) where
+module _ (p : FlatProgram) (typed : IsTypedFlat p) where
   first_among : AreAmong (parameter_types p.profile p.parameters) (types_of p.profile p.declared)
   first_among = parameters_among p.profile p.parameters p.declared typed.parameters
 
@@ -100,7 +100,7 @@ module _ (p : FlatProgram) (typed : IsTypedProgram p) where
           whole = refl;
         }))))
 
-is_removed : (p : FlatProgram) → IsTypedProgram p → IsSized p → IsSafe p (ranged p).iterations
+is_removed : (p : FlatProgram) → IsTypedFlat p → IsSized p → IsSafe p (ranged p).iterations
     → (ranged p).work ≤ most_work → IsRemoved (ranged p) (straightened (ranged p))
 is_removed p typed sized safe fits = record {
   profile = refl;

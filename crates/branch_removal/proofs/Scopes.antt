@@ -3,9 +3,9 @@ use Rattle.std.proofs.Common.{◌≡◌, ℕ, ◌==◌, false, List, [], ◌∷�
 use Rattle.std.proofs.lemmas.Bool.{cases_Bool, ne_eqb, cond-false}
 use Rattle.std.proofs.lemmas.Option.{none-some}
 use Rattle.branch_removal.specs.Below.{AllSuit, AreTyped, array, declare, first, FlatBlock, FlatTree, FlatVariable}
-use Rattle.branch_removal.specs.Below.{HasType, hold, IsResult, IsTyped, Label, nothing, of_binary, of_conversion}
+use Rattle.branch_removal.specs.Below.{TermHasType, hold, IsResult, IsTyped, Label, nothing, of_binary, of_conversion}
 use Rattle.branch_removal.specs.Below.{of_element, of_number, of_prefix, of_rotation, of_selection, of_truth}
-use Rattle.branch_removal.specs.Below.{of_variable, Profile, Suits, TermTree, Types, types_after, types_after_all}
+use Rattle.branch_removal.specs.Below.{of_variable, Profile, TermSuits, TermTree, Types, types_after, types_after_all}
 use Rattle.branch_removal.specs.Below.{types_of, with_type, WordType}
 use Rattle.inline.proofs.Face.{new_number, with_type-other}
 use Rattle.intervals.proofs.LooseTypes.{listed_beside}
@@ -28,7 +28,7 @@ pub record AreAmong (types all : Types) : Type 0 where
 
 module _ (types all : Types) (among : AreAmong types all) where
   -- so an expression has its type among more variables too
-  pub has_type_among : {e : TermTree} {word : WordType} → HasType types e word → HasType all e word
+  pub has_type_among : {e : TermTree} {word : WordType} → TermHasType types e word → TermHasType all e word
   has_type_among (of_number below) = of_number below
   has_type_among of_truth = of_truth
   has_type_among (of_variable {x = x} {mutable = mutable} is) = of_variable {mutable = mutable} (among.at x _ is)
@@ -43,7 +43,7 @@ module _ (types all : Types) (among : AreAmong types all) where
   has_type_among (of_element {x = x} {mutable = mutable} is index) =
       of_element {mutable = mutable} (among.at x _ is) (has_type_among index)
 
-  pub suits_among : (wanted : WordType) (e : TermTree) → Suits types wanted e → Suits all wanted e
+  pub suits_among : (wanted : WordType) (e : TermTree) → TermSuits types wanted e → TermSuits all wanted e
   suits_among wanted e suits = record {
     word = suits.word;
     has_type = has_type_among suits.has_type;

@@ -6,11 +6,11 @@ use Rattle.std.proofs.Common.{Some, refl, ap, ap₂, ◌∙◌, true≢false}
 use Rattle.std.specs.Option.{option_map}
 use Rattle.word.specs.Operators.{converted, rotated_left}
 use Rattle.branch_removal.specs.Below.{AllSuit, BinaryOperator, both_public as public_factors, divided}
-use Rattle.branch_removal.specs.Below.{division as divides_public, HasType, indexed, is_secret, IsResult, joined, Label}
-use Rattle.branch_removal.specs.Below.{Makes, marks_of, multiplication, multiplied, of_binary, of_conversion}
+use Rattle.branch_removal.specs.Below.{division as divides_public, TermHasType, indexed, is_secret, IsResult, joined}
+use Rattle.branch_removal.specs.Below.{Label, Makes, marks_of, multiplication, multiplied, of_binary, of_conversion}
 use Rattle.branch_removal.specs.Below.{of_element, of_number, of_prefix, of_rotation, of_selection, of_truth}
 use Rattle.branch_removal.specs.Below.{of_variable, operated, operation_of, P1, P2, Path, path_in, path_in_all}
-use Rattle.branch_removal.specs.Below.{path_of_result, Place, prefix_value, Profile, Public, Secret, seen, Suits}
+use Rattle.branch_removal.specs.Below.{path_of_result, Place, prefix_value, Profile, Public, Secret, seen, TermSuits}
 use Rattle.branch_removal.specs.Below.{TermTree, Types, value_in, Values, width_of, WordType}
 use Rattle.language.specs.declared.operators.BinaryOperator.TheVariants.{Multiply}
 use Rattle.language.specs.declared.operators.BinaryOperator.TheVariants.{Divide, Remainder}
@@ -49,7 +49,7 @@ module _ (types : Types) (one other : Values) where
     asked_operands (divides_public numeric) label = (public, public)
     asked_operands makes label = both _ _ label
 
-    same_value : {e : TermTree} {whole : WordType} → HasType types e whole → Asked whole.label
+    same_value : {e : TermTree} {whole : WordType} → TermHasType types e whole → Asked whole.label
         → value_in one e ≡ value_in other e
     same_value (of_number below) label = refl
     same_value of_truth label = refl
@@ -80,13 +80,13 @@ module _ (types : Types) (one other : Values) where
         (same_values wanted es suits.1 label)
 
   module _ (agree : Agree what_is_public types one other) where
-    pub public_value : {e : TermTree} {whole : WordType} → HasType types e whole → whole.label ≡ Public
+    pub public_value : {e : TermTree} {whole : WordType} → TermHasType types e whole → whole.label ≡ Public
         → value_in one e ≡ value_in other e
     public_value has label =
         same_value (λ l. l ≡ Public) refl joined_public (λ wanted label flow. flow) agree has label
 
     -- so does what suits where a public value is wanted
-    pub public_suited : (wanted : WordType) (e : TermTree) → Suits types wanted e → wanted.label ≡ Public
+    pub public_suited : (wanted : WordType) (e : TermTree) → TermSuits types wanted e → wanted.label ≡ Public
         → value_in one e ≡ value_in other e
     public_suited wanted e suits label = public_value suits.has_type (suits.label label)
 
@@ -96,7 +96,7 @@ module _ (types : Types) (one other : Values) where
         same_values (λ l. l ≡ Public) refl joined_public (λ wanted label flow. flow) agree wanted es suits label
 
     -- what is seen of the path is public
-    pub one_seen : {e : TermTree} {whole : WordType} → HasType types e whole
+    pub one_seen : {e : TermTree} {whole : WordType} → TermHasType types e whole
         → seen types.profile (path_in one e) ≡ seen types.profile (path_in other e)
     one_seen (of_number below) = refl
     one_seen of_truth = refl
@@ -140,7 +140,7 @@ module _ (types : Types) (one other : Values) where
     result_seen returned value result = absurd result
 
   module _ (agree : Agree everything types one other) where
-    pub one_value : {e : TermTree} {whole : WordType} → HasType types e whole → value_in one e ≡ value_in other e
+    pub one_value : {e : TermTree} {whole : WordType} → TermHasType types e whole → value_in one e ≡ value_in other e
     one_value has = same_value (λ l. Unit {0}) tt (λ m n asked. (tt, tt)) (λ wanted label flow asked. tt) agree has tt
 
     pub all_values : (wanted : WordType) (es : List TermTree) → AllSuit types wanted es
@@ -149,7 +149,7 @@ module _ (types : Types) (one other : Values) where
         same_values (λ l. Unit {0}) tt (λ m n asked. (tt, tt)) (λ wanted label flow asked. tt) agree wanted es suits tt
 
     -- and any expression one path
-    pub one_path : {e : TermTree} {whole : WordType} → HasType types e whole → path_in one e ≡ path_in other e
+    pub one_path : {e : TermTree} {whole : WordType} → TermHasType types e whole → path_in one e ≡ path_in other e
     one_path (of_number below) = refl
     one_path of_truth = refl
     one_path (of_variable is) = refl

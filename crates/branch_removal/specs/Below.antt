@@ -36,10 +36,11 @@ pub use Rattle.inline.specs.FlatMeaning.{path_in_all, path_of_result, path_of_it
 pub use Rattle.inline.specs.FlatMeaning.{value_in, Values, with_value}
 pub use Rattle.inline.specs.FlatSize.{body_nodes, declared_words, HasLength, IsSized, term_nodes, terms_nodes}
 pub use Rattle.inline.specs.FlatSize.{tree_nodes, value_nodes, words_of}
-pub use Rattle.inline.specs.FlatTyping.{AllSuit, AreTyped, counter_type, end_types, HasCount, HasType, IsPut, IsResult}
-pub use Rattle.inline.specs.FlatTyping.{IsTyped, IsTypedProgram, of_binary, of_conversion, of_element, of_number}
-pub use Rattle.inline.specs.FlatTyping.{of_prefix, of_rotation, of_selection, of_truth, of_variable, parameter_types}
-pub use Rattle.inline.specs.FlatTyping.{Suits, Types, types_after, types_after_all, types_of, with_type}
+pub use Rattle.inline.specs.FlatTyping.{AllSuit, AreTyped, counter_type, end_types, HasCount, TermHasType}
+pub use Rattle.inline.specs.FlatTyping.{IsElementAssigned, IsResult, IsTyped, IsTypedFlat, of_binary, of_conversion}
+pub use Rattle.inline.specs.FlatTyping.{of_element, of_number, of_prefix, of_rotation, of_selection, of_truth}
+pub use Rattle.inline.specs.FlatTyping.{of_variable, parameter_types, TermSuits, Types, types_after, types_after_all}
+pub use Rattle.inline.specs.FlatTyping.{types_of, with_type}
 pub use Rattle.inline.specs.Kept.{IsFlat}
 pub use Rattle.inline.specs.Limits.{most_variable_bytes}
 pub use Rattle.inline.specs.Path.{AreFine, bounded, decided, divided, indexed, multiplied, Path, seen, shown_of}
@@ -48,7 +49,7 @@ pub use Rattle.inline.specs.declared.flat.FlatVariable.{FlatVariable}
 pub use Rattle.inline.specs.declared.flat.Term.{Term}
 pub use Rattle.intervals.specs.Limits.{most_work}
 pub use Rattle.intervals.specs.Loose.{an_iteration, assigns, chooses, declares, declares_array, ends, goes_on, holds}
-pub use Rattle.intervals.specs.Loose.{IsSafe, LeadAll, Leads, no_iteration, none_left, puts, repeats, skips}
-pub use Rattle.intervals.specs.Loose.{to_anything, Iterations}
+pub use Rattle.intervals.specs.Loose.{IsSafe, LooselyLeadAll, LooselyLeads, no_iteration, none_left, puts, repeats}
+pub use Rattle.intervals.specs.Loose.{skips, to_anything, Iterations}
 pub use Rattle.intervals.specs.Ranged.{RangedProgram}
 pub use Rattle.intervals.specs.Work.{body_work, ranged, tree_work}

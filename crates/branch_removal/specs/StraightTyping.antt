@@ -5,15 +5,15 @@ use Rattle.std.specs.Prelude.{take as first_of, Option, None, Some, slice_get}
 use Rattle.branch_removal.specs.Straight.{StraightTree, set, array, put, take, branch, repeats}
 use Rattle.branch_removal.specs.Straight.{StraightBlock, nothing, first, StraightProgram}
 use Rattle.branch_removal.specs.Below.{AllSuit, array_as, Boolean, counter_type, declaration_of, FlatVariable, HasCount}
-use Rattle.branch_removal.specs.Below.{HasType, IsResult, Label, labelled, Profile, Public, Secret, Suits, TermTree}
-use Rattle.branch_removal.specs.Below.{Types, types_of, word_as, WordType}
+use Rattle.branch_removal.specs.Below.{TermHasType, IsResult, Label, labelled, Profile, Public, Secret, TermSuits}
+use Rattle.branch_removal.specs.Below.{TermTree, Types, types_of, word_as, WordType}
 
 -- a word, and a value for it
 pub record IsSet (profile : Profile) (declared : List FlatVariable) (x : ℕ) (value : TermTree) : Type 0 where
   pub word : WordType
   pub mutable : Bool
   pub known : slice_get declared x ≡ Some (word_as word mutable)
-  pub suits : Suits (types_of profile declared) word value
+  pub suits : TermSuits (types_of profile declared) word value
 
 -- the variables of a list but for one
 abbrev pub types_but : Profile → List FlatVariable → ℕ → Types
@@ -29,13 +29,13 @@ pub record IsFilled (profile : Profile) (declared : List FlatVariable) (x size :
   pub count : HasCount size values
 
 -- an array of so many elements, a public index, and a value for the element
-pub record IsPut (profile : Profile) (declared : List FlatVariable) (x size : ℕ) (index value : TermTree) :
+pub record IsElementSet (profile : Profile) (declared : List FlatVariable) (x size : ℕ) (index value : TermTree) :
     Type 0 where
   pub word : WordType
   pub mutable : Bool
   pub known : slice_get declared x ≡ Some (array_as word mutable size)
-  pub index_type : HasType (types_of profile declared) index counter_type
-  pub suits : Suits (types_of profile declared) word value
+  pub index_type : TermHasType (types_of profile declared) index counter_type
+  pub suits : TermSuits (types_of profile declared) word value
 
 -- an enclosing control value, where there is one, is among so many
 abbrev pub IsAmong : ℕ → Option ℕ → Type 0
@@ -48,15 +48,16 @@ abbrev mutual
   IsTyped profile declared controls (set within x value) = IsAmong controls within × IsSet profile declared x value
   IsTyped profile declared controls (array x size values) = IsFilled profile declared x size values
   IsTyped profile declared controls (put within place x size index value) = IsAmong controls within
-      × IsPut profile declared x size index value
+      × IsElementSet profile declared x size index value
   IsTyped profile declared controls (take control within condition) =
       (control + 1 < controls) × IsAmong controls within
-      × ((label : Label) × HasType (types_of profile declared) condition (labelled Boolean label))
+      × ((label : Label) × TermHasType (types_of profile declared) condition (labelled Boolean label))
   IsTyped profile declared controls (branch condition accepted otherwise) =
-      HasType (types_of profile declared) condition (labelled Boolean Public)
+      TermHasType (types_of profile declared) condition (labelled Boolean Public)
       × AreTyped profile declared controls accepted × AreTyped profile declared controls otherwise
   IsTyped profile declared controls (repeats x low high body) =
-      HasType (types_of profile declared) low counter_type × HasType (types_of profile declared) high counter_type
+      TermHasType (types_of profile declared) low counter_type × TermHasType
+      (types_of profile declared) high counter_type
       × (slice_get declared x ≡ Some (word_as counter_type false)) × AreTyped profile declared controls body
 
   pub AreTyped : Profile → List FlatVariable → ℕ → StraightBlock → Type 0

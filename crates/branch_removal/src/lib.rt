@@ -1,4 +1,4 @@
-// Straight code: a condition on a secret is taken once into control values, both arms run, and what an arm assigns
+// If-converted code: a condition on a secret is taken once into control values, both arms run, and what an arm assigns
 // is set under its control value. Branches and loops are left only where what decides them is public. Its outcome is
 // that of the body with real branches. How much straight code uses each variable is counted here too. Stands on
 // `inline` and `intervals`.

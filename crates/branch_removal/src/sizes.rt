@@ -81,7 +81,7 @@ fn height(term: &Term) -> u64
 
 /// How large code is.
 #[derive(Clone, Copy)]
-pub struct Size {
+pub struct StraightSize {
     /// How many nodes a run evaluates at most.
     pub work: u64,
     /// How many temporaries there are at once, beside the first.
@@ -91,7 +91,7 @@ pub struct Size {
 }
 
 /// How large expressions are, of which each value is needed by itself.
-fn size_of_all(terms: &[Term]) -> Size
+fn size_of_all(terms: &[Term]) -> StraightSize
     ensures work { result.work ≡ counted (terms_nodes (map term_tree terms.now)) }
     ensures height { result.height ≡ counted (height_of_all (map term_tree terms.now)) }
     ensures depth { result.depth ≡ 0 }
@@ -102,7 +102,7 @@ fn size_of_all(terms: &[Term]) -> Size
         work = work.saturating_add(term_nodes(term));
         greatest = height(term).max(greatest);
     }
-    Size {
+    StraightSize {
         work,
         height: greatest,
         depth: 0,
@@ -130,13 +130,13 @@ fn iterations_of(iterations: &[u32], counter: u32) -> u64
 }
 
 /// How large a branch is, by its condition and its arms.
-fn branch_size(condition: &Term, accepted: Size, otherwise: Size) -> Size
+fn branch_size(condition: &Term, accepted: StraightSize, otherwise: StraightSize) -> StraightSize
     ensures work { result.work ≡ counted (1 + term_nodes (term_tree condition.now) + accepted.work + otherwise.work) }
     ensures height { result.height
         ≡ max (counted (height_of (term_tree condition.now))) (max accepted.height otherwise.height) }
     ensures depth { result.depth ≡ max accepted.depth otherwise.depth }
 {
-    Size {
+    StraightSize {
         work: term_nodes(condition)
             .saturating_add(1)
             .saturating_add(accepted.work)
@@ -147,7 +147,7 @@ fn branch_size(condition: &Term, accepted: Size, otherwise: Size) -> Size
 }
 
 /// How large a loop of so many iterations is, by its bounds and its body.
-fn loop_size(iterations: u64, low: &Term, high: &Term, iteration: Size) -> Size
+fn loop_size(iterations: u64, low: &Term, high: &Term, iteration: StraightSize) -> StraightSize
     requires { iterations < 2 ^ 32 }
     ensures work { result.work
         ≡ counted
@@ -160,7 +160,7 @@ fn loop_size(iterations: u64, low: &Term, high: &Term, iteration: Size) -> Size
         .work
         .saturating_add(1)
         .saturating_mul(iterations + 1);
-    Size {
+    StraightSize {
         work: term_nodes(low)
             .saturating_add(term_nodes(high))
             .saturating_add(all),
@@ -171,33 +171,33 @@ fn loop_size(iterations: u64, low: &Term, high: &Term, iteration: Size) -> Size
 
 /// How large a statement is, with so many iterations for the loop of each counter.
 #[cycle(sizes)]
-fn statement_size(iterations: &[u32], statement: &StraightStatement) -> Size
+fn statement_size(iterations: &[u32], statement: &StraightStatement) -> StraightSize
     ensures work { result.work ≡ counted (statement_work iterations.now (straight_tree statement.now)) }
     ensures height { result.height ≡ counted (height_in (straight_tree statement.now)) }
     ensures depth { result.depth ≡ counted (depth_in (straight_tree statement.now)) }
 {
     match statement {
-        StraightStatement::Set(within, _, value) => Size {
+        StraightStatement::Set(within, _, value) => StraightSize {
             work: set_work(*within, value),
             height: height(value),
             depth: 0,
         },
         StraightStatement::Array(_, size, values) => {
             let all = size_of_all(values);
-            Size {
+            StraightSize {
                 work: all.work.saturating_add(u64::from(*size) + 1),
                 height: all.height,
                 depth: 0,
             }
         }
-        StraightStatement::Put(_, _, _, _, index, value) => Size {
+        StraightStatement::Put(_, _, _, _, index, value) => StraightSize {
             work: term_nodes(index)
                 .saturating_add(term_nodes(value))
                 .saturating_add(2),
             height: height(index).max(height(value).saturating_add(1)),
             depth: 0,
         },
-        StraightStatement::Take(_, _, condition) => Size {
+        StraightStatement::Take(_, _, condition) => StraightSize {
             work: term_nodes(condition).saturating_add(1),
             height: height(condition),
             depth: 0,
@@ -216,7 +216,7 @@ fn statement_size(iterations: &[u32], statement: &StraightStatement) -> Size
 
 /// How large statements are, one after the other.
 #[cycle(sizes)]
-pub fn block_size(iterations: &[u32], statements: &[StraightStatement]) -> Size
+pub fn block_size(iterations: &[u32], statements: &[StraightStatement]) -> StraightSize
     ensures work { result.work ≡ counted (block_work iterations.now (straight_block statements.now)) }
     ensures height { result.height ≡ counted (height_in_all (straight_block statements.now)) }
     ensures depth { result.depth ≡ counted (depth_in_all (straight_block statements.now)) }
@@ -230,7 +230,7 @@ pub fn block_size(iterations: &[u32], statements: &[StraightStatement]) -> Size
         height = one.height.max(height);
         depth = one.depth.max(depth);
     }
-    Size {
+    StraightSize {
         work,
         height,
         depth,
@@ -238,18 +238,18 @@ pub fn block_size(iterations: &[u32], statements: &[StraightStatement]) -> Size
 }
 
 /// How large a result is, where there is one.
-pub fn result_size(value: Option<&Term>) -> Size
+pub fn result_size(value: Option<&Term>) -> StraightSize
     ensures work { result.work ≡ counted (value_nodes (option_map (λ term. term_tree term.now) value.entry)) }
     ensures height { result.height ≡ counted (result_height (option_map (λ term. term_tree term.now) value.entry)) }
     ensures depth { result.depth ≡ 0 }
 {
     match value {
-        None => Size {
+        None => StraightSize {
             work: 0,
             height: 0,
             depth: 0,
         },
-        Some(value) => Size {
+        Some(value) => StraightSize {
             work: term_nodes(value).saturating_add(1),
             height: height(value),
             depth: 0,

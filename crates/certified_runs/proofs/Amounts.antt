@@ -1,12 +1,12 @@
 -- By how much covered states shift: where the amounts are seen, by what is known.
 use Rattle.std.specs.Prelude.{◌||◌, not, if◌then◌else◌}
 use Rattle.std.proofs.Common.{◌≡◌, ℕ, zero, suc, ◌%◌, Bool, true, false, List, [], ◌∷◌, ◌++◌, refl, sym, ap₂, ◌∙◌}
-use Rattle.certified_runs.specs.Below.{Code, Ending, executes, goes_on, Instr, IsAt, no_instruction, not_code}
-use Rattle.certified_runs.specs.Below.{Observation, pc_misaligned, Profile, Register, register, State, Stop, stops}
-use Rattle.certified_runs.specs.Below.{Step}
+use Rattle.certified_runs.specs.Below.{MachineCode, StepEnding, executes, goes_on, Instr, IsAt, no_instruction}
+use Rattle.certified_runs.specs.Below.{not_code, Observation, pc_misaligned, Profile, Register, register, State, Stop}
+use Rattle.certified_runs.specs.Below.{stops, Step}
 use Rattle.certified_runs.proofs.Below.{goes_on-determined, goes_on≢stops, step_of_state}
 use Rattle.certified_runs.specs.Amounts.{is_shift, amounts_of, ShiftsBy, spent, halts, steps_on}
-use Rattle.certified_runs.specs.Known.{Known, knows, Covers}
+use Rattle.certified_runs.specs.Known.{KnownState, knows, Covers}
 use Rattle.certified_runs.specs.Certified as certified
 use Rattle.certified_runs.specs.Certified.{decides, known_after, KnownStep, leads_on, decided, same, CertifiedRun}
 use Rattle.certified_runs.specs.declared.shifts.Shifts.TheVariants.{Seen}
@@ -15,7 +15,7 @@ use Rattle.certified_runs.proofs.Runs.{leads_kept, stop_kept}
 
 -- A run has one list of amounts.
 
-pub amounts_determined : {code : Code} {budget : ℕ} {s : State} {amounts others : List ℕ}
+pub amounts_determined : {code : MachineCode} {budget : ℕ} {s : State} {amounts others : List ℕ}
     → ShiftsBy code budget s amounts → ShiftsBy code budget s others → amounts ≡ others
 amounts_determined spent spent = refl
 amounts_determined (halts step) (halts step') = refl
@@ -27,22 +27,22 @@ amounts_determined {s = s} (steps_on i at step rest) (steps_on j at' step' rest'
 
 -- Each run has such a list.
 
-abbrev pub HasAmounts : Code → ℕ → State → Type 0
+abbrev pub HasAmounts : MachineCode → ℕ → State → Type 0
 HasAmounts code n s = (amounts : List ℕ) × ShiftsBy code n s amounts
 
-module _ (code : Code) (n : ℕ) (s : State) (after : (t : State) → HasAmounts code n t) where
-  executed : (ending : Ending) (i : Instr) → IsAt code s.pc i → Step code s ending → HasAmounts code (suc n) s
+module _ (code : MachineCode) (n : ℕ) (s : State) (after : (t : State) → HasAmounts code n t) where
+  executed : (ending : StepEnding) (i : Instr) → IsAt code s.pc i → Step code s ending → HasAmounts code (suc n) s
   executed (goes_on o t) i at step = let rest = after t in (amounts_of i s.regs ++ rest.0, steps_on i at step rest.1)
   executed (stops seen stop) i at step = ([], halts step)
 
-  amounts_from : {ending : Ending} → Step code s ending → HasAmounts code (suc n) s
+  amounts_from : {ending : StepEnding} → Step code s ending → HasAmounts code (suc n) s
   amounts_from (pc_misaligned odd) = ([], halts (pc_misaligned odd))
   amounts_from (not_code even none) = ([], halts (not_code even none))
   amounts_from (no_instruction even is misfit) = ([], halts (no_instruction even is misfit))
   amounts_from {ending} (executes i even is ok end) =
       executed ending i (record { aligned = even; word = is; in_range = ok }) (executes i even is ok end)
 
-pub some_amounts : (code : Code) (budget : ℕ) (s : State) → HasAmounts code budget s
+pub some_amounts : (code : MachineCode) (budget : ℕ) (s : State) → HasAmounts code budget s
 some_amounts code zero s = ([], spent)
 some_amounts code (suc n) s = amounts_from code n s (λ t. some_amounts code n t) (step_of_state code s).1
 
@@ -53,7 +53,7 @@ amount_same : (shift known : Bool) (a a' : ℕ) → (not shift || known) ≡ tru
 amount_same true known a a' sure value = rw (value sure)
 amount_same false known a a' sure value = refl
 
-module _ (k : Known) (s : State) (covers : Covers k s) where
+module _ (k : KnownState) (s : State) (covers : Covers k s) where
   amounts_same : (profile : Profile) (i : Instr) → decides profile Seen i k.registers ≡ true
       → amounts_of i s.regs ≡ amounts_of i k.state.regs
   amounts_same profile (Register operation rd rs1 rs2) sure =
@@ -63,10 +63,10 @@ module _ (k : Known) (s : State) (covers : Covers k s) where
 
 -- So all covered states shift by the amounts of one list.
 
-abbrev pub AllShiftBy : Code → ℕ → Known → List ℕ → Type 0
+abbrev pub AllShiftBy : MachineCode → ℕ → KnownState → List ℕ → Type 0
 AllShiftBy code budget k amounts = (s : State) → Covers k s → ShiftsBy code budget s amounts
 
-all_step : {code : Code} {n : ℕ} {k next : Known} {o : Observation} {amounts : List ℕ} → k.shifts ≡ Seen
+all_step : {code : MachineCode} {n : ℕ} {k next : KnownState} {o : Observation} {amounts : List ℕ} → k.shifts ≡ Seen
     → KnownStep code k (leads_on o next) → AllShiftBy code n next amounts
     → (more : List ℕ) × AllShiftBy code (suc n) k (more ++ amounts)
 all_step {code} {k = k} {o = o} shown (decided {t = t} i at sure step) rest = (
@@ -78,11 +78,11 @@ all_step {code} {k = k} {o = o} shown (decided {t = t} i at sure step) rest = (
       (steps_on i there first.1 (rest first.0 first.2)),
 )
 
-kept_shifts : {code : Code} {k next : Known} {o : Observation} → KnownStep code k (leads_on o next)
+kept_shifts : {code : MachineCode} {k next : KnownState} {o : Observation} → KnownStep code k (leads_on o next)
     → next.shifts ≡ k.shifts
 kept_shifts (decided i at sure step) = refl
 
-pub all_shift_alike : {code : Code} {budget : ℕ} {k : Known} {seen : List Observation} {stop : Stop}
+pub all_shift_alike : {code : MachineCode} {budget : ℕ} {k : KnownState} {seen : List Observation} {stop : Stop}
     → CertifiedRun code budget k seen (same stop) → k.shifts ≡ Seen
     → (amounts : List ℕ) × AllShiftBy code budget k amounts
 all_shift_alike certified.spent shown = ([], λ s covers. spent)
@@ -93,7 +93,8 @@ all_shift_alike (certified.steps_on step rest) shown =
     let first = all_step shown step after.1 in
     (first.0 ++ after.0, first.1)
 
-pub shifts_agree : {code : Code} {budget : ℕ} {k : Known} {s t : State} {seen : List Observation} {stop : Stop}
+pub shifts_agree : {code : MachineCode} {budget : ℕ} {k : KnownState} {s t : State} {seen : List Observation}
+    {stop : Stop}
     {amounts others : List ℕ} → CertifiedRun code budget k seen (same stop) → k.shifts ≡ Seen → Covers k s
     → Covers k t → ShiftsBy code budget s amounts → ShiftsBy code budget t others → amounts ≡ others
 shifts_agree {s = s} {t = t} run shown covers covers' by by' =

@@ -5,7 +5,7 @@ use Rattle.std.proofs.Common.{ap, ◌∙◌}
 use Rattle.std.proofs.lemmas.Bool.{and_parts}
 use Rattle.std.proofs.lemmas.Option.{same_Some}
 use Rattle.certified_runs.specs.Below.{address_of, Branch, branch_target, Branches, byte_count, ByteMap, Divide, Ebreak}
-use Rattle.certified_runs.specs.Below.{Ecall, effect_of, Ending, ending_of, Fence, goes_on, holds, Immediate, Instr}
+use Rattle.certified_runs.specs.Below.{Ecall, effect_of, StepEnding, ending_of, Fence, goes_on, holds, Immediate, Instr}
 use Rattle.certified_runs.specs.Below.{joined, Jump, jump_target, JumpRegister, Load, load_size, loaded, loaded_value}
 use Rattle.certified_runs.specs.Below.{moved_to, Multiply, multiply_value, next, number_at, Observation, P1, P2, Passes}
 use Rattle.certified_runs.specs.Below.{product_shown, Profile, Register, register, register_target, Shift, State, Stop}
@@ -15,8 +15,8 @@ use Rattle.rv_code.specs.declared.operations.BranchTest.{BranchTest}
 use Rattle.rv_code.specs.declared.operations.LoadOperation.{LoadOperation}
 use Rattle.certified_runs.proofs.Below.{is_inside, is_outside, place, with_number_inside, with_number_outside}
 use Rattle.certified_runs.proofs.Below.{is_some-with_number}
-use Rattle.certified_runs.specs.Known.{Known, knows, knows_both, knows_bytes, with_register_known, with_bytes_known}
-use Rattle.certified_runs.specs.Known.{Covers}
+use Rattle.certified_runs.specs.Known.{KnownState, knows, knows_both, knows_bytes, with_register_known}
+use Rattle.certified_runs.specs.Known.{with_bytes_known, Covers}
 use Rattle.certified_runs.specs.Certified.{decides, decides_product, known_after}
 
 -- Registers.
@@ -67,25 +67,26 @@ put_known known now old new same n a v v' value x h = elim (place a n x) [
 
 -- a step of the state and one of a covered state show the same, and what is known after the one covers where the
 -- other leads
-pub data IsKept (i : Instr) (k : Known) : Ending → Ending → Type 0 where
+pub data StaysCovered (i : Instr) (k : KnownState) : StepEnding → StepEnding → Type 0 where
   goes_alike : {o : Observation} {t t' : State} → Covers (known_after i k t) t'
-      → IsKept i k (goes_on o t) (goes_on o t')
-  stops_alike : {seen : List Observation} {stop : Stop} → IsKept i k (stops seen stop) (stops seen stop)
+      → StaysCovered i k (goes_on o t) (goes_on o t')
+  stops_alike : {seen : List Observation} {stop : Stop} → StaysCovered i k (stops seen stop) (stops seen stop)
 
-either_kept : {i : Instr} {k : Known} {e f e' f' : Ending} (b : Bool) → IsKept i k e e' → IsKept i k f f'
-    → IsKept i k (cond b e f) (cond b e' f')
+either_kept : {i : Instr} {k : KnownState} {e f e' f' : StepEnding} (b : Bool) → StaysCovered i k e e'
+    → StaysCovered i k f f'
+    → StaysCovered i k (cond b e f) (cond b e' f')
 either_kept true one other = one
 either_kept false one other = other
 
 -- what is known once an instruction has led to a state and made these registers and bytes known
-abbrev changed : Known → State → (ℕ → Bool) → (ℕ → Bool) → Known
+abbrev changed : KnownState → State → (ℕ → Bool) → (ℕ → Bool) → KnownState
 changed k t registers bytes = record { state = t; registers = registers; bytes = bytes; shifts = k.shifts }
 
 -- a state at the same program counter
-abbrev at_same_place : Known → (ℕ → ℕ) → ByteMap → State
+abbrev at_same_place : KnownState → (ℕ → ℕ) → ByteMap → State
 at_same_place k regs bytes = record { pc = k.state.pc; regs = regs; bytes = bytes }
 
-module _ (k : Known) (regs : ℕ → ℕ) (bytes : ByteMap) (covers : Covers k (at_same_place k regs bytes)) where
+module _ (k : KnownState) (regs : ℕ → ℕ) (bytes : ByteMap) (covers : Covers k (at_same_place k regs bytes)) where
   value_covered : (rd v v' : ℕ) (now : Bool) → (now ≡ true → v' ≡ v)
       → Covers (changed k (with_value k.state rd v) (with_register_known k.registers rd now) k.bytes)
       (with_value (at_same_place k regs bytes) rd v')
@@ -119,7 +120,7 @@ module _ (k : Known) (regs : ℕ → ℕ) (bytes : ByteMap) (covers : Covers k (
   load_kept : (operation : LoadOperation) (rd rs1 offset : ℕ) (value value' : Option ℕ)
       → let a = address_of k.state.regs rs1 offset in is_some value' ≡ is_some value
       → (knows_bytes k.bytes (byte_count (load_size operation)) a ≡ true → value' ≡ value)
-      → IsKept (Load operation rd rs1 offset) k (loaded k.state operation a rd value)
+      → StaysCovered (Load operation rd rs1 offset) k (loaded k.state operation a rd value)
       (loaded (at_same_place k regs bytes) operation a rd value')
   load_kept operation rd rs1 offset (Some v) (Some v') extent same =
       goes_alike (value_covered rd _ _ _ (λ h. ap (loaded_value operation) (same_Some v' v (same h))))
@@ -131,7 +132,7 @@ module _ (k : Known) (regs : ℕ → ℕ) (bytes : ByteMap) (covers : Covers k (
       → let n = store_size operation in let a = address_of k.state.regs rs1 offset in
       number_at k.state.bytes (byte_count n) a ≡ old → number_at bytes (byte_count n) a ≡ old'
       → is_some old' ≡ is_some old
-      → IsKept (Store operation rs2 rs1 offset) k (stored k.state n a (register k.state.regs rs2) old)
+      → StaysCovered (Store operation rs2 rs1 offset) k (stored k.state n a (register k.state.regs rs2) old)
       (stored (at_same_place k regs bytes) n a (register regs rs2) old')
   unfolding with_stored
   store_kept operation rs2 rs1 offset (Some old) (Some old') there there' extent =
@@ -150,7 +151,7 @@ module _ (k : Known) (regs : ℕ → ℕ) (bytes : ByteMap) (covers : Covers k (
   store_kept operation rs2 rs1 offset None None there there' extent = stops_alike
 
   branch_kept : (test : BranchTest) (rs1 rs2 offset : ℕ) (profile : Profile) (b : Bool) (target : ℕ)
-      → IsKept (Branch test rs1 rs2 offset) k (ending_of profile (cond b (Branches target) Passes) k.state)
+      → StaysCovered (Branch test rs1 rs2 offset) k (ending_of profile (cond b (Branches target) Passes) k.state)
       (ending_of profile (cond b (Branches target) Passes) (at_same_place k regs bytes))
   unfolding ending_of
   branch_kept test rs1 rs2 offset profile true target =
@@ -169,7 +170,7 @@ module _ (k : Known) (regs : ℕ → ℕ) (bytes : ByteMap) (covers : Covers k (
 
   -- the step of an instruction of which all is known that decides
   effect_kept : (profile : Profile) (i : Instr) → decides profile k.shifts i k.registers ≡ true
-      → IsKept i k (ending_of profile (effect_of i k.state.pc k.state.regs) k.state)
+      → StaysCovered i k (ending_of profile (effect_of i k.state.pc k.state.regs) k.state)
       (ending_of profile (effect_of i k.state.pc regs) (at_same_place k regs bytes))
   unfolding ending_of
   effect_kept profile (Upper operation rd immediate) h = goes_alike (value_covered rd _ _ true (λ e. refl))
@@ -218,9 +219,9 @@ module _ (k : Known) (regs : ℕ → ℕ) (bytes : ByteMap) (covers : Covers k (
   effect_kept profile Ebreak h = stops_alike
 
 -- of any covered state
-pub step_kept : (k : Known) (s : State) → Covers k s → (profile : Profile) (i : Instr)
+pub step_kept : (k : KnownState) (s : State) → Covers k s → (profile : Profile) (i : Instr)
     → decides profile k.shifts i k.registers ≡ true
-    → IsKept i k (ending_of profile (effect_of i k.state.pc k.state.regs) k.state)
+    → StaysCovered i k (ending_of profile (effect_of i k.state.pc k.state.regs) k.state)
     (ending_of profile (effect_of i s.pc s.regs) s)
 step_kept k s covers profile i h =
     let same : s ≡ at_same_place k s.regs s.bytes = rw (sym covers.pc) in

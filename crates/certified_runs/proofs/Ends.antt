@@ -1,40 +1,41 @@
 -- Certified runs in progress: steps that have been made, and how the run ends after them.
 use Rattle.std.proofs.Common.{◌≡◌, ℕ, suc, ◌+◌, ◌-◌, ◌<◌, ◌≤◌, List, [], ◌∷◌, ◌++◌, length, zero-add, suc-add, refl}
 use Rattle.std.proofs.Common.{sym, ap, arith}
-use Rattle.certified_runs.specs.Below.{Budget, Code, entries_of, Observation, Stop}
+use Rattle.certified_runs.specs.Below.{Budget, MachineCode, entries_of, Observation, Stop}
 use Rattle.certified_runs.proofs.Below.{entry_count-append}
 use Rattle.certified_runs.specs.Certified.{KnownStep, leads_on, ends, depends, RunEnding, same, may_differ}
 use Rattle.certified_runs.specs.Certified.{CertifiedRun, spent, halts, cut, steps_on, KnownEnding, KnownLeads, stays}
 use Rattle.certified_runs.specs.Certified.{leads}
 use Rattle.certified_runs.proofs.OneEnd.{KnownStep-determined}
 use Rattle.certified_runs.specs.End.{end_of}
-use Rattle.certified_runs.specs.Known.{Known}
+use Rattle.certified_runs.specs.Known.{KnownState}
 use Rattle.certified_runs.specs.declared.certifying.CertifiedEnd.{CertifiedEnd}
 use Rattle.certified_runs.specs.declared.certifying.CertifiedEnd.TheVariants.{Same, MayDiffer}
 
 -- steps that lead on, and then a run
-pub run_after : {code : Code} {m n budget : ℕ} {k now : Known} {seen more : List Observation} {ending : RunEnding}
+pub run_after : {code : MachineCode} {m n budget : ℕ} {k now : KnownState} {seen more : List Observation}
+    {ending : RunEnding}
     → KnownLeads code m k seen now → CertifiedRun code n now more ending → m + n ≡ budget
     → CertifiedRun code budget k (seen ++ more) ending
 run_after stays run all = rw (sym all, zero-add) run
 run_after (leads first rest) run all = rw (sym all, suc-add) (steps_on first (run_after rest run refl))
 
 -- how the certified run is answered
-abbrev pub IsEnd : Code → ℕ → Known → CertifiedEnd → Type 0
+abbrev pub IsEnd : MachineCode → ℕ → KnownState → CertifiedEnd → Type 0
 IsEnd code m k answer =
     (seen : List Observation) × (ending : RunEnding) × CertifiedRun code m k seen ending
     × (answer ≡ end_of seen ending)
 
 -- so many steps, of as many as this and those that are left, have shown so many entries
-abbrev pub HasMade : Code → ℕ → Known → ℕ → Known → ℕ → Type 0
+abbrev pub HasMade : MachineCode → ℕ → KnownState → ℕ → KnownState → ℕ → Type 0
 HasMade code m k left now entries =
     (n : ℕ) × (seen : List Observation) × KnownLeads code n k seen now × (n + left ≡ m)
     × (length (entries_of seen) ≡ entries)
 
-pub none_made : (code : Code) (m : ℕ) (k : Known) → HasMade code m k m k 0
+pub none_made : (code : MachineCode) (m : ℕ) (k : KnownState) → HasMade code m k m k 0
 none_made code m k = (0, [], stays, omega arith, refl)
 
-module _ {code : Code} {m : ℕ} {k : Known} {left : ℕ} {now : Known} {entries : ℕ}
+module _ {code : MachineCode} {m : ℕ} {k : KnownState} {left : ℕ} {now : KnownState} {entries : ℕ}
     (made : HasMade code m k left now entries) where
   pub ends_by : {more : List Observation} {stop : Stop} (others : ℕ) → 0 < left → KnownStep code now (ends more stop)
       → length (entries_of more) ≡ others → IsEnd code m k (Same stop (entries + others))
@@ -62,13 +63,14 @@ module _ {code : Code} {m : ℕ} {k : Known} {left : ℕ} {now : Known} {entries
   )
 
 -- one more step
-pub KnownLeads-more : {code : Code} {n : ℕ} {k now next : Known} {seen : List Observation} {o : Observation}
+pub KnownLeads-more : {code : MachineCode} {n : ℕ} {k now next : KnownState} {seen : List Observation} {o : Observation}
     → KnownLeads code n k seen now → KnownStep code now (leads_on o next)
     → KnownLeads code (suc n) k (seen ++ o ∷ []) next
 KnownLeads-more stays step = leads step stays
 KnownLeads-more (leads first rest) step = leads first (KnownLeads-more rest step)
 
-pub one_more_made : {code : Code} {m left left' entries : ℕ} {k now next : Known} {o : Observation} (more : ℕ)
+pub one_more_made : {code : MachineCode} {m left left' entries : ℕ} {k now next : KnownState} {o : Observation}
+    (more : ℕ)
     → HasMade code m k left now entries → suc left' ≡ left → KnownStep code now (leads_on o next)
     → length (entries_of (o ∷ [])) ≡ more → HasMade code m k left' next (entries + more)
 one_more_made {entries = entries} {o = o} more made fewer step many = (
@@ -80,7 +82,8 @@ one_more_made {entries = entries} {o = o} more made fewer step many = (
 )
 
 -- all of them
-pub all_made : {code : Code} {m left entries : ℕ} {k now : Known} → HasMade code m k left now entries → left ≡ 0
+pub all_made : {code : MachineCode} {m left entries : ℕ} {k now : KnownState} → HasMade code m k left now entries
+    → left ≡ 0
     → (seen : List Observation) × KnownLeads code m k seen now
     × (Same Budget entries ≡ Same Budget (length (entries_of seen)))
 all_made {m = m} made none =
@@ -93,7 +96,7 @@ IsLast (leads_on o next) = ⊥
 IsLast (ends seen stop) = Unit {0}
 IsLast depends = Unit {0}
 
-no_longer : {code : Code} {m n : ℕ} {k now later : Known} {seen more : List Observation} {e : KnownEnding}
+no_longer : {code : MachineCode} {m n : ℕ} {k now later : KnownState} {seen more : List Observation} {e : KnownEnding}
     → KnownLeads code m k seen now → KnownStep code now e → IsLast e → KnownLeads code n k more later → n ≤ m
 no_longer first end last stays = omega arith
 no_longer stays end last (leads other rest) = absurd (rw (KnownStep-determined end other) at last)
@@ -102,7 +105,8 @@ no_longer (leads {next = next} first rest) end last (leads {next = next'} other 
     let same : next' ≡ next = cc in
     omega (arith, no_longer rest end last (rw same at then))
 
-pub not_all : {code : Code} {m left entries : ℕ} {k now later : Known} {seen : List Observation} {e : KnownEnding}
+pub not_all : {code : MachineCode} {m left entries : ℕ} {k now later : KnownState} {seen : List Observation}
+    {e : KnownEnding}
     → HasMade code m k left now entries → 0 < left → KnownStep code now e → IsLast e
     → KnownLeads code m k seen later → ⊥
 not_all made some end last all = omega (arith, made.3, some, no_longer made.2 end last all)

@@ -1,20 +1,20 @@
 -- The step that may differ shows its program counter first, whatever is unknown.
 use Rattle.std.proofs.Common.{◌≡◌, ◌≢◌, ℕ, suc, List, [], ◌∷◌, ◌++◌, None, refl, ap, ◌∙◌, subst}
-use Rattle.certified_runs.specs.Below.{Code, effect_of, Ending, entries_of, Entry, events_of, Observation, observed}
-use Rattle.certified_runs.specs.Below.{program_counter, RecorderRefused, Runs, State, Stop, Step}
+use Rattle.certified_runs.specs.Below.{MachineCode, effect_of, StepEnding, entries_of, Entry, events_of, Observation}
+use Rattle.certified_runs.specs.Below.{observed, program_counter, RecorderRefused, RunsWithin, State, Stop, Step}
 use Rattle.certified_runs.proofs.Below.{IsOwn, goes_own, stops_own, effect_own, Runs-determined, entries_of-append}
 use Rattle.certified_runs.proofs.Below.{Runs-more, Runs-stop, run_of_state}
-use Rattle.certified_runs.specs.Known.{Known, Covers}
+use Rattle.certified_runs.specs.Known.{KnownState, Covers}
 use Rattle.certified_runs.specs.Certified.{undecided, may_differ, CertifiedRun, cut, steps_on}
 use Rattle.certified_runs.proofs.Runs.{step_at, leads_kept}
 
 -- a run that shows this list, and then an observation with this program counter
-abbrev pub RunsPast : Code → ℕ → State → List Observation → ℕ → Type 0
+abbrev pub RunsPast : MachineCode → ℕ → State → List Observation → ℕ → Type 0
 RunsPast code budget s seen pc =
     (o : Observation) × (rest : List Observation) × (stop : Stop) × (t : State) × (o.pc ≡ pc)
-    × Runs code budget s (seen ++ o ∷ rest) stop t × (stop ≢ RecorderRefused)
+    × RunsWithin code budget s (seen ++ o ∷ rest) stop t × (stop ≢ RecorderRefused)
 
-begins_run : {code : Code} {s : State} {ending : Ending} (n : ℕ) → Step code s ending → IsOwn s ending
+begins_run : {code : MachineCode} {s : State} {ending : StepEnding} (n : ℕ) → Step code s ending → IsOwn s ending
     → RunsPast code (suc n) s [] s.pc
 begins_run {code} {s} n step (goes_own {shown = shown} {t = t}) =
     let rest = run_of_state code n t in
@@ -22,7 +22,7 @@ begins_run {code} {s} n step (goes_own {shown = shown} {t = t}) =
 begins_run {s = s} n step (stops_own {stop = stop} calm more) =
     (observed s None, [], stop, s, refl, Runs-stop step, calm)
 
-pub runs_past : {code : Code} {budget : ℕ} {k : Known} {s : State} {seen : List Observation} {pc : ℕ}
+pub runs_past : {code : MachineCode} {budget : ℕ} {k : KnownState} {s : State} {seen : List Observation} {pc : ℕ}
     → CertifiedRun code budget k seen (may_differ pc) → Covers k s → RunsPast code budget s seen pc
 runs_past {code} {s = s} (cut {n = n} {k = k} (undecided i at unknown)) covers =
     subst (RunsPast code (suc n) s []) covers.pc
@@ -33,9 +33,9 @@ runs_past {code} {s = s} (steps_on {k = k} {next = next} {o = o} step rest) cove
     (then.0, then.1, then.2, then.3, then.4, Runs-more first.1 then.5, then.6)
 
 -- so all such runs have the entries of that list, and then that program counter, in common
-pub entries_in_common : {code : Code} {budget : ℕ} {k : Known} {s t : State} {seen shown : List Observation}
+pub entries_in_common : {code : MachineCode} {budget : ℕ} {k : KnownState} {s t : State} {seen shown : List Observation}
     {stop : Stop} {pc : ℕ} → CertifiedRun code budget k seen (may_differ pc) → Covers k s
-    → Runs code budget s shown stop t → stop ≢ RecorderRefused
+    → RunsWithin code budget s shown stop t → stop ≢ RecorderRefused
     → (rest : List Entry) × (entries_of shown ≡ entries_of seen ++ program_counter pc ∷ rest)
 entries_in_common {seen = seen} {pc = pc} run covers ran quiet =
     let past = runs_past run covers in

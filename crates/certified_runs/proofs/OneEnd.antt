@@ -2,22 +2,22 @@
 use Rattle.std.proofs.Common.{◌≡◌, ℕ, zero, suc, Bool, true, false, List, [], ◌∷◌, refl, sym, ◌∙◌}
 use Rattle.std.proofs.lemmas.Bool.{both_ways}
 use Rattle.std.proofs.lemmas.Option.{same_Some}
-use Rattle.certified_runs.specs.Below.{Budget, Code, Ending, executes, goes_on, Instr, IsAt, no_instruction, not_code}
-use Rattle.certified_runs.specs.Below.{Observation, pc_misaligned, stops, Step, word_of}
+use Rattle.certified_runs.specs.Below.{Budget, MachineCode, StepEnding, executes, goes_on, Instr, IsAt, no_instruction}
+use Rattle.certified_runs.specs.Below.{not_code, Observation, pc_misaligned, stops, Step, word_of}
 use Rattle.certified_runs.proofs.Below.{Step-determined, goes_on-determined, goes_on≢stops, step_of_state}
-use Rattle.certified_runs.specs.Known.{Known}
+use Rattle.certified_runs.specs.Known.{KnownState}
 use Rattle.certified_runs.specs.Certified.{decides, known_after, KnownEnding, leads_on, ends, depends, KnownStep}
 use Rattle.certified_runs.specs.Certified.{decided, stopped, undecided, RunEnding, same, may_differ, CertifiedRun}
 use Rattle.certified_runs.specs.Certified.{spent, halts, cut, steps_on}
 use Rattle.certified_runs.proofs.KnownSteps.{one_instruction}
 
 -- what decides an instruction at the program counter is known or not
-unsure : {code : Code} (k : Known) {i j : Instr} → IsAt code k.state.pc i → IsAt code k.state.pc j
+unsure : {code : MachineCode} (k : KnownState) {i j : Instr} → IsAt code k.state.pc i → IsAt code k.state.pc j
     → decides code.profile k.shifts i k.registers ≡ true → decides code.profile k.shifts j k.registers ≡ false → ⊥
 unsure k at at' sure unknown = both_ways _ (rw (sym (one_instruction at at')) at unknown) sure
 
 -- what is known has one step
-pub KnownStep-determined : {code : Code} {k : Known} {e f : KnownEnding} → KnownStep code k e
+pub KnownStep-determined : {code : MachineCode} {k : KnownState} {e f : KnownEnding} → KnownStep code k e
     → KnownStep code k f → e ≡ f
 KnownStep-determined (decided i at sure step) (decided j at' sure' step') =
     let is = one_instruction at at' in
@@ -36,7 +36,8 @@ KnownStep-determined {k = k} (undecided i at unknown) (stopped known step) =
     absurd (unsure k at at (known i at) unknown)
 KnownStep-determined (undecided i at unknown) (undecided j at' unknown') = refl
 
-pub one_end : {code : Code} {budget : ℕ} {k : Known} {seen shown : List Observation} {ending other : RunEnding}
+pub one_end : {code : MachineCode} {budget : ℕ} {k : KnownState} {seen shown : List Observation}
+    {ending other : RunEnding}
     → CertifiedRun code budget k seen ending → CertifiedRun code budget k shown other
     → (seen ≡ shown) × (ending ≡ other)
 one_end spent spent = (refl, refl)
@@ -57,19 +58,19 @@ one_end (steps_on {next = next} {o = o} step rest) (steps_on {next = next'} {o =
 
 -- Every certified run has an end.
 
-module _ (code : Code) (k : Known) where
+module _ (code : MachineCode) (k : KnownState) where
   step_made : (i : Instr) → IsAt code k.state.pc i → decides code.profile k.shifts i k.registers ≡ true
-      → (ending : Ending) → Step code k.state ending → (e : KnownEnding) × KnownStep code k e
+      → (ending : StepEnding) → Step code k.state ending → (e : KnownEnding) × KnownStep code k e
   step_made i at sure (goes_on o t) step = (leads_on o (known_after i k t), decided i at sure step)
   step_made i at sure (stops seen stop) step =
       (ends seen stop, stopped (λ j there. rw (one_instruction there at) sure) step)
 
   step_asked : (i : Instr) → IsAt code k.state.pc i → (b : Bool) → decides code.profile k.shifts i k.registers ≡ b
-      → (ending : Ending) → Step code k.state ending → (e : KnownEnding) × KnownStep code k e
+      → (ending : StepEnding) → Step code k.state ending → (e : KnownEnding) × KnownStep code k e
   step_asked i at true sure ending step = step_made i at sure ending step
   step_asked i at false unknown ending step = (depends, undecided i at unknown)
 
-  step_from : {ending : Ending} → Step code k.state ending → (e : KnownEnding) × KnownStep code k e
+  step_from : {ending : StepEnding} → Step code k.state ending → (e : KnownEnding) × KnownStep code k e
   step_from (pc_misaligned odd) = (_, stopped (λ i at. absurd (odd at.aligned)) (pc_misaligned odd))
   step_from (not_code even none) =
       (_, stopped (λ i at. let word = at.word in cc) (not_code even none))
@@ -85,10 +86,11 @@ module _ (code : Code) (k : Known) where
   pub some_step : (e : KnownEnding) × KnownStep code k e
   some_step = step_from (step_of_state code k.state).1
 
-abbrev pub HasEnd : Code → ℕ → Known → Type 0
+abbrev pub HasEnd : MachineCode → ℕ → KnownState → Type 0
 HasEnd code n k = (seen : List Observation) × (ending : RunEnding) × CertifiedRun code n k seen ending
 
-end_after : (code : Code) (n : ℕ) (k : Known) → ((next : Known) → HasEnd code n next) → (e : KnownEnding)
+end_after : (code : MachineCode) (n : ℕ) (k : KnownState) → ((next : KnownState) → HasEnd code n next) →
+    (e : KnownEnding)
     → KnownStep code k e → HasEnd code (suc n) k
 end_after code n k runs (leads_on o next) step =
     let rest = runs next in
@@ -96,7 +98,7 @@ end_after code n k runs (leads_on o next) step =
 end_after code n k runs (ends seen stop) step = (seen, same stop, halts step)
 end_after code n k runs depends step = ([], may_differ k.state.pc, cut step)
 
-pub some_end : (code : Code) (n : ℕ) (k : Known) → HasEnd code n k
+pub some_end : (code : MachineCode) (n : ℕ) (k : KnownState) → HasEnd code n k
 some_end code zero k = ([], same Budget, spent)
 some_end code (suc n) k =
     let step = some_step code k in

@@ -13,10 +13,10 @@ pub use Rattle.rv_machine.specs.Effects.{address_of, branch_target, effect_of, h
 pub use Rattle.rv_machine.specs.Effects.{loaded_value, multiply_value, register_target, store_size}
 pub use Rattle.rv_machine.specs.Entries.{entries_of, Entry, events_of, program_counter}
 pub use Rattle.rv_machine.specs.Harts.{pc_of, regs_of, state_of}
-pub use Rattle.rv_machine.specs.Leakage.{Done, followed_by, Leads, refused, Runs, spent, stays, stopped, steps_on}
+pub use Rattle.rv_machine.specs.Leakage.{Done, followed_by, Leads, refused, RunsWithin, spent, stays, stopped, steps_on}
 pub use Rattle.rv_machine.specs.Leakage.{went_on}
-pub use Rattle.rv_machine.specs.Machine.{Code, Ending, executes, goes_on, IsAt, loaded, next, no_instruction, not_code}
-pub use Rattle.rv_machine.specs.Machine.{observed, pc_misaligned, product_shown, State, stops, stored, Step}
+pub use Rattle.rv_machine.specs.Machine.{MachineCode, StepEnding, executes, goes_on, IsAt, loaded, next, no_instruction}
+pub use Rattle.rv_machine.specs.Machine.{not_code, observed, pc_misaligned, product_shown, State, stops, stored, Step}
 unfoldable pub use Rattle.rv_machine.specs.Machine.{ending_of, moved_to, with_link, with_stored, with_value}
 pub use Rattle.rv_machine.specs.Regions.{code_of}
 pub use Rattle.rv_machine.specs.Registers.{register}

@@ -1,13 +1,14 @@
 -- A step and a run of what is known of a state. What instructions compute, and how steps end, is the machine's own.
 use Rattle.std.specs.Prelude.{◌≡◌, ℕ, Bool, true, false, List, [], ◌∷◌}
 use Rattle.std.proofs.Common.{zero, suc}
-use Rattle.certified_runs.specs.Below.{address_of, Branch, Budget, byte_count, Code, Divide, Ebreak, Ecall, Fence}
-use Rattle.certified_runs.specs.Below.{goes_on, Immediate, Instr, IsAt, Jump, JumpRegister, Load, load_size, Multiply}
-use Rattle.certified_runs.specs.Below.{Observation, P1, P2, Profile, Register, Shift, State, Stop, stops, Store}
-use Rattle.certified_runs.specs.Below.{store_size, Step, Upper}
+use Rattle.certified_runs.specs.Below.{address_of, Branch, Budget, byte_count, MachineCode, Divide, Ebreak, Ecall}
+use Rattle.certified_runs.specs.Below.{Fence, goes_on, Immediate, Instr, IsAt, Jump, JumpRegister, Load, load_size}
+use Rattle.certified_runs.specs.Below.{Multiply, Observation, P1, P2, Profile, Register, Shift, State, Stop, stops}
+use Rattle.certified_runs.specs.Below.{Store, store_size, Step, Upper}
 use Rattle.certified_runs.specs.Amounts.{decides_amount}
 use Rattle.certified_runs.specs.declared.shifts.Shifts.{Shifts}
-use Rattle.certified_runs.specs.Known.{Known, knows, knows_both, knows_bytes, with_register_known, with_bytes_known}
+use Rattle.certified_runs.specs.Known.{KnownState, knows, knows_both, knows_bytes, with_register_known}
+use Rattle.certified_runs.specs.Known.{with_bytes_known}
 
 -- whether a product is known as far as the observer of this profile sees it
 abbrev pub decides_product : Profile → Bool → Bool
@@ -34,7 +35,7 @@ decides profile shifts Ecall known = true
 decides profile shifts Ebreak known = true
 
 -- the known registers after an instruction: what it gave a register is known where all that it is made of is
-abbrev pub registers_after : Instr → Known → ℕ → Bool
+abbrev pub registers_after : Instr → KnownState → ℕ → Bool
 registers_after (Upper operation rd immediate) k = with_register_known k.registers rd true
 registers_after (Jump rd offset) k = with_register_known k.registers rd true
 registers_after (JumpRegister rd rs1 offset) k = with_register_known k.registers rd true
@@ -55,25 +56,25 @@ registers_after Ecall k = k.registers
 registers_after Ebreak k = k.registers
 
 -- the known bytes after an instruction: those that it stored are known where the register is
-abbrev pub bytes_after : Instr → Known → ℕ → Bool
+abbrev pub bytes_after : Instr → KnownState → ℕ → Bool
 bytes_after (Store operation rs2 rs1 offset) k =
     with_bytes_known k.bytes (byte_count (store_size operation)) (address_of k.state.regs rs1 offset)
     (knows k.registers rs2)
 bytes_after _ k = k.bytes
 
 -- what is known after an instruction that leads to this state
-abbrev pub known_after : Instr → Known → State → Known
+abbrev pub known_after : Instr → KnownState → State → KnownState
 known_after i k t = record { state = t; registers = registers_after i k; bytes = bytes_after i k; shifts = k.shifts }
 
 -- how a step ends: it shows an observation and goes on, or it stops, having shown at most one, or what it shows may
 -- depend on what is unknown
 pub data KnownEnding : Type 0 where
-  leads_on : Observation → Known → KnownEnding
+  leads_on : Observation → KnownState → KnownEnding
   ends : List Observation → Stop → KnownEnding
   depends : KnownEnding
 
 -- one step of what is known
-pub data KnownStep (code : Code) (k : Known) : KnownEnding → Type 0 where
+pub data KnownStep (code : MachineCode) (k : KnownState) : KnownEnding → Type 0 where
   decided : {o : Observation} {t : State} (i : Instr) → IsAt code k.state.pc i
       → decides code.profile k.shifts i k.registers ≡ true → Step code k.state (goes_on o t)
       → KnownStep code k (leads_on o (known_after i k t))
@@ -90,18 +91,18 @@ pub data RunEnding : Type 0 where
   may_differ : ℕ → RunEnding
 
 -- steps until one stops or depends, or as many as the budget; what they show
-pub data CertifiedRun (code : Code) : ℕ → Known → List Observation → RunEnding → Type 0 where
-  spent : {k : Known} → CertifiedRun code zero k [] (same Budget)
-  halts : {n : ℕ} {k : Known} {seen : List Observation} {stop : Stop} → KnownStep code k (ends seen stop)
+pub data CertifiedRun (code : MachineCode) : ℕ → KnownState → List Observation → RunEnding → Type 0 where
+  spent : {k : KnownState} → CertifiedRun code zero k [] (same Budget)
+  halts : {n : ℕ} {k : KnownState} {seen : List Observation} {stop : Stop} → KnownStep code k (ends seen stop)
       → CertifiedRun code (suc n) k seen (same stop)
-  cut : {n : ℕ} {k : Known} → KnownStep code k depends → CertifiedRun code (suc n) k [] (may_differ k.state.pc)
-  steps_on : {n : ℕ} {k next : Known} {o : Observation} {seen : List Observation} {ending : RunEnding}
+  cut : {n : ℕ} {k : KnownState} → KnownStep code k depends → CertifiedRun code (suc n) k [] (may_differ k.state.pc)
+  steps_on : {n : ℕ} {k next : KnownState} {o : Observation} {seen : List Observation} {ending : RunEnding}
       → KnownStep code k (leads_on o next) → CertifiedRun code n next seen ending
       → CertifiedRun code (suc n) k (o ∷ seen) ending
 
 -- so many steps of what is known, of which none stops or depends, lead to what is known then; what they show
-pub data KnownLeads (code : Code) : ℕ → Known → List Observation → Known → Type 0 where
-  stays : {k : Known} → KnownLeads code zero k [] k
-  leads : {n : ℕ} {k next later : Known} {o : Observation} {seen : List Observation}
+pub data KnownLeads (code : MachineCode) : ℕ → KnownState → List Observation → KnownState → Type 0 where
+  stays : {k : KnownState} → KnownLeads code zero k [] k
+  leads : {n : ℕ} {k next later : KnownState} {o : Observation} {seen : List Observation}
       → KnownStep code k (leads_on o next) → KnownLeads code n next seen later
       → KnownLeads code (suc n) k (o ∷ seen) later

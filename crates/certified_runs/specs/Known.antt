@@ -9,7 +9,7 @@ use Rattle.certified_runs.specs.declared.shifts.Shifts.{Shifts}
 -- a state, of which these registers and the bytes at these addresses are known; what it holds elsewhere does not
 -- matter.
 -- The observer sees the amounts of shifts by registers or not
-pub record Known : Type 0 where
+pub record KnownState : Type 0 where
   pub state : State
   pub registers : ℕ → Bool
   pub bytes : ℕ → Bool
@@ -36,7 +36,7 @@ abbrev pub with_bytes_known : (ℕ → Bool) → ℕ → ℕ → Bool → ℕ �
 with_bytes_known bytes n a known x = if nat_le a x && nat_lt x (a + n) then known else bytes x
 
 -- a state that is as is known: the program counter, the addresses that are data, and the numbers of all that is known
-pub record Covers (k : Known) (s : State) : Type 0 where
+pub record Covers (k : KnownState) (s : State) : Type 0 where
   pub pc : s.pc ≡ k.state.pc
   pub registers : (r : ℕ) → knows k.registers r ≡ true → register s.regs r ≡ register k.state.regs r
   pub extent : (a : ℕ) → is_some (s.bytes a) ≡ is_some (k.state.bytes a)

@@ -4,7 +4,7 @@ ghost use Rattle.std.specs.Prelude.{◌≡◌, ℕ, ◌<◌, ◌^◌, List, leng
 ghost use Rattle.certified_runs.specs.Below.{code_of, entries_of, Observation, state_of};
 ghost use Rattle.certified_runs.specs.Certified.{RunEnding, CertifiedRun, KnownLeads};
 ghost use Rattle.certified_runs.specs.End.{end_of};
-ghost use Rattle.certified_runs.specs.Known.{Known};
+ghost use Rattle.certified_runs.specs.Known.{KnownState};
 ghost use Rattle.certified_runs.specs.Parts.{known_of};
 
 use crate::known_parts::KnownParts;
@@ -48,7 +48,7 @@ pub fn certify<M: Memory>(
         (known_of (state_of run.new.hart (M.bytes run.new.memory)) known.new.registers (M.bytes known.new.marks)
         known.new.shifts)
         × (result ≡ CertifiedEnd.Same Stop.Budget (length (entries_of seen))) }
-    ensures ended { (seen : List Observation) (later : Known)
+    ensures ended { (seen : List Observation) (later : KnownState)
         → 0 < run.new.steps_left
         → KnownLeads (code_of code.now) run.old.steps_left
         (known_of (state_of run.old.hart (M.bytes run.old.memory)) known.old.registers (M.bytes known.old.marks)

@@ -1,7 +1,7 @@
 // One step of what is known: it is asked what decides it, and then made by the machine.
 
 ghost use Rattle.std.specs.Prelude.{◌≡◌, [], List, length};
-ghost use Rattle.certified_runs.specs.Below.{code_of, Ending, entries_of, followed_by, Instr, IsAt, Observation};
+ghost use Rattle.certified_runs.specs.Below.{code_of, StepEnding, entries_of, followed_by, Instr, IsAt, Observation};
 ghost use Rattle.certified_runs.specs.Below.{pc_of, state_of, Step};
 ghost use Rattle.certified_runs.specs.Parts.{known_of};
 ghost use Rattle.certified_runs.specs.private.Stepped.{HaveOneExtent, HasStepped};
@@ -39,7 +39,7 @@ fn entries_in(seen: Option<Observation>) -> u64
 fn halt<M: Memory>(code: &CodeRegion, hart: &mut Hart, memory: &mut M) -> (u64, Stop)
     requires { (i : Instr) → ¬ IsAt (code_of code.now) (pc_of hart.old) i }
     ensures stops { (seen : List Observation)
-        × Step (code_of code.now) (state_of hart.old (M.bytes memory.old)) (Ending.stops seen result.1)
+        × Step (code_of code.now) (state_of hart.old (M.bytes memory.old)) (StepEnding.stops seen result.1)
         × (length (entries_of seen) ≡ result.0) }
     ensures extent { HaveOneExtent (M.bytes memory.new) (M.bytes memory.old) }
 {

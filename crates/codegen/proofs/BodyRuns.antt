@@ -6,21 +6,21 @@ use Rattle.codegen.proofs.Language.{AreWithin, StraightProgram, StraightState, a
 use Rattle.codegen.proofs.Language.{path_of, FlatVariable, types_of, Path, AreFine, seen, Arg, Profile, declaration_of}
 use Rattle.codegen.proofs.Language.{Param, WordType}
 use Rattle.codegen.proofs.Logic.{length-map, All-append, option_map, setting as pieces_of, bytes_of, place_of, Setting}
-use Rattle.codegen.proofs.Logic.{seen_by, Straight, Steps, Runs, cheaper, All-one, Placed, Placed-left, Placed-right}
+use Rattle.codegen.proofs.Logic.{seen_by, RunsAt, Steps, Runs, cheaper, All-one, Placed, Placed-left, Placed-right}
 use Rattle.codegen.proofs.Logic.{Halts-after, ecall_halts}
 use Rattle.codegen.specs.Below.{Event, start as start_of, words_of}
 use Rattle.codegen.proofs.Machine.{body_words, Stand, IsPlaced, IsLoaded, RunsBehind, IsFollowedIn, loaded_at}
 use Rattle.codegen.proofs.Machine.{results_in, code_at, depth_in_all, most_words, program_code, image_of, result_slot}
 use Rattle.codegen.proofs.Machine.{HasRoom, variable_offset, slots_from, Instr, word_of, Observation, number_at, Leads}
-use Rattle.codegen.proofs.Machine.{Halts, Code, IsAt, IsInside, AreBases, Allocation, body_of, IsFitting, IsFollowed}
-use Rattle.codegen.proofs.Machine.{IsGenerated, Ecall, type_in, Slot}
+use Rattle.codegen.proofs.Machine.{Halts, MachineCode, IsAt, IsInside, AreBases, Allocation, body_of, IsFitting}
+use Rattle.codegen.proofs.Machine.{IsFollowed, IsGenerated, Ecall, type_in, Slot}
 use Rattle.codegen.proofs.Arguments.{loaded, arrays_are, returned_is}
 use Rattle.codegen.proofs.SetRuns.{steps_of_result}
 use Rattle.codegen.proofs.Standing.{words_alone, body_words_before, placed_alone, leads_among, stand_placed, placed}
 use Rattle.codegen.proofs.Standing.{within_among as words_within_among}
 use Rattle.codegen.proofs.program_logic_lemmas.StepLaws.{leads_kept, still_there}
 use Rattle.codegen.specs.program_logic.MachineSteps.{LeadsWithin}
-use Rattle.codegen.proofs.FreshRuns.{Ended, program_runs}
+use Rattle.codegen.proofs.FreshRuns.{ProgramEnded, program_runs}
 use Rattle.codegen.specs.private.Fresh.{starts_fresh}
 use Rattle.std.proofs.lemmas.Bool.{and_parts, ltb-true}
 use Rattle.codegen.proofs.Slots.{Laid, laid_same}
@@ -51,7 +51,7 @@ pub body_length : (a : Allocation) (p : StraightProgram)
 body_length a p = ap (λ (ws : List ℕ). length ws) (body_words-image a p) ∙ length-map {B = ℕ} (body_code a p) word_of
 
 module _ (a : Allocation) (p : StraightProgram) (room : HasRoom p) (fitting : IsFitting p a)
-    (short : length (program_code a p) ≤ most_words p.nodes) (code : Code) (start frame : ℕ)
+    (short : length (program_code a p) ≤ most_words p.nodes) (code : MachineCode) (start frame : ℕ)
     (there : IsPlaced (image_of a p) code start frame) where
   -- as if the body's words stood alone
   abbrev setting : Setting
@@ -74,7 +74,7 @@ module _ (a : Allocation) (p : StraightProgram) (room : HasRoom p) (fitting : Is
   steps env = path_along env p.body ++ steps_of_result p.value (last_state p env)
 
   Finished : StraightState → machine.State → machine.State → Type 0
-  Finished env s t = Ended setting p.value (last_state p env) t
+  Finished env s t = ProgramEnded setting p.value (last_state p env) t
 
   body_runs : Runs setting (60 + 32 * p.work) steps (body_code a p) (Laid setting) Finished
   unfolding body_code steps Finished
@@ -88,7 +88,7 @@ module _ (a : Allocation) (p : StraightProgram) (room : HasRoom p) (fitting : Is
   standing : Stand code start (map word_of (body_code a p))
   standing = subst (λ (ws : List ℕ). Stand code start ws) (body_words-image a p) there.words
 
-  straight : Straight (pieces_of setting) start (60 + 32 * p.work) steps (body_code a p) (Laid setting) Finished
+  straight : RunsAt (pieces_of setting) start (60 + 32 * p.work) steps (body_code a p) (Laid setting) Finished
   straight = body_runs.placed_at start (placed_alone p.profile code start (body_code a p) standing)
 
   begins : (args : List Arg) (s : machine.State) → IsLoaded (image_of a p) frame args s → AreWithin p.parameters args
@@ -170,7 +170,7 @@ module _ (a : Allocation) (p : StraightProgram) (room : HasRoom p) (fitting : Is
 
 -- the machine follows the body's code, wherever it stands
 pub followed_in : (a : Allocation) (p : StraightProgram) → HasRoom p → IsFitting p a
-    → length (program_code a p) ≤ most_words p.nodes → (code : Code) (start frame : ℕ)
+    → length (program_code a p) ≤ most_words p.nodes → (code : MachineCode) (start frame : ℕ)
     → IsPlaced (image_of a p) code start frame → IsFollowedIn p (image_of a p) code start frame
 followed_in a p room fitting short code start frame there = record {
   shown = λ path. ((straight a p room fitting short code start frame there).leak (path ++ [])).0;
@@ -181,7 +181,7 @@ followed_in a p room fitting short code start frame there = record {
 -- The whole image: its body, and then the end.
 
 module _ (a : Allocation) (p : StraightProgram) (code frame : ℕ) (bases : AreBases (image_of a p) code frame) where
-  abbrev whole : Code
+  abbrev whole : MachineCode
   whole = code_at code (image_of a p)
 
   all_placed : Placed whole code (body_code a p ++ instr.Ecall ∷ [])

@@ -20,7 +20,7 @@ use Rattle.rv_machine.specs.Machine as machine
 use Rattle.std.proofs.lemmas.List.{get_or-replicate}
 use Rattle.inline.proofs.FittingBodies.{held_zeros}
 use Rattle.codegen.proofs.Numbers.{numbers_beside, zero_number}
-use Rattle.codegen.proofs.Slots.{Shown, ready_changed}
+use Rattle.codegen.proofs.Slots.{StateShown, ready_changed}
 
 -- No iteration changes the state of straight code, or puts anything on the path.
 
@@ -303,7 +303,7 @@ module _ (z : Setting) (depth x size : ℕ) (typed : IsFilled z.code.profile z.d
 
   pub clear_runs : Runs z (32 * (1 + size + terms_nodes [])) none
       (statement_code (layout_of z) depth (array x size [])) (Ready z)
-      (Shown z depth (λ env. after env (array x size [])))
+      (StateShown z depth (λ env. after env (array x size [])))
   clear_runs =
       let first = ends_before_result z.declared x d typed.known in
       as_code (ap (λ k. clear_code place (array_words k size)) (kind_known z.declared x d typed.known))

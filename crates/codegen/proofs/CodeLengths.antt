@@ -4,7 +4,7 @@ use Rattle.std.proofs.Common.{length-append, ◌≡◌, ◌==◌, Bool, true, fa
 use Rattle.codegen.proofs.Language.{statement_nodes, block_nodes, StraightTree, set, array, put, take, branch, repeats}
 use Rattle.codegen.proofs.Language.{StraightBlock, nothing, first, TermTree, array_as, term_nodes}
 use Rattle.codegen.proofs.Language.{terms_nodes, declared_words, Kind, element_bytes, array_words, IsTyped, AreTyped}
-use Rattle.codegen.proofs.Language.{types_but, types_of, AllSuit, HasCount, HasType, Boolean, WordType, Profile}
+use Rattle.codegen.proofs.Language.{types_but, types_of, AllSuit, HasCount, TermHasType, Boolean, WordType, Profile}
 use Rattle.codegen.proofs.Choices.{when_not}
 use Rattle.codegen.proofs.BranchLengths.{branching_spans}
 use Rattle.codegen.proofs.LoopLengths.{repeat_spans}
@@ -186,7 +186,7 @@ module _ (profile : Profile) (layout : Frame) (small : 4 * declared_words layout
   abbrev base : ℕ
   base = temporaries_offset layout
 
-  term_placed : {e : TermTree} {word : WordType} (place : ℕ) → HasType (types_of profile layout.declared) e word
+  term_placed : {e : TermTree} {word : WordType} (place : ℕ) → TermHasType (types_of profile layout.declared) e word
       → base + 4 * slots_to layout.allocation.count (height_of e + place) ≤ 65536
       → IsPlaced layout place e
   term_placed place has room = (typed_among profile layout.declared has, room)

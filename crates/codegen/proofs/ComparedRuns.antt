@@ -2,7 +2,7 @@
 use Rattle.std.proofs.Common.{◌≡◌, ℕ, ◌+◌, ◌*◌, ◌<◌, ◌≤◌, ◌==◌, Bool, true, false, not, cond, if◌then◌else◌, nat_lt}
 use Rattle.std.proofs.Common.{nat_le, [], ◌++◌, Option, None, Some, refl, sym, ap, ap₂, ◌∙◌, subst, arith, append-nil}
 use Rattle.codegen.proofs.Choices.{choice_of, of_choice}
-use Rattle.codegen.proofs.Language.{HasType, Path, Place, StraightState, TermTree, WordType, path_in, term_nodes}
+use Rattle.codegen.proofs.Language.{TermHasType, Path, Place, StraightState, TermTree, WordType, path_in, term_nodes}
 use Rattle.codegen.proofs.Language.{types_of, value_in, word_of}
 use Rattle.codegen.proofs.Logic.{along, base_of, cheaper, gives, idle, Kept, kept_then, known, nat_tests, none-some}
 use Rattle.codegen.proofs.Logic.{layout_of}
@@ -26,7 +26,7 @@ abbrev are_passing : Comparison → ℕ → ℕ → Bool
 are_passing c a b = if c.is_swapped then holds c.test b a else holds c.test a b
 
 -- they do where it does not hold, and a comparison puts nothing on the path
-record Fails (operator : BinaryOperator) (c : Comparison) : Type 0 where
+record TestsOpposite (operator : BinaryOperator) (c : Comparison) : Type 0 where
   quiet : (place : Place) (a b : ℕ) → marks_of place operator a b ≡ []
   decides : (w : Width) (a b : ℕ) → are_passing c a b ≡ (operated operator w a b == 0)
 
@@ -46,11 +46,11 @@ not_most a b = grind (arith, nat_tests)
 
 fails_by : (operator : BinaryOperator) {c d : Comparison} → Some d ≡ Some c
     → ((place : Place) (a b : ℕ) → marks_of place operator a b ≡ [])
-    → ((w : Width) (a b : ℕ) → are_passing d a b ≡ (operated operator w a b == 0)) → Fails operator c
+    → ((w : Width) (a b : ℕ) → are_passing d a b ≡ (operated operator w a b == 0)) → TestsOpposite operator c
 fails_by operator is quiet decides =
-    subst (Fails operator) (same_Some _ _ is) (record { quiet = quiet; decides = decides })
+    subst (TestsOpposite operator) (same_Some _ _ is) (record { quiet = quiet; decides = decides })
 
-fails : (operator : BinaryOperator) (c : Comparison) → failing operator ≡ Some c → Fails operator c
+fails : (operator : BinaryOperator) (c : Comparison) → failing operator ≡ Some c → TestsOpposite operator c
 fails Equal c is = fails_by Equal is (λ place a b. refl) (λ w a b. none_where (a == b))
 fails Unequal c is = fails_by Unequal is (λ place a b. refl) (λ w a b. none_where_not (a == b))
 fails Less c is = fails_by Less is (λ place a b. refl) (λ w a b. not_less a b)
@@ -112,7 +112,7 @@ module _ (z : Setting) where
       let source = read_source z e asked low high in
       register-at regs (read_register z.allocation asked e) (λ f. omega (arith, source.low, f)) ∙ there
 
-  right_runs : (left right : TermTree) {word : WordType} → HasType (types_of z.code.profile z.declared) right word
+  right_runs : (left right : TermTree) {word : WordType} → TermHasType (types_of z.code.profile z.declared) right word
       → base_of z + 4 * slots_to z.allocation.count (height_of right + 1) ≤ z.size
       → Runs z (16 * term_nodes right) (steps_of right) (right_code (layout_of z) right)
       (FirstRead z left) (AreCompared left right (right_register z.allocation right))
@@ -150,7 +150,7 @@ module _ (z : Setting) where
     pub kept : Kept z (base_of z) s t
 
   -- a condition that is read whole
-  whole_runs : {e : TermTree} {word : WordType} → HasType (types_of z.code.profile z.declared) e word
+  whole_runs : {e : TermTree} {word : WordType} → TermHasType (types_of z.code.profile z.declared) e word
       → base_of z + 4 * slots_to z.allocation.count (height_of e) ≤ z.size
       → Runs z (16 * term_nodes e) (steps_of e) (read_code (layout_of z) 5 0 e) (Ready z)
       (IsDecided (against_zero (read_register z.allocation 5 e)) e)
@@ -165,14 +165,14 @@ module _ (z : Setting) where
 
   -- a comparison, by its operands
   module _ (place : Place) (operator : BinaryOperator) (width : Width) {left right : TermTree} {one other : WordType}
-      (has : HasType (types_of z.code.profile z.declared) left one)
-      (more : HasType (types_of z.code.profile z.declared) right other)
+      (has : TermHasType (types_of z.code.profile z.declared) left one)
+      (more : TermHasType (types_of z.code.profile z.declared) right other)
       (room : base_of z + 4 * slots_to z.allocation.count (height_of (binary place operator width left right))
       ≤ z.size) where
     abbrev e : TermTree
     e = binary place operator width left right
 
-    decided : {word : WordType} → HasType (types_of z.code.profile z.declared) e word → (c : Option Comparison)
+    decided : {word : WordType} → TermHasType (types_of z.code.profile z.declared) e word → (c : Option Comparison)
         → failing operator ≡ c
         → Runs z (16 * term_nodes e) (steps_of e)
         (operands_or c (read_code (layout_of z) 5 0 e)
@@ -204,7 +204,7 @@ module _ (z : Setting) where
           there = valued.there;
         }))))
 
-  pub condition_runs : {e : TermTree} {word : WordType} → HasType (types_of z.code.profile z.declared) e word
+  pub condition_runs : {e : TermTree} {word : WordType} → TermHasType (types_of z.code.profile z.declared) e word
       → base_of z + 4 * slots_to z.allocation.count (height_of e) ≤ z.size
       → Runs z (16 * term_nodes e) (steps_of e) (condition_code (layout_of z) e) (Ready z)
       (IsDecided (test_of z.allocation e) e)

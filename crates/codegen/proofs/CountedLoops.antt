@@ -4,13 +4,13 @@ use Rattle.std.proofs.Common.{nat_lt, List, [], ◌∷◌, ◌++◌, length, Som
 use Rattle.std.proofs.Common.{◌∙◌, ap₂, subst, arith, ne_eqb, length-append, append-nil}
 use Rattle.std.proofs.lemmas.Bool.{ltb-true}
 use Rattle.std.proofs.lemmas.Nat.{mul-le}
-use Rattle.codegen.proofs.CountingRuns.{Guarded, Numbered, guarded_runs, home_high, home_low, one_computed}
+use Rattle.codegen.proofs.CountingRuns.{Guarded, HoldsNumber, guarded_runs, home_high, home_low, one_computed}
 use Rattle.codegen.proofs.CountingRuns.{iterations_runs}
 use Rattle.codegen.proofs.Language.{TermTree, word_as, value_in, path_in, iterations, path_of_iterations, Path, bounded}
-use Rattle.codegen.proofs.Language.{term_nodes, types_of, HasType, counter_type, StraightBlock, repeats, StraightState}
-use Rattle.codegen.proofs.Language.{counted, after, after_all, path_at, path_along, word_of, Values}
+use Rattle.codegen.proofs.Language.{term_nodes, types_of, TermHasType, counter_type, StraightBlock, repeats}
+use Rattle.codegen.proofs.Language.{StraightState, counted, after, after_all, path_at, path_along, word_of, Values}
 use Rattle.codegen.proofs.LoopRuns.{AtLoop, bounds_runs, is_left, next, next_inside, test_runs}
-use Rattle.codegen.proofs.Logic.{lt-ltb, nat_tests, none-some, same_Some, HeldAt, Setting, setting, base_of, Known}
+use Rattle.codegen.proofs.Logic.{lt-ltb, nat_tests, none-some, same_Some, HeldAt, Setting, setting, base_of, MarkKnown}
 use Rattle.codegen.proofs.Logic.{layout_of}
 use Rattle.codegen.proofs.Logic.{by_bounds, none, Runs, along, along_fit, seq, quietly, weaken, gives, cheaper, never}
 use Rattle.codegen.proofs.Logic.{Ready, HomesKept, home_beside, homes_moved, number_or_zero, take, does, moves_run}
@@ -19,7 +19,7 @@ use Rattle.codegen.proofs.Logic.{load_length}
 use Rattle.codegen.proofs.Machine.{bounds_code, test_code, home_of, height_of, read_code, read_register, Instr}
 use Rattle.codegen.proofs.Machine.{slots_to, ByteMap, number_at, into_code, Sltu}
 use Rattle.codegen.proofs.PairRuns.{FirstRead, read_then}
-use Rattle.codegen.proofs.Slots.{Shown, Hidden, hidden_then, hidden_by, hidden_kept, hidden_number, ready_with}
+use Rattle.codegen.proofs.Slots.{StateShown, Hidden, hidden_then, hidden_by, hidden_kept, hidden_number, ready_with}
 use Rattle.codegen.proofs.Slots.{read_source, source_apart, homed_runs}
 use Rattle.codegen.specs.private.Loops.{any_sets, below_number_code, below_word_code, guarded_code, is_below}
 use Rattle.codegen.specs.private.Loops.{short_number, to_number_code, iterations_code}
@@ -52,28 +52,28 @@ module _ (z : Setting) where
   -- whether a register is below a number comes into another
   compared : (d r bound : ℕ) → 4 < d → d < 32 → 4 < r → r < 32 → bound < 2048
       → Runs z 1 none (below_number_code d r bound) (λ env s. HeldAt z s)
-      (λ env s t. Numbered z d (word_of (nat_lt (s.regs r) bound)) s t)
+      (λ env s t. HoldsNumber z d (word_of (nat_lt (s.regs r) bound)) s t)
   compared d r bound low high low' high' small =
       let same : sign_extended 12 bound ≡ bound = grind (arith, nat_tests, small) in
       gives
-      (λ env s t fine held done. subst (λ v. Numbered z d v s t)
+      (λ env s t fine held done. subst (λ v. HoldsNumber z d v s t)
       (ap₂ (λ a v. word_of (nat_lt a v)) (register-at s.regs r (λ e. omega (arith, low', e))) same) done)
       (one_computed z (instr.Immediate Sltiu d r bound)
       (simp (lt-ltb 4 d low, lt-ltb d 32 high, lt-ltb r 32 high', lt-ltb bound 4096 (omega (arith, small))))
       (λ e. omega (arith, low, e)))
 
   -- homes stay where a temporary is written
-  homes_compared : {d v : ℕ} {s t : machine.State} → d < 8 → Numbered z d v s t → HomesKept z s t
+  homes_compared : {d v : ℕ} {s t : machine.State} → d < 8 → HoldsNumber z d v s t → HomesKept z s t
   homes_compared low done q home = done.others q (λ e. omega (arith, z.allocated.some, home.0, e, low))
 
 module _ (z : Setting) (depth x h : ℕ) (within : depth < z.depths)
     (known : slice_get z.declared x ≡ Some (word_as counter_type false)) (at : home_of z.allocation.homes x ≡ Some h)
     (low high : TermTree) (body : StraightBlock) (n : ℕ) {ys : List Instr}
-    (has_low : HasType (types_of z.code.profile z.declared) low counter_type)
+    (has_low : TermHasType (types_of z.code.profile z.declared) low counter_type)
     (room_low : base_of z + 4 * slots_to z.allocation.count (height_of low) ≤ z.size)
     (unset : any_sets x body ≡ false) (short : length ys < 1000)
     (inner : Runs z n (λ env. path_along env body) ys (Ready z)
-    (Shown z (depth + 1) (λ env. after_all env body))) where
+    (StateShown z (depth + 1) (λ env. after_all env body))) where
   abbrev one_iteration : ℕ → StraightState → StraightState
   one_iteration i env = after_all (counted x i env) body
 
@@ -88,11 +88,11 @@ module _ (z : Setting) (depth x h : ℕ) (within : depth < z.depths)
   Done env s t = Ready z env t × Hidden z depth s t
 
   abbrev Looped : StraightState → machine.State → machine.State → Type 0
-  Looped = Shown z depth (λ env. iterations ((bounds env).1 - (bounds env).0) (bounds env).0 one_iteration env)
+  Looped = StateShown z depth (λ env. iterations ((bounds env).1 - (bounds env).0) (bounds env).0 one_iteration env)
 
   -- the bounds are these, with no more iterations between them than are counted
   abbrev With : (StraightState → machine.State → Type 0) → ℕ × ℕ → StraightState → machine.State → Type 0
-  With P b = Known (setting z) (ℕ × ℕ) (λ c. c.1 - c.0 ≤ slice_index z.counts x) P bounds b
+  With P b = MarkKnown (setting z) (ℕ × ℕ) (λ c. c.1 - c.0 ≤ slice_index z.counts x) P bounds b
 
   -- the cost of all iterations, with so many instructions in the test
   abbrev iterations_cost : ℕ → ℕ
@@ -246,7 +246,7 @@ module _ (z : Setting) (depth x h : ℕ) (within : depth < z.depths)
     pub to_number_runs : Runs z (16 * term_nodes low + (1 + (2 + (1 + (iterations_cost 1 + 1)) + 0)))
         (λ env. path_at env (repeats x low high body))
         (to_number_code (layout_of z) h low bound ys) (Ready z)
-        (Shown z depth (λ env. after env (repeats x low high body)))
+        (StateShown z depth (λ env. after env (repeats x low high body)))
     to_number_runs =
         along
         (λ env.
@@ -258,7 +258,7 @@ module _ (z : Setting) (depth x h : ℕ) (within : depth < z.depths)
 
   -- Up to a bound in the frame.
 
-  module _ (has_high : HasType (types_of z.code.profile z.declared) high counter_type)
+  module _ (has_high : TermHasType (types_of z.code.profile z.declared) high counter_type)
       (room_high : base_of z + 4 * slots_to z.allocation.count (height_of high) ≤ z.size) where
     abbrev words : ℕ
     words = next z depth within
@@ -346,7 +346,7 @@ module _ (z : Setting) (depth x h : ℕ) (within : depth < z.depths)
     pub to_word_runs : Runs z (16 * term_nodes low + 3 + (16 * term_nodes high + 3)
         + (7 + (2 + (1 + (iterations_cost 4 + 1)) + 0))) (λ env. path_at env (repeats x low high body))
         (bounds_code (layout_of z) words low high ++ word_code) (Ready z)
-        (Shown z depth (λ env. after env (repeats x low high body)))
+        (StateShown z depth (λ env. after env (repeats x low high body)))
     to_word_runs =
         gives
         (λ env s t fine ready done. record {

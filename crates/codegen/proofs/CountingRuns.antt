@@ -12,7 +12,7 @@ use Rattle.codegen.proofs.Logic.{eqb-true, lt-ltb, nat_tests, Held, HeldAt, Sett
 use Rattle.codegen.proofs.Logic.{quiet, quietly, weaken, gives, cheaper, beside, idle, never, Ready, none, HomesKept}
 use Rattle.codegen.proofs.Logic.{kept_by, is_free, none_low, computing_within, move_length, register-at, unwritten}
 use Rattle.codegen.proofs.Logic.{written}
-use Rattle.codegen.proofs.Slots.{Shown, Hidden, hidden_then, hidden_less, hidden_by, ready_same, ready_still}
+use Rattle.codegen.proofs.Slots.{StateShown, Hidden, hidden_then, hidden_less, hidden_by, ready_same, ready_still}
 use Rattle.codegen.proofs.Slots.{ready_with}
 use Rattle.codegen.proofs.Unset.{all_left_alone}
 use Rattle.codegen.specs.private.Jumps.{again_code}
@@ -33,7 +33,7 @@ zero_above : (a b : ℕ) → b ≤ a → word_of (nat_lt a b) ≡ 0
 zero_above a b h = let e : nat_lt a b ≡ false = grind (arith, nat_tests) in ap word_of e
 
 -- a register has a number, and nothing else has changed
-pub record Numbered (z : Setting) (h v : ℕ) (s t : machine.State) : Type 0 where
+pub record HoldsNumber (z : Setting) (h v : ℕ) (s t : machine.State) : Type 0 where
   pub held : HeldAt z t
   pub there : t.regs h ≡ v
   pub same : t.bytes ≡ s.bytes
@@ -41,7 +41,7 @@ pub record Numbered (z : Setting) (h v : ℕ) (s t : machine.State) : Type 0 whe
 
 -- so it has after one instruction that computes
 pub one_computed : (z : Setting) (i : Instr) → computes is_free i ≡ true → written_register i ≢ 0
-    → Runs z 1 none (i ∷ []) (Held z) (λ env s t. Numbered z (written_register i) (computed_value i s.regs) s t)
+    → Runs z 1 none (i ∷ []) (Held z) (λ env s t. HoldsNumber z (written_register i) (computed_value i s.regs) s t)
 one_computed z i plain some =
     gives
     (λ env s t fine held done. record {
@@ -79,7 +79,7 @@ module _ (z : Setting) (depth x h : ℕ) (known : slice_get z.declared x ≡ Som
 
   -- where the home gets a number, the counter has that, and nothing else that is shown changes
   pub numbered : {v w : ℕ} → w < 2 ^ 32 → (env : StraightState) (s t : machine.State) → Ready z env s
-      → Numbered z h v s t → v ≡ w → Ready z (counted x w env) t
+      → HoldsNumber z h v s t → v ≡ w → Ready z (counted x w env) t
   numbered {w = w} small env s t ready done is =
       ready_homed z x h w counter_type false known at small env s t ready done.held
       (kept_by z (base_of z) s t done.same) (done.there ∙ is) (λ q home apart. done.others q apart)
@@ -87,10 +87,10 @@ module _ (z : Setting) (depth x h : ℕ) (known : slice_get z.declared x ≡ Som
   -- a register and a field are added into the home
   added : (r field : ℕ) → 4 < r → r < 32 → field < 4096
       → Runs z 1 none (instr.Immediate Addi h r field ∷ []) (Held z)
-      (λ env s t. Numbered z h (sum_of (s.regs r) (sign_extended 12 field)) s t)
+      (λ env s t. HoldsNumber z h (sum_of (s.regs r) (sign_extended 12 field)) s t)
   added r field low few small =
       gives
-      (λ env s t fine held done. subst (λ v. Numbered z h v s t)
+      (λ env s t fine held done. subst (λ v. HoldsNumber z h v s t)
       (ap (λ a. sum_of a (sign_extended 12 field)) (register-at s.regs r (λ e. omega (arith, low, e)))) done)
       (one_computed z (instr.Immediate Addi h r field)
       (simp (
@@ -103,7 +103,7 @@ module _ (z : Setting) (depth x h : ℕ) (known : slice_get z.declared x ≡ Som
   -- the number in a register comes into the home
   pub moved_in : (r : ℕ) → 4 < r → r < 32
       → Runs z 1 none (move_code h r) (λ env s. HeldAt z s × (s.regs r < 2 ^ 32))
-      (λ env s t. Numbered z h (s.regs r) s t)
+      (λ env s t. HoldsNumber z h (s.regs r) s t)
   moved_in r low few =
       by_test (h == r)
       (λ e. idle (λ env s given. record {
@@ -116,7 +116,7 @@ module _ (z : Setting) (depth x h : ℕ) (known : slice_get z.declared x ≡ Som
       (λ env s fine given. given.0)
       (λ env s t fine given done.
       let sum : sum_of (s.regs r) 0 ≡ s.regs r = omega (arith, given.1) in
-      subst (λ v. Numbered z h v s t) sum done)
+      subst (λ v. HoldsNumber z h v s t) sum done)
       (added r 0 low few (omega arith)))
 
   -- the home has the number that the counter has
@@ -148,7 +148,8 @@ module _ (z : Setting) (depth x h : ℕ) (known : slice_get z.declared x ≡ Som
       (λ env s t. HeldAt z t × (t.regs 5 ≡ word_of (nat_lt (s.regs h) limit)) × (t.bytes ≡ s.bytes)
       × HomesKept z s t))
       (unset : any_sets x body ≡ false)
-      (inner : Runs z n (λ env. path_along env body) ys (Ready z) (Shown z (depth + 1) (λ env. after_all env body)))
+      (inner : Runs z n (λ env. path_along env body) ys (Ready z)
+      (StateShown z (depth + 1) (λ env. after_all env body)))
       (near : 2 * length (ys ++ instr.Immediate Addi h h 1 ∷ test) ≤ 2 ^ 11) where
     abbrev one_iteration : ℕ → StraightState → StraightState
     one_iteration i env = after_all (counted x i env) body

@@ -8,8 +8,8 @@ use Rattle.std.specs.Prelude.{slice_set}
 use Rattle.std.proofs.Math.Seq.{set-append_seam}
 use Rattle.codegen.proofs.Language.{FlatVariable, with_value, StraightState, with_variable, with_element, element_bytes}
 use Rattle.codegen.proofs.Language.{TermTree, array_as, path_in_all, term_nodes, terms_nodes, types_but, Values}
-use Rattle.codegen.proofs.Language.{value_in, path_in, types_of, AllSuit, indexed, value_at, IsFilled, WordType, Suits}
-use Rattle.codegen.proofs.Language.{array, after, path_at, IsPut, Kind, Place, Profile}
+use Rattle.codegen.proofs.Language.{value_in, path_in, types_of, AllSuit, indexed, value_at, IsFilled, WordType}
+use Rattle.codegen.proofs.Language.{TermSuits, array, after, path_at, IsElementSet, Kind, Place, Profile}
 use Rattle.codegen.proofs.Logic.{eqb-true, nil_from_length, but_among, suits_among, one_path_all, all_values, steps_of}
 use Rattle.codegen.proofs.Logic.{layout_of}
 use Rattle.codegen.proofs.Logic.{kind_known, homes_beside, Held, place_of, place_even, place_before, place_ends}
@@ -19,7 +19,7 @@ use Rattle.branch_removal.specs.Straight as straight
 use Rattle.codegen.proofs.Machine.{store_by, put_code, slots_to, Instr, element_store_code, statement_code}
 use Rattle.codegen.proofs.Machine.{variable_offset, fill_code, height_of, index_code, read_register, height_of_all}
 use Rattle.codegen.proofs.Machine.{stored_register, height_of_put}
-use Rattle.codegen.proofs.Slots.{Shown, suits_fits, wrote_as, hidden_valued, hidden_then, ready_same, ready_put}
+use Rattle.codegen.proofs.Slots.{StateShown, suits_fits, wrote_as, hidden_valued, hidden_then, ready_same, ready_put}
 use Rattle.codegen.proofs.Slots.{offered_put, offered_low, offered_runs, ready_offered}
 use Rattle.codegen.specs.Below.{register}
 use Rattle.codegen.specs.private.Emitted.{into_element_code, put_value_code}
@@ -44,12 +44,12 @@ offered_element z r low kind o even room =
 -- a value into an element of a fixed place
 one_at : (z : Setting) (depth : ℕ) → depth ≤ z.depths → (x size : ℕ) (word : WordType) (mutable : Bool)
     → slice_get z.declared x ≡ Some (array_as word mutable size)
-    → (k : ℕ) (e : TermTree) → k < size → Suits (types_of z.code.profile z.declared) word e
+    → (k : ℕ) (e : TermTree) → k < size → TermSuits (types_of z.code.profile z.declared) word e
     → base_of z + 4 * slots_to z.allocation.count (height_of e) ≤ z.size
     → Runs z (16 * term_nodes e + 3) (steps_of e)
     (into_element_code (layout_of z) word.kind
     (place_of z.declared x (array_as word mutable size) k) (stored_value z.allocation word.kind e))
-    (Ready z) (Shown z depth (λ env. with_element env x k (value_in env.variables e)))
+    (Ready z) (StateShown z depth (λ env. with_element env x k (value_in env.variables e)))
 one_at z depth within x size word mutable known k e below suits room =
     let d = array_as word mutable size in
     let at = place_of z.declared x d k in
@@ -81,7 +81,7 @@ one_at z depth within x size word mutable known k e below suits room =
 -- One element, at an index.
 
 module _ (z : Setting) (depth : ℕ) (place : Place) (x size : ℕ) (index value : TermTree)
-    (typed : IsPut z.code.profile z.declared x size index value)
+    (typed : IsElementSet z.code.profile z.declared x size index value)
     (room : base_of z + 4 * slots_to z.allocation.count (height_of_put index value) ≤ z.size)
     (within : depth ≤ z.depths) where
   abbrev kind : Kind
@@ -180,11 +180,11 @@ module _ (z : Setting) (depth : ℕ) (within : depth ≤ z.depths) (x size : ℕ
   filled k [] env = env
   filled k (e ∷ es) env = filled (k + 1) es (step k e env)
 
-  one_runs : (k : ℕ) (e : TermTree) → k < size → Suits (types_but z.code.profile z.declared x) word e
+  one_runs : (k : ℕ) (e : TermTree) → k < size → TermSuits (types_but z.code.profile z.declared x) word e
       → base_of z + 4 * slots_to z.allocation.count (height_of e) ≤ z.size
       → Runs z (16 * term_nodes e + 3) (steps_of e)
       (into_element_code (layout_of z) word.kind (at k) (stored_value z.allocation word.kind e))
-      (Ready z) (Shown z depth (step k e))
+      (Ready z) (StateShown z depth (step k e))
   one_runs k e below suits room =
       let every = suits_among (types_but z.code.profile z.declared x) (types_of z.code.profile z.declared)
       (but_among z.code.profile z.declared x) word e suits in
@@ -193,7 +193,7 @@ module _ (z : Setting) (depth : ℕ) (within : depth ≤ z.depths) (x size : ℕ
   fill_from : (k o : ℕ) (es : List TermTree) → o ≡ at k → AllSuit (types_but z.code.profile z.declared x) word es
       → k + length es ≤ size → base_of z + 4 * slots_to z.allocation.count (height_of_all es) ≤ z.size
       → Runs z (32 * terms_nodes es) (λ env. path_in_all env.variables es)
-      (fill_code (layout_of z) word.kind o es) (Ready z) (Shown z depth (filled k es))
+      (fill_code (layout_of z) word.kind o es) (Ready z) (StateShown z depth (filled k es))
   fill_from k o [] is suits few room =
       idle (λ env s ready. assumption)
   fill_from k o (e ∷ es) is suits few room =
@@ -250,7 +250,7 @@ pub fill_runs : (z : Setting) (depth x size : ℕ) (e : TermTree) (es : List Ter
     → base_of z + 4 * slots_to z.allocation.count (height_of_all (e ∷ es)) ≤ z.size → depth ≤ z.depths
     → Runs z (32 * (1 + size + terms_nodes (e ∷ es))) (λ env. path_at env (array x size (e ∷ es)))
     (statement_code (layout_of z) depth (array x size (e ∷ es))) (Ready z)
-    (Shown z depth (λ env. after env (array x size (e ∷ es))))
+    (StateShown z depth (λ env. after env (array x size (e ∷ es))))
 fill_runs z depth x size e es typed room within =
     let values = e ∷ es in
     let d : FlatVariable = array_as typed.word typed.mutable size in

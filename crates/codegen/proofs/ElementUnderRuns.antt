@@ -2,7 +2,7 @@
 use Rattle.std.proofs.Common.{◌≡◌, ℕ, ◌+◌, ◌*◌, ◌%◌, ◌^◌, ◌<◌, ◌≤◌, ◌==◌, false, if◌then◌else◌, [], ◌∷◌, ◌++◌, Some}
 use Rattle.std.proofs.Common.{slice_index, refl, sym, ap, ◌∙◌, subst, arith, inl, inr}
 use Rattle.codegen.proofs.Language.{FlatVariable, StraightState, with_element, element_bytes, TermTree, array_as}
-use Rattle.codegen.proofs.Language.{term_nodes, value_in, after, IsPut, Kind, bits_of, Place, types_of}
+use Rattle.codegen.proofs.Language.{term_nodes, value_in, after, IsElementSet, Kind, bits_of, Place, types_of}
 use Rattle.codegen.proofs.Logic.{lower_fits, steps_of, homes_beside, load_bytes, load_plain, loading, place_of}
 use Rattle.codegen.proofs.Logic.{layout_of}
 use Rattle.codegen.proofs.Logic.{place_even, place_ends, Setting, base_of, none, Runs, gives, cheaper, as_code}
@@ -13,7 +13,7 @@ use Rattle.codegen.proofs.Machine.{control_location, is_unread, Location, lower_
 use Rattle.codegen.proofs.Machine.{read_register, height_of_put}
 use Rattle.rv_code.specs.declared.instructions.Instr.TheVariants as instr
 use Rattle.branch_removal.specs.Straight as straight
-use Rattle.codegen.proofs.Slots.{Shown, suits_fits, ready_with, read_source, source_apart, hidden_by}
+use Rattle.codegen.proofs.Slots.{StateShown, suits_fits, ready_with, read_source, source_apart, hidden_by}
 use Rattle.codegen.proofs.Masks.{mask_apart, mask_free, mask_register}
 use Rattle.codegen.proofs.Elements.{ElementAccess, addressed_at, at_element, away, kind_is, stores, value_beside}
 use Rattle.codegen.proofs.Elements.{value_source, put_by, Puts, put_access}
@@ -23,7 +23,7 @@ use Rattle.codegen.specs.Below.{Fits}
 use Rattle.codegen.proofs.expression_code_lemmas.Moves.{is_left, is_written}
 
 module _ (z : Setting) (depth : ℕ) (place : Place) (x size : ℕ) (index value : TermTree)
-    (typed : IsPut z.code.profile z.declared x size index value)
+    (typed : IsElementSet z.code.profile z.declared x size index value)
     (room : base_of z + 4 * slots_to z.allocation.count (height_of_put index value) ≤ z.size)
     (within : depth ≤ z.depths) (c : ℕ) (among : c < z.controls) (read : is_unread z.allocation c ≡ false) where
   abbrev access : ElementAccess z
@@ -120,7 +120,7 @@ module _ (z : Setting) (depth : ℕ) (place : Place) (x size : ℕ) (index value
   under_near : (i o : ℕ) → i < size → place_at i ≡ o → o < 2048
       → Runs z (16 * term_nodes value + 10) (steps_of value)
       (put_under_near_code (layout_of z) control_at kind o value) (Ready z)
-      (Shown z depth (λ env. if env.controls c then with_element env x i (new_value env) else env))
+      (StateShown z depth (λ env. if env.controls c then with_element env x i (new_value env) else env))
   under_near i o below is near =
       let r = read_register z.allocation 5 value in
       let source = read_source z value 5 (omega arith) (omega arith) in

@@ -3,11 +3,11 @@ use Rattle.std.proofs.Common.{◌≡◌, ℕ, ◌+◌, ◌*◌, ◌%◌, ◌^◌
 use Rattle.std.proofs.Common.{None, Some, slice_get, refl, sym, ap, ap₂, subst, ◌∙◌, arith, ◌≢◌, append_assoc}
 use Rattle.codegen.proofs.Language.{FlatVariable, StraightState, with_element, element_bytes, TermTree, array_as}
 use Rattle.codegen.proofs.Language.{term_nodes, value_in, path_in, indexed, WordType, Kind, Boolean, bits_of, Place}
-use Rattle.codegen.proofs.Language.{HasType, counter_type, holds, path_at, put, IsPut, types_of}
+use Rattle.codegen.proofs.Language.{TermHasType, counter_type, holds, path_at, put, IsElementSet, types_of}
 use Rattle.codegen.proofs.Logic.{register-at, lower_fits, Addressed, address_runs, steps_of, kind_known, HomesKept}
 use Rattle.codegen.proofs.Logic.{layout_of}
 use Rattle.codegen.proofs.Logic.{homes_by, HeldAt, free_from, storing, place_of, place_even, place_before, place_ends}
-use Rattle.codegen.proofs.Logic.{Setting, setting, base_of, Known, by_index, by_known_index, by_option, none, Runs}
+use Rattle.codegen.proofs.Logic.{Setting, setting, base_of, MarkKnown, by_index, by_known_index, by_option, none, Runs}
 use Rattle.codegen.proofs.Logic.{quiet, weaken, gives, as_code, Ready, Wrote, NearElement, near_known, known, along}
 use Rattle.codegen.proofs.Logic.{cheaper}
 use Rattle.codegen.proofs.Machine.{store_by, slots_to, kind_at, Instr, variable_offset, home_of, lower_part, store_size}
@@ -16,8 +16,8 @@ use Rattle.codegen.proofs.Machine.{address_code, with_number, code_by, near_elem
 use Rattle.rv_code.specs.declared.instructions.Instr.TheVariants as instr
 use Rattle.rv_machine.specs.Machine as machine
 use Rattle.codegen.proofs.PairRuns.{FirstRead, read_then, second_runs}
-use Rattle.codegen.proofs.Slots.{Shown, ready_with, IsSource, read_source, source_apart, Hidden, hidden_then, hidden_by}
-use Rattle.codegen.proofs.Slots.{hidden_kept, hidden_wrote, ready_put}
+use Rattle.codegen.proofs.Slots.{StateShown, ready_with, IsSourceRegister, read_source, source_apart, Hidden}
+use Rattle.codegen.proofs.Slots.{hidden_then, hidden_by, hidden_kept, hidden_wrote, ready_put}
 
 pub store_bytes : (kind : Kind) → byte_count (store_size (store_by kind)) ≡ element_bytes kind
 store_bytes Boolean = refl
@@ -36,16 +36,16 @@ pub record ElementAccess (z : Setting) : Type 0 where
   pub mutable : Bool
   pub known : slice_get z.declared x ≡ Some (array_as word mutable size)
   pub index : TermTree
-  pub index_type : HasType (types_of z.code.profile z.declared) index counter_type
+  pub index_type : TermHasType (types_of z.code.profile z.declared) index counter_type
   pub value : TermTree
   pub own : WordType
-  pub value_type : HasType (types_of z.code.profile z.declared) value own
+  pub value_type : TermHasType (types_of z.code.profile z.declared) value own
   pub room : base_of z + 4 * slots_to z.allocation.count (height_of_put index value) ≤ z.size
 
 -- that of a statement that puts one, where this is read for its value
 abbrev pub put_access : (z : Setting) (depth : ℕ) → depth ≤ z.depths → (place : Place) (x size : ℕ) (index : TermTree)
-    {value : TermTree} → IsPut z.code.profile z.declared x size index value → (e : TermTree) (own : WordType)
-    → HasType (types_of z.code.profile z.declared) e own
+    {value : TermTree} → IsElementSet z.code.profile z.declared x size index value → (e : TermTree) (own : WordType)
+    → TermHasType (types_of z.code.profile z.declared) e own
     → base_of z + 4 * slots_to z.allocation.count (height_of_put index e) ≤ z.size → ElementAccess z
 put_access z depth within place x size index typed e own has room = record {
   depth = depth;
@@ -95,10 +95,10 @@ module _ (z : Setting) (access : ElementAccess z) where
   abbrev pub value_register : ℕ
   value_register = read_register z.allocation 6 access.value
 
-  pub index_source : IsSource z 5 index_register
+  pub index_source : IsSourceRegister z 5 index_register
   index_source = read_source z access.index 5 (omega arith) (omega arith)
 
-  pub value_source : IsSource z 6 value_register
+  pub value_source : IsSourceRegister z 6 value_register
   value_source = read_source z access.value 6 (omega arith) (omega arith)
 
   -- the value is not in the register of the first temporary
@@ -159,10 +159,10 @@ module _ (z : Setting) (access : ElementAccess z) where
   value_piece : (i : ℕ)
       → Runs z (16 * term_nodes access.value) (steps_of access.value)
       (read_code (layout_of z) 6 1 access.value)
-      (Known (setting z) ℕ (λ j. j < access.size) (FirstRead z access.index) number_of i)
+      (MarkKnown (setting z) ℕ (λ j. j < access.size) (FirstRead z access.index) number_of i)
       (λ env s t. Aimed i env t × Hidden z access.depth s t)
   value_piece i =
-      weaken {P' = Known (setting z) ℕ (λ j. j < access.size) (FirstRead z access.index) number_of i}
+      weaken {P' = MarkKnown (setting z) ℕ (λ j. j < access.size) (FirstRead z access.index) number_of i}
       (λ env s fine given. given.given)
       (λ env s t fine given both.
       assumption (both.first_there ∙ given.is, hidden_kept z access.depth s t access.within both.kept))
@@ -177,14 +177,14 @@ module _ (z : Setting) (access : ElementAccess z) where
       (λ env. path_in env.variables access.index ++ indexed access.place access.size (number_of env)
       ∷ path_in env.variables access.value)
       (index_code (layout_of z) access.index access.value ++ tail) (Ready z)
-      (Shown z access.depth change)
+      (StateShown z access.depth change)
   at_element {tail = tail} change act =
       as_code (append_assoc (read_code (layout_of z) 5 0 access.index)
       (read_code (layout_of z) 6 1 access.value) tail)
       (read_then z access.depth access.within access.index_type (omega arith)
       (by_index z {P = FirstRead z access.index} access.place access.size number_of
       (λ i below.
-      gives {R = Shown z access.depth change}
+      gives {R = StateShown z access.depth change}
       (λ env s t fine given done. record {
         ready = done.second.1 given.is;
         hidden = hidden_then z access.depth s done.middle t done.first.1 done.second.0;
@@ -210,12 +210,12 @@ module _ (z : Setting) (access : ElementAccess z) where
     Puts code =
         Runs z (32 * (1 + (1 + term_nodes access.index) + term_nodes value))
         (λ env. path_at env (put within access.place access.x access.size access.index value)) code (Ready z)
-        (Shown z access.depth (λ env. put_with (number_of env) env))
+        (StateShown z access.depth (λ env. put_with (number_of env) env))
 
     -- the code where its store holds the element's offset, and what that does at each index
     module _ {n : ℕ} (few : n ≤ 32 * (1 + term_nodes value)) (code : ℕ → List Instr)
         (one : (i o : ℕ) → i < access.size → element_at i ≡ o → o < 2048
-        → Runs z n (steps_of value) (code o) (Ready z) (Shown z access.depth (put_with i))) where
+        → Runs z n (steps_of value) (code o) (Ready z) (StateShown z access.depth (put_with i))) where
       module _ (o : ℕ) (near : NearElement z.declared access.x access.index o) where
         near_runs : Puts (code o)
         near_runs =

@@ -200,7 +200,7 @@ module _ (z : Setting) where
   -- Statements, and the result behind them.
 
   -- what a program leaves in the end
-  pub record Ended (value : Option TermTree) (env : StraightState) (t : machine.State) : Type 0 where
+  pub record ProgramEnded (value : Option TermTree) (env : StraightState) (t : machine.State) : Type 0 where
     pub held : HeldAt z t
     pub fits : Fits (types_of z.code.profile z.declared) env.variables
     pub arrays_there : (x : ℕ) (d : FlatVariable) (size i : ℕ) → slice_get z.declared x ≡ Some d
@@ -213,7 +213,7 @@ module _ (z : Setting) where
       (typed_result : IsResult (types_of z.code.profile z.declared) returned value)
       (room_result : base + 4 * slots_to a.count (result_height value) ≤ z.size) where
     -- one statement is run, and these are not at home yet
-    record Stepped (out : ℕ → Bool) (s : StraightTree) (rest : StraightBlock) : Type 0 where
+    record StatementRun (out : ℕ → Bool) (s : StraightTree) (rest : StraightBlock) : Type 0 where
       left : ℕ → Bool
       variables : (y : ℕ) → left y ≡ true → y < length z.declared
       fresh : (y : ℕ) → left y ≡ true → is_fresh y rest value ≡ true
@@ -225,7 +225,7 @@ module _ (z : Setting) where
           → ((y : ℕ) → out y ≡ true → sets_fresh y s ≡ false)
           → IsTyped z.code.profile z.declared z.controls s → ReadsKept a.unread s
           → base + 4 * slots_to a.count (height_in s) ≤ z.size → depth_in s ≤ z.depths
-          → length (code_of s) < far → Stepped out s rest
+          → length (code_of s) < far → StatementRun out s rest
       stepped_on s rest fresh off typed read room within few =
           let ways = λ (y : ℕ) (on : out y ≡ true). two_ways (sets_fresh y s) (names y s) (is_fresh y rest value)
           (off y on) (fresh y on) in
@@ -240,10 +240,10 @@ module _ (z : Setting) where
           → ((y : ℕ) → out y ≡ true → is_fresh y (first s rest) value ≡ true)
           → IsTyped z.code.profile z.declared z.controls s → ReadsKept a.unread s
           → base + 4 * slots_to a.count (height_in s) ≤ z.size → depth_in s ≤ z.depths
-          → length (code_of s) < far → Stepped out s rest
+          → length (code_of s) < far → StatementRun out s rest
       stepped (set None x e) rest fresh typed read room within few = by_test (out x) refl
         where
-          by_test : (b : Bool) → out x ≡ b → Stepped out (set None x e) rest
+          by_test : (b : Bool) → out x ≡ b → StatementRun out (set None x e) rest
           by_test true is = record {
             left = without out x;
             variables = λ y on. variables y (both_true (y == x) (out y) on).1;
@@ -271,7 +271,7 @@ module _ (z : Setting) where
     Behind b out = Runs z (32 * block_work z.counts b + 32 * value_nodes value)
         (λ env. path_along env b ++ steps_of_result value (after_all env b))
         (block_of b ++ result_code (layout_of z) value) (Ready (fewer z out))
-        (λ env s t. Ended value (after_all env b) t)
+        (λ env s t. ProgramEnded value (after_all env b) t)
 
     behind_runs : (b : StraightBlock) (out : ℕ → Bool) → ((y : ℕ) → out y ≡ true → y < length z.declared)
         → ((y : ℕ) → out y ≡ true → is_fresh y b value ≡ true)
@@ -318,7 +318,7 @@ module _ (z : Setting) where
         → Runs z (3 * home_count a.homes + (32 * block_work z.counts b + 32 * value_nodes value))
         (λ env. path_along env b ++ steps_of_result value (after_all env b))
         (entry_code z.declared 0 (homes_but out 0 a.homes) ++ (block_of b ++ result_code (layout_of z) value))
-        (Laid z) (λ env s t. Ended value (after_all env b) t)
+        (Laid z) (λ env s t. ProgramEnded value (after_all env b) t)
     program_runs b out variables fresh few_homes typed read room within few =
         let count = homes_fewer out 0 a.homes in
         cheaper (omega (arith, count.0))

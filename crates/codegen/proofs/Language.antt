@@ -8,15 +8,16 @@ pub use Rattle.branch_removal.specs.Straight.{take}
 pub use Rattle.branch_removal.specs.StraightMeaning.{StraightState, after, after_all, counted, holds, outcome_of}
 pub use Rattle.branch_removal.specs.StraightMeaning.{path_along, path_at, path_of, value_at, with_controls}
 pub use Rattle.branch_removal.specs.StraightMeaning.{with_element, with_variable}
-pub use Rattle.branch_removal.specs.StraightTyping.{AreTyped, IsAmong, IsFilled, IsPut, IsSet, IsTyped, IsTypedStraight}
-pub use Rattle.branch_removal.specs.StraightTyping.{types_but}
+pub use Rattle.branch_removal.specs.StraightTyping.{AreTyped, IsAmong, IsFilled, IsElementSet, IsSet, IsTyped}
+pub use Rattle.branch_removal.specs.StraightTyping.{IsTypedStraight, types_but}
 pub use Rattle.branch_removal.specs.declared.straight.StraightStatement.{StraightStatement}
 pub use Rattle.inline.specs.Fitting.{Fits, IsHeld, IsWithinKind}
 pub use Rattle.inline.specs.Flat.{TermTree, array_as, declaration_of, numbers_in, term_tree, word_as}
 pub use Rattle.inline.specs.FlatMeaning.{Values, array_of, arrays_from, given, path_in, path_in_all, path_of_result}
 pub use Rattle.inline.specs.FlatMeaning.{path_of_iterations, iterations, value_in, with_value}
 pub use Rattle.inline.specs.FlatSize.{HasLength, declared_words, term_nodes, terms_nodes, value_nodes}
-pub use Rattle.inline.specs.FlatTyping.{AllSuit, HasCount, HasType, IsResult, Suits, Types, counter_type, types_of}
+pub use Rattle.inline.specs.FlatTyping.{AllSuit, HasCount, TermHasType, IsResult, TermSuits, Types, counter_type}
+pub use Rattle.inline.specs.FlatTyping.{types_of}
 pub use Rattle.inline.specs.Path.{AreFine, Path, bounded, indexed, seen}
 pub use Rattle.inline.specs.declared.flat.FlatVariable.{FlatVariable}
 pub use Rattle.inline.specs.declared.flat.Term.{Term}

@@ -4,10 +4,10 @@ pub use Rattle.branch_removal.proofs.Values.{all_values, one_path_all}
 pub use Rattle.codegen.proofs.expression_code_lemmas.Arithmetic.{lower_fits, mask_fits, mask_of, mask_otherwise}
 pub use Rattle.codegen.proofs.expression_code_lemmas.Arithmetic.{mask_when, masks_join, merge, merged, near_address}
 pub use Rattle.codegen.proofs.expression_code_lemmas.Below.{after_append, All-one, along, along_fit, as_code, beside}
-pub use Rattle.codegen.proofs.expression_code_lemmas.Below.{branching_at, by_mark, cheaper, gives, idle, Known, looping}
-pub use Rattle.codegen.proofs.expression_code_lemmas.Below.{never, none, number_or_zero, only_computes, Placed}
+pub use Rattle.codegen.proofs.expression_code_lemmas.Below.{branching_at, by_mark, cheaper, gives, idle, MarkKnown}
+pub use Rattle.codegen.proofs.expression_code_lemmas.Below.{looping, never, none, number_or_zero, only_computes, Placed}
 pub use Rattle.codegen.proofs.expression_code_lemmas.Below.{Placed-left, Placed-right, plain_append, quiet, quietly}
-pub use Rattle.codegen.proofs.expression_code_lemmas.Below.{registers_after, seq, Still, Straight, Then, weaken}
+pub use Rattle.codegen.proofs.expression_code_lemmas.Below.{registers_after, seq, Still, RunsAt, Then, weaken}
 pub use Rattle.codegen.proofs.expression_code_lemmas.Elements.{address_runs, Addressed, load_bytes, load_plain}
 pub use Rattle.codegen.proofs.expression_code_lemmas.Events.{by_bounds, by_index, by_known_index, condition_kind}
 pub use Rattle.codegen.proofs.expression_code_lemmas.ExpressionRuns.{into_runs}

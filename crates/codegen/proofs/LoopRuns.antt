@@ -6,8 +6,8 @@ use Rattle.std.proofs.lemmas.Bool.Decides.{nat_tests}
 use Rattle.std.proofs.lemmas.Nat.{mul-le}
 use Rattle.codegen.proofs.CountingRuns.{home_low, moved_in, numbered}
 use Rattle.codegen.proofs.Language.{TermTree, word_as, value_in, path_in, iterations, path_of_iterations, Path, bounded}
-use Rattle.codegen.proofs.Language.{term_nodes, types_of, HasType, counter_type, StraightBlock, repeats, StraightState}
-use Rattle.codegen.proofs.Language.{counted, after, after_all, path_at, path_along, word_of}
+use Rattle.codegen.proofs.Language.{term_nodes, types_of, TermHasType, counter_type, StraightBlock, repeats}
+use Rattle.codegen.proofs.Language.{StraightState, counted, after, after_all, path_at, path_along, word_of}
 use Rattle.codegen.proofs.Machine.{bounds_code, test_code, count_code, loop_code, variable_offset, at_home, home_of}
 use Rattle.codegen.proofs.Machine.{InSlot, next_offset, slots_to, assign_code, variable_location, height_of, Instr}
 use Rattle.codegen.proofs.Machine.{Addi, Sltu, Sw, ByteMap, number_at, with_number, sum_of}
@@ -15,17 +15,17 @@ use Rattle.rv_code.specs.declared.instructions.Instr.TheVariants as instr
 use Rattle.rv_machine.specs.Machine as machine
 use Rattle.codegen.proofs.Logic.{value_word, HeldAt, held_regs, take, put, does, move_runs, moves_run, number_or_zero}
 use Rattle.codegen.proofs.Logic.{layout_of}
-use Rattle.codegen.proofs.Logic.{Setting, setting, base_of, Known, by_bounds, none, Runs, Still, looping, along_fit}
+use Rattle.codegen.proofs.Logic.{Setting, setting, base_of, MarkKnown, by_bounds, none, Runs, Still, looping, along_fit}
 use Rattle.codegen.proofs.Logic.{seq, quiet, quietly, weaken, gives, cheaper, beside, Kept, Ready, Wrote, wrote_kept}
 use Rattle.codegen.proofs.Logic.{wrote_there, kept_number, kept_less, kept_then, ready_below, HomesKept, homes_by}
 use Rattle.codegen.proofs.Logic.{homes_computed, homes_moved, homes_then, computing_within, is_scratch, scratch_low}
-use Rattle.codegen.proofs.Slots.{Shown, ready_with, ready_behind, word_before, stored, assigned, Hidden, hidden_then}
-use Rattle.codegen.proofs.Slots.{hidden_less, hidden_by, hidden_wrote, hidden_beyond, hidden_number, other_number}
-use Rattle.codegen.proofs.Slots.{ready_set}
+use Rattle.codegen.proofs.Slots.{StateShown, ready_with, ready_behind, word_before, stored, assigned, Hidden}
+use Rattle.codegen.proofs.Slots.{hidden_then, hidden_less, hidden_by, hidden_wrote, hidden_beyond, hidden_number}
+use Rattle.codegen.proofs.Slots.{other_number, ready_set}
 use Rattle.codegen.specs.private.Words.{put_word_code}
 
 -- So many iterations are left, the next of them for this number: both of the loop's words tell it.
-pub record Counts (z : Setting) (next left i : ℕ) (s : machine.State) : Type 0 where
+pub record LoopCounts (z : Setting) (next left i : ℕ) (s : machine.State) : Type 0 where
   pub next_there : number_at s.bytes 4 (z.frame + next) ≡ Some i
   pub bound : ℕ
   pub left_is : bound - i ≡ left
@@ -34,7 +34,7 @@ pub record Counts (z : Setting) (next left i : ℕ) (s : machine.State) : Type 0
 
 pub record AtLoop (z : Setting) (next left i : ℕ) (env : StraightState) (s : machine.State) : Type 0 where
   pub ready : Ready z env s
-  pub counts : Counts z next left i s
+  pub counts : LoopCounts z next left i s
 
 -- whether an iteration is left is in the value's register, and the number in the left operand's
 pub record TestedFor (z : Setting) (left i : ℕ) (env : StraightState) (s t : machine.State) : Type 0 where
@@ -65,7 +65,7 @@ module _ (z : Setting) (depth : ℕ) (within : depth < z.depths) where
   -- where both words are as they were
   counts_kept : (left i : ℕ) (s t : machine.State)
       → ((o : ℕ) → next ≤ o → o ≤ next + 4 → number_at t.bytes 4 (z.frame + o) ≡ number_at s.bytes 4 (z.frame + o))
-      → Counts z next left i s → Counts z next left i t
+      → LoopCounts z next left i s → LoopCounts z next left i t
   counts_kept left i s t same counts = record {
     next_there = same next (omega arith) (omega arith) ∙ counts.next_there;
     bound = counts.bound;
@@ -213,7 +213,7 @@ module _ (z : Setting) (depth : ℕ) (within : depth < z.depths) where
     kept : Kept z o s t
     homes : HomesKept z s t
 
-  pushed : (e : TermTree) (o : ℕ) → HasType (types_of z.code.profile z.declared) e counter_type
+  pushed : (e : TermTree) (o : ℕ) → TermHasType (types_of z.code.profile z.declared) e counter_type
       → base_of z + 4 * slots_to z.allocation.count (height_of e) ≤ z.size → o ≤ base_of z → o % 4 ≡ 0
       → o + 4 ≤ z.size
       → Runs z (16 * term_nodes e + 3) (λ env. path_in env.variables e)
@@ -237,8 +237,8 @@ module _ (z : Setting) (depth : ℕ) (within : depth < z.depths) where
   Begun low high env s t = AtLoop z next (value_in env.variables high - value_in env.variables low)
       (value_in env.variables low) env t × Hidden z depth s t
 
-  pub bounds_runs : (low high : TermTree) → HasType (types_of z.code.profile z.declared) low counter_type
-      → HasType (types_of z.code.profile z.declared) high counter_type
+  pub bounds_runs : (low high : TermTree) → TermHasType (types_of z.code.profile z.declared) low counter_type
+      → TermHasType (types_of z.code.profile z.declared) high counter_type
       → base_of z + 4 * slots_to z.allocation.count (height_of low) ≤ z.size
       → base_of z + 4 * slots_to z.allocation.count (height_of high) ≤ z.size
       → Runs z (16 * term_nodes low + 3 + (16 * term_nodes high + 3))
@@ -272,14 +272,14 @@ module _ (z : Setting) (depth : ℕ) (within : depth < z.depths) where
 
   module _ (x : ℕ) (low high : TermTree) (body : StraightBlock) (n : ℕ) {ys : List Instr}
       (known : slice_get z.declared x ≡ Some (word_as counter_type false))
-      (has_low : HasType (types_of z.code.profile z.declared) low counter_type)
-      (has_high : HasType (types_of z.code.profile z.declared) high counter_type)
+      (has_low : TermHasType (types_of z.code.profile z.declared) low counter_type)
+      (has_high : TermHasType (types_of z.code.profile z.declared) high counter_type)
       (room_low : base_of z + 4 * slots_to z.allocation.count (height_of low) ≤ z.size)
       (room_high : base_of z + 4 * slots_to z.allocation.count (height_of high) ≤ z.size)
       (near : 2 * (length (test_code next) + length (count_code next (variable_location z.declared z.allocation x)
       ++ ys)) + 8 < 2 ^ 19)
       (inner : Runs z n (λ env. path_along env body) ys (Ready z)
-      (Shown z (depth + 1) (λ env. after_all env body))) where
+      (StateShown z (depth + 1) (λ env. after_all env body))) where
     abbrev one_iteration : ℕ → StraightState → StraightState
     one_iteration i env = after_all (counted x i env) body
 
@@ -338,7 +338,7 @@ module _ (z : Setting) (depth : ℕ) (within : depth < z.depths) where
     loop_at : (b : ℕ × ℕ)
         → Runs z ((b.1 - b.0 + 1) * (7 + (7 + n) + 2)) (λ env. path_by env (bounds env))
         (loop_code (test_code next) (count_code next (variable_location z.declared z.allocation x) ++ ys))
-        (Known (setting z) (ℕ × ℕ) (λ c. c.1 - c.0 ≤ slice_index z.counts x) Beginning bounds b)
+        (MarkKnown (setting z) (ℕ × ℕ) (λ c. c.1 - c.0 ≤ slice_index z.counts x) Beginning bounds b)
         (λ env s t. Over (iterations ((bounds env).1 - (bounds env).0) (bounds env).0 one_iteration env) s t)
     loop_at b =
         along_fit (λ env s known. ap (path_by env) known.is)
@@ -379,7 +379,7 @@ module _ (z : Setting) (depth : ℕ) (within : depth < z.depths) where
         + (slice_index z.counts x + 1) * (7 + (7 + n) + 2)) (λ env. path_at env (repeats x low high body))
         (bounds_code (layout_of z) next low high
         ++ loop_code (test_code next) (count_code next (variable_location z.declared z.allocation x) ++ ys))
-        (Ready z) (Shown z depth (λ env. after env (repeats x low high body)))
+        (Ready z) (StateShown z depth (λ env. after env (repeats x low high body)))
     repeats_runs =
         gives
         (λ env s t fine ready done. record {

@@ -44,7 +44,7 @@ pub use Rattle.rv_code.specs.declared.operations.StoreOperation.TheVariants.{Sw}
 pub use Rattle.rv_machine.specs.Bytes.{ByteMap, joined, number_at, with_byte, with_number, zeros}
 pub use Rattle.rv_machine.specs.Effects.{address_of, difference_of, load_size, sign_extended, store_size, sum_of}
 pub use Rattle.rv_machine.specs.Leakage.{Halts, Leads, stays, steps_on}
-pub use Rattle.rv_machine.specs.Machine.{Code, IsAt, State, Step, executes, goes_on, word_at}
+pub use Rattle.rv_machine.specs.Machine.{MachineCode, IsAt, State, Step, executes, goes_on, word_at}
 pub use Rattle.rv_machine.specs.Registers.{with_register}
 pub use Rattle.rv_machine.specs.Sizes.{byte_count}
 pub use Rattle.rv_machine.specs.declared.observation.Observation.{Observation}

@@ -6,7 +6,7 @@ use Rattle.std.proofs.lemmas.Bool.{cases_eq, eq-eqb, true≢false}
 use Rattle.codegen.proofs.Machine.{control_offset, number_at, at_home, control_location, fetch_code, InSlot, is_unread}
 use Rattle.codegen.proofs.Machine.{kept_code, read_register, register_of, unless_unread, home_of, home_of_term, Instr}
 use Rattle.codegen.proofs.Machine.{Sw}
-use Rattle.codegen.proofs.Language.{StraightState, with_controls, TermTree, WordType, types_of, HasType}
+use Rattle.codegen.proofs.Language.{StraightState, with_controls, TermTree, WordType, types_of, TermHasType}
 use Rattle.codegen.proofs.Logic.{free_from, none-some, at_control, control_stays, Fetched, fetch_runs, HasRoom, Holds}
 use Rattle.codegen.proofs.Logic.{layout_of}
 use Rattle.codegen.proofs.Logic.{move_runs, none, slice_get_within, weaken, HeldAt, mask_of, apart, Setting, base_of}
@@ -204,7 +204,7 @@ module _ (z : Setting) where
 
 -- what is read is not in the register of a control value
 pub read_beside : (z : Setting) (c : ℕ) {e : TermTree} {word : WordType}
-    → HasType (types_of z.code.profile z.declared) e word → read_register z.allocation 5 e ≢ mask_register z c 7
+    → TermHasType (types_of z.code.profile z.declared) e word → read_register z.allocation 5 e ≢ mask_register z c 7
 read_beside z c {e = e} has =
     elim (cases_Option (home_of_term z.allocation e)) [
       | inl found ↦

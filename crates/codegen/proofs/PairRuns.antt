@@ -1,11 +1,13 @@
 -- Two operands that are read one after the other: where the second comes into its register, the first stays in its own.
 use Rattle.std.proofs.Common.{◌≡◌, ℕ, ◌+◌, ◌*◌, ◌≤◌, false, List, ◌++◌, ⊎_elim, ap, ◌∙◌, arith}
-use Rattle.codegen.proofs.Language.{HasType, StraightState, TermTree, WordType, path_in, term_nodes, types_of, value_in}
+use Rattle.codegen.proofs.Language.{TermHasType, StraightState, TermTree, WordType, path_in, term_nodes, types_of}
+use Rattle.codegen.proofs.Language.{value_in}
 use Rattle.codegen.proofs.Logic.{base_of, home_beside, HomesKept, IsHome, Kept, nat_tests, place_target, Ready, gives}
 use Rattle.codegen.proofs.Logic.{layout_of}
 use Rattle.codegen.proofs.Logic.{ready_after, Runs, seq, Setting, Steps, steps_of, weaken, works_at}
 use Rattle.codegen.proofs.Machine.{height_of, Instr, read_code, read_register, slots_to}
-use Rattle.codegen.proofs.Slots.{hidden_kept, hidden_then, IsSource, read_runs, read_source, reads, ready_valued, Shown}
+use Rattle.codegen.proofs.Slots.{hidden_kept, hidden_then, IsSourceRegister, read_runs, read_source, reads}
+use Rattle.codegen.proofs.Slots.{ready_valued, StateShown}
 use Rattle.rv_machine.specs.Machine as machine
 
 -- the register of the first temporary stays where a value comes into that of the second
@@ -20,11 +22,11 @@ pub record FirstRead (z : Setting) (first : TermTree) (env : StraightState) (s :
 -- an expression, read where it is, and then code that finds it there: both together show what that code shows
 pub read_then : (z : Setting) (depth : ℕ) → depth ≤ z.depths → {e : TermTree} {word : WordType} {n : ℕ} {steps : Steps}
     {code : List Instr} {change : StraightState → StraightState}
-    → HasType (types_of z.code.profile z.declared) e word
+    → TermHasType (types_of z.code.profile z.declared) e word
     → base_of z + 4 * slots_to z.allocation.count (height_of e) ≤ z.size
-    → Runs z n steps code (FirstRead z e) (Shown z depth change)
+    → Runs z n steps code (FirstRead z e) (StateShown z depth change)
     → Runs z (16 * term_nodes e + n) (λ env. path_in env.variables e ++ steps env)
-    (read_code (layout_of z) 5 0 e ++ code) (Ready z) (Shown z depth change)
+    (read_code (layout_of z) 5 0 e ++ code) (Ready z) (StateShown z depth change)
 read_then z depth within {e = e} has room runs =
     gives
     (λ env s t fine ready done. record {
@@ -46,7 +48,7 @@ module _ (z : Setting) (first second : TermTree) where
   abbrev first_register : ℕ
   first_register = read_register z.allocation 5 first
 
-  first_source : IsSource z 5 first_register
+  first_source : IsSourceRegister z 5 first_register
   first_source = read_source z first 5 (omega arith) (omega arith)
 
   first_stays : works_at z.allocation.count 1 6 first_register ≡ false
@@ -57,7 +59,7 @@ module _ (z : Setting) (first second : TermTree) where
       home_beside z.allocation.count 1 6 first_register home.0 home.1 (λ e. omega (arith, z.allocated.some, home.0, e)))
       first_source.is
 
-  pub second_runs : {word : WordType} → HasType (types_of z.code.profile z.declared) second word
+  pub second_runs : {word : WordType} → TermHasType (types_of z.code.profile z.declared) second word
       → base_of z + 4 * slots_to z.allocation.count (height_of second + 1) ≤ z.size
       → Runs z (16 * term_nodes second) (steps_of second) (read_code (layout_of z) 6 1 second)
       (FirstRead z first) (BothRead z first second)

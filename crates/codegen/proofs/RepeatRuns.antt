@@ -3,14 +3,14 @@ use Rattle.std.proofs.Common.{◌≡◌, ℕ, ◌+◌, ◌*◌, ◌<◌, ◌≤�
 use Rattle.std.proofs.Common.{Some, slice_get, slice_index, refl, arith}
 use Rattle.std.proofs.lemmas.Bool.{and_parts, ltb-true, not-true}
 use Rattle.codegen.proofs.CountedLoops.{short_is, to_number_runs, to_word_runs}
-use Rattle.codegen.proofs.Language.{TermTree, word_as, term_nodes, types_of, HasType, counter_type, StraightBlock}
+use Rattle.codegen.proofs.Language.{TermTree, word_as, term_nodes, types_of, TermHasType, counter_type, StraightBlock}
 use Rattle.codegen.proofs.Language.{repeats, after, after_all, path_at, path_along}
 use Rattle.codegen.proofs.Logic.{none-some, Setting, base_of, Runs, cheaper, Ready, layout_of}
 use Rattle.codegen.proofs.LoopLengths.{iteration_near}
 use Rattle.codegen.proofs.LoopRuns.{repeats_runs}
 use Rattle.codegen.proofs.Machine.{at_home, bounds_code, far, height_of, home_of, InSlot, Instr, next_offset, slots_to}
 use Rattle.codegen.proofs.Machine.{variable_location, variable_offset}
-use Rattle.codegen.proofs.Slots.{Shown}
+use Rattle.codegen.proofs.Slots.{StateShown}
 use Rattle.codegen.proofs.expression_code_lemmas.WorkRegisters.{when_some}
 use Rattle.codegen.specs.private.Loops.{any_sets, counting_home, loop_from, repeat_code, short_number}
 
@@ -31,19 +31,19 @@ counts_by (Some h) offset is_set body home is =
 module _ (z : Setting) (depth x : ℕ) (within : depth < z.depths) (low high : TermTree) (body : StraightBlock) (n : ℕ)
     {ys : List Instr}
     (known : slice_get z.declared x ≡ Some (word_as counter_type false))
-    (has_low : HasType (types_of z.code.profile z.declared) low counter_type)
-    (has_high : HasType (types_of z.code.profile z.declared) high counter_type)
+    (has_low : TermHasType (types_of z.code.profile z.declared) low counter_type)
+    (has_high : TermHasType (types_of z.code.profile z.declared) high counter_type)
     (room_low : base_of z + 4 * slots_to z.allocation.count (height_of low) ≤ z.size)
     (room_high : base_of z + 4 * slots_to z.allocation.count (height_of high) ≤ z.size)
     (inner : Runs z n (λ env. path_along env body) ys (Ready z)
-    (Shown z (depth + 1) (λ env. after_all env body))) where
+    (StateShown z (depth + 1) (λ env. after_all env body))) where
   abbrev next : ℕ
   next = next_offset (layout_of z) depth
 
   abbrev Loops : List Instr → Type 0
   Loops code = Runs z (16 * term_nodes low + 3 + (16 * term_nodes high + 3)
       + (slice_index z.counts x + 1) * (7 + (7 + n) + 2)) (λ env. path_at env (repeats x low high body)) code
-      (Ready z) (Shown z depth (λ env. after env (repeats x low high body)))
+      (Ready z) (StateShown z depth (λ env. after env (repeats x low high body)))
 
   by_home : (home bound : Option ℕ)
       → counting_home (variable_location z.declared z.allocation x) (any_sets x body) ys ≡ home

@@ -10,7 +10,7 @@ use Rattle.codegen.proofs.Machine.{at_home, home_of, InSlot, set_code, result_co
 use Rattle.codegen.proofs.Machine.{variable_offset, result_offset, slots_to, height_of}
 use Rattle.rv_machine.specs.Machine as machine
 use Rattle.codegen.proofs.Arguments.{Left}
-use Rattle.codegen.proofs.Slots.{Shown, homed_runs, suits_fits, ready_offered, ready_result, word_before, assigned}
+use Rattle.codegen.proofs.Slots.{StateShown, homed_runs, suits_fits, ready_offered, ready_result, word_before, assigned}
 use Rattle.codegen.proofs.Slots.{hidden_valued, hidden_kept, ready_set}
 use Rattle.codegen.proofs.HomeWords.{ready_homed}
 
@@ -26,7 +26,7 @@ module _ (z : Setting) where
       → (h : Option ℕ) → home_of z.allocation.homes x ≡ h
       → Runs z (32 * set_work None value) (steps_of value)
       (set_code (layout_of z) None (at_home h (InSlot (variable_offset z.declared x))) value)
-      (Ready z) (Shown z depth (λ env. with_variable env x (value_in env.variables value ∷ [])))
+      (Ready z) (StateShown z depth (λ env. with_variable env x (value_in env.variables value ∷ [])))
   set_by depth x value typed room within None away =
       let o = variable_offset z.declared x in
       let before = word_before z x typed.word typed.mutable typed.known in
@@ -62,7 +62,7 @@ module _ (z : Setting) where
       → base_of z + 4 * slots_to z.allocation.count (height_of value) ≤ z.size → depth ≤ z.depths
       → Runs z (32 * set_work None value) (steps_of value)
       (set_code (layout_of z) None (variable_location z.declared z.allocation x) value)
-      (Ready z) (Shown z depth (λ env. with_variable env x (value_in env.variables value ∷ [])))
+      (Ready z) (StateShown z depth (λ env. with_variable env x (value_in env.variables value ∷ [])))
   set_runs depth x value typed room within =
       set_by depth x value typed room within (home_of z.allocation.homes x) refl
 
@@ -73,7 +73,8 @@ abbrev pub steps_of_result : Option TermTree → Steps
 steps_of_result value env = path_of_result env.variables value
 
 -- the variables are as they were, and the result is in its slot
-pub record Given (z : Setting) (value : Option TermTree) (env : StraightState) (s t : machine.State) : Type 0 where
+pub record ResultGiven (z : Setting) (value : Option TermTree) (env : StraightState)
+    (s t : machine.State) : Type 0 where
   pub ready : Ready z env t
   pub left : Left z.frame z.declared value env.variables t.bytes
 
@@ -81,7 +82,7 @@ pub result_runs : (z : Setting) (returned : Option WordType) (value : Option Ter
     → IsResult (types_of z.code.profile z.declared) returned value
     → base_of z + 4 * slots_to z.allocation.count (result_height value) ≤ z.size
     → Runs z (32 * value_nodes value) (steps_of_result value) (result_code (layout_of z) value)
-    (Ready z) (Given z value)
+    (Ready z) (ResultGiven z value)
 result_runs z returned None typed room =
     idle (λ env s ready. record { ready = ready; left = tt })
 result_runs z None (Some value) typed room = absurd typed

@@ -10,7 +10,7 @@ use Rattle.codegen.proofs.Machine.{stored_code, stored_register, gives_zero, slo
 use Rattle.codegen.proofs.Machine.{store_code, Instr, Sw}
 use Rattle.codegen.proofs.Language.{StraightState, with_variable, with_element, FlatVariable, numbers_in, IsWithinKind}
 use Rattle.codegen.proofs.Language.{word_as, TermTree, term_nodes, Boolean, WordType, value_in, types_of, IsHeld, Fits}
-use Rattle.codegen.proofs.Language.{Kind, bits_of, Values, HasType, Suits, Profile}
+use Rattle.codegen.proofs.Language.{Kind, bits_of, Values, TermHasType, TermSuits, Profile}
 use Rattle.codegen.proofs.Logic.{length-set, get_or-set_same, get_or-set_other, set-get_or, All-set, none-some}
 use Rattle.codegen.proofs.Logic.{layout_of}
 use Rattle.codegen.proofs.Logic.{same_Some, eqb-true, controls_kept, number_at_apart, number_at-with_number, HeldAt}
@@ -199,7 +199,7 @@ laid_same z free above env s t laid held kept = record {
 }
 
 -- the state that is made of the one before is shown, and the words of the loops around are as they were
-pub record Shown (z : Setting) (depth : ℕ) (change : StraightState
+pub record StateShown (z : Setting) (depth : ℕ) (change : StraightState
     → StraightState) (env : StraightState) (s t : machine.State) : Type 0 where
   pub ready : Ready z (change env) t
   pub hidden : Hidden z depth s t
@@ -214,13 +214,13 @@ pub record Evaluated (z : Setting) (e : TermTree) (r : ℕ) (env : StraightState
 -- An expression that is read where it is.
 
 -- a register that is read or put: the one that was asked for, or a home
-pub record IsSource (z : Setting) (asked r : ℕ) : Type 0 where
+pub record IsSourceRegister (z : Setting) (asked r : ℕ) : Type 0 where
   pub low : 4 < r
   pub high : r < 28
   pub is : (r ≡ asked) ⊎ IsHome z.allocation.count r
 
 pub read_source : (z : Setting) (e : TermTree) (asked : ℕ) → 4 < asked → asked < 28
-    → IsSource z asked (read_register z.allocation asked e)
+    → IsSourceRegister z asked (read_register z.allocation asked e)
 read_source z e asked low high =
     elim (cases_Option (home_of_term z.allocation e)) [
       | inl found ↦
@@ -230,12 +230,13 @@ read_source z e asked low high =
     ]
 
 -- none of the first three temporaries but the one that was asked for
-pub source_apart : (z : Setting) {asked r : ℕ} → IsSource z asked r → (q : ℕ) → q < 8 → asked ≢ q → r ≢ q
+pub source_apart : (z : Setting) {asked r : ℕ} → IsSourceRegister z asked r → (q : ℕ) → q < 8 → asked ≢ q → r ≢ q
 source_apart z source q low other e =
     elim source.is [ inl is ↦ other (sym is ∙ e) | inr home ↦ omega (arith, z.allocated.some, home.0, e, low) ]
 
 -- it can be put into the frame
-pub puts : (z : Setting) {asked r : ℕ} → IsSource z asked r → (is_free r && (nat_lt r 32 && not (r == 28))) ≡ true
+pub puts : (z : Setting) {asked r : ℕ} → IsSourceRegister z asked r →
+    (is_free r && (nat_lt r 32 && not (r == 28))) ≡ true
 puts z {asked = asked} {r = r} source =
     let free : is_free r ≡ true = lt-ltb 4 r source.low in
     let few : nat_lt r 32 ≡ true = lt-ltb r 32 (omega arith) in
@@ -244,7 +245,7 @@ puts z {asked = asked} {r = r} source =
 
 -- a value that suits a type is within the type's kind
 pub suits_fits : (profile : Profile) (declared : List FlatVariable) (word : WordType) (e : TermTree) (m : Values)
-    → Fits (types_of profile declared) m → Suits (types_of profile declared) word e
+    → Fits (types_of profile declared) m → TermSuits (types_of profile declared) word e
     → value_in m e < 2 ^ bits_of word.kind
 suits_fits profile declared word e m fits suits =
     subst (λ (kind : Kind). value_in m e < 2 ^ bits_of kind) suits.kind
@@ -260,7 +261,7 @@ module _ (z : Setting) where
     pub lower : Leaves (works_at z.allocation.count place r) s t
 
   pub reads : {e : TermTree} {word : WordType} (r place : ℕ) → IsTarget z.allocation.count place r
-      → HasType (types_of z.code.profile z.declared) e word
+      → TermHasType (types_of z.code.profile z.declared) e word
       → base_of z + 4 * slots_to z.allocation.count (height_of e + place) ≤ z.size
       → Runs z (16 * term_nodes e) (steps_of e) (read_code (layout_of z) r place e) (Ready z)
       (ReadIn e r place (home_of_term z.allocation e))
@@ -279,7 +280,7 @@ module _ (z : Setting) where
       ]
 
   -- that of an expression that no temporary lives beside
-  pub read_runs : {e : TermTree} {word : WordType} → HasType (types_of z.code.profile z.declared) e word
+  pub read_runs : {e : TermTree} {word : WordType} → TermHasType (types_of z.code.profile z.declared) e word
       → base_of z + 4 * slots_to z.allocation.count (height_of e) ≤ z.size
       → Runs z (16 * term_nodes e) (steps_of e) (read_code (layout_of z) 5 0 e) (Ready z)
       (Evaluated z e (read_register z.allocation 5 e))
@@ -294,7 +295,7 @@ module _ (z : Setting) where
 
   -- An expression into a home.
   pub homed_runs : {e : TermTree} {word : WordType} (home : ℕ) → IsHome z.allocation.count home
-      → HasType (types_of z.code.profile z.declared) e word
+      → TermHasType (types_of z.code.profile z.declared) e word
       → base_of z + 4 * slots_to z.allocation.count (height_of e) ≤ z.size
       → Runs z (16 * term_nodes e) (steps_of e) (into_code z.declared z.allocation (base_of z) home 0 e) (Ready z)
       (ValuedIn z e (base_of z) home 0)
@@ -375,7 +376,7 @@ module _ (z : Setting) where
       cond_both (gives_zero z.allocation e) 0 (read_register z.allocation 5 e) (λ r. r < 28) (λ zero. omega arith)
       (λ some. (read_source z e 5 (omega arith) (omega arith)).high)
 
-  pub offered_runs : {e : TermTree} {word : WordType} → HasType (types_of z.code.profile z.declared) e word
+  pub offered_runs : {e : TermTree} {word : WordType} → TermHasType (types_of z.code.profile z.declared) e word
       → base_of z + 4 * slots_to z.allocation.count (height_of e) ≤ z.size
       → Runs z (16 * term_nodes e) (steps_of e) (stored_code (layout_of z) e) (Ready z)
       (Offered e (stored_register z.allocation e))
@@ -406,7 +407,7 @@ module _ (z : Setting) where
       (putting z operation r o (omega (arith, low)) (omega (arith, low)) even inside)
 
   -- an expression's value
-  pub assigned : {e : TermTree} {word : WordType} (o : ℕ) → HasType (types_of z.code.profile z.declared) e word
+  pub assigned : {e : TermTree} {word : WordType} (o : ℕ) → TermHasType (types_of z.code.profile z.declared) e word
       → base_of z + 4 * slots_to z.allocation.count (height_of e) ≤ z.size → o % 4 ≡ 0 → o + 4 ≤ z.size
       → Runs z (16 * term_nodes e + 3) (steps_of e) (assign_code (layout_of z) e o) (Ready z)
       (Then (setting z) (Offered e (stored_register z.allocation e))

@@ -3,8 +3,8 @@ use Rattle.std.proofs.Common.{◌≡◌, ℕ, zero, suc, ◌+◌, ◌-◌, ◌*�
 use Rattle.std.proofs.Common.{nat_le, List, [], ◌∷◌, ◌++◌, length, map, Some, slice_get, refl, sym, ap, ◌∙◌}
 use Rattle.std.proofs.Common.{subst, arith, ◌≤◌, length-append, append_assoc, Option}
 use Rattle.codegen.proofs.Language.{Profile}
-use Rattle.codegen.proofs.Machine.{body_words, Stand, Instr, word_of, Observation, Leads, stays, steps_on, State, Code}
-use Rattle.codegen.proofs.Machine.{goes_on, word_at, Step, executes}
+use Rattle.codegen.proofs.Machine.{body_words, Stand, Instr, word_of, Observation, Leads, stays, steps_on, State}
+use Rattle.codegen.proofs.Machine.{MachineCode, goes_on, word_at, Step, executes}
 use Rattle.codegen.proofs.Logic.{nat_tests, none-some, Placed}
 use Rattle.codegen.proofs.expression_code_lemmas.WorkRegisters.{when_some}
 use Rattle.codegen.specs.program_logic.MachineSteps.{LeadsWithin, stays_within, steps_within}
@@ -52,7 +52,7 @@ module _ (profile : Profile) (base : ℕ) (words : List ℕ) where
 -- Words among others.
 
 -- these words and no others, from an address on
-abbrev pub words_alone : Profile → ℕ → List ℕ → Code
+abbrev pub words_alone : Profile → ℕ → List ℕ → MachineCode
 words_alone profile start words = record { profile = profile; base = start; words = words }
 
 -- the words but the last, where one word is the last
@@ -61,17 +61,18 @@ body_words_before [] last = refl
 body_words_before (i ∷ []) last = refl
 body_words_before (i ∷ j ∷ is) last = ap (λ (ws : List ℕ). word_of i ∷ ws) (body_words_before (j ∷ is) last)
 
-pub stand_placed : (code : Code) (p : ℕ) (is : List Instr) → Placed code p is → Stand code p (map word_of is)
+pub stand_placed : (code : MachineCode) (p : ℕ) (is : List Instr) → Placed code p is → Stand code p (map word_of is)
 stand_placed code p [] there = tt
 stand_placed code p (i ∷ is) there = (there.0, there.1, there.2, stand_placed code (p + 4) is there.3)
 
 -- standing words end below the last address
-stand_ends : (code : Code) (p w : ℕ) (ws : List ℕ) → Stand code p (w ∷ ws) → p + 4 * suc (length ws) < 2 ^ 32
+stand_ends : (code : MachineCode) (p w : ℕ) (ws : List ℕ) → Stand code p (w ∷ ws) → p + 4 * suc (length ws) < 2 ^ 32
 stand_ends code p w [] there = let next = there.1 in omega (arith, next)
 stand_ends code p w (v ∷ ws) there = let rest = stand_ends code (p + 4) v ws there.3 in omega (arith, rest)
 
 -- so the instructions have their places in the words alone
-pub placed_alone : (profile : Profile) (code : Code) (start : ℕ) (is : List Instr) → Stand code start (map word_of is)
+pub placed_alone : (profile : Profile) (code : MachineCode) (start : ℕ) (is : List Instr) → Stand code start
+    (map word_of is)
     → Placed (words_alone profile start (map word_of is)) start is
 placed_alone profile code start [] there = tt
 placed_alone profile code start (i ∷ is) there =
@@ -80,7 +81,7 @@ placed_alone profile code start (i ∷ is) there =
 
 -- One word.
 
-stand_at : (code : Code) (p : ℕ) (ws : List ℕ) (k w : ℕ) → Stand code p ws → slice_get ws k ≡ Some w
+stand_at : (code : MachineCode) (p : ℕ) (ws : List ℕ) (k w : ℕ) → Stand code p ws → slice_get ws k ≡ Some w
     → word_at code (p + 4 * k) ≡ Some w
 stand_at code p [] k w there is = absurd (none-some w is)
 stand_at code p (v ∷ ws) zero w there is =
@@ -104,7 +105,7 @@ word_alone profile start words q w is =
 
 -- Steps.
 
-module _ (code : Code) (start : ℕ) (words : List ℕ) (there : Stand code start words) where
+module _ (code : MachineCode) (start : ℕ) (words : List ℕ) (there : Stand code start words) where
   word_among : (q w : ℕ) → word_at (words_alone code.profile start words) q ≡ Some w → word_at code q ≡ Some w
   word_among q w is =
       let found = word_alone code.profile start words q w is in

@@ -16,7 +16,7 @@ use Rattle.codegen.proofs.BranchLengths.{branching_spans}
 use Rattle.codegen.proofs.Machine.{AreNear}
 use Rattle.codegen.proofs.SetRuns.{set_runs}
 use Rattle.codegen.proofs.TakeRuns.{take_runs}
-use Rattle.codegen.proofs.Slots.{Shown, hidden_then}
+use Rattle.codegen.proofs.Slots.{StateShown, hidden_then}
 use Rattle.codegen.proofs.Logic.{Setting, base_of, Runs, seq, gives, cheaper, beside, idle, height, Ready, layout_of}
 use Rattle.codegen.proofs.UnderRuns.{set_under_runs}
 
@@ -29,7 +29,7 @@ module _ (z : Setting) where
         → length (statement_code (layout_of z) depth s) < far
         → Runs z (32 * statement_work z.counts s) (λ env. path_at env s)
         (statement_code (layout_of z) depth s) (Ready z)
-        (Shown z depth (λ env. after env s))
+        (StateShown z depth (λ env. after env s))
     statement_runs depth (set None x value) typed read room within few =
         set_runs z depth x value typed.1 room (omega (arith, within))
     statement_runs depth (set (Some c) x value) typed read room within few =
@@ -73,7 +73,7 @@ module _ (z : Setting) where
         → length (block_code (layout_of z) depth b) < far
         → Runs z (32 * block_work z.counts b) (λ env. path_along env b)
         (block_code (layout_of z) depth b) (Ready z)
-        (Shown z depth (λ env. after_all env b))
+        (StateShown z depth (λ env. after_all env b))
     block_runs depth nothing typed read room within few =
         idle (λ env s ready. record { ready = ready; hidden = λ o low high. refl })
     block_runs depth (first s rest) typed read room within few =

@@ -2,7 +2,7 @@
 use Rattle.std.proofs.Common.{Some, ◌∙◌, ◌≡◌, ℕ, ◌%◌, ◌^◌, ◌<◌, ◌≤◌, true, refl, sym, arith}
 use Rattle.std.proofs.lemmas.Bool.{cond_both, false≢true}
 use Rattle.codegen.proofs.Choices.{of_choice}
-use Rattle.codegen.proofs.Language.{bits_of, element_bytes, HasType, Kind, labelled, path_in, term_nodes, TermTree}
+use Rattle.codegen.proofs.Language.{bits_of, element_bytes, TermHasType, Kind, labelled, path_in, term_nodes, TermTree}
 use Rattle.codegen.proofs.Language.{Types, value_in, Values, WordType}
 use Rattle.codegen.proofs.Machine.{Allocation, height_of}
 use Rattle.codegen.proofs.Slots.{cut_number}
@@ -44,11 +44,11 @@ stored_nodes a element e =
 -- an expression with a type, of whose value an element's store makes that of another
 pub record IsCutTo (types : Types) (element : Kind) (other e : TermTree) : Type 0 where
   pub word : WordType
-  pub has_type : HasType types e word
+  pub has_type : TermHasType types e word
   pub cut : (m : Values) → value_in m other < 2 ^ bits_of element
       → value_in m e % 256 ^ element_bytes element ≡ value_in m other
 
-itself : {types : Types} {e : TermTree} {word : WordType} (element : Kind) → HasType types e word
+itself : {types : Types} {e : TermTree} {word : WordType} (element : Kind) → TermHasType types e word
     → IsCutTo types element e e
 itself {e = e} {word = word} element has =
     record { word = word; has_type = has; cut = λ m fits. cut_number element (Some 0) (value_in m e) fits }
@@ -60,7 +60,7 @@ cut_alike Uint8 Uint8 is v = omega arith
 cut_alike Uint16 Uint16 is v = omega arith
 cut_alike element kind is v = absurd (false≢true is)
 
-uncut_cut : {types : Types} {e : TermTree} {word : WordType} (element : Kind) → HasType types e word
+uncut_cut : {types : Types} {e : TermTree} {word : WordType} (element : Kind) → TermHasType types e word
     → IsCutTo types element e (uncut element e)
 uncut_cut {types = types} element (of_conversion {kind = kind} {other = other} {operand = e} {label = label} has number) =
     cond_both (cuts element kind) e (convert kind e) (IsCutTo types element (convert kind e))
@@ -73,6 +73,6 @@ uncut_cut {types = types} element (of_conversion {kind = kind} {other = other} {
 uncut_cut element has = itself element has
 
 pub stored_cut : {types : Types} {e : TermTree} {word : WordType} (a : Allocation) (element : Kind)
-    → HasType types e word → IsCutTo types element e (stored_value a element e)
+    → TermHasType types e word → IsCutTo types element e (stored_value a element e)
 stored_cut {types = types} {e = e} a element has =
     of_choice (IsCutTo types element e) a.immediates (uncut_cut element has) (itself element has)

@@ -8,7 +8,7 @@ use Rattle.codegen.proofs.Logic.{base_of, Runs, gives, cheaper, as_code, Ready, 
 use Rattle.codegen.proofs.Logic.{kept_by, at_control, HeldAt, Kept, kept_then, mask_fits, quiet, ready_after, Held}
 use Rattle.codegen.proofs.Logic.{free_from, none, idle}
 use Rattle.codegen.proofs.CountingRuns.{one_computed}
-use Rattle.codegen.proofs.Language.{TermTree, value_in, term_nodes, types_of, HasType, StraightState, holds, after}
+use Rattle.codegen.proofs.Language.{TermTree, value_in, term_nodes, types_of, TermHasType, StraightState, holds, after}
 use Rattle.codegen.proofs.Language.{IsAmong, Boolean, Label, labelled}
 use Rattle.branch_removal.specs.Straight as straight
 use Rattle.codegen.proofs.Machine.{at_home, home_of, InSlot, Instr, masks_code}
@@ -18,7 +18,8 @@ use Rattle.codegen.proofs.Machine.{difference_of, Addi, Sub}
 use Rattle.rv_code.specs.declared.instructions.Instr.TheVariants as instr
 use Rattle.rv_machine.specs.Machine as machine
 use Rattle.std.proofs.lemmas.Bool.{true≢false}
-use Rattle.codegen.proofs.Slots.{Shown, read_runs, read_source, hidden_then, hidden_kept, IsSource, source_apart}
+use Rattle.codegen.proofs.Slots.{StateShown, read_runs, read_source, hidden_then, hidden_kept, IsSourceRegister}
+use Rattle.codegen.proofs.Slots.{source_apart}
 use Rattle.codegen.proofs.Masks.{mask_apart, mask_register, mask_runs, mask_free, home_apart, read_beside, mask_put}
 use Rattle.codegen.proofs.Masks.{ready_taken, mask_beside}
 use Rattle.codegen.proofs.program_logic_lemmas.Computing.{computed_value, computes, written_register}
@@ -69,7 +70,7 @@ module _ (z : Setting) where
   -- A condition is taken: f is when it is true and g when it is not, each where the enclosing control value is true.
 
   module _ (depth c : ℕ) (within : Option ℕ) (condition : TermTree) (label : Label) (below : c + 1 < z.controls)
-      (has : HasType (types_of z.code.profile z.declared) condition (labelled Boolean label))
+      (has : TermHasType (types_of z.code.profile z.declared) condition (labelled Boolean label))
       (room : base_of z + 4 * slots_to z.allocation.count (height_of condition) ≤ z.size)
       (inside : depth ≤ z.depths) where
     abbrev f : StraightState → Bool
@@ -81,7 +82,7 @@ module _ (z : Setting) where
     abbrev r : ℕ
     r = read_register z.allocation 5 condition
 
-    source : IsSource z 5 r
+    source : IsSourceRegister z 5 r
     source = read_source z condition 5 (omega arith) (omega arith)
 
     abbrev tested : List Instr
@@ -240,7 +241,7 @@ module _ (z : Setting) where
     pub take_runs : IsAmong z.controls within → IsKeptWithin z.allocation.unread within
         → Runs z (32 * (1 + term_nodes condition)) (steps_of condition)
         (statement_code (layout_of z) depth (straight.take c within condition))
-        (Ready z) (Shown z depth (λ env. after env (straight.take c within condition)))
+        (Ready z) (StateShown z depth (λ env. after env (straight.take c within condition)))
     take_runs among read =
         let when = λ (env : StraightState). holds env within && f env in
         let otherwise = λ (env : StraightState). holds env within && g env in

@@ -10,16 +10,16 @@ use Rattle.codegen.proofs.Logic.{Runs, gives, cheaper, as_code, idle, Ready, Wro
 use Rattle.codegen.proofs.Logic.{registers_after, quiet, took, along, known, move_runs, weaken, HeldAt, none}
 use Rattle.codegen.proofs.Logic.{only_computes, computing_within, bytes_of, Fetched, free_from, place_before, Before}
 use Rattle.codegen.proofs.Language.{TermTree, word_as, value_in, term_nodes, types_of, set, StraightState}
-use Rattle.codegen.proofs.Language.{with_variable, with_element, after, IsSet, WordType, bits_of, FlatVariable, HasType}
-use Rattle.codegen.proofs.Language.{numbers_in}
+use Rattle.codegen.proofs.Language.{with_variable, with_element, after, IsSet, WordType, bits_of, FlatVariable}
+use Rattle.codegen.proofs.Language.{TermHasType, numbers_in}
 use Rattle.codegen.proofs.Machine.{at_home, control_location, fetch_code, home_of, InSlot, Instr, is_unread, merge_code}
 use Rattle.codegen.proofs.Machine.{set_under_code, read_code, read_register, variable_offset}
 use Rattle.codegen.proofs.Machine.{slots_to, load_code, store_code, height_of, Sw, number_at, statement_code, Location}
 use Rattle.rv_machine.specs.Machine as machine
-use Rattle.codegen.proofs.Slots.{Shown, alone, ready_same, suits_fits, read_runs, read_source, source_apart}
+use Rattle.codegen.proofs.Slots.{StateShown, alone, ready_same, suits_fits, read_runs, read_source, source_apart}
 use Rattle.codegen.proofs.Slots.{ready_valued, ready_with, word_before, hidden_then, hidden_by, hidden_kept}
 use Rattle.codegen.proofs.Slots.{hidden_wrote, ready_put, ready_alone, ready_chosen, wrote_as, Hidden}
-use Rattle.codegen.proofs.Slots.{cut_number, IsSource, offered_put}
+use Rattle.codegen.proofs.Slots.{cut_number, IsSourceRegister, offered_put}
 use Rattle.codegen.proofs.HomeWords.{ready_homed}
 use Rattle.codegen.proofs.Masks.{fetched_homes, home_apart, mask_apart, mask_register, mask_free, mask_runs}
 use Rattle.std.proofs.lemmas.Nat.{and_mask}
@@ -120,7 +120,7 @@ module _ (z : Setting) (depth : ℕ) (within : depth ≤ z.depths) (c : ℕ) (am
   Begun New new env s t = Ready z env t × Hidden z depth s t × New t.regs (new env)
 
   -- the value of an expression, read where it is
-  pub read_begun : {e : TermTree} {word : WordType} → HasType (types_of z.code.profile z.declared) e word
+  pub read_begun : {e : TermTree} {word : WordType} → TermHasType (types_of z.code.profile z.declared) e word
       → base_of z + 4 * slots_to z.allocation.count (height_of e) ≤ z.size
       → Runs z (16 * term_nodes e) (steps_of e) (read_code (layout_of z) 5 0 e) (Ready z)
       (Begun (λ regs v. regs (read_register z.allocation 5 e) ≡ v) (λ env. value_in env.variables e))
@@ -164,7 +164,7 @@ module _ (z : Setting) (depth : ℕ) (within : depth ≤ z.depths) (c : ℕ) (am
           → Runs z l steps front P (λ env s t. Begun New new env s t × Aims t.regs)
           → Runs z (l + m + 3 + length combine + n) steps
           ((((front ++ loads) ++ fetch_code (control_location (layout_of z) c) spare) ++ combine) ++ stores) P
-          (Shown z depth (λ env. if env.controls c then with_element env x i (new env) else env))
+          (StateShown z depth (λ env. if env.controls c then with_element env x i (new env) else env))
       number_under begins =
           gives
           (λ env s t fine given done.
@@ -235,7 +235,7 @@ module _ (z : Setting) (depth : ℕ) (within : depth ≤ z.depths) (c : ℕ) (am
     control = control_location (layout_of z) c
 
     abbrev Sets : ℕ → Steps → List Instr → Type 0
-    Sets n steps code = Runs z n steps code (Ready z) (Shown z depth (λ env. after env (set (Some c) x value)))
+    Sets n steps code = Runs z n steps code (Ready z) (StateShown z depth (λ env. after env (set (Some c) x value)))
 
     fits : (env : StraightState) → Fits (types_of z.code.profile z.declared) env.variables
         → new env < 2 ^ bits_of typed.word.kind
@@ -381,7 +381,7 @@ module _ (z : Setting) (depth : ℕ) (within : depth ≤ z.depths) (c : ℕ) (am
       abbrev r : ℕ
       r = read_register z.allocation 5 value
 
-      source : IsSource z 5 r
+      source : IsSourceRegister z 5 r
       source = read_source z value 5 (omega arith) (omega arith)
 
       r_free : IsFree r

@@ -3,8 +3,8 @@
 -- alone, and leaves the outcome in its slots. So it can be the body of a function.
 use Rattle.std.specs.Prelude.{◌≡◌, ◌⊎◌, ℕ, ◌+◌, ◌*◌, ◌%◌, ◌^◌, ◌<◌, ◌≤◌, true, List, [], ◌∷◌, length, All, Some}
 use Rattle.std.specs.Prelude.{is_some}
-use Rattle.codegen.specs.Below.{AreFine, AreWithin, Arg, Code, Leads, Observation, outcome_of, Path, path_of, seen}
-use Rattle.codegen.specs.Below.{State, StraightProgram, word_at}
+use Rattle.codegen.specs.Below.{AreFine, AreWithin, Arg, MachineCode, Leads, Observation, outcome_of, Path, path_of}
+use Rattle.codegen.specs.Below.{seen, State, StraightProgram, word_at}
 use Rattle.codegen.specs.Bases.{IsInside}
 use Rattle.codegen.specs.Loaded.{loaded_at, results_in}
 use Rattle.codegen.specs.image_fields.Fields.{Fields}
@@ -17,12 +17,12 @@ body_words (word ∷ []) = []
 body_words (word ∷ next ∷ words) = word ∷ body_words (next ∷ words)
 
 -- these words stand in code from an address on
-abbrev pub Stand : Code → ℕ → List ℕ → Type 0
+abbrev pub Stand : MachineCode → ℕ → List ℕ → Type 0
 Stand code p [] = Unit {0}
 Stand code p (word ∷ words) = (p % 4 ≡ 0) × (p + 4 < 2 ^ 32) × (word_at code p ≡ Some word) × Stand code (p + 4) words
 
 -- where an image's body stands, and where its frame lies
-pub record IsPlaced (image : Fields) (code : Code) (start frame : ℕ) : Type 0 where
+pub record IsPlaced (image : Fields) (code : MachineCode) (start frame : ℕ) : Type 0 where
   pub observed : code.profile ≡ image.profile
   pub words : Stand code start (body_words image.words)
   pub frame_aligned : frame % 4 ≡ 0
@@ -44,7 +44,7 @@ abbrev pub IsBeside : Fields → ℕ → ℕ → Type 0
 IsBeside image frame a = (a < frame) ⊎ (frame + image.frame_bytes ≤ a)
 
 -- a run of the body from this state to behind its words, which shows this list
-pub record BodyRun (image : Fields) (code : Code) (start frame : ℕ) (s : State) (list : List Observation) :
+pub record BodyRun (image : Fields) (code : MachineCode) (start frame : ℕ) (s : State) (list : List Observation) :
     Type 0 where
   pub step_count : ℕ
   pub end : State
@@ -61,13 +61,13 @@ pub record BodyRun (image : Fields) (code : Code) (start frame : ℕ) (s : State
   pub frame_there : (o : ℕ) → o < image.frame_bytes → is_some (end.bytes (frame + o)) ≡ true
 
 -- the same on some arguments, whose outcome it leaves
-pub record RunsBehind (p : StraightProgram) (image : Fields) (code : Code) (start frame : ℕ) (args : List Arg)
+pub record RunsBehind (p : StraightProgram) (image : Fields) (code : MachineCode) (start frame : ℕ) (args : List Arg)
     (s : State) (list : List Observation) : Type 0 where
   pub run : BodyRun image code start frame s list
   pub outcome : results_in frame image run.end.bytes ≡ outcome_of p args
 
 -- one list for what is seen of each path, whatever the arguments and the rest of the state
-pub record IsFollowedIn (p : StraightProgram) (image : Fields) (code : Code) (start frame : ℕ) : Type 0 where
+pub record IsFollowedIn (p : StraightProgram) (image : Fields) (code : MachineCode) (start frame : ℕ) : Type 0 where
   pub shown : Path → List Observation
   pub runs : (args : List Arg) (s : State) → s.pc ≡ start → IsLoaded image frame args s → AreWithin p.parameters args
       → AreFine p.iterations (path_of p args)

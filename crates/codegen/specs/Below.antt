@@ -27,7 +27,7 @@ unfoldable pub use Rattle.rv_machine.specs.Bytes.{number_at, with_number}
 pub use Rattle.rv_machine.specs.Effects.{address_of, branch_target, holds, immediate_value, jump_target, load_size}
 pub use Rattle.rv_machine.specs.Effects.{loaded_value, register_value, shift_value, sign_extended, store_size}
 pub use Rattle.rv_machine.specs.Leakage.{Halts, Leads, stays, steps_on}
-pub use Rattle.rv_machine.specs.Machine.{Code, goes_on, IsAt, next, State, Step, word_at}
+pub use Rattle.rv_machine.specs.Machine.{MachineCode, goes_on, IsAt, next, State, Step, word_at}
 unfoldable pub use Rattle.rv_machine.specs.Machine.{moved_to, with_link, with_stored}
 pub use Rattle.rv_machine.specs.Registers.{initial_registers, register, with_register}
 pub use Rattle.rv_machine.specs.Sizes.{byte_count}
@@ -39,8 +39,8 @@ pub use Rattle.language.specs.Size.{array_words, element_bytes, held_words}
 pub use Rattle.language.specs.WellTyped.{logic, Makes}
 pub use Rattle.language.specs.arguments.Within.{AreWithin}
 pub use Rattle.language.specs.declared.operators.BinaryOperator.{BinaryOperator}
-pub use Rattle.language.specs.declared.operators.BinaryOperator.TheVariants.{BitAnd, BitOr, BitXor, Both, Divide}
-pub use Rattle.language.specs.declared.operators.BinaryOperator.TheVariants.{Either, Equal, Greater, GreaterOrEqual}
+pub use Rattle.language.specs.declared.operators.BinaryOperator.TheVariants.{BitAnd, BitOr, BitXor, LogicalAnd, Divide}
+pub use Rattle.language.specs.declared.operators.BinaryOperator.TheVariants.{LogicalOr, Equal, Greater, GreaterOrEqual}
 pub use Rattle.language.specs.declared.operators.BinaryOperator.TheVariants.{Less, LessOrEqual, Multiply, Remainder}
 pub use Rattle.language.specs.declared.operators.BinaryOperator.TheVariants.{ShiftLeft, ShiftRight, Subtract, Unequal}
 pub use Rattle.language.specs.declared.signature.Form.{Form}
@@ -55,7 +55,7 @@ pub use Rattle.inline.specs.Flat.{array_as, binary, convert, declaration_of, ele
 pub use Rattle.inline.specs.Flat.{rotate, select, term_tree, TermTree, truth, variable}
 pub use Rattle.inline.specs.FlatMeaning.{marks_of, path_in, value_in, Values, with_value}
 pub use Rattle.inline.specs.FlatSize.{declared_words, HasLength, term_nodes, value_nodes, words_of}
-pub use Rattle.inline.specs.FlatTyping.{HasType, of_binary, of_conversion, types_of}
+pub use Rattle.inline.specs.FlatTyping.{TermHasType, of_binary, of_conversion, types_of}
 pub use Rattle.inline.specs.Path.{AreFine, Path, seen}
 pub use Rattle.inline.specs.declared.flat.FlatVariable.{FlatVariable}
 pub use Rattle.intervals.specs.Limits.{most_work}

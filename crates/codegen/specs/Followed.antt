@@ -2,8 +2,8 @@
 -- the code, and what is shown is decided by what the observer sees of the path.
 use Rattle.std.specs.Prelude.{◌≡◌, ℕ, ◌+◌, ◌*◌, ◌≤◌, List, length, All}
 use Rattle.std.specs.Option.{option_map}
-use Rattle.codegen.specs.Below.{AreFine, AreWithin, Arg, Code, Halts, Observation, outcome_of, Path, path_of, seen}
-use Rattle.codegen.specs.Below.{State, StraightProgram}
+use Rattle.codegen.specs.Below.{AreFine, AreWithin, Arg, MachineCode, Halts, Observation, outcome_of, Path, path_of}
+use Rattle.codegen.specs.Below.{seen, State, StraightProgram}
 use Rattle.codegen.specs.Anywhere.{IsPlaced, IsFollowedIn}
 use Rattle.codegen.specs.Bases.{AreBases, IsInside}
 use Rattle.codegen.specs.Loaded.{params_of, code_at, loaded_at, results_in}
@@ -38,5 +38,5 @@ pub record IsGenerated (p : StraightProgram) (image : Fields) : Type 0 where
   pub word_count : length image.words ≤ 32 * p.nodes + 64
   pub follows : (code frame : ℕ) → AreBases image code frame → IsFollowed p image code frame
   -- and the body, wherever it stands
-  pub anywhere : (code : Code) (start frame : ℕ) → IsPlaced image code start frame
+  pub anywhere : (code : MachineCode) (start frame : ℕ) → IsPlaced image code start frame
       → IsFollowedIn p image code start frame

@@ -3,8 +3,8 @@ use Rattle.std.specs.Prelude.{ℕ, ◌+◌, zero, suc, List, [], ◌∷◌, ◌+
 use Rattle.std.specs.Option.{option_map}
 use Rattle.codegen.specs.image_fields.Fields.{Fields}
 use Rattle.codegen.specs.declared.image_fields.slot.Slot.{Slot}
-use Rattle.codegen.specs.Below.{Arg, ByteMap, Code, element_bytes, FixedArray, Form, initial_registers, MutableArray}
-use Rattle.codegen.specs.Below.{number_at, Param, SingleWord, State, with_number, zeros}
+use Rattle.codegen.specs.Below.{Arg, ByteMap, MachineCode, element_bytes, FixedArray, Form, initial_registers}
+use Rattle.codegen.specs.Below.{MutableArray, number_at, Param, SingleWord, State, with_number, zeros}
 use Rattle.language.specs.Results.{Results}
 use Rattle.language.specs.declared.values.Arg.TheVariants.{Word, Array}
 
@@ -31,7 +31,7 @@ with_arguments frame bytes (slot ∷ slots) (arg ∷ args) =
     with_arguments frame (with_argument frame bytes slot arg) slots args
 
 -- the image's words and no others, from the base on, seen by its observer
-abbrev pub code_at : ℕ → Fields → Code
+abbrev pub code_at : ℕ → Fields → MachineCode
 code_at base image = record { profile = image.profile; base = base; words = image.words }
 
 -- the program counter at the code's base, the frame's base in x2, 0 in the other registers; the data is the

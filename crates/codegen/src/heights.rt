@@ -28,7 +28,7 @@ fn height_of_all(values: &[Term]) -> u32
 
 /// What statements have at once at most.
 #[derive(Clone, Copy)]
-pub struct Extent {
+pub struct CodeExtent {
     /// How many temporaries, beside the first.
     pub height: u32,
     /// How many loops, one in the other.
@@ -37,7 +37,7 @@ pub struct Extent {
 
 /// The extent of a statement.
 #[cycle(extents)]
-fn extent_of(statement: &StraightStatement) -> Extent
+fn extent_of(statement: &StraightStatement) -> CodeExtent
     requires height { height_in (straight_tree statement.now) ≤ 6000 }
     requires depth { depth_in (straight_tree statement.now) ≤ 6000 }
     ensures height { result.height ≡ height_in (straight_tree statement.now) }
@@ -51,25 +51,25 @@ fn extent_of(statement: &StraightStatement) -> Extent
         StraightStatement::Branch(condition, accepted, otherwise) => {
             let one = extent_of_all(accepted);
             let other = extent_of_all(otherwise);
-            return Extent {
+            return CodeExtent {
                 height: height(condition).max(one.height.max(other.height)),
                 depth: one.depth.max(other.depth),
             };
         }
         StraightStatement::Repeat(_, low, high, body) => {
             let iteration = extent_of_all(body);
-            return Extent {
+            return CodeExtent {
                 height: height(low).max(height(high)).max(iteration.height),
                 depth: 1 + iteration.depth,
             };
         }
     };
-    Extent { height, depth: 0 }
+    CodeExtent { height, depth: 0 }
 }
 
 /// The extent of statements, one after the other.
 #[cycle(extents)]
-fn extent_of_all(statements: &[StraightStatement]) -> Extent
+fn extent_of_all(statements: &[StraightStatement]) -> CodeExtent
     requires height { height_in_all (straight_block statements.now) ≤ 6000 }
     requires depth { depth_in_all (straight_block statements.now) ≤ 6000 }
     ensures height { result.height ≡ height_in_all (straight_block statements.now) }
@@ -82,12 +82,12 @@ fn extent_of_all(statements: &[StraightStatement]) -> Extent
         height = one.height.max(height);
         depth = one.depth.max(depth);
     }
-    Extent { height, depth }
+    CodeExtent { height, depth }
 }
 
 /// The extent of a program: that of its statements, and how many temporaries its result takes. The program is well
 /// typed, and within the limits.
-pub fn program_extent(straight: &StraightCode<'_>) -> Extent
+pub fn program_extent(straight: &StraightCode<'_>) -> CodeExtent
     ensures height { result.height ≡ program_height straight.now }
     ensures depth { result.depth ≡ depth_in_all straight.now.body }
     ensures few { result.height ≤ 6000 }
@@ -98,7 +98,7 @@ pub fn program_extent(straight: &StraightCode<'_>) -> Extent
         Some(value) => height(value),
         None => 0,
     };
-    Extent {
+    CodeExtent {
         height: body.height.max(result),
         depth: body.depth,
     }

@@ -5,6 +5,7 @@
 #![tactic(auto)]
 
 mod arrays;
+mod assigned;
 mod code;
 mod comparing;
 mod control_uses;
@@ -19,7 +20,6 @@ mod loops;
 mod masking;
 pub mod program_logic;
 mod reading;
-mod settings;
 mod statements;
 mod stored_values;
 mod unemitted;

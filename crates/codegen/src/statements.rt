@@ -7,10 +7,10 @@ ghost use Rattle.codegen.specs.private.Emitted.{branching_code, statement_code, 
 ghost use Rattle.codegen.specs.private.Jumps.{AreNear, IsFar};
 ghost use Rattle.codegen.specs.private.Placed.{IsPlaced, HasPlace, HavePlaces};
 
+use crate::assigned::any_sets;
 use crate::expression_code::{Layout, Location, emit, fetch, into};
 use crate::loops::Loop;
 use crate::reading::{assign, gives_zero, read};
-use crate::settings::any_sets;
 use crate::unemitted::Unemitted;
 use crate::{arrays, comparing, jumping, loops, masking};
 use branch_removal::StraightStatement;

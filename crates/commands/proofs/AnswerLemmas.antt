@@ -1,11 +1,11 @@
 -- What comes of a request, from what its call gives and what is printed of it.
 use Rattle.std.proofs.Common.{◌≡◌, ◌⊎◌, inr, ℕ, List, [], ◌++◌, Result, Ok, Err, append-nil, refl, sym, ap, ◌∙◌, subst}
 use Rattle.std.specs.Result.{IsErrAnd, OnOk, OnErr}
-use Rattle.commands.specs.Answered.{Does, Finds, Gives, answered, IsEnded, IsRead, not_answered, Prints}
+use Rattle.commands.specs.Answered.{Does, Finds, RequestGives, answered, IsEnded, IsRead, not_answered, Prints}
 use Rattle.commands.specs.Answered.{all_printed, not_printed, part_printed}
 use Rattle.commands.specs.Below.{collected, Collected, GainsPart, HasLines, one_more, Reaches}
 use Rattle.commands.specs.Contents.{Contents, Store}
-use Rattle.commands.specs.Failures.{Counts, failures_by, IsReadBy, of_files, of_output}
+use Rattle.commands.specs.Failures.{CountsFailures, failures_by, IsReadBy, of_files, of_output}
 use Rattle.commands.specs.Leaks.{IsOutputFault}
 use Rattle.commands.specs.Progress.{RequestTells}
 use Rattle.commands.specs.Requests.{Answers, Fails, IsDone, Leaves, refused, Refuses, unprinted}
@@ -18,15 +18,15 @@ use Rattle.commands.proofs.Counting.{counted_by, kept_by, memory_calm}
 -- ---- a call whose fault is handed on
 
 pub finds_fault : {request : Request} {files : Contents} (answer : Result Answer Fault) (fault : Fault)
-    → IsErrAnd answer (λ e. e ≡ fault) → Refuses request files files fault → Gives request files files answer
+    → IsErrAnd answer (λ e. e ≡ fault) → Refuses request files files fault → RequestGives request files files answer
 finds_fault (Ok done) fault is why = absurd is
 finds_fault {request} {files} (Err e) fault is why =
-    subst (λ (f : Fault). Gives request files files (Err f)) (sym is) (not_answered why)
+    subst (λ (f : Fault). RequestGives request files files (Err f)) (sym is) (not_answered why)
 
 -- the fault is made of another
 pub finds_converted : {request : Request} {files : Contents} {Such : Fault → Type 0} (answer : Result Answer Fault)
     → IsErrAnd answer Such → ((e : Fault) → Such e → Refuses request files files e)
-    → Gives request files files answer
+    → RequestGives request files files answer
 finds_converted (Ok done) is why = absurd is
 finds_converted (Err e) is why = not_answered (why e is)
 
@@ -43,7 +43,7 @@ read_memory (Err e) is same = memory_calm e is same
 -- a text that is answered, with status 0
 pub finds_answer : {request : Request} {files : Contents} {text : List ℕ} (answer : Answer)
     → answer.text.items ≡ text → answer.status ≡ 0 → Answers request files text 0 → Leaves request files files
-    → Gives request files files (Ok answer)
+    → RequestGives request files files (Ok answer)
 finds_answer {request} {files} {text} answer same done said left =
     answered
     (subst (λ (t : List ℕ). Answers request files t answer.status) (sym same)
@@ -113,7 +113,7 @@ pub ends_fault : (before after printed : ℕ) (answer : Result ℕ Fault) (fault
     → IsEnded answer before after printed printed
 ends_fault before after printed (Ok done) fault is counted = absurd is
 ends_fault before after printed (Err e) fault is counted =
-    subst (λ (f : Fault). Counts before after printed printed f) (sym is) (of_files counted refl)
+    subst (λ (f : Fault). CountsFailures before after printed printed f) (sym is) (of_files counted refl)
 
 -- it is done, and nothing is printed
 pub does_silently : {request known : Request} {before after : Store} {out : Collected} → request ≡ known

@@ -2,22 +2,22 @@
 use Rattle.std.proofs.Common.{◌≡◌, ◌≢◌, ℕ, List, Option, None, Result, Ok, refl, sym, subst, ◌∙◌}
 use Rattle.std.proofs.lemmas.Option.{none-some}
 use Rattle.rv_code.specs.Words.{word_of}
-use Rattle.commands.specs.Below.{Arg, Certified, certified, CertifiedEnd, Code, code_at, code_base, Fields, MayDiffer}
-use Rattle.commands.specs.Below.{RunFault, Same, Shifts, word_at}
+use Rattle.commands.specs.Below.{Arg, Certified, certified, CertifiedEnd, MachineCode, code_at, code_base, Fields}
+use Rattle.commands.specs.Below.{MayDiffer, RunFault, Same, Shifts, word_at}
 use Rattle.rv_machine.specs.declared.observation.Observation.{Observation}
 use Rattle.certified_runs.specs.Certified.{KnownEnding, depends, KnownStep, decided, stopped, undecided, RunEnding}
 use Rattle.certified_runs.specs.Certified.{same, may_differ, CertifiedRun, spent, halts, cut, steps_on}
-use Rattle.certified_runs.specs.Known.{Known}
+use Rattle.certified_runs.specs.Known.{KnownState}
 use Rattle.image_reports.specs.certificates.Certified.{refused, out_of_memory}
 use Rattle.commands.specs.Certificates.{StandsInCode}
 
-depends_at : (code : Code) (k : Known) (ending : KnownEnding) → KnownStep code k ending → ending ≡ depends
+depends_at : (code : MachineCode) (k : KnownState) (ending : KnownEnding) → KnownStep code k ending → ending ≡ depends
     → word_at code k.state.pc ≢ None
 depends_at code k ending (decided i at sure step) is = cc
 depends_at code k ending (stopped known step) is = cc
 depends_at code k ending (undecided i at unknown) is = λ none. none-some (word_of i) (sym none ∙ at.word)
 
-cut_at : (code : Code) (n : ℕ) (k : Known) (seen : List Observation) (ending : RunEnding) (pc : ℕ)
+cut_at : (code : MachineCode) (n : ℕ) (k : KnownState) (seen : List Observation) (ending : RunEnding) (pc : ℕ)
     → CertifiedRun code n k seen ending → ending ≡ may_differ pc → word_at code pc ≢ None
 cut_at code n k seen ending pc spent is = cc
 cut_at code n k seen ending pc (halts step) is = cc

@@ -3,10 +3,10 @@ use Rattle.std.proofs.Common.{Result, Ok, Err, IfErr, OnErr}
 use Rattle.std.proofs.Common.{◌≡◌, ◌≢◌, ℕ, Bool, true, false, List, refl, sym, ap, ◌∙◌, inl, inr, ◌⊎◌, subst}
 use Rattle.commands.specs.Contents.{Store, failed, failed_times}
 use Rattle.commands.specs.FaultText.{fault_status}
-use Rattle.commands.specs.Failures.{IsReadBy, IsReadOrPrinted, failures_by, Counts, of_files, of_output}
+use Rattle.commands.specs.Failures.{IsReadBy, IsReadOrPrinted, failures_by, CountsFailures, of_files, of_output}
 use Rattle.commands.specs.Judged.{Tells, IsExplained}
 use Rattle.commands.specs.Leaks.{IsOutputFault}
-use Rattle.commands.specs.Requests.{Ends, calm, files_failed, output_failed}
+use Rattle.commands.specs.Requests.{EndsByStatus, calm, files_failed, output_failed}
 use Rattle.commands.specs.Unread.{IsOutOfMemory}
 use Rattle.commands.specs.Written.{IsWriteFault}
 use Rattle.commands.specs.declared.fault.Fault.{Fault}
@@ -90,7 +90,7 @@ kept_by (File (NotUtf8 path)) before after read = ap (λ (s : Store). s.contents
 -- which calls failed, where files were read, or standard output failed
 pub either_counts : (fault : Fault) {before after : Store} {printed printed' : ℕ}
     → IsReadOrPrinted fault before after printed printed'
-    → Counts before.failures after.failures printed printed' fault
+    → CountsFailures before.failures after.failures printed printed' fault
 either_counts fault {before} {after} (inl (read, same)) = of_files (counted_by fault before after read) same
 either_counts fault (inr (output, same, failed)) = of_output output (ap (λ (s : Store). s.failures) same) failed
 
@@ -122,8 +122,9 @@ output_status fault (file, is, same) (inl status) = inl (status ∙ ap fault_sta
 output_status fault output (inr status) = inr status
 
 -- the exit status says which calls may have failed
-pub ends : {before after printed printed' : ℕ} (fault : Fault) {status : ℕ} → Counts before after printed printed' fault
-    → (status ≡ fault_status fault) ⊎ (status ≡ 4) → Ends before after printed printed' status
+pub ends : {before after printed printed' : ℕ} (fault : Fault) {status : ℕ}
+    → CountsFailures before after printed printed' fault
+    → (status ≡ fault_status fault) ⊎ (status ≡ 4) → EndsByStatus before after printed printed' status
 ends fault (of_output output same one) status = output_failed same one (output_status fault output status)
 ends (Text refusal) (of_files is same) status = calm is same
 ends (Explained refusal lines) (of_files is same) status = calm is same

@@ -1,6 +1,7 @@
 -- Harts that were loaded one after another, and files that were read to their end.
-use Rattle.std.proofs.Common.{◌≡◌, ℕ, ◌+◌, ◌<◌, ◌≤◌, true, List, [], ◌∷◌, ◌++◌, ◌⊎◌, inl, inr, length, map, take, drop, get_or}
-use Rattle.std.proofs.Common.{Bor, Global, Result, Ok, Err, Some, String, append_assoc, refl, sym, ap, ◌∙◌, subst, arith}
+use Rattle.std.proofs.Common.{◌≡◌, ℕ, ◌+◌, ◌<◌, ◌≤◌, true, List, [], ◌∷◌, ◌++◌, ◌⊎◌, inl, inr, length, map, take, drop}
+use Rattle.std.proofs.Common.{get_or, Bor, Global, Result, Ok, Err, Some, String, append_assoc, refl, sym, ap, ◌∙◌}
+use Rattle.std.proofs.Common.{subst, arith}
 use Rattle.std.specs.List.{AllZip}
 use Rattle.std.specs.Result.{IfOk, IfErr}
 use Rattle.std.specs.String.{string_bytes}
@@ -9,7 +10,7 @@ use Rattle.std.proofs.lemmas.List.{take_more, take-append-drop, map-append, leng
 use Rattle.commands.specs.Below.{Arg, cut_short, fault_of_texts, Fields, hart_of, HartEnd, HartObservation, HartsFault}
 use Rattle.commands.specs.Below.{HartsRule, IsFault, IsPlan, job_of, out_of_memory, Param, params_of, PlanFault}
 use Rattle.commands.specs.Below.{PlannedHart, ran, refused, Refuses, RunFault, RunsHarts}
-use Rattle.commands.specs.Answered.{answered, Gives, not_answered}
+use Rattle.commands.specs.Answered.{answered, RequestGives, not_answered}
 use Rattle.commands.specs.Contents.{Contents}
 use Rattle.commands.specs.declared.answer.Answer.{Answer}
 use Rattle.commands.specs.declared.command_line.words.Request.TheVariants as requests
@@ -26,7 +27,7 @@ use Rattle.commands.specs.declared.fault.Fault.TheVariants as faults
 use Rattle.harts.specs.declared.fault.HartsFault.TheVariants as harts_faults
 use Rattle.input_files.specs.declared.harts_file.fault.PlanFault.TheVariants.{Line, Memory}
 use Rattle.harts.specs.SideBySide as side_by_side
-use Rattle.input_files.specs.declared.harts_file.jobs.Job.{Job}
+use Rattle.input_files.specs.declared.harts_file.jobs.FileJob.{FileJob}
 
 -- fewer bytes than were asked for are all that a file has
 pub all_of_it : (limit : ℕ) (whole bytes : List ℕ) → bytes ≡ take limit whole → length bytes < limit → whole ≡ bytes
@@ -43,7 +44,7 @@ zip_more R (a ∷ xs) [] x y all one = absurd all
 zip_more R (a ∷ xs) (b ∷ ys) x y all one = (all.0, zip_more R xs ys x y all.1 one)
 
 -- one job more
-pub one_job_more : (files : Contents) (named : List Job) (i : ℕ) (job : Job)
+pub one_job_more : (files : Contents) (named : List FileJob) (i : ℕ) (job : FileJob)
     (loaded loaded' : List (Fields × List Arg)) (image : Fields) (args : List Arg) → i < length named
     → job ≡ get_or named i job
     → loaded' ≡ loaded ++ (image, args) ∷ [] → IsJobOf files (hart_of job) (record { image = image; args = args })
@@ -51,7 +52,7 @@ pub one_job_more : (files : Contents) (named : List Job) (i : ℕ) (job : Job)
     → AllZip (IsJobOf files) (map hart_of (take (i + 1) named)) (map job_of loaded')
 one_job_more files named i job loaded loaded' image args low is put one all =
     let names : map hart_of (take (i + 1) named) ≡ map hart_of (take i named) ++ hart_of job ∷ [] =
-    ap (map hart_of) (take_more named i job low ∙ ap (λ (j : Job). take i named ++ j ∷ []) (sym is))
+    ap (map hart_of) (take_more named i job low ∙ ap (λ (j : FileJob). take i named ++ j ∷ []) (sym is))
     ∙ map-append hart_of (take i named) (job ∷ []) in
     let jobs : map job_of loaded' ≡ map job_of loaded ++ job_of (image, args) ∷ [] = ap (map job_of) put
     ∙ map-append job_of loaded ((image, args) ∷ []) in
@@ -61,7 +62,8 @@ one_job_more files named i job loaded loaded' image args low is put one all =
     (job_of (image, args)) all one))
 
 -- the job of a hart, from what was read
-pub job_from : (files : Contents) (job : Job) (image : Fields) (args : List Arg) → HoldsImage files job.path.now image
+pub job_from : (files : Contents) (job : FileJob) (image : Fields) (args : List Arg)
+    → HoldsImage files job.path.now image
     → AreSpelled (params_of image) (map (λ text. text.now) job.arguments.items) args
     → IsJobOf files (hart_of job) (record { image = image; args = args })
 job_from files job image args held spelled = record { held = held; spelled = spelled }
@@ -107,7 +109,7 @@ split_at {A} xs i x low is =
     ∙ append_assoc (take i xs) (x ∷ []) (drop (i + 1) xs)
 
 -- why a job among those named is not had, where those before it were loaded
-refused_at : (files : Contents) (named : List Job) (i : ℕ) (job : Job) (loaded : List (Fields × List Arg))
+refused_at : (files : Contents) (named : List FileJob) (i : ℕ) (job : FileJob) (loaded : List (Fields × List Arg))
     (fault : Fault) → i < length named → job ≡ get_or named i job
     → AllZip (IsJobOf files) (map hart_of (take i named)) (map job_of loaded)
     → RefusesHart files (hart_of job) fault → RefusesJobs files (map hart_of named) fault
@@ -126,7 +128,7 @@ fault_from {A} {params} {others} why texts items bytes same is fault =
     (subst (λ (ps : List Param). IsFaultOfWords (fault_of_texts ps (map bytes texts)) why) same fault)
 
 -- why the job is not had of an image and arguments that are not had
-pub job_refused : (files : Contents) (named : List Job) (i : ℕ) (job : Job) (loaded : List (Fields × List Arg))
+pub job_refused : (files : Contents) (named : List FileJob) (i : ℕ) (job : FileJob) (loaded : List (Fields × List Arg))
     (texts : List (Bor (List ℕ))) (fault : Fault) → i < length named → job ≡ get_or named i job
     → AllZip (IsJobOf files) (map hart_of (take i named)) (map job_of loaded) → texts ≡ job.arguments.items
     → LacksArguments files job.path.now (map (λ text. text.now) texts) fault
@@ -178,7 +180,7 @@ run_refused files plan harts schedule schedule' jobs jobs' before after why plan
 pub finds_harts : {files : Contents} (file : Bor (List ℕ)) (plan : String Global) (as_str : List ℕ)
     (answer : Result Answer Fault) → files file.now ≡ Some (string_bytes plan) → as_str ≡ string_bytes plan
     → IfOk answer (λ said. SaysPlan files as_str said.text.items said.status)
-    → IfErr answer (RefusesPlan files as_str) → Gives (requests.Harts file) files files answer
+    → IfErr answer (RefusesPlan files as_str) → RequestGives (requests.Harts file) files files answer
 finds_harts {files} file plan as_str (Ok said) held same so why =
     answered (record {
       plan = string_bytes plan;

@@ -1,6 +1,6 @@
 -- Images of files, and faults that are handed on.
 use Rattle.std.proofs.Common.{◌≡◌, ℕ, ◌+◌, List, Result, Ok, Err, refl, sym, ap, ◌∙◌}
-use Rattle.commands.specs.Contents.{Contents, Begins}
+use Rattle.commands.specs.Contents.{Contents, BeginsFile}
 use Rattle.commands.specs.ImageRefusals as refusals
 use Rattle.commands.specs.ImageArguments.{LacksArguments}
 use Rattle.commands.specs.ImageRefusals.{no_answer, no_arguments, no_image, RefusesImage}
@@ -14,12 +14,12 @@ use Rattle.commands.specs.Below.{params_of, reading}
 use Rattle.image.specs.declared.fault.ImageFault.TheVariants.{Memory}
 
 -- what is read of the beginning of a file is what all of it spells
-pub all_read : (files : Contents) (path bytes : List ℕ) (begun : Begins files path (longest_image + 1) bytes)
+pub all_read : (files : Contents) (path bytes : List ℕ) (begun : BeginsFile files path (longest_image + 1) bytes)
     (answer : Result Fields ImageFault) → reading bytes ≡ answer → reading begun.whole ≡ answer
 all_read files path bytes begun answer is = sym (one_byte_more begun.whole) ∙ ap reading (sym begun.begun) ∙ is
 
 pub image_held : (files : Contents) (path bytes : List ℕ) (image : Fields)
-    → Begins files path (longest_image + 1) bytes → reading bytes ≡ Ok image → IsImage image
+    → BeginsFile files path (longest_image + 1) bytes → reading bytes ≡ Ok image → IsImage image
     → HoldsImage files path image
 image_held files path bytes image begun is allowed = record {
   bytes = begun.whole;
@@ -29,7 +29,7 @@ image_held files path bytes image begun is allowed = record {
 }
 
 pub image_refused : (files : Contents) (path bytes : List ℕ) (fault : ImageFault)
-    → Begins files path (longest_image + 1) bytes → IsUnlessMemory {A = Fields} (Err fault) (reading bytes)
+    → BeginsFile files path (longest_image + 1) bytes → IsUnlessMemory {A = Fields} (Err fault) (reading bytes)
     → NoImage files path (Image fault)
 image_refused files path bytes (Field rule offset) begun is =
     not_spelled begun.held (all_read files path bytes begun (Err (Field rule offset)) is)

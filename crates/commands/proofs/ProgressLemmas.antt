@@ -1,7 +1,7 @@
 -- What goes out while an image runs, case by case.
 use Rattle.std.proofs.Common.{◌≡◌, ℕ, Bool, true, false, List, Option, Result, Ok, Err, OnOk, OnErr, subst}
-use Rattle.commands.specs.Below.{Arg, BothGoOn, Code, code_at, code_base, Collected, Counting, Fields, frame_base}
-use Rattle.commands.specs.Below.{GoesOn, HasLines, IsTold, loaded_at, params_of, Reaches, State}
+use Rattle.commands.specs.Below.{Arg, BothGoOn, MachineCode, code_at, code_base, Collected, Counting, Fields}
+use Rattle.commands.specs.Below.{frame_base, GoesOn, HasLines, IsTold, loaded_at, params_of, Reaches, State}
 use Rattle.commands.specs.Certificates.{shifts_seen}
 use Rattle.commands.specs.Contents.{Contents}
 use Rattle.commands.specs.Images.{HoldsImage}
@@ -20,17 +20,19 @@ on_err (Ok done) p = tt
 on_err (Err fault) p = p
 
 -- the lines of a run from the loaded state are those of the image's run
-pub told_of_image : (Has : Counting) {code : Code} {steps : ℕ} {s : State} {before after : Collected} (image : Fields)
+pub told_of_image : (Has : Counting) {code : MachineCode} {steps : ℕ} {s : State} {before after : Collected}
+    (image : Fields)
     (args : List Arg) → code ≡ code_at code_base image → steps ≡ image.max_steps
     → s ≡ loaded_at code_base frame_base image args → IsTold Has (GoesOn code steps s) before after
     → IsTold Has (RunGoesOn image args) before after
 told_of_image Has {code} {steps} {s} {before} {after} image args code_is steps_is state_is told =
     subst (λ (x : State). IsTold Has (GoesOn (code_at code_base image) image.max_steps x) before after) state_is
     (subst (λ (x : ℕ). IsTold Has (GoesOn (code_at code_base image) x s) before after) steps_is
-    (subst (λ (x : Code). IsTold Has (GoesOn x steps s) before after) code_is told))
+    (subst (λ (x : MachineCode). IsTold Has (GoesOn x steps s) before after) code_is told))
 
 -- those of two runs from loaded states are those of the image's two runs
-pub told_of_pair : (Has : Counting) {code : Code} {steps : ℕ} {s s' : State} {before after : Collected} (image : Fields)
+pub told_of_pair : (Has : Counting) {code : MachineCode} {steps : ℕ} {s s' : State} {before after : Collected}
+    (image : Fields)
     (one other : List Arg) → code ≡ code_at code_base image → steps ≡ image.max_steps
     → s ≡ loaded_at code_base frame_base image one → s' ≡ loaded_at code_base frame_base image other
     → IsTold Has (BothGoOn code steps s s') before after → IsTold Has (PairGoesOn image one other) before after
@@ -40,7 +42,7 @@ told_of_pair Has {code} {steps} {s} {s'} {before} {after} image one other code_i
     subst (λ (x : State). IsTold Has (BothGoOn at_code image.max_steps begun x) before after) state_is'
     (subst (λ (x : State). IsTold Has (BothGoOn at_code image.max_steps x s') before after) state_is
     (subst (λ (x : ℕ). IsTold Has (BothGoOn at_code x s s') before after) steps_is
-    (subst (λ (x : Code). IsTold Has (BothGoOn x steps s s') before after) code_is told)))
+    (subst (λ (x : MachineCode). IsTold Has (BothGoOn x steps s s') before after) code_is told)))
 
 -- those of the image are those of its file
 module _ (Has : Counting) (before after : Collected) {files : Contents} {path : List ℕ} {words : List (List ℕ)}

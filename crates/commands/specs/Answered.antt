@@ -2,7 +2,7 @@
 use Rattle.std.specs.Prelude.{◌≡◌, ◌≤◌, ◌++◌, ℕ, List, Result, Ok, Err}
 use Rattle.commands.specs.Below.{Collected, GainsPart, one_more}
 use Rattle.commands.specs.Contents.{Contents, Store}
-use Rattle.commands.specs.Failures.{Counts, failures_by, IsReadBy}
+use Rattle.commands.specs.Failures.{CountsFailures, failures_by, IsReadBy}
 use Rattle.commands.specs.Leaks.{IsOutputFault}
 use Rattle.commands.specs.Requests.{Answers, Fails, IsDone, Leaves, Refuses}
 use Rattle.commands.specs.declared.answer.Answer.{Answer}
@@ -10,15 +10,15 @@ use Rattle.commands.specs.declared.command_line.words.Request.{Request}
 use Rattle.commands.specs.declared.fault.Fault.{Fault}
 
 -- what comes of a request before its answer is printed, by what files hold before and after
-pub data Gives (request : Request) (before after : Contents) : Result Answer Fault → Type 0 where
+pub data RequestGives (request : Request) (before after : Contents) : Result Answer Fault → Type 0 where
   answered : {answer : Answer} → Answers request before answer.text.items answer.status
       → Leaves request before after
-      → Gives request before after (Ok answer)
-  not_answered : {fault : Fault} → Refuses request before after fault → Gives request before after (Err fault)
+      → RequestGives request before after (Ok answer)
+  not_answered : {fault : Fault} → Refuses request before after fault → RequestGives request before after (Err fault)
 
 -- the same of one that only reads files
 abbrev pub Finds : Request → Contents → Result Answer Fault → Type 0
-Finds request files = Gives request files files
+Finds request files = RequestGives request files files
 
 -- files that were only read: they are as they were, or a call of them failed, by the fault
 abbrev pub IsRead : {T : Type 0} → Result T Fault → Store → Store → Type 0
@@ -53,4 +53,4 @@ Does request before after out out' (Err fault) = Fails request before after out 
 -- the exit status of what is done, and which calls of files and of standard output failed
 abbrev pub IsEnded : Result ℕ Fault → ℕ → ℕ → ℕ → ℕ → Type 0
 IsEnded (Ok status) before after printed printed' = (status ≤ 5) × (after ≡ before) × (printed' ≡ printed)
-IsEnded (Err fault) before after printed printed' = Counts before after printed printed' fault
+IsEnded (Err fault) before after printed printed' = CountsFailures before after printed printed' fault

@@ -3,7 +3,7 @@ pub use Rattle.word.specs.Counts.{one_more}
 pub use Rattle.word.specs.declared.profile.Profile.{Profile}
 pub use Rattle.word.specs.declared.profile.Profile.TheVariants.{P1, P2}
 pub use Rattle.rv_machine.specs.Harts.{state_of}
-pub use Rattle.rv_machine.specs.Machine.{Code, State, word_at}
+pub use Rattle.rv_machine.specs.Machine.{MachineCode, State, word_at}
 pub use Rattle.rv_machine.specs.Paged.{paged_bytes}
 pub use Rattle.rv_machine.specs.Regions.{code_of}
 pub use Rattle.rv_machine.specs.declared.hart_recording.HartObservation.{HartObservation}
@@ -31,7 +31,7 @@ pub use Rattle.language.specs.declared.values.Arg.{Arg}
 pub use Rattle.codegen.specs.Loaded.{code_at, loaded_at, params_of}
 pub use Rattle.codegen.specs.image_fields.Fields.{Fields, IsImage, slot_end, slots_end}
 pub use Rattle.codegen.specs.image_fields.Limits.{most_parameters, most_words}
-pub use Rattle.syntax.specs.Limits.{text_limit}
+pub use Rattle.syntax.specs.Limits.{source_limit}
 pub use Rattle.source_eval.specs.Answer.{answer}
 pub use Rattle.source_eval.specs.declared.fault.EvalFault.{EvalFault}
 pub use Rattle.image.specs.Limits.{longest_image}

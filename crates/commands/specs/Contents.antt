@@ -24,7 +24,7 @@ failed_times zero before = before
 failed_times (suc times) before = failed (failed_times times before)
 
 -- these bytes are those of a file, to their end or until there are so many of them
-pub record Begins (files : Contents) (path : List ℕ) (limit : ℕ) (bytes : List ℕ) : Type 0 where
+pub record BeginsFile (files : Contents) (path : List ℕ) (limit : ℕ) (bytes : List ℕ) : Type 0 where
   pub whole : List ℕ
   pub held : files path ≡ Some whole
   pub begun : bytes ≡ take limit whole

@@ -14,10 +14,10 @@ abbrev pub HoldsOther : Contents → List ℕ → Type 0
 HoldsOther files path = (bytes : List ℕ) × (files path ≡ Some bytes) × BeginsOtherwise bytes
 
 -- the text is what the file costs: of an image its fields, and of all else its source
-pub data SaysCosts (profile : Profile) (files : Contents) (path : List ℕ) (text : List ℕ) : Type 0 where
+pub data SaysFileCosts (profile : Profile) (files : Contents) (path : List ℕ) (text : List ℕ) : Type 0 where
   of_image : (image : Fields) → HoldsImage files path image → text ≡ fields_text image
-      → SaysCosts profile files path text
-  of_source : HoldsOther files path → SaysStatistics profile files path text → SaysCosts profile files path text
+      → SaysFileCosts profile files path text
+  of_source : HoldsOther files path → SaysStatistics profile files path text → SaysFileCosts profile files path text
 
 -- why it has no such text: it was not read; or it begins as an image does, and has a first fault behind the magic; or
 -- its source is refused

@@ -38,8 +38,8 @@ IsReadOrPrinted fault before after printed printed' = (IsReadBy fault before aft
     ⊎ (IsOutputFault fault × (after ≡ before) × (printed' ≡ one_more printed))
 
 -- the counts of failed calls of files and of standard output, by the fault of a command
-pub data Counts (before after printed printed' : ℕ) : Fault → Type 0 where
+pub data CountsFailures (before after printed printed' : ℕ) : Fault → Type 0 where
   of_files : {fault : Fault} → after ≡ failures_by fault before → printed' ≡ printed
-      → Counts before after printed printed' fault
+      → CountsFailures before after printed printed' fault
   of_output : {fault : Fault} → IsOutputFault fault → after ≡ before → printed' ≡ one_more printed
-      → Counts before after printed printed' fault
+      → CountsFailures before after printed printed' fault

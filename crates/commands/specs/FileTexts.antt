@@ -7,7 +7,7 @@ use Rattle.commands.specs.declared.fault.Fault.{Fault}
 use Rattle.commands.specs.declared.fault.Fault.TheVariants.{Text, File}
 use Rattle.commands.specs.declared.fault.FileFault.{FileFault}
 use Rattle.commands.specs.declared.fault.FileFault.TheVariants.{CannotRead, CannotWrite, NotUtf8}
-use Rattle.commands.specs.Below.{IsText, IsTooLong, Refusal, text_limit}
+use Rattle.commands.specs.Below.{IsText, IsTooLong, Refusal, source_limit}
 
 -- the bytes of the file at a path, all of them, are a text that is not too long
 pub record HoldsText (files : Contents) (path : List ℕ) (bytes : List ℕ) : Type 0 where
@@ -31,5 +31,5 @@ pub data NoText (files : Contents) (path : List ℕ) : Fault → Type 0 where
   not_read : {fault : Fault} → NotRead path fault → NoText files path fault
   too_long : {bytes : List ℕ} {refusal : Refusal} → files path ≡ Some bytes → IsTooLong bytes refusal
       → NoText files path (Text refusal)
-  not_utf8 : {bytes : List ℕ} {fault : FileFault} → files path ≡ Some bytes → length bytes ≤ text_limit
+  not_utf8 : {bytes : List ℕ} {fault : FileFault} → files path ≡ Some bytes → length bytes ≤ source_limit
       → ¬ IsUtf8 bytes → IsNotUtf8 path fault → NoText files path (File fault)

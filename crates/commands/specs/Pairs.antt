@@ -8,7 +8,7 @@ use Rattle.commands.specs.Images.{HoldsImage}
 use Rattle.commands.specs.Words.{AreBothSpelled, fault_of_both}
 use Rattle.commands.specs.declared.fault.Fault.{Fault}
 use Rattle.commands.specs.declared.fault.Fault.TheVariants.{Run}
-use Rattle.image_reports.specs.pair_explanations.Explained.{Explains}
+use Rattle.image_reports.specs.pair_explanations.Explained.{ExplainsDifference}
 use Rattle.rv_machine.specs.declared.pairing.Pairing.TheVariants.{Same, Differ}
 
 -- how a comparison is printed
@@ -21,7 +21,7 @@ abbrev pub PrintsPairing : Bool → Fields → List Arg → List Arg → Pairing
 PrintsPairing explain image one other Same text = text ≡ pairing_text Same
 PrintsPairing false image one other (Differ place) text = text ≡ pairing_text (Differ place)
 PrintsPairing true image one other (Differ place) text =
-    (lines : List ℕ) × Explains image one other place lines × (text ≡ pairing_text (Differ place) ++ lines)
+    (lines : List ℕ) × ExplainsDifference image one other place lines × (text ≡ pairing_text (Differ place) ++ lines)
 
 -- whether an observer sees the same of the file's image on the two lists of arguments that the words spell, and why
 -- not, where that is to be explained

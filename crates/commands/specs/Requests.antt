@@ -4,7 +4,7 @@ use Rattle.commands.specs.declared.command_line.words.Request.{Request}
 use Rattle.commands.specs.declared.command_line.words.Request.TheVariants as requests
 use Rattle.commands.specs.Certificates.{SaysCertificate, RefusesCertificate, shifts_seen}
 use Rattle.commands.specs.Contents.{Contents, Store}
-use Rattle.commands.specs.Costs.{SaysCosts, RefusesCosts}
+use Rattle.commands.specs.Costs.{SaysFileCosts, RefusesCosts}
 use Rattle.commands.specs.Failures.{failures_by}
 use Rattle.commands.specs.FaultText.{fault_line, fault_status}
 use Rattle.commands.specs.FunctionFiles.{AreFunctionTexts, RefusesFunction}
@@ -16,7 +16,7 @@ use Rattle.commands.specs.Meanings.{SaysMeaning, RefusesMeaning}
 use Rattle.commands.specs.Pairs.{SaysPair, RefusesPair, SaysList}
 use Rattle.commands.specs.Pictures.{SaysPicture, RefusesPicture}
 use Rattle.commands.specs.Progress.{RequestTells}
-use Rattle.commands.specs.Runs.{SaysRun, RefusesRun}
+use Rattle.commands.specs.Runs.{SaysFileRun, RefusesRun}
 use Rattle.commands.specs.TwoFiles.{WritesTwo, FailsToWriteTwo}
 use Rattle.commands.specs.Unread.{IsOutOfMemory}
 use Rattle.commands.specs.Vectors.{SaysVectors, RefusesVectors}
@@ -31,12 +31,12 @@ abbrev pub Answers : Request → Contents → List ℕ → ℕ → Type 0
 Answers (requests.Check file profile explain) files text status = IsAccepted profile files file.now
     × (text ≡ codes "accepted\n") × (status ≡ 0)
 Answers (requests.Build file image options) files text status = (text ≡ []) × (status ≡ 0)
-Answers (requests.Stat file profile) files text status = SaysCosts profile files file.now text × (status ≡ 0)
+Answers (requests.Stat file profile) files text status = SaysFileCosts profile files file.now text × (status ≡ 0)
 Answers (requests.Function file assembler header options) files text status = (text ≡ []) × (status ≡ 0)
 Answers (requests.Eval file arguments explain) files text status =
     SaysMeaning files file.now (map (λ word. word.now) arguments.now) text × (status ≡ 0)
 Answers (requests.Run image arguments progress) files text status =
-    SaysRun files image.now (map (λ word. word.now) arguments.now) text × (status ≡ 0)
+    SaysFileRun files image.now (map (λ word. word.now) arguments.now) text × (status ≡ 0)
 Answers (requests.Leak image arguments) files text status =
     SaysLeak files image.now (map (λ word. word.now) arguments.now) status text
 Answers (requests.Pair image arguments options) files text status =
@@ -147,9 +147,9 @@ pub data Performs (request : Request) (before after : Store) (out out' err err' 
 
 -- which calls of files and of standard output failed, by the exit status, whether or not it is known what they hold
 -- and have taken: none; or one of either, which is answered by status 3, or by 4 where there was no memory to say so
-pub data Ends (before after printed printed' : ℕ) : ℕ → Type 0 where
-  calm : {status : ℕ} → after ≡ before → printed' ≡ printed → Ends before after printed printed' status
+pub data EndsByStatus (before after printed printed' : ℕ) : ℕ → Type 0 where
+  calm : {status : ℕ} → after ≡ before → printed' ≡ printed → EndsByStatus before after printed printed' status
   files_failed : {status : ℕ} → after ≡ one_more before → printed' ≡ printed → (status ≡ 3) ⊎ (status ≡ 4)
-      → Ends before after printed printed' status
+      → EndsByStatus before after printed printed' status
   output_failed : {status : ℕ} → after ≡ before → printed' ≡ one_more printed → (status ≡ 3) ⊎ (status ≡ 4)
-      → Ends before after printed printed' status
+      → EndsByStatus before after printed printed' status

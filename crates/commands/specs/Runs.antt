@@ -11,7 +11,7 @@ use Rattle.commands.specs.declared.fault.Fault.{Fault}
 use Rattle.commands.specs.declared.fault.Fault.TheVariants.{Run}
 
 -- the text of the outcome of the file's image on the arguments that the words spell
-pub record SaysRun (files : Contents) (path : List ℕ) (words : List (List ℕ)) (text : List ℕ) : Type 0 where
+pub record SaysFileRun (files : Contents) (path : List ℕ) (words : List (List ℕ)) (text : List ℕ) : Type 0 where
   pub image : Fields
   pub args : List Arg
   pub outcome : Results

@@ -10,7 +10,7 @@ use crate::fault::Fault;
 use crate::files::Files;
 use crate::outcome;
 use crate::texts::{refused, text_of_file};
-use hepurita::{accepted_texts_are_evaluated, judge, read_args};
+use hepurita::{accepted_sources_are_evaluated, judge, read_args};
 use source_eval::eval;
 use std::alloc::Global;
 
@@ -35,7 +35,7 @@ pub fn evaluate_text<'a, F: Files>(
         → Finds (Request.Eval file.entry arguments.entry explain) (F.store files.old).contents result }
     ensures read { IsRead result (F.store files.old) (F.store files.new) }
 {
-    accepted_texts_are_evaluated();
+    accepted_sources_are_evaluated();
     let text = text_of_file(alloc, file, files)?;
     let accepted = match judge(alloc, text.as_str()) {
         Ok(accepted) => accepted,

@@ -3,7 +3,7 @@
 ghost use Rattle.std.specs.Prelude.{◌≡◌, ◌+◌, IsTrue};
 ghost use Rattle.commands.specs.Answered.{Finds, IsRead};
 ghost use Rattle.commands.specs.Below.{BeginsOtherwise, longest_image};
-ghost use Rattle.commands.specs.Contents.{Begins, Contents, Store};
+ghost use Rattle.commands.specs.Contents.{BeginsFile, Contents, Store};
 
 use crate::answer::Answer;
 use crate::command_line::Request;
@@ -17,7 +17,7 @@ use image_reports::source_statistics::source_statistics;
 use input_files::stream_build::text_of;
 use language::Profile;
 use std::alloc::Global;
-use syntax::TEXT_LIMIT;
+use syntax::SOURCE_LIMIT;
 
 /// What the source of a file costs, for an observer, as lines. The file is read once: these are as many of its bytes as
 /// the longest image has and one more, or all, and so enough of a source too.
@@ -27,11 +27,11 @@ fn source_costs<'a>(
     mut bytes: Vec<u8>,
     profile: Profile,
 ) -> Result<Answer, Fault<'a>>
-    ensures finds { (files : Contents) → Begins files file.now (longest_image + 1) bytes.items
+    ensures finds { (files : Contents) → BeginsFile files file.now (longest_image + 1) bytes.items
         → BeginsOtherwise bytes.items → Finds (Request.Stat file.entry profile) files result }
     ensures read { (files : Store) → IsRead result files files }
 {
-    bytes.truncate(TEXT_LIMIT + 1);
+    bytes.truncate(SOURCE_LIMIT + 1);
     let text = match text_of(bytes) {
         Ok(text) => text,
         Err(fault) => return Err(text_fault(file, fault)),

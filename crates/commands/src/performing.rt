@@ -6,7 +6,7 @@ ghost use Rattle.commands.specs.Commanded.{Commands, Says};
 ghost use Rattle.commands.specs.Contents.{Contents, Store};
 ghost use Rattle.commands.specs.FaultText.{fault_status};
 ghost use Rattle.commands.specs.Progress.{RequestTells};
-ghost use Rattle.commands.specs.Requests.{Reports, Performs, Ends};
+ghost use Rattle.commands.specs.Requests.{Reports, Performs, EndsByStatus};
 ghost use Rattle.commands.specs.Below.{collected, HasLines, one_more, Reaches};
 
 use crate::answer::{Answer, DONE};
@@ -50,7 +50,7 @@ pub fn command<'a, F: Files, O: Sink, E: Sink>(
         (collected (E.taken err.old) (E.failures err.old)) (collected (E.taken err.new) (E.failures err.new)) result }
     ensures known { result ≤ 5 }
     ensures calm { result ≡ 0 → O.failures out.new ≡ O.failures out.old }
-    ensures counted { Ends (F.store files.old).failures (F.store files.new).failures (O.failures out.old)
+    ensures counted { EndsByStatus (F.store files.old).failures (F.store files.new).failures (O.failures out.old)
         (O.failures out.new) result }
 {
     match parse(alloc, words) {
@@ -74,7 +74,7 @@ pub fn perform<F: Files, O: Sink, E: Sink>(
         (collected (E.taken err.old) (E.failures err.old)) (collected (E.taken err.new) (E.failures err.new)) result }
     ensures known { result ≤ 5 }
     ensures calm { result ≡ 0 → O.failures out.new ≡ O.failures out.old }
-    ensures counted { Ends (F.store files.old).failures (F.store files.new).failures
+    ensures counted { EndsByStatus (F.store files.old).failures (F.store files.new).failures
         (O.failures out.old) (O.failures out.new) result }
 {
     let mut text = String::new(alloc);
@@ -113,7 +113,7 @@ fn explain<O: Sink, E: Sink>(alloc: Global, said: NoRequest, out: &mut O, err: &
         (collected (E.taken err.old) (E.failures err.old)) (collected (E.taken err.new) (E.failures err.new)) result }
     ensures known { result ≤ 5 }
     ensures calm { result ≡ 0 → O.failures out.new ≡ O.failures out.old }
-    ensures counted { (files : ℕ) → Ends files files (O.failures out.old) (O.failures out.new) result }
+    ensures counted { (files : ℕ) → EndsByStatus files files (O.failures out.old) (O.failures out.new) result }
 {
     match said {
         NoRequest::Memory => report(alloc, &Fault::Text(Refusal::memory()), err),

@@ -1,7 +1,7 @@
 // The bytes of a file.
 
 ghost use Rattle.std.specs.Prelude.{◌≡◌, IsTrue, IfOk, IfErr, OnOk};
-ghost use Rattle.commands.specs.Contents.{Begins};
+ghost use Rattle.commands.specs.Contents.{BeginsFile};
 ghost use Rattle.commands.specs.Failures.{IsReadBy};
 ghost use Rattle.commands.specs.Unread.{NotRead};
 
@@ -19,7 +19,7 @@ pub fn bytes_of<'a, F: Files>(
     files: &mut F,
 ) -> Result<Vec<u8>, Fault<'a>>
     ensures begins { IsTrue F.TELLS
-        → IfOk result (λ bytes. Begins (F.store files.old).contents path.now limit bytes.items) }
+        → IfOk result (λ bytes. BeginsFile (F.store files.old).contents path.now limit bytes.items) }
     ensures fault { IfErr result (NotRead path.now) }
     ensures calm { OnOk result (F.store files.new ≡ F.store files.old) }
     ensures counted { IfErr result (λ fault. IsReadBy fault (F.store files.old) (F.store files.new)) }

@@ -21,7 +21,7 @@ use crate::outcome;
 use crate::reading::bytes_of;
 use harts::{HartEnd, run_harts};
 use image::Image;
-use input_files::harts_file::{Job, read};
+use input_files::harts_file::{FileJob, read};
 use language::{Args, Outcome};
 use listing::{lines_of, stop_line};
 use rv_machine::{HartObservation, ListHartRecorder, Stop};
@@ -91,7 +91,7 @@ fn run_side_by_side<'a, F: Files>(
 /// The images of harts and their arguments, hart by hart, or the fault of the first hart that has one.
 fn load_jobs<'a, F: Files>(
     alloc: Global,
-    jobs: &[Job<'a>],
+    jobs: &[FileJob<'a>],
     files: &mut F,
 ) -> Result<Vec<(Image, Args)>, Fault<'a>>
     ensures count { IfOk result (λ loaded. vec_len loaded ≡ length jobs.now) }

@@ -18,7 +18,7 @@ mod why_lines;
 ghost use Rattle.std.specs.Prelude.{IfOk, IfErr};
 ghost use Rattle.std.specs.String.{string_bytes};
 ghost use Rattle.explanations.specs.Below.{IsWantOfMemory};
-ghost use Rattle.explanations.specs.refusal_details.Details.{Finds, FindsBeside, Says};
+ghost use Rattle.explanations.specs.refusal_details.Details.{Finds, FindsBeside, SaysDetails};
 
 use crate::refusal_details::characters::character_line;
 use crate::refusal_details::expectations::expected_lines;
@@ -30,7 +30,7 @@ use std::alloc::Global;
 /// What is said of a source's refusal beside its rule: lines, each with its end, or nothing. It fails only when out of
 /// memory.
 pub fn details(alloc: Global, source: &str, refusal: Refusal) -> Result<String, Refusal>
-    ensures said { IfOk result (λ lines. Says source.now refusal (string_bytes lines)) }
+    ensures said { IfOk result (λ lines. SaysDetails source.now refusal (string_bytes lines)) }
     ensures memory { IfErr result (λ fault. IsWantOfMemory fault.rule fault.place) }
 {
     let Some(place) = refusal.place else {

@@ -11,7 +11,7 @@ ghost use Rattle.std.specs.String.{string_bytes};
 ghost use Rattle.explanations.specs.source_excerpts.Excerpt.{excerpt_text, marked_text, line_text, below_text};
 
 use crate::source_excerpts::cells::{push_blanks, push_shown};
-use crate::source_excerpts::parts::{Part, back, front};
+use crate::source_excerpts::parts::{ExcerptPart, back, front};
 use std::alloc::{AllocError, Global};
 use word::Place;
 
@@ -55,7 +55,11 @@ fn marked_text(
 }
 
 /// A line of two parts, as it is shown.
-fn line_text(alloc: Global, front: Part<'_>, back: Part<'_>) -> Result<String, AllocError>
+fn line_text(
+    alloc: Global,
+    front: ExcerptPart<'_>,
+    back: ExcerptPart<'_>,
+) -> Result<String, AllocError>
     ensures { IfOk result (λ text. string_bytes text
         ≡ line_text front.entry.dots.now front.entry.bytes.now back.entry.bytes.now back.entry.dots.now) }
 {
@@ -68,7 +72,7 @@ fn line_text(alloc: Global, front: Part<'_>, back: Part<'_>) -> Result<String, A
 }
 
 /// What stands below the part before the place.
-fn below_text(alloc: Global, front: Part<'_>) -> Result<String, AllocError>
+fn below_text(alloc: Global, front: ExcerptPart<'_>) -> Result<String, AllocError>
     ensures { IfOk result (λ text. string_bytes text ≡ below_text front.entry.dots.now front.entry.bytes.now) }
 {
     let mut text = String::new(alloc);

@@ -6,7 +6,7 @@ use Rattle.std.specs.List.{AllByRecursion}
 use Rattle.harts.specs.Below.{ByteMap, Ecall, HartObservation, Means, Member, Results, results_in, System, steps_of}
 use Rattle.harts.proofs.EveryScheduleLemmas.{each_is_alone, one_list}
 use Rattle.harts.specs.Ends.{end_of, ends_from, ends_of, still_going, ended_with}
-use Rattle.harts.specs.EverySchedule.{IsFromText, AllAgree}
+use Rattle.harts.specs.EverySchedule.{IsFromSource, AllAgree}
 use Rattle.harts.specs.RunHarts.{RunsHarts, ran}
 use Rattle.harts.specs.SideBySide.{Job, frame_base_of}
 use Rattle.harts.specs.declared.ends.HartEnd.{HartEnd}
@@ -38,7 +38,7 @@ end_of_job jobs ends end k job m are at at' =
 
 -- a hart that was given its steps has ended with what its program means
 pub ends_as_meant : (jobs : List Job) (schedule : List ℕ) (keeps : Bool) (list list' : List HartObservation)
-    (ends : List HartEnd) (k : ℕ) (job : Job) (from : IsFromText job) → AllByRecursion IsFromText jobs
+    (ends : List HartEnd) (k : ℕ) (job : Job) (from : IsFromSource job) → AllByRecursion IsFromSource jobs
     → RunsHarts jobs schedule keeps list (Ok ends) list' → slice_get jobs k ≡ Some job
     → job.image.max_steps ≤ steps_of k schedule
     → (results : Results) × Means from.built.program job.args results
@@ -55,7 +55,7 @@ ends_as_meant jobs schedule keeps list list' ends k job from all (ran {end = end
 
 -- however few its steps, it is still going, or has ended so
 pub ends_so_far : (jobs : List Job) (schedule : List ℕ) (keeps : Bool) (list list' : List HartObservation)
-    (ends : List HartEnd) (k : ℕ) (job : Job) (from : IsFromText job) → AllByRecursion IsFromText jobs
+    (ends : List HartEnd) (k : ℕ) (job : Job) (from : IsFromSource job) → AllByRecursion IsFromSource jobs
     → RunsHarts jobs schedule keeps list (Ok ends) list' → slice_get jobs k ≡ Some job
     → (slice_get ends k ≡ Some still_going)
     ⊎ ((results : Results) × Means from.built.program job.args results
@@ -74,7 +74,7 @@ ends_so_far jobs schedule keeps list list' ends k job from all (ran {end = end} 
 
 -- two runs whose arguments agree record one list
 pub one_record : (one other : List Job) (schedule : List ℕ) (keeps : Bool) (list after after' : List HartObservation)
-    (ends ends' : List HartEnd) → AllByRecursion IsFromText one → AllAgree one other
+    (ends ends' : List HartEnd) → AllByRecursion IsFromSource one → AllAgree one other
     → RunsHarts one schedule keeps list (Ok ends) after → RunsHarts other schedule keeps list (Ok ends') after'
     → after ≡ after'
 one_record one other schedule keeps list after after' ends ends' all agree (ran {end = end} allowed followed answered)

@@ -5,14 +5,14 @@ use Rattle.std.proofs.Common.{refl, sym, ap, subst, ◌∙◌, inl, inr, arith}
 use Rattle.std.proofs.lemmas.List.Elements.{All-take}
 use Rattle.std.proofs.lemmas.Option.{none-some, same_Some, slice_get_within}
 use Rattle.std.specs.List.{AllByRecursion}
-use Rattle.harts.specs.Below.{ByteMap, code_at, Ecall, Follows, HartObservation, IsAsAlone, IsInside, loaded_at, Makes}
-use Rattle.harts.specs.Below.{Means, Member, most_images, none, Observation, one_more, Results, results_in, ShowTheSame}
-use Rattle.harts.specs.Below.{Stop, System, steps_of}
+use Rattle.harts.specs.Below.{ByteMap, code_at, Ecall, FollowsSchedule, HartObservation, IsAsAlone, IsInside, loaded_at}
+use Rattle.harts.specs.Below.{HartMakes, Means, Member, most_images, none, Observation, one_more, Results, results_in}
+use Rattle.harts.specs.Below.{ShowTheSame, Stop, System, steps_of}
 use Rattle.harts.proofs.FrameLemmas.{frame_there, outcome_same}
 use Rattle.harts.proofs.Resting.{rests_on}
-use Rattle.harts.proofs.SystemLemmas.{IsFit, fit_of, all_fit, fit_at, run_of, member_at, job_at, own_of, own_is}
+use Rattle.harts.proofs.SystemLemmas.{IsFitJob, fit_of, all_fit, fit_at, run_of, member_at, job_at, own_of, own_is}
 use Rattle.harts.proofs.SystemLemmas.{jobs_apart}
-use Rattle.harts.specs.EverySchedule.{IsFromText, IsAlone, JobsAgree, AllAgree}
+use Rattle.harts.specs.EverySchedule.{IsFromSource, IsAlone, JobsAgree, AllAgree}
 use Rattle.harts.specs.SideBySide.{code_base_of, frame_base_of, Job, loaded_alone, member_of, members_from, system_of}
 use Rattle.harts.proofs.Below.{alone, shown_the_same, shown_alone, stopped_alone, MemberStep-determined}
 use Rattle.rv_machine.specs.Leakage.{Halts}
@@ -20,7 +20,7 @@ use Rattle.rv_machine.specs.Leakage.{Halts}
 -- What a hart is alone after so many steps is one thing.
 
 pub one_alone : (n : ℕ) (own bytes bytes' : ByteMap) (m after after' : Member) (seen seen' : List Observation)
-    → Makes n own m seen bytes after → Makes n own m seen' bytes' after'
+    → HartMakes n own m seen bytes after → HartMakes n own m seen' bytes' after'
     → (seen ≡ seen') × (bytes ≡ bytes') × (after ≡ after')
 one_alone zero own bytes bytes' m after after' seen seen' none none = (refl, refl, refl)
 one_alone (suc n) own bytes bytes' m after after' seen seen'
@@ -32,7 +32,7 @@ one_alone (suc n) own bytes bytes' m after after' seen seen'
 
 -- Each is what it is alone.
 
-module _ (k : ℕ) (below : k < most_images) (job : Job) (fit : IsFit job) (schedule : List ℕ)
+module _ (k : ℕ) (below : k < most_images) (job : Job) (fit : IsFitJob job) (schedule : List ℕ)
     (list : List HartObservation) (end : System)
     (it : IsAsAlone k (steps_of k schedule) (loaded_alone k job).bytes (member_of k job) list end) where
   same_frame : (a : ℕ) → frame_base_of k ≤ a → a < frame_base_of k + job.image.frame_bytes → end.bytes a ≡ it.bytes a
@@ -100,8 +100,8 @@ module _ (k : ℕ) (below : k < most_images) (job : Job) (fit : IsFit job) (sche
   }
 
 pub each_is_alone : (jobs : List Job) (schedule : List ℕ) (list : List HartObservation) (end : System) (k : ℕ)
-    (job : Job) (from : IsFromText job) → length jobs ≤ most_images → AllByRecursion IsFromText jobs
-    → Follows schedule (system_of jobs) list end → slice_get jobs k ≡ Some job
+    (job : Job) (from : IsFromSource job) → length jobs ≤ most_images → AllByRecursion IsFromSource jobs
+    → FollowsSchedule schedule (system_of jobs) list end → slice_get jobs k ≡ Some job
     → IsAlone from.built.program k job schedule list end
 each_is_alone jobs schedule list end k job from few all follows at =
     let fits = all_fit jobs all in
@@ -124,7 +124,7 @@ agree_at (x ∷ one) (y ∷ other) zero a b agree at at' =
 agree_at (x ∷ one) (y ∷ other) (suc k) a b agree at at' = agree_at one other k a b agree.1 at at'
 
 -- what agrees with a fit job is fit
-fit_too : (a b : Job) → IsFit a → JobsAgree a b → IsFit b
+fit_too : (a b : Job) → IsFitJob a → JobsAgree a b → IsFitJob b
 fit_too a b fit agree = record {
   program = fit.program;
   before = fit.before;
@@ -135,7 +135,7 @@ fit_too a b fit agree = record {
   within = rw agree.image at agree.args.other_within;
 }
 
-all_fit_too : (one other : List Job) → AllByRecursion IsFit one → AllAgree one other → AllByRecursion IsFit other
+all_fit_too : (one other : List Job) → AllByRecursion IsFitJob one → AllAgree one other → AllByRecursion IsFitJob other
 all_fit_too [] [] fits agree = tt
 all_fit_too (a ∷ one) (b ∷ other) fits agree = (fit_too a b fits.0 agree.0, all_fit_too one other fits.1 agree.1)
 all_fit_too one other fits agree = absurd agree
@@ -146,7 +146,7 @@ as_many (a ∷ one) (b ∷ other) agree = ap suc (as_many one other agree.1)
 as_many one other agree = absurd agree
 
 -- alone they show the same
-shows_the_same : (k : ℕ) → k < most_images → (a b : Job) → IsFit a → IsFit b → JobsAgree a b
+shows_the_same : (k : ℕ) → k < most_images → (a b : Job) → IsFitJob a → IsFitJob b → JobsAgree a b
     → ShowTheSame (loaded_alone k a).bytes (member_of k a) (loaded_alone k b).bytes (member_of k b)
 shows_the_same k below a b fit fit' agree n seen seen' bytes bytes' after after' makes makes' =
     let code = code_base_of k in
@@ -171,8 +171,8 @@ shows_the_same k below a b fit fit' agree n seen seen' bytes bytes' after after'
     ∙ sym (shown_alone (member_of k b) after' (loaded_alone k b).bytes bytes' run'.step_count n run'.seen seen' Ecall
     run'.end refl run'.halts makes')
 
-module _ (one other : List Job) (few : length one ≤ most_images) (fits : AllByRecursion IsFit one)
-    (fits' : AllByRecursion IsFit other) (agree : AllAgree one other) where
+module _ (one other : List Job) (few : length one ≤ most_images) (fits : AllByRecursion IsFitJob one)
+    (fits' : AllByRecursion IsFitJob other) (agree : AllAgree one other) where
   all_alike : (k : ℕ) (m m' : Member) → slice_get (members_from zero one) k ≡ Some m
       → slice_get (members_from zero other) k ≡ Some m' → ShowTheSame (own_of one k) m (own_of other k) m'
   all_alike k m m' at at' =
@@ -191,8 +191,9 @@ module _ (one other : List Job) (few : length one ≤ most_images) (fits : AllBy
       (subst (ShowTheSame (loaded_alone k a).bytes (member_of k a) (loaded_alone k b).bytes) (sym is') both))
 
 pub one_list : (one other : List Job) (schedule : List ℕ) (list list' : List HartObservation) (end end' : System)
-    → length one ≤ most_images → AllByRecursion IsFromText one → AllAgree one other
-    → Follows schedule (system_of one) list end → Follows schedule (system_of other) list' end' → list ≡ list'
+    → length one ≤ most_images → AllByRecursion IsFromSource one → AllAgree one other
+    → FollowsSchedule schedule (system_of one) list end → FollowsSchedule schedule (system_of other) list' end'
+    → list ≡ list'
 one_list one other schedule list list' end end' few all agree follows follows' =
     let fits = all_fit one all in
     let fits' = all_fit_too one other fits agree in

@@ -9,7 +9,7 @@ use Rattle.harts.specs.Below.{AreApart, AreBases, AreWithin, ByteMap, Covers, Ec
 use Rattle.harts.specs.Below.{IsCompiled, IsImage, KeepsInside, Member, most_images, params_of, ProcedureTree}
 use Rattle.harts.specs.Below.{ProgramTree, RunsTo}
 use Rattle.harts.proofs.FrameLemmas.{frame_only}
-use Rattle.harts.specs.EverySchedule.{IsFromText}
+use Rattle.harts.specs.EverySchedule.{IsFromSource}
 use Rattle.harts.specs.SideBySide.{code_base_of, frame_base_of, Job, loaded_alone, member_of, bytes_from, members_from}
 use Rattle.harts.specs.SideBySide.{system_of}
 use Rattle.harts.proofs.Below.{keeps_inside, same_fields}
@@ -17,7 +17,7 @@ use Rattle.harts.proofs.Below.{keeps_inside, same_fields}
 -- One job.
 
 -- a compiled image that may lie at the bases of each hart, with arguments within its parameter types
-pub record IsFit (job : Job) : Type 0 where
+pub record IsFitJob (job : Job) : Type 0 where
   pub program : ProgramTree
   pub before : List ProcedureTree
   pub export : ProcedureTree
@@ -26,7 +26,7 @@ pub record IsFit (job : Job) : Type 0 where
   pub bases : (k : ℕ) → k < most_images → AreBases job.image (code_base_of k) (frame_base_of k)
   pub within : AreWithin (params_of job.image) job.args
 
-abbrev pub fit_of : (job : Job) → IsFromText job → IsFit job
+abbrev pub fit_of : (job : Job) → IsFromSource job → IsFitJob job
 fit_of job from =
     let built = from.built in
     let images : built.image ≡ job.image = same_fields from.bytes built.image job.image built.spelled from.spelled in
@@ -40,17 +40,17 @@ fit_of job from =
       within = from.within;
     }
 
-pub all_fit : (jobs : List Job) → AllByRecursion IsFromText jobs → AllByRecursion IsFit jobs
+pub all_fit : (jobs : List Job) → AllByRecursion IsFromSource jobs → AllByRecursion IsFitJob jobs
 all_fit [] from = tt
 all_fit (job ∷ jobs) from = (fit_of job from.0, all_fit jobs from.1)
 
-pub fit_at : (jobs : List Job) (k : ℕ) (job : Job) → AllByRecursion IsFit jobs → slice_get jobs k ≡ Some job
-    → IsFit job
+pub fit_at : (jobs : List Job) (k : ℕ) (job : Job) → AllByRecursion IsFitJob jobs → slice_get jobs k ≡ Some job
+    → IsFitJob job
 fit_at [] k job fits at = absurd (none-some job at)
-fit_at (first ∷ rest) zero job fits at = subst IsFit (same_Some first job at) fits.0
+fit_at (first ∷ rest) zero job fits at = subst IsFitJob (same_Some first job at) fits.0
 fit_at (first ∷ rest) (suc k) job fits at = fit_at rest k job fits.1 at
 
-module _ (k : ℕ) (job : Job) (fit : IsFit job) where
+module _ (k : ℕ) (job : Job) (fit : IsFitJob job) where
   -- its run alone
   pub run_of : k < most_images → RunsTo fit.program job.image (code_base_of k) (frame_base_of k) job.args
   run_of below = fit.compiled.results (code_base_of k) (frame_base_of k) job.args (fit.bases k below) fit.within
@@ -110,7 +110,7 @@ second_there (Some byte) other none = absurd (false≢true (sym none))
 second_there None other none = refl
 
 -- each frame's bytes are there
-bytes_at : (base : ℕ) (jobs : List Job) → AllByRecursion IsFit jobs → (k : ℕ) (job : Job)
+bytes_at : (base : ℕ) (jobs : List Job) → AllByRecursion IsFitJob jobs → (k : ℕ) (job : Job)
     → slice_get jobs k ≡ Some job → (a : ℕ) → is_some ((loaded_alone (base + k) job).bytes a) ≡ true
     → bytes_from base jobs a ≡ (loaded_alone (base + k) job).bytes a
 bytes_at base [] fits k job at a there = absurd (none-some job at)
@@ -141,7 +141,7 @@ pub own_is : (jobs : List Job) (k : ℕ) (job : Job) → slice_get jobs k ≡ So
     → own_of jobs k ≡ (loaded_alone k job).bytes
 own_is jobs k job at = ap (λ o. own_at o k) at
 
-module _ (jobs : List Job) (few : length jobs ≤ most_images) (fits : AllByRecursion IsFit jobs) where
+module _ (jobs : List Job) (few : length jobs ≤ most_images) (fits : AllByRecursion IsFitJob jobs) where
   owned : (k a : ℕ) (o : Option Job) → slice_get jobs k ≡ o → is_some (own_at o k a) ≡ true
       → (job : Job) × (slice_get jobs k ≡ Some job) × (is_some ((loaded_alone k job).bytes a) ≡ true)
   owned k a (Some job) at there = (job, at, there)

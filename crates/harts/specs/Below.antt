@@ -4,7 +4,8 @@ pub use Rattle.rv_machine.specs.Bytes.{ByteMap, with_byte, zeros}
 unfoldable pub use Rattle.rv_machine.specs.Bytes.{number_at, with_number}
 pub use Rattle.rv_machine.specs.Paged.{first_of, lies_in, paged_bytes, zeros_in}
 pub use Rattle.rv_machine.specs.RunningHarts.{CutShort, Followed, member_now, system_now}
-pub use Rattle.rv_machine.specs.System.{Follows, Makes, Member, none, of_hart, one_more, rests, System, steps_of}
+pub use Rattle.rv_machine.specs.System.{FollowsSchedule, HartMakes, Member, none, of_hart, one_more, rests, System}
+pub use Rattle.rv_machine.specs.System.{steps_of}
 pub use Rattle.rv_machine.specs.declared.hart_recording.HartObservation.{HartObservation}
 pub use Rattle.rv_machine.specs.declared.observation.Observation.{Observation}
 pub use Rattle.rv_machine.specs.declared.paged.AddressRange.{AddressRange}

@@ -1,8 +1,8 @@
 -- What is promised of the images of accepted texts side by side, under any schedule.
 use Rattle.std.specs.Prelude.{◌≡◌, ◌⊎◌, ℕ, ◌+◌, ◌<◌, ◌≤◌, List, [], ◌∷◌, Some, None, All, slice_get}
 use Rattle.language.specs.arguments.Agreement.{Agree}
-use Rattle.harts.specs.Below.{AreWithin, ByteMap, Ecall, HartObservation, IsInside, Makes, Means, Member, Observation}
-use Rattle.harts.specs.Below.{of_hart, params_of, ProgramTree, results_in, System, steps_of}
+use Rattle.harts.specs.Below.{AreWithin, ByteMap, Ecall, HartObservation, IsInside, HartMakes, Means, Member}
+use Rattle.harts.specs.Below.{Observation, of_hart, params_of, ProgramTree, results_in, System, steps_of}
 use Rattle.harts.specs.SideBySide.{frame_base_of, Job, loaded_alone, member_of}
 use Rattle.hepurita.specs.Built.{IsBuilt}
 use Rattle.hepurita.specs.declared.optimised.Optimisation.{Optimisation}
@@ -10,7 +10,7 @@ use Rattle.image.specs.Reading.{Spells}
 use Rattle.word.specs.declared.profile.Profile.{Profile}
 
 -- the image of an accepted text, plain or optimised, for some observer, with arguments within its parameter types
-pub record IsFromText (job : Job) : Type 0 where
+pub record IsFromSource (job : Job) : Type 0 where
   pub optimisation : Optimisation
   pub profile : Profile
   pub text : List ℕ
@@ -28,7 +28,7 @@ pub record IsAlone (program : ProgramTree) (k : ℕ) (job : Job) (schedule : Lis
   pub bytes : ByteMap
   pub member : Member
   pub seen : List Observation
-  pub makes : Makes (steps_of k schedule) (loaded_alone k job).bytes (member_of k job) seen bytes member
+  pub makes : HartMakes (steps_of k schedule) (loaded_alone k job).bytes (member_of k job) seen bytes member
   pub there : slice_get end.members k ≡ Some member
   pub frame : (a : ℕ) → frame_base_of k ≤ a → a < frame_base_of k + job.image.frame_bytes → end.bytes a ≡ bytes a
   pub shown : of_hart k list ≡ seen

@@ -18,5 +18,5 @@ pub use bases::{CODE_DISTANCE, FRAME_DISTANCE, MOST_IMAGES};
 pub use checking::MOST_TURNS;
 pub use ends::HartEnd;
 pub use fault::{HartsFault, HartsRule};
-pub use laws::{every_schedule, harts_do_what_texts_mean};
+pub use laws::{every_schedule, harts_do_what_sources_mean};
 pub use running::run_harts;

@@ -24,10 +24,11 @@ Faultless = (params : List Param) (args : List Arg) → (fault_of params args �
 abbrev pub OneForEach : Type 0
 OneForEach = (params : List Param) (args : List Arg) → AreWithin params args → length args ≡ length params
 
--- ---- the image of an accepted text
+-- ---- the image of an accepted source
 
 -- it is the export, compiled, and may lie at the standard bases
-pub record Fits (program : ProgramTree) (before : List ProcedureTree) (export : ProcedureTree) (image : Fields) :
+pub record IsExportImage (program : ProgramTree) (before : List ProcedureTree) (export : ProcedureTree)
+    (image : Fields) :
     Type 0 where
   pub compiled : IsCompiled program before export image
   pub bases : AreBases image code_base frame_base
@@ -37,13 +38,13 @@ same_fields bytes f g one other =
     let both = sym one ∙ other in
     cc
 
-pub fits : OneAnswer → (optimisation : Optimisation) (profile : Profile) (text bytes : List ℕ) (program : ProgramTree)
+pub fits : OneAnswer → (optimisation : Optimisation) (profile : Profile) (source bytes : List ℕ) (program : ProgramTree)
     (before : List ProcedureTree) (export : ProcedureTree) (image : Fields)
-    → Builds optimisation profile text bytes program before export image → Fits program before export image
-fits one optimisation profile text bytes program before export image is =
+    → Builds optimisation profile source bytes program before export image → IsExportImage program before export image
+fits one optimisation profile source bytes program before export image is =
     let built = is.built in
     let found = built.compilation in
-    let same = one_export profile one text built.program program built.before before built.export export found.judged
+    let same = one_export profile one source built.program program built.before before built.export export found.judged
     is.judged in
     let images : built.image ≡ image = same_fields bytes built.image image built.spelled is.spelled in
     record {
@@ -52,7 +53,7 @@ fits one optimisation profile text bytes program before export image is =
     }
 
 module _ {program : ProgramTree} {before : List ProcedureTree} {export : ProcedureTree} {image : Fields}
-    (is : Fits program before export image) where
+    (is : IsExportImage program before export image) where
   -- the run on arguments
   pub run_on : (args : List Arg) → AreWithin (params_of image) args → RunsTo program image code_base frame_base args
   run_on args within = is.compiled.results code_base frame_base args is.bases within

@@ -65,15 +65,15 @@ module _ (profile : Profile) where
             (sym (same_violations profile program before export plain small)) (rw same at earliest))),
       )
 
-  -- a refusal of the text as such
-  pub refusal_of_text : (text : List ℕ) (r : Refusal) → IsRefusedAs (Reads text) r → IsRefusalOf profile text r
-  refusal_of_text text r (inl memory) = inl memory
-  refusal_of_text text r (inr (place, at, reads, plain)) =
+  -- a refusal of the source as such
+  pub refusal_of_source : (source : List ℕ) (r : Refusal) → IsRefusedAs (Reads source) r → IsRefusalOf profile source r
+  refusal_of_source source r (inl memory) = inl memory
+  refusal_of_source source r (inr (place, at, reads, plain)) =
       inr (place, at, unreadable reads, of_reading (inr (place, at, reads, plain)))
 
-  -- a refusal of the program that the text is
-  pub refusal_of_program : (text : List ℕ) (program : ProgramTree) (r : Refusal) → Reads text (accepted program)
-      → IsRefusal (JudgesProgram profile program) r → IsToldOfProgram profile program r → IsRefusalOf profile text r
-  refusal_of_program text program r reads (inl memory) told = inl memory
-  refusal_of_program text program r reads (inr (place, at, judges)) told =
+  -- a refusal of the program that the source is
+  pub refusal_of_program : (source : List ℕ) (program : ProgramTree) (r : Refusal) → Reads source (accepted program)
+      → IsRefusal (JudgesProgram profile program) r → IsToldOfProgram profile program r → IsRefusalOf profile source r
+  refusal_of_program source program r reads (inl memory) told = inl memory
+  refusal_of_program source program r reads (inr (place, at, judges)) told =
       inr (place, at, readable reads judges, of_program reads told)

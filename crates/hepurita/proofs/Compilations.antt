@@ -1,4 +1,4 @@
--- What is generated for an accepted text is its compilation, and that has bytes.
+-- What is generated for an accepted source is its compilation, and that has bytes.
 use Rattle.std.proofs.Common.{◌≡◌, ℕ, List, ◌∙◌}
 use Rattle.hepurita.specs.Below.{Fields, flattened, IsGenerated, IsImage, IsRemoved, ProcedureTree, Profile}
 use Rattle.hepurita.specs.Below.{ProgramTree, ranged, StraightProgram}
@@ -8,17 +8,17 @@ use Rattle.hepurita.specs.Built.{IsCompilation, Judges, accepts, fine, readable}
 use Rattle.hepurita.specs.Exact.{image_for}
 use Rattle.hepurita.specs.declared.optimised.Optimisation.{Optimisation}
 use Rattle.hepurita.proofs.BaseLemmas.{bases_of}
-use Rattle.hepurita.proofs.TheoremLemmas.{texts_compiled}
+use Rattle.hepurita.proofs.TheoremLemmas.{sources_compiled}
 
-module _ (optimisation : Optimisation) (profile : Profile) (text : List ℕ) (program : ProgramTree)
+module _ (optimisation : Optimisation) (profile : Profile) (source : List ℕ) (program : ProgramTree)
     (before : List ProcedureTree) (export : ProcedureTree) (image : Fields) where
-  pub compilation : (straight : StraightProgram) → Judges profile text (accepts program before export)
+  pub compilation : (straight : StraightProgram) → Judges profile source (accepts program before export)
       → IsRemoved (ranged (flattened profile before export)) straight → IsGenerated straight image → IsImage image
       → image ≡ image_for optimisation profile before export
-      → IsCompilation optimisation profile text program before export image
+      → IsCompilation optimisation profile source program before export image
   compilation straight (readable reads (fine small in_range in_time)) removed generated allowed exact =
       let judges = fine small in_range in_time in
-      let is = texts_compiled profile text program before export straight image reads judges removed generated in
+      let is = sources_compiled profile source program before export straight image reads judges removed generated in
       record {
         judged = readable reads judges;
         observed = generated.profile ∙ removed.profile;
@@ -28,8 +28,8 @@ module _ (optimisation : Optimisation) (profile : Profile) (text : List ℕ) (pr
         bases = bases_of profile program before export image judges is;
       }
 
-  pub spelled : IsCompilation optimisation profile text program before export image
-      → (bytes : List ℕ) × Builds optimisation profile text bytes program before export image
+  pub spelled : IsCompilation optimisation profile source program before export image
+      → (bytes : List ℕ) × Builds optimisation profile source bytes program before export image
   spelled is =
       let found = (allowed_by_bytes image).0 is.allowed in (
         found.0,

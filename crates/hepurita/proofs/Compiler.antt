@@ -1,6 +1,6 @@
 -- The compiler's theorem, from what each pass promises.
 use Rattle.std.proofs.Common.{◌≡◌, ℕ, ◌+◌, ◌*◌, ◌≤◌, List, length, map, sym, ap, ◌∙◌, subst}
-use Rattle.hepurita.specs.Below.{Agree, AgreeInPublic, AreBases, AreWithin, Arg, Code, Fields, flattened, gives}
+use Rattle.hepurita.specs.Below.{Agree, AgreeInPublic, AreBases, AreWithin, Arg, MachineCode, Fields, flattened, gives}
 use Rattle.hepurita.specs.Below.{IsGenerated, IsLoaded, IsPlaced, IsRemoved, outcome_of as outcome_of_flat, Param}
 use Rattle.hepurita.specs.Below.{param_of, params_of, ProcedureTree, Profile, ProgramTree, ranged, Results, results_in}
 use Rattle.hepurita.specs.Below.{RunsAs, State, StraightProgram, work_of}
@@ -98,7 +98,7 @@ module _ (profile : Profile) (program : ProgramTree) (before : List ProcedureTre
 
   -- ---- the body, wherever its words stand
 
-  runs_linked : (code : Code) (start frame : ℕ) (at : IsPlaced image code start frame) (args : List Arg)
+  runs_linked : (code : MachineCode) (start frame : ℕ) (at : IsPlaced image code start frame) (args : List Arg)
       (s : State) → s.pc ≡ start → IsLoaded image frame args s → AreWithin (params_of image) args
       → RunsLinked program image code start frame args s
       ((generated.anywhere code start frame at).shown (path_on args))
@@ -119,7 +119,7 @@ module _ (profile : Profile) (program : ProgramTree) (before : List ProcedureTre
       (meant args fits).alone (gives results) known.given in
       cc
 
-  linked : (code : Code) (start frame : ℕ) → IsPlaced image code start frame
+  linked : (code : MachineCode) (start frame : ℕ) → IsPlaced image code start frame
       → IsLinked program p image code start frame
   linked code start frame at = record {
     shown = λ args. (generated.anywhere code start frame at).shown (path_on args);

@@ -3,10 +3,10 @@ use Rattle.std.specs.Prelude.{◌⊎◌}
 use Rattle.std.proofs.Common.{◌≡◌, ◌≢◌, inl, inr, ℕ, suc, ◌<◌, ◌≤◌, List, ◌∷◌, ◌++◌, length, length-append, take}
 use Rattle.std.proofs.Common.{refl, sym, ap, subst, ◌∙◌, arith}
 use Rattle.std.proofs.lemmas.List.{take_all}
-use Rattle.hepurita.specs.Below.{Agree, AreWithin, Arg, Budget, Code, cut_short, Ecall, Fields, halted, Halts, halts}
-use Rattle.hepurita.specs.Below.{Leads, Observation, params_of, ProcedureTree, ProgramTree, RecorderRefused, results_in}
-use Rattle.hepurita.specs.Below.{Runs, spent, State, stays, Stop, stops, Step, steps_on}
-use Rattle.hepurita.proofs.AnswerLemmas.{Fits, run_on, same_shown}
+use Rattle.hepurita.specs.Below.{Agree, AreWithin, Arg, Budget, MachineCode, cut_short, Ecall, Fields, halted, Halts}
+use Rattle.hepurita.specs.Below.{halts, Leads, Observation, params_of, ProcedureTree, ProgramTree, RecorderRefused}
+use Rattle.hepurita.specs.Below.{results_in, RunsWithin, spent, State, stays, Stop, stops, Step, steps_on}
+use Rattle.hepurita.proofs.AnswerLemmas.{IsExportImage, run_on, same_shown}
 use Rattle.hepurita.specs.Bases.{frame_base}
 use Rattle.hepurita.specs.Compiled.{Means}
 use Rattle.hepurita.specs.CutOff.{IsRightSoFar}
@@ -14,12 +14,13 @@ use Rattle.hepurita.specs.Uncut.{RunsFor}
 use Rattle.hepurita.proofs.Below.{Step-determined, goes_on≢stops, Halts-determined, step_stops}
 
 -- each step shows one observation, and the one that stops at most one
-as_many_shown : {code : Code} {n : ℕ} {s t : State} {seen : List Observation} → Leads code n s seen t
+as_many_shown : {code : MachineCode} {n : ℕ} {s t : State} {seen : List Observation} → Leads code n s seen t
     → length seen ≡ n
 as_many_shown stays = refl
 as_many_shown (steps_on step rest) = ap suc (as_many_shown rest)
 
-few_shown : {code : Code} {n : ℕ} {s t : State} {seen : List Observation} {stop : Stop} → Halts code n s seen stop t
+few_shown : {code : MachineCode} {n : ℕ} {s t : State} {seen : List Observation} {stop : Stop}
+    → Halts code n s seen stop t
     → length seen ≤ n
 few_shown {code} (halts {n = n} {seen = seen} {last = last} {list = list} {stop = stop} {t = t} first end is) =
     omega (
@@ -30,7 +31,8 @@ few_shown {code} (halts {n = n} {seen = seen} {last = last} {list = list} {stop 
     )
 
 -- steps from a state whose later step stops are no more than those before it, and show a beginning
-steps_begin : {code : Code} {m n : ℕ} {s t u : State} {a b last : List Observation} {stop : Stop} → Leads code m s a t
+steps_begin : {code : MachineCode} {m n : ℕ} {s t u : State} {a b last : List Observation} {stop : Stop}
+    → Leads code m s a t
     → Step code t (stops last stop) → Leads code n s b u → (n ≤ m) × (b ≡ take n (a ++ last))
 steps_begin first end stays = (omega arith, refl)
 steps_begin stays end (steps_on other then) = absurd (goes_on≢stops other end)
@@ -43,14 +45,14 @@ steps_begin {code} {u = u} {last = last} (steps_on {n = m} {o = o} {seen = a} {t
     (omega (arith, more.0), ap (λ x. x ∷ b) head ∙ ap (λ xs. o ∷ xs) more.1)
 
 -- what a run is that was given so many steps, where the run that halts takes this many and shows this
-record Begun (n given : ℕ) (whole : List Observation) (stop : Stop) (end : State) (seen : List Observation)
+record BegunRun (n given : ℕ) (whole : List Observation) (stop : Stop) (end : State) (seen : List Observation)
     (other : Stop) (now : State) : Type 0 where
   pub shown : seen ≡ take given whole
   pub ended : ((other ≡ stop) × (now ≡ end)) ⊎ ((other ≡ Budget) × (given < n))
 
-begun : {code : Code} {n given : ℕ} {s end now : State} {whole seen : List Observation} {stop other : Stop}
-    → Halts code n s whole stop end → Runs code given s seen other now → other ≢ RecorderRefused
-    → Begun n given whole stop end seen other now
+begun : {code : MachineCode} {n given : ℕ} {s end now : State} {whole seen : List Observation} {stop other : Stop}
+    → Halts code n s whole stop end → RunsWithin code given s seen other now → other ≢ RecorderRefused
+    → BegunRun n given whole stop end seen other now
 begun {given = given} {whole = whole} halting (halted within halting') calm =
     let same = Halts-determined halting' halting in
     record {
@@ -63,11 +65,11 @@ begun {given = given} (halts {n = n} {seen = seen} {last = last} first end is) (
     record { shown = both.1 ∙ ap (take given) (sym is); ended = inr (refl, omega (arith, both.0)) }
 
 module _ {program : ProgramTree} {before : List ProcedureTree} {export : ProcedureTree} {image : Fields}
-    (is : Fits program before export image) where
+    (is : IsExportImage program before export image) where
   begun_on : (args : List Arg) (within : AreWithin (params_of image) args) (given : ℕ) (seen : List Observation)
       (stop : Stop) (end : State) → RunsFor given image args seen stop end
       → (let to = run_on is args within in
-      Begun to.run.step_count given to.run.seen Ecall to.run.end seen stop end)
+      BegunRun to.run.step_count given to.run.seen Ecall to.run.end seen stop end)
   begun_on args within given seen stop end run =
       begun (run_on is args within).run.halts run.0 run.1
 

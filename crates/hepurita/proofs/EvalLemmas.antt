@@ -1,4 +1,4 @@
--- What `eval` answers for an accepted text: its one outcome.
+-- What `eval` answers for an accepted source: its one outcome.
 use Rattle.std.proofs.Common.{◌≡◌, ℕ, ◌≤◌, List, map, None, Ok, ap, subst, ◌∙◌}
 use Rattle.hepurita.specs.Below.{answer, AreWithin, Arg, extents_of, fault_of, flattened, found_params, judged_answer}
 use Rattle.hepurita.specs.Below.{most_work, outcome_of, Param, param_of, ProcedureTree, Profile, ProgramTree, Results}
@@ -22,13 +22,13 @@ judged program args budget params same none =
     rw (same, none)
 
 pub evaluated : Faultless
-    → (profile : Profile) (text : List ℕ) (program : ProgramTree) (before : List ProcedureTree)
-    (export : ProcedureTree) (args : List Arg) (budget : ℕ) → Judges profile text (accepts program before export)
+    → (profile : Profile) (source : List ℕ) (program : ProgramTree) (before : List ProcedureTree)
+    (export : ProcedureTree) (args : List Arg) (budget : ℕ) → Judges profile source (accepts program before export)
     → AreWithin (map param_of export.parameters) args → most_work ≤ budget
     → (results : Results) × Means program args results × (answer program args budget ≡ Ok results)
-evaluated faultless profile text program before export args budget (readable reads (fine small in_range in_time))
+evaluated faultless profile source program before export args budget (readable reads (fine small in_range in_time))
     within enough =
-    let plain = grammatical_export text program reads in
+    let plain = grammatical_export source program reads in
     let is = small.well_formed in
     let parts = plain before export is.is_export in
     let flat = flattened profile before export in

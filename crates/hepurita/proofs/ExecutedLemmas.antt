@@ -1,7 +1,7 @@
 -- What is answered to arguments, case by case.
 use Rattle.std.proofs.Common.{◌≡◌, ℕ, Bool, List, Some, None, Result, Err}
-use Rattle.hepurita.specs.Below.{Arg, ArgumentFault, Code, code_at, fault_of, Fields, loaded_at, Observation, params_of}
-use Rattle.hepurita.specs.Below.{Ran, Results, State, Stop}
+use Rattle.hepurita.specs.Below.{Arg, ArgumentFault, MachineCode, code_at, fault_of, Fields, loaded_at, Observation}
+use Rattle.hepurita.specs.Below.{params_of, Ran, Results, State, Stop}
 use Rattle.hepurita.specs.declared.fault.RunFault.{RunFault}
 use Rattle.hepurita.specs.declared.fault.RunFault.TheVariants.{Argument, Memory}
 use Rattle.hepurita.specs.Bases.{code_base, frame_base}
@@ -21,7 +21,7 @@ refused_executed image args keeps list fault e is first = rw is (refused first)
 
 -- a run
 pub ran_executed : (image : Fields) (args : List Arg) (keeps : Bool) (list after : List Observation)
-    (r : Result Results RunFault) (code : Code) (steps : ℕ) (s t : State) (stop : Stop)
+    (r : Result Results RunFault) (code : MachineCode) (steps : ℕ) (s t : State) (stop : Stop)
     → fault_of (params_of image) args ≡ None → code ≡ code_at code_base image → steps ≡ image.max_steps
     → s ≡ loaded_at code_base frame_base image args → Ran code keeps steps s list stop t after
     → r ≡ answer_at frame_base image stop t.bytes → Executed image args keeps list r after

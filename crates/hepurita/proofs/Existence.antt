@@ -1,8 +1,8 @@
--- Each text has a judgement.
+-- Each source has a judgement.
 use Rattle.std.proofs.Common.{◌≡◌, ℕ, List, [], length, None, Some, ⊎_elim, refl}
 use Rattle.hepurita.proofs.Below.{Export, has_export, first_of}
 use Rattle.hepurita.proofs.grammar_laws_lemmas.Existence.{answer_to}
-use Rattle.hepurita.specs.Below.{accepted, Answer, exported, flattened, ProcedureTree, Profile, ProgramTree}
+use Rattle.hepurita.specs.Below.{accepted, ParseAnswer, exported, flattened, ProcedureTree, Profile, ProgramTree}
 use Rattle.hepurita.specs.Below.{range_violations, Reads, refused, size_violations, violations}
 use Rattle.hepurita.specs.source_work.SourceWork.{work_violations}
 use Rattle.hepurita.specs.Built.{Judgement, IsWellFormed, IsSmall, Judges, JudgesProgram, accepts, refuses, ill_typed}
@@ -47,11 +47,11 @@ module _ (profile : Profile) (program : ProgramTree) where
       (λ first. (refuses first.0.rule first.0.place, ill_typed first.1))
       (first_of (violations profile program))
 
-by_answer : (profile : Profile) (text : List ℕ) (answer : Answer) → Reads text answer
-    → (judgement : Judgement) × Judges profile text judgement
-by_answer profile text (accepted program) reads = let judged = judged_program profile program in
+by_answer : (profile : Profile) (source : List ℕ) (answer : ParseAnswer) → Reads source answer
+    → (judgement : Judgement) × Judges profile source judgement
+by_answer profile source (accepted program) reads = let judged = judged_program profile program in
     (judged.0, readable reads judged.1)
-by_answer profile text (refused rule place) reads = (refuses rule place, unreadable reads)
+by_answer profile source (refused rule place) reads = (refuses rule place, unreadable reads)
 
-pub each_judged : (profile : Profile) (text : List ℕ) → (judgement : Judgement) × Judges profile text judgement
-each_judged profile text = let answer = answer_to text in by_answer profile text answer.0 answer.1
+pub each_judged : (profile : Profile) (source : List ℕ) → (judgement : Judgement) × Judges profile source judgement
+each_judged profile source = let answer = answer_to source in by_answer profile source answer.0 answer.1

@@ -1,4 +1,4 @@
--- What the last passes find in a text's one body is the judgement on the text.
+-- What the last passes find in a source's one body is the judgement on the source.
 use Rattle.std.proofs.Common.{◌≡◌, ℕ, List, length, Result, Ok, Err, ap, ◌∙◌}
 use Rattle.std.specs.Result.{IfOk, IfErr, OnOk}
 use Rattle.hepurita.specs.Below.{IsRefusedByRanges, IsToldByRanges, Profile, program_tree, ProgramTree}
@@ -24,23 +24,23 @@ pub err_both : {X Y : Type 0} (r : Result X Y) (P Q R : Y → Type 0) → IfErr 
 err_both (Ok x) P Q R p q both = tt
 err_both (Err y) P Q R p q both = both y p q
 
-module _ (profile : Profile) (text : List ℕ) (made : Flattened) (is : IsFlattened profile text made) where
+module _ (profile : Profile) (source : List ℕ) (made : Flattened) (is : IsFlattened profile source made) where
   abbrev program : ProgramTree
   program = program_tree made.program
 
   plain : HasGrammaticalExport program
-  plain = grammatical_export text program is.read
+  plain = grammatical_export source program is.read
 
   pub judged_fine : length (range_violations made.flat) ≡ 0 → length (work_violations made.flat) ≡ 0
-      → Judges profile text (accepts program is.before is.export)
+      → Judges profile source (accepts program is.before is.export)
   judged_fine in_range in_time =
       let one = same_violations profile program is.before is.export plain is.small in
       readable is.read
       (fine is.small (rw is.body at in_range) (ap (λ vs. length vs) one ∙ (rw is.body at in_time)))
 
   pub refused_by_ranges : (r : Refusal) → IsRefusedByRanges made.flat r.rule r.place → IsToldByRanges made.flat r
-      → IsRefusalOf profile text r
+      → IsRefusalOf profile source r
   refused_by_ranges r refused told =
-      refusal_of_program profile text program r is.read
+      refusal_of_program profile source program r is.read
       (refusal_of_ranges profile program is.before is.export made.flat r plain is.small is.body refused)
       (told_of_ranges profile program made.flat r plain (is.before, is.export, is.small, is.body) told)

@@ -1,4 +1,4 @@
--- The export of a program that a text is, is grammatical; so its work is a sum over the source, and so is the limit
+-- The export of a program that a source is, is grammatical; so its work is a sum over the source, and so is the limit
 -- on it.
 use Rattle.std.proofs.Common.{◌≡◌, ℕ, List, [], Some, ap₂, nat_lt}
 use Rattle.std.specs.List.{AllByRecursion}
@@ -21,11 +21,11 @@ abbrev pub HasGrammaticalExport : ProgramTree → Type 0
 HasGrammaticalExport program = (before : List ProcedureTree) (p : ProcedureTree)
     → exported [] program.procedures ≡ Some (before, p) → AllByRecursion IsGrammatical before × IsGrammatical p
 
--- the export of a program that a text is, is grammatical, and so are those before it
-pub grammatical_export : (text : List ℕ) (program : ProgramTree) → Reads text (accepted program)
+-- the export of a program that a source is, is grammatical, and so are those before it
+pub grammatical_export : (source : List ℕ) (program : ProgramTree) → Reads source (accepted program)
     → HasGrammaticalExport program
-grammatical_export text program reads before p is =
-    of_export IsGrammatical program.procedures before p is (read_text text program reads)
+grammatical_export source program reads before p is =
+    of_export IsGrammatical program.procedures before p is (read_text source program reads)
 
 -- its work, as a sum over the source, is that of the body
 pub same_work : (profile : Profile) (program : ProgramTree) (before : List ProcedureTree) (export : ProcedureTree)

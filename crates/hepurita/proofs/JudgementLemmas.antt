@@ -1,4 +1,4 @@
--- A text is not both accepted and refused, nor accepted for two exports.
+-- A source is not both accepted and refused, nor accepted for two exports.
 use Rattle.std.proofs.Common.{◌≡◌, ℕ, ◌≤◌, Bool, true, false, nat_lt, ◌||◌, List, [], ◌∷◌, ◌++◌, None, Some, length}
 use Rattle.std.proofs.Common.{refl, ap, sym, subst, ◌∙◌, arith}
 use Rattle.std.specs.List.{AllByRecursion}
@@ -62,28 +62,28 @@ module _ (profile : Profile) where
   of_accepted program of before export (fine small in_range in_time) = (small, in_range)
 
   pub not_both : OneAnswer
-      → (text : List ℕ) (program : ProgramTree) (before : List ProcedureTree) (export : ProcedureTree) (rule : Rule)
-      (place : Place) → Judges profile text (accepts program before export)
-      → Judges profile text (refuses rule place) → ⊥
-  not_both one text of before export rule place (readable {program} reads judges) (unreadable reads') =
-      let same = one text (accepted program) (refused rule place) reads reads' in
+      → (source : List ℕ) (program : ProgramTree) (before : List ProcedureTree) (export : ProcedureTree) (rule : Rule)
+      (place : Place) → Judges profile source (accepts program before export)
+      → Judges profile source (refuses rule place) → ⊥
+  not_both one source of before export rule place (readable {program} reads judges) (unreadable reads') =
+      let same = one source (accepted program) (refused rule place) reads reads' in
       cc
-  not_both one text of before export rule place (readable {program} reads judges)
+  not_both one source of before export rule place (readable {program} reads judges)
       (readable {program = other} reads' judges') =
-      let answer = one text (accepted program) (accepted other) reads reads' in
+      let answer = one source (accepted program) (accepted other) reads reads' in
       let same : program ≡ other = cc in
       apart other of before export rule place
       (subst (λ (p : ProgramTree). JudgesProgram profile p (accepts of before export)) same judges) judges'
 
-  -- an accepted text is one program with one export
+  -- an accepted source is one program with one export
   pub one_export : OneAnswer
-      → (text : List ℕ) (program program' : ProgramTree) (before before' : List ProcedureTree)
-      (export export' : ProcedureTree) → Judges profile text (accepts program before export)
-      → Judges profile text (accepts program' before' export')
+      → (source : List ℕ) (program program' : ProgramTree) (before before' : List ProcedureTree)
+      (export export' : ProcedureTree) → Judges profile source (accepts program before export)
+      → Judges profile source (accepts program' before' export')
       → (program ≡ program') × (before ≡ before') × (export ≡ export')
-  one_export one text program program' before before' export export' (readable reads (fine small in_range in_time))
+  one_export one source program program' before before' export export' (readable reads (fine small in_range in_time))
       (readable reads' (fine small' in_range' in_time')) =
-      let answer = one text (accepted program) (accepted program') reads reads' in
+      let answer = one source (accepted program) (accepted program') reads reads' in
       let same : program ≡ program' = cc in
       let exports : Some (before, export) ≡ Some (before', export') =
       sym small.well_formed.is_export ∙ ap (λ (p : ProgramTree). exported [] p.procedures) same

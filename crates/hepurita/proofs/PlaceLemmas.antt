@@ -58,7 +58,7 @@ module _ (w : Place → ℕ) where
       light_of (work_light w before export (parts_light profile program before export small.well_formed h).export)
       earliest.there
 
-pub refused_in_place : (profile : Profile) (text : List ℕ) (program : ProgramTree) (rule : Rule) (place : Place)
-    → Reads text (accepted program) → JudgesProgram profile program (refuses rule place) → astray text place ≡ 0
-refused_in_place profile text program rule place reads judges =
-    refused_light (astray text) profile program rule place (heads_in_place text program reads) refl judges
+pub refused_in_place : (profile : Profile) (source : List ℕ) (program : ProgramTree) (rule : Rule) (place : Place)
+    → Reads source (accepted program) → JudgesProgram profile program (refuses rule place) → astray source place ≡ 0
+refused_in_place profile source program rule place reads judges =
+    refused_light (astray source) profile program rule place (heads_in_place source program reads) refl judges

@@ -1,4 +1,4 @@
--- A text is refused for one rule at one place.
+-- A source is refused for one rule at one place.
 use Rattle.std.proofs.Common.{◌≡◌, inl, inr, ℕ, List, [], ◌∷◌, get_or, refl, ap, sym, subst, ◌∙◌, arith}
 use Rattle.std.proofs.lemmas.List.Elements.{All-contains}
 use Rattle.hepurita.specs.Below.{accepted, ArgumentCount, ArrayPassedTwice, ArrayShapeOrLabel, BadNumber}
@@ -58,7 +58,7 @@ one_named (vs ∷ later) u v (here first) (behind empty is) = absurd (omega (ari
 one_named (vs ∷ later) u v (behind empty is) (here first) = absurd (omega (arith, first.there.1))
 one_named (vs ∷ later) u v (behind empty is) (behind empty' is') = one_named later u v is is'
 
--- ---- a program and a text
+-- ---- a program and a source
 
 module _ (profile : Profile) where
   of_program : (program : ProgramTree) (rule rule' : Rule) (place place' : Place)
@@ -71,25 +71,25 @@ module _ (profile : Profile) where
       (u.1 ∙ same.0 ∙ sym v.1, ap (λ (p : Place). p.offset) u.2 ∙ same.1 ∙ ap (λ (p : Place). p.offset) (sym v.2))
 
   -- the offset decides the place
-  pub one_refusal_for : OneAnswer → (text : List ℕ) (rule rule' : Rule) (place place' : Place)
-      → Judges profile text (refuses rule place) → Judges profile text (refuses rule' place')
+  pub one_refusal_for : OneAnswer → (source : List ℕ) (rule rule' : Rule) (place place' : Place)
+      → Judges profile source (refuses rule place) → Judges profile source (refuses rule' place')
       → (rule ≡ rule') × (place ≡ place')
-  one_refusal_for one text rule rule' place place' (unreadable reads) (unreadable reads') =
-      let answer = one text (refused rule place) (refused rule' place') reads reads' in
+  one_refusal_for one source rule rule' place place' (unreadable reads) (unreadable reads') =
+      let answer = one source (refused rule place) (refused rule' place') reads reads' in
       (cc, cc)
-  one_refusal_for one text rule rule' place place' (unreadable reads) (readable {program} reads' judges') =
-      let answer = one text (refused rule place) (accepted program) reads reads' in
+  one_refusal_for one source rule rule' place place' (unreadable reads) (readable {program} reads' judges') =
+      let answer = one source (refused rule place) (accepted program) reads reads' in
       cc
-  one_refusal_for one text rule rule' place place' (readable {program} reads judges) (unreadable reads') =
-      let answer = one text (accepted program) (refused rule' place') reads reads' in
+  one_refusal_for one source rule rule' place place' (readable {program} reads judges) (unreadable reads') =
+      let answer = one source (accepted program) (refused rule' place') reads reads' in
       cc
-  one_refusal_for one text rule rule' place place' (readable {program} reads judges)
+  one_refusal_for one source rule rule' place place' (readable {program} reads judges)
       (readable {program = other} reads' judges') =
-      let answer = one text (accepted program) (accepted other) reads reads' in
+      let answer = one source (accepted program) (accepted other) reads reads' in
       let same : program ≡ other = cc in
       let alike = of_program other rule rule' place place'
       (subst (λ (p : ProgramTree). JudgesProgram profile p (refuses rule place)) same judges) judges' in (
         alike.0,
-        one_place text place place' (refused_in_place profile text program rule place reads judges)
-            (refused_in_place profile text other rule' place' reads' judges') alike.1,
+        one_place source place place' (refused_in_place profile source program rule place reads judges)
+            (refused_in_place profile source other rule' place' reads' judges') alike.1,
       )

@@ -1,8 +1,8 @@
--- An accepted text's image is the export, compiled; and what the passes ask of its export.
+-- An accepted source's image is the export, compiled; and what the passes ask of its export.
 use Rattle.std.proofs.Common.{◌≡◌, ℕ, ◌≤◌, inl, inr, nat_lt, List, length, map, sym, subst, ◌∙◌, arith}
 use Rattle.std.proofs.lemmas.Bool.{cases_lt, lt-ltb}
-use Rattle.hepurita.specs.Below.{accepted, AreWithin, Arg, because, Ending, Fields, FlatProgram, flattened, Gives, gives}
-use Rattle.hepurita.specs.Below.{IsGenerated, IsRemoved, IsTypedProgram, most_work, outcome_of, param_of, Place}
+use Rattle.hepurita.specs.Below.{accepted, AreWithin, Arg, because, Ending, Fields, FlatProgram, flattened, Gives}
+use Rattle.hepurita.specs.Below.{gives, IsGenerated, IsRemoved, IsTypedFlat, most_work, outcome_of, param_of, Place}
 use Rattle.hepurita.specs.Below.{ProcedureTree, Profile, ProgramTree, ranged, Reads, Results, StraightProgram}
 use Rattle.hepurita.specs.Below.{TooMuchWork, iterations_of, when}
 use Rattle.language.specs.declared.why.Why.{Why}
@@ -32,7 +32,7 @@ module _ (profile : Profile) (program : ProgramTree) (before : List ProcedureTre
   abbrev flat : FlatProgram
   flat = flattened profile before export
 
-  pub flat_typed : IsTypedProgram flat
+  pub flat_typed : IsTypedFlat flat
   flat_typed =
       let is = small.well_formed in
       let parts = plain before export is.is_export in
@@ -55,15 +55,15 @@ module _ (profile : Profile) (program : ProgramTree) (before : List ProcedureTre
             ∙ worked-out program args (gives (outcome_of flat args)) given;
       }
 
--- ---- an accepted text's image
+-- ---- an accepted source's image
 
-pub texts_compiled : (profile : Profile) (text : List ℕ) (program : ProgramTree) (before : List ProcedureTree)
-    (export : ProcedureTree) (straight : StraightProgram) (image : Fields) → Reads text (accepted program)
+pub sources_compiled : (profile : Profile) (source : List ℕ) (program : ProgramTree) (before : List ProcedureTree)
+    (export : ProcedureTree) (straight : StraightProgram) (image : Fields) → Reads source (accepted program)
     → JudgesProgram profile program (accepts program before export)
     → IsRemoved (ranged (flattened profile before export)) straight → IsGenerated straight image
     → IsCompiled program before export image
-texts_compiled profile text program before export straight image reads judged removed generated =
-    let plain = grammatical_export text program reads in
+sources_compiled profile source program before export straight image reads judged removed generated =
+    let plain = grammatical_export source program reads in
     let is = of_accepted profile program program before export judged in
     let safe = accepted_is_safe (flattened profile before export)
     (flat_typed profile program before export plain is.0) is.1 in

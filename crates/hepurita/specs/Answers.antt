@@ -1,4 +1,4 @@
--- What `execute` and `pair` are to answer for the image of an accepted text.
+-- What `execute` and `pair` are to answer for the image of an accepted source.
 use Rattle.std.specs.Prelude.{◌≡◌, ◌⊎◌, ℕ, List, Result, Ok, Err}
 use Rattle.hepurita.specs.Below.{Arg, Fields, IsImage, Pairing, ProcedureTree, Profile, ProgramTree, RecorderRefused}
 use Rattle.hepurita.specs.Below.{Results, Same, Spells}
@@ -8,12 +8,12 @@ use Rattle.hepurita.specs.Built.{Judges, accepts, IsBuilt}
 use Rattle.hepurita.specs.Compiled.{Means}
 use Rattle.hepurita.specs.declared.optimised.Optimisation.{Optimisation}
 
--- a text that is accepted with this export, for an observer, and the plain or the optimised image that its bytes
+-- a source that is accepted with this export, for an observer, and the plain or the optimised image that its bytes
 -- spell
-pub record Builds (optimisation : Optimisation) (profile : Profile) (text bytes : List ℕ) (program : ProgramTree)
+pub record Builds (optimisation : Optimisation) (profile : Profile) (source bytes : List ℕ) (program : ProgramTree)
     (before : List ProcedureTree) (export : ProcedureTree) (image : Fields) : Type 0 where
-  pub built : IsBuilt optimisation profile text bytes
-  pub judged : Judges profile text (accepts program before export)
+  pub built : IsBuilt optimisation profile source bytes
+  pub judged : Judges profile source (accepts program before export)
   pub allowed : IsImage image
   pub spelled : Spells bytes image
 

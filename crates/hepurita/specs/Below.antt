@@ -6,9 +6,9 @@ pub use Rattle.rv_machine.specs.Bytes.{ByteMap, joined, zeros}
 unfoldable pub use Rattle.rv_machine.specs.Bytes.{number_at, with_number}
 pub use Rattle.rv_machine.specs.Entries.{Compares, entries_of, Entry}
 pub use Rattle.rv_machine.specs.Harts.{state_of}
-pub use Rattle.rv_machine.specs.Leakage.{cut_short, halted, Halts, halts, IsShown, Leads, Ran, Runs, spent, stays}
+pub use Rattle.rv_machine.specs.Leakage.{cut_short, halted, Halts, halts, IsShown, Leads, Ran, RunsWithin, spent, stays}
 pub use Rattle.rv_machine.specs.Leakage.{steps_on}
-pub use Rattle.rv_machine.specs.Machine.{Code, State, stops, Step}
+pub use Rattle.rv_machine.specs.Machine.{MachineCode, State, stops, Step}
 pub use Rattle.rv_machine.specs.Paged.{paged_bytes}
 pub use Rattle.rv_machine.specs.Recording.{count_after, HasRefused, kept}
 pub use Rattle.rv_machine.specs.Regions.{code_of}
@@ -93,7 +93,7 @@ pub use Rattle.inline.specs.Flat.{assign, branch, chain, declaration_of, declare
 pub use Rattle.inline.specs.Flat.{hold, length_of, put, skip, TermTree, word_as}
 pub use Rattle.inline.specs.FlatMeaning.{after, after_all, given, outcome_of, value_in, Values}
 pub use Rattle.inline.specs.FlatSize.{term_nodes, terms_nodes, value_nodes}
-pub use Rattle.inline.specs.FlatTyping.{counter_type, IsTypedProgram, parameter_types, Types, types_after_all}
+pub use Rattle.inline.specs.FlatTyping.{counter_type, IsTypedFlat, parameter_types, Types, types_after_all}
 pub use Rattle.inline.specs.Numbering.{begun, block, call_block, call_names, call_result, call_start, call_value}
 pub use Rattle.inline.specs.Numbering.{call_variables, Callable, callable, Callables, callables, declared_in_all}
 pub use Rattle.inline.specs.Numbering.{dropped_block, element_block, flattened, label_in, names_after}
@@ -126,15 +126,17 @@ pub use Rattle.codegen.specs.declared.image_fields.slot.Slot.{Slot}
 pub use Rattle.syntax.specs.Beginning.{a_phrase, a_token, AreByCases, Begins, BeginsParts, by_case, in_case}
 pub use Rattle.syntax.specs.Beginning.{in_phrase, no_part, no_token, past_phrase, Whole, WholeParts}
 pub use Rattle.syntax.specs.Cases.{all, any_amount, any_conversion, any_label, any_length, any_number, any_prefix}
-pub use Rattle.syntax.specs.Cases.{any_word, Case, IsOne, of_kind, one, Part, Phrase, procedures, Single}
+pub use Rattle.syntax.specs.Cases.{any_word, Case, IsOne, of_kind, one, CasePart, Phrase, procedures, Single}
 pub use Rattle.syntax.specs.Cases.{the_operator}
-pub use Rattle.syntax.specs.Grammar.{a_program, Arguments, ArrayType, Block, BodyEnd, Call, Conditional, Exported}
-pub use Rattle.syntax.specs.Grammar.{ExprAt, FirstValues, IsBeginning, IsProgram, MoreExprs, MoreParameters, Mutable}
-pub use Rattle.syntax.specs.Grammar.{operator_of, Otherwise, Parameter, Parameters, Procedure, Procedures, ResultType}
-pub use Rattle.syntax.specs.Grammar.{RightSide, SomeExprs, Statement, Statements}
+pub use Rattle.syntax.specs.Grammar.{a_program, ParsesArguments, ParsesArrayType, ParsesBlock, ParsesBodyEnd}
+pub use Rattle.syntax.specs.Grammar.{ParsesCall, ParsesConditional, ParsesExported, ParsesExprAt, ParsesFirstValues}
+pub use Rattle.syntax.specs.Grammar.{IsBeginning, IsProgram, ParsesMoreExprs, ParsesMoreParameters, ParsesMutable}
+pub use Rattle.syntax.specs.Grammar.{operator_of, ParsesOtherwise, ParsesParameter, ParsesParameters, ParsesProcedure}
+pub use Rattle.syntax.specs.Grammar.{ParsesProcedures, ParsesResultType, ParsesRightSide, ParsesSomeExprs}
+pub use Rattle.syntax.specs.Grammar.{ParsesStatement, ParsesStatements}
 pub use Rattle.syntax.specs.Lexeme.{Lexeme}
-pub use Rattle.syntax.specs.Reading.{accepted, Answer, Answers, by_tokens, IsRefusedAs, OneAnswer, Reads, refused}
-pub use Rattle.syntax.specs.Reading.{too_long}
+pub use Rattle.syntax.specs.Reading.{accepted, ParseAnswer, IsParseAnswer, by_tokens, IsRefusedAs, OneAnswer, Reads}
+pub use Rattle.syntax.specs.Reading.{refused, too_long}
 pub use Rattle.syntax.specs.Spelling.{bad_number, is_blank, is_line_feed, is_word_byte, IsNumber, keyword}
 pub use Rattle.syntax.specs.Spelling.{keyword_text, sign_text, suffix_text, WritesValue}
 pub use Rattle.syntax.specs.Tokens.{at_bad_number, at_end, at_unknown_character, BeginsWith, BeginsWithNone, ends_at}

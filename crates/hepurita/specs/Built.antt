@@ -1,4 +1,4 @@
--- What the compiler answers to a text: the passes are asked in order, and each names its first violation.
+-- What the compiler answers to a source: the passes are asked in order, and each names its first violation.
 use Rattle.std.specs.Prelude.{◌≡◌, ◌⊎◌, ℕ, ◌+◌, ◌*◌, ◌<◌, List, [], length, Some}
 use Rattle.hepurita.specs.Below.{accepted, AreBases, AreBytes, exported, Fields, flattened, IsFirst, IsImage}
 use Rattle.hepurita.specs.Below.{IsWantOfMemory, Place, ProcedureTree, Profile, ProgramTree, range_violations, Reads}
@@ -48,25 +48,25 @@ pub data JudgesProgram (profile : Profile) (program : ProgramTree) : Judgement �
       → length (range_violations (flattened profile before export)) ≡ 0 → length (work_violations before export) ≡ 0
       → JudgesProgram profile program (accepts program before export)
 
--- the judgement on a text, for an observer
-pub data Judges (profile : Profile) (text : List ℕ) : Judgement → Type 0 where
+-- the judgement on a source, for an observer
+pub data Judges (profile : Profile) (source : List ℕ) : Judgement → Type 0 where
   -- it is no program
-  unreadable : {rule : Rule} {place : Place} → Reads text (refused rule place)
-      → Judges profile text (refuses rule place)
+  unreadable : {rule : Rule} {place : Place} → Reads source (refused rule place)
+      → Judges profile source (refuses rule place)
   -- it is one
-  readable : {program : ProgramTree} {judgement : Judgement} → Reads text (accepted program)
-      → JudgesProgram profile program judgement → Judges profile text judgement
+  readable : {program : ProgramTree} {judgement : Judgement} → Reads source (accepted program)
+      → JudgesProgram profile program judgement → Judges profile source judgement
 
 -- the refusal is out of memory, which has no place, or it has a place and is the judgement
 abbrev pub IsRefusal : (Judgement → Type 0) → Refusal → Type 0
 IsRefusal J refusal = IsWantOfMemory refusal.rule refusal.place
     ⊎ ((place : Place) × (refusal.place ≡ Some place) × J (refuses refusal.rule place))
 
--- the image is that of an accepted text, plain or optimised, for an observer: the exported procedure and what it calls,
--- compiled; which texts are accepted is one question for both
-pub record IsCompilation (optimisation : Optimisation) (profile : Profile) (text : List ℕ) (program : ProgramTree)
+-- the image is that of an accepted source, plain or optimised, for an observer: the exported procedure and what it calls,
+-- compiled; which sources are accepted is one question for both
+pub record IsCompilation (optimisation : Optimisation) (profile : Profile) (source : List ℕ) (program : ProgramTree)
     (before : List ProcedureTree) (export : ProcedureTree) (image : Fields) : Type 0 where
-  pub judged : Judges profile text (accepts program before export)
+  pub judged : Judges profile source (accepts program before export)
   pub observed : image.profile ≡ profile
   -- the export decides which image it is
   pub exact : image ≡ image_for optimisation profile before export
@@ -77,11 +77,11 @@ pub record IsCompilation (optimisation : Optimisation) (profile : Profile) (text
       → AreBases image (code_base + code_distance * k) (frame_base + frame_distance * k)
 
 -- the bytes spell that image
-pub record IsBuilt (optimisation : Optimisation) (profile : Profile) (text bytes : List ℕ) : Type 0 where
+pub record IsBuilt (optimisation : Optimisation) (profile : Profile) (source bytes : List ℕ) : Type 0 where
   pub program : ProgramTree
   pub before : List ProcedureTree
   pub export : ProcedureTree
   pub image : Fields
-  pub compilation : IsCompilation optimisation profile text program before export image
+  pub compilation : IsCompilation optimisation profile source program before export image
   pub are_bytes : AreBytes bytes
   pub spelled : Spells bytes image

@@ -1,9 +1,9 @@
 -- What it is for an image to be a compiled procedure: its outcome is the source's, and it shows only what is public.
 use Rattle.std.specs.Prelude.{◌≡◌, ℕ, ◌+◌, ◌*◌, ◌≤◌, List, length, map, All}
 use Rattle.std.specs.Option.{option_map}
-use Rattle.hepurita.specs.Below.{Agree, AgreeInPublic, AreBases, AreWithin, Arg, Code, code_at, Ecall, extents_of}
-use Rattle.hepurita.specs.Below.{Fields, Halts, IsInside, IsPlaced, loaded_at, most_frame_bytes, nodes_of, Observation}
-use Rattle.hepurita.specs.Below.{param_of, params_of, ProcedureTree, ProgramTree, results_in, State}
+use Rattle.hepurita.specs.Below.{Agree, AgreeInPublic, AreBases, AreWithin, Arg, MachineCode, code_at, Ecall}
+use Rattle.hepurita.specs.Below.{extents_of, Fields, Halts, IsInside, IsPlaced, loaded_at, most_frame_bytes, nodes_of}
+use Rattle.hepurita.specs.Below.{Observation, param_of, params_of, ProcedureTree, ProgramTree, results_in, State}
 use Rattle.hepurita.specs.source_work.SourceWork.{source_work}
 use Rattle.hepurita.specs.Below.{type_in}
 use Rattle.hepurita.specs.Linked.{IsLinked}
@@ -52,5 +52,5 @@ pub record IsCompiled (program : ProgramTree) (before : List ProcedureTree) (p :
       → AgreeInPublic (params_of image) p.result (results_in runs.frame image runs.one.end.bytes)
       (results_in runs.frame image runs.other.end.bytes)
   -- and its body does the same wherever its words stand
-  pub linked : (code : Code) (start frame : ℕ) → IsPlaced image code start frame
+  pub linked : (code : MachineCode) (start frame : ℕ) → IsPlaced image code start frame
       → IsLinked program p image code start frame

@@ -1,18 +1,19 @@
 -- What is promised of the body of a compiled image, wherever its words stand, so that it can be the body of a
 -- function: among whatever other code it does what the image does, and leaves what is not its own as it was.
 use Rattle.std.specs.Prelude.{◌≡◌, ℕ, List}
-use Rattle.hepurita.specs.Below.{Agree, AgreeInPublic, AreWithin, Arg, BodyRun, Code, Fields, IsLoaded, Observation}
-use Rattle.hepurita.specs.Below.{params_of, ProcedureTree, ProgramTree, Results, results_in, State}
+use Rattle.hepurita.specs.Below.{Agree, AgreeInPublic, AreWithin, Arg, BodyRun, MachineCode, Fields, IsLoaded}
+use Rattle.hepurita.specs.Below.{Observation, params_of, ProcedureTree, ProgramTree, Results, results_in, State}
 use Rattle.hepurita.specs.Meant.{Means}
 
 -- a run of the body on arguments, which gives what the source means
-pub record RunsLinked (program : ProgramTree) (image : Fields) (code : Code) (start frame : ℕ) (args : List Arg)
+pub record RunsLinked (program : ProgramTree) (image : Fields) (code : MachineCode) (start frame : ℕ) (args : List Arg)
     (s : State) (list : List Observation) : Type 0 where
   pub run : BodyRun image code start frame s list
   pub outcome : Means program args (results_in frame image run.end.bytes)
 
 -- where the body stands in this code, and its frame lies there
-pub record IsLinked (program : ProgramTree) (p : ProcedureTree) (image : Fields) (code : Code) (start frame : ℕ) :
+pub record IsLinked (program : ProgramTree) (p : ProcedureTree) (image : Fields) (code : MachineCode)
+    (start frame : ℕ) :
     Type 0 where
   -- one list for each list of arguments, whatever the rest of the state
   pub shown : List Arg → List Observation

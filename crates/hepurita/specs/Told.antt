@@ -1,4 +1,4 @@
--- What refuses a text, and what its refusal tells: of a program the first violation, as it comes, of the pass that
+-- What refuses a source, and what its refusal tells: of a program the first violation, as it comes, of the pass that
 -- refuses it, with why.
 use Rattle.std.specs.Prelude.{◌≡◌, ◌⊎◌, ℕ, List, length, Some}
 use Rattle.hepurita.specs.Built.{IsSmall, IsWellFormed, Judges, refuses}
@@ -26,18 +26,18 @@ pub data IsToldOfProgram (profile : Profile) (program : ProgramTree) (refusal : 
       → IsToldOf (work_violations before export) refusal
       → IsToldOfProgram profile program refusal
 
-pub data IsToldOfText (profile : Profile) (text : List ℕ) (refusal : Refusal) : Type 0 where
+pub data IsToldOfSource (profile : Profile) (source : List ℕ) (refusal : Refusal) : Type 0 where
   -- it is no program
-  of_reading : IsRefusedAs (Reads text) refusal → IsToldOfText profile text refusal
+  of_reading : IsRefusedAs (Reads source) refusal → IsToldOfSource profile source refusal
   -- it is one
   of_program : {program : ProgramTree}
-      → Reads text (accepted program)
+      → Reads source (accepted program)
       → IsToldOfProgram profile program refusal
-      → IsToldOfText profile text refusal
+      → IsToldOfSource profile source refusal
 
--- the refusal of the text, for an observer: it is out of memory, which has no place; or it has a place, is the
+-- the refusal of the source, for an observer: it is out of memory, which has no place; or it has a place, is the
 -- judgement, and tells why
 abbrev pub IsRefusalOf : Profile → List ℕ → Refusal → Type 0
-IsRefusalOf profile text refusal = IsWantOfMemory refusal.rule refusal.place
-    ⊎ ((place : Place) × (refusal.place ≡ Some place) × Judges profile text (refuses refusal.rule place)
-    × IsToldOfText profile text refusal)
+IsRefusalOf profile source refusal = IsWantOfMemory refusal.rule refusal.place
+    ⊎ ((place : Place) × (refusal.place ≡ Some place) × Judges profile source (refuses refusal.rule place)
+    × IsToldOfSource profile source refusal)

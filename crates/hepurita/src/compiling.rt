@@ -1,4 +1,4 @@
-// A text, compiled: the value from which all is taken that is made of an accepted text.
+// A source, compiled: the value from which all is taken that is made of an accepted source.
 
 ghost use Rattle.std.specs.Prelude.{◌≡◌, ℕ, List, IfOk, IfErr};
 ghost use Rattle.hepurita.specs.Below.{fields_of, IsGenerated, IsImage, IsRemoved, IsWantOfMemory, ProcedureTree};
@@ -54,47 +54,47 @@ pub fn code_of(
     }
 }
 
-/// The code of a text's export, where the text is accepted, or the first refusal.
+/// The code of a source's export, where the source is accepted, or the first refusal.
 fn code_in(
     alloc: Global,
     flattened: &Flattened,
     optimisation: Optimisation,
 ) -> Result<Code, Refusal>
-    ensures compiled { (profile : Profile) (text : List ℕ) (is : IsFlattened profile text flattened.now)
+    ensures compiled { (profile : Profile) (source : List ℕ) (is : IsFlattened profile source flattened.now)
         → IfOk result
-        (IsCompilation optimisation profile text (program_tree flattened.now.program) is.before is.export) }
-    ensures refused { (profile : Profile) (text : List ℕ) → IsFlattened profile text flattened.now
-        → IfErr result (IsRefusalOf profile text) }
+        (IsCompilation optimisation profile source (program_tree flattened.now.program) is.before is.export) }
+    ensures refused { (profile : Profile) (source : List ℕ) → IsFlattened profile source flattened.now
+        → IfErr result (IsRefusalOf profile source) }
 {
     let ranged = flattened.ranged(alloc)?;
     code_of(alloc, &ranged, optimisation)
 }
 
-/// An accepted text, compiled: its program, and the code of its export.
+/// An accepted source, compiled: its program, and the code of its export.
 #[derive(Drop)]
 pub struct Compiled {
     pub program: Program,
     pub code: Code,
 }
 
-/// A text that is accepted for an observer of this profile, compiled to plain or to optimised code, or the first
-/// refusal. Passes are asked in the order: the text itself; names, types and labels; sizes; ranges; work. Which texts
+/// A source that is accepted for an observer of this profile, compiled to plain or to optimised code, or the first
+/// refusal. Passes are asked in the order: the source itself; names, types and labels; sizes; ranges; work. Which sources
 /// are accepted, and what the others are refused for, does not depend on the optimisation.
 ///
-/// Either image, run on any arguments within the parameter types, gives what the text means, within its
+/// Either image, run on any arguments within the parameter types, gives what the source means, within its
 /// stated steps and its frame; and on arguments that are equal where they are public the observer
 /// sees one and the same.
 pub fn compile_with(
     alloc: Global,
-    text: &str,
+    source: &str,
     profile: Profile,
     optimisation: Optimisation,
 ) -> Result<Compiled, Refusal>
     ensures compiled { IfOk result (λ made. (before : List ProcedureTree) × (export : ProcedureTree)
-        × IsCompilation optimisation profile text.now (program_tree made.program) before export made.code) }
-    ensures refused { IfErr result (IsRefusalOf profile text.now) }
+        × IsCompilation optimisation profile source.now (program_tree made.program) before export made.code) }
+    ensures refused { IfErr result (IsRefusalOf profile source.now) }
 {
-    let flattened = flatten(alloc, text, profile)?;
+    let flattened = flatten(alloc, source, profile)?;
     let code = code_in(alloc, &flattened, optimisation)?;
     let Flattened { program, .. } = flattened;
     Ok(Compiled { program, code })

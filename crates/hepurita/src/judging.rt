@@ -1,5 +1,5 @@
-// What a text is judged to be, for an observer: what is refused first, and the program, parameters and result of an
-// accepted text.
+// What a source is judged to be, for an observer: what is refused first, and the program, parameters and result of an
+// accepted source.
 
 ghost use Rattle.std.specs.Prelude.{◌≡◌, List, map, IfOk, IfErr};
 ghost use Rattle.hepurita.specs.Below.{flattened, param_of, ProcedureTree, program_tree};
@@ -25,7 +25,7 @@ pub(crate) fn flat_of(alloc: Global, program: &Program, profile: Profile) -> Res
     inline(alloc, &checked)
 }
 
-/// An accepted text's program, and of its export the parameters, and the type of the result where there is one.
+/// An accepted source's program, and of its export the parameters, and the type of the result where there is one.
 #[derive(Drop)]
 pub struct Accepted {
     pub program: Program,
@@ -33,27 +33,27 @@ pub struct Accepted {
     pub returned: Option<WordType>,
 }
 
-/// The program of a text that is accepted for an observer of profile 1, or the first refusal: the one that
+/// The program of a source that is accepted for an observer of profile 1, or the first refusal: the one that
 /// `build` names, which tells what was found there.
-pub fn judge(alloc: Global, text: &str) -> Result<Accepted, Refusal>
+pub fn judge(alloc: Global, source: &str) -> Result<Accepted, Refusal>
     ensures accepted { IfOk result (λ accepted. (before : List ProcedureTree) × (export : ProcedureTree)
-        × Judges Profile.P1 text.now (accepts (program_tree accepted.program) before export)
+        × Judges Profile.P1 source.now (accepts (program_tree accepted.program) before export)
         × (accepted.params.items ≡ map param_of export.parameters)
         × (accepted.returned ≡ export.result)) }
-    ensures refused { IfErr result (IsRefusalOf Profile.P1 text.now) }
+    ensures refused { IfErr result (IsRefusalOf Profile.P1 source.now) }
 {
-    judge_as(alloc, text, Profile::P1)
+    judge_as(alloc, source, Profile::P1)
 }
 
 /// The same for an observer of this profile: the refusal is the one that `build_as` names.
-pub fn judge_as(alloc: Global, text: &str, profile: Profile) -> Result<Accepted, Refusal>
+pub fn judge_as(alloc: Global, source: &str, profile: Profile) -> Result<Accepted, Refusal>
     ensures accepted { IfOk result (λ accepted. (before : List ProcedureTree) × (export : ProcedureTree)
-        × Judges profile text.now (accepts (program_tree accepted.program) before export)
+        × Judges profile source.now (accepts (program_tree accepted.program) before export)
         × (accepted.params.items ≡ map param_of export.parameters)
         × (accepted.returned ≡ export.result)) }
-    ensures refused { IfErr result (IsRefusalOf profile text.now) }
+    ensures refused { IfErr result (IsRefusalOf profile source.now) }
 {
-    let flattened = flatten(alloc, text, profile)?;
+    let flattened = flatten(alloc, source, profile)?;
     drop(flattened.ranged(alloc)?);
     let Flattened { program, flat } = flattened;
     let params = flat.parameters().to_vec(alloc)?;

@@ -17,14 +17,14 @@ ghost use Rattle.hepurita.specs.Paired.{Paired};
 ghost use Rattle.hepurita.specs.Uncut.{RunsFor};
 
 use language::arguments::faultless_arguments;
-use syntax::one_answer_for_a_text;
+use syntax::one_answer_for_a_source;
 
-/// What the passes promise, put together. Where a text is a program that is accepted with an export, for an observer,
+/// What the passes promise, put together. Where a source is a program that is accepted with an export, for an observer,
 /// the image for straight code for the export, with the bodies that it calls, is that export, compiled.
-pub fn texts_are_compiled()
-    ensures { (profile : Profile) (text : List ℕ) (program : ProgramTree) (before : List ProcedureTree)
+pub fn sources_are_compiled()
+    ensures { (profile : Profile) (source : List ℕ) (program : ProgramTree) (before : List ProcedureTree)
         (export : ProcedureTree) (straight : StraightProgram) (image : Fields)
-        → Reads text (accepted program)
+        → Reads source (accepted program)
         → JudgesProgram profile program (accepts program before export)
         → IsRemoved (ranged (flattened profile before export)) straight
         → IsGenerated straight image
@@ -41,94 +41,94 @@ pub fn bases_fit()
         → AreBases image (code_base + code_distance * k) (frame_base + frame_distance * k) }
 {}
 
-/// A text has one plain and one optimised image for an observer: what `build_with` answers twice is one list of bytes,
+/// A source has one plain and one optimised image for an observer: what `build_with` answers twice is one list of bytes,
 /// so an image can be checked by its hash.
 pub fn builds_agree()
-    ensures { (optimisation : Optimisation) (profile : Profile) (text one other : List ℕ)
-        → IsBuilt optimisation profile text one → IsBuilt optimisation profile text other → one ≡ other }
+    ensures { (optimisation : Optimisation) (profile : Profile) (source one other : List ℕ)
+        → IsBuilt optimisation profile source one → IsBuilt optimisation profile source other → one ≡ other }
 {
-    one_answer_for_a_text();
+    one_answer_for_a_source();
 }
 
 /// A compilation has bytes: those that `build_with` answers, from which it is read.
 pub fn compilations_are_spelled()
-    ensures { (optimisation : Optimisation) (profile : Profile) (text : List ℕ) (program : ProgramTree)
+    ensures { (optimisation : Optimisation) (profile : Profile) (source : List ℕ) (program : ProgramTree)
         (before : List ProcedureTree) (export : ProcedureTree) (image : Fields)
-        → IsCompilation optimisation profile text program before export image
-        → (bytes : List ℕ) × Builds optimisation profile text bytes program before export image }
+        → IsCompilation optimisation profile source program before export image
+        → (bytes : List ℕ) × Builds optimisation profile source bytes program before export image }
 {}
 
-/// The calls, one after another. The image of a text that is accepted for an observer, plain or optimised, read from
+/// The calls, one after another. The image of a source that is accepted for an observer, plain or optimised, read from
 /// the bytes that `build_with` answers and executed on arguments within the parameter types, gives the one outcome that
-/// the text means. On two lists of arguments that are equal where they are public `pair` answers `same`, the recorder
+/// the source means. On two lists of arguments that are equal where they are public `pair` answers `same`, the recorder
 /// takes one and the same list, and the return and the `mut` arrays are equal where they are public. Other answers are
 /// out of memory and a recorder that refuses.
-pub fn images_do_what_texts_mean()
-    ensures outcome { (optimisation : Optimisation) (profile : Profile) (text bytes : List ℕ) (program : ProgramTree)
+pub fn images_do_what_sources_mean()
+    ensures outcome { (optimisation : Optimisation) (profile : Profile) (source bytes : List ℕ) (program : ProgramTree)
         (before : List ProcedureTree) (export : ProcedureTree) (image : Fields) (args : List Arg) (keeps : Bool)
         (list after : List Observation) (answer : Result Results RunFault)
-        → Builds optimisation profile text bytes program before export image
+        → Builds optimisation profile source bytes program before export image
         → AreWithin (params_of image) args
         → Executed image args keeps list answer after
         → IsTheOutcome program args answer }
-    ensures same { (optimisation : Optimisation) (profile : Profile) (text bytes : List ℕ) (program : ProgramTree)
+    ensures same { (optimisation : Optimisation) (profile : Profile) (source bytes : List ℕ) (program : ProgramTree)
         (before : List ProcedureTree) (export : ProcedureTree) (image : Fields) (one other : List Arg)
         (answer : Result Pairing RunFault)
-        → Builds optimisation profile text bytes program before export image
+        → Builds optimisation profile source bytes program before export image
         → Agree (params_of image) one other
         → Paired image one other answer
         → IsSame answer }
-    ensures shown { (optimisation : Optimisation) (profile : Profile) (text bytes : List ℕ) (program : ProgramTree)
+    ensures shown { (optimisation : Optimisation) (profile : Profile) (source bytes : List ℕ) (program : ProgramTree)
         (before : List ProcedureTree) (export : ProcedureTree) (image : Fields) (one other : List Arg) (keeps : Bool)
         (list after after' : List Observation) (a b : Results)
-        → Builds optimisation profile text bytes program before export image
+        → Builds optimisation profile source bytes program before export image
         → Agree (params_of image) one other
         → Executed image one keeps list (Ok a) after
         → Executed image other keeps list (Ok b) after'
         → after ≡ after' }
-    ensures public { (optimisation : Optimisation) (profile : Profile) (text bytes : List ℕ) (program : ProgramTree)
+    ensures public { (optimisation : Optimisation) (profile : Profile) (source bytes : List ℕ) (program : ProgramTree)
         (before : List ProcedureTree) (export : ProcedureTree) (image : Fields) (one other : List Arg) (keeps : Bool)
         (list after after' : List Observation) (a b : Results)
-        → Builds optimisation profile text bytes program before export image
+        → Builds optimisation profile source bytes program before export image
         → Agree (params_of image) one other
         → Executed image one keeps list (Ok a) after
         → Executed image other keeps list (Ok b) after'
         → AgreeInPublic (params_of image) export.result a b }
 {
-    one_answer_for_a_text();
+    one_answer_for_a_source();
     faultless_arguments();
 }
 
-/// Runs that are cut off. However few steps the image of an accepted text, plain or optimised, is given, on arguments
+/// Runs that are cut off. However few steps the image of an accepted source, plain or optimised, is given, on arguments
 /// within the parameter types and with no recorder that refuses, it has stopped by `Ecall` with the one outcome that
-/// the text means, or it has not stopped and had fewer steps than the image states. On two lists of arguments that are
+/// the source means, or it has not stopped and had fewer steps than the image states. On two lists of arguments that are
 /// equal where they are public, as many steps show one and the same list.
 pub fn cut_off_runs_are_right()
-    ensures outcome { (optimisation : Optimisation) (profile : Profile) (text bytes : List ℕ) (program : ProgramTree)
+    ensures outcome { (optimisation : Optimisation) (profile : Profile) (source bytes : List ℕ) (program : ProgramTree)
         (before : List ProcedureTree) (export : ProcedureTree) (image : Fields) (args : List Arg) (given : ℕ)
         (seen : List Observation) (stop : Stop) (end : State)
-        → Builds optimisation profile text bytes program before export image
+        → Builds optimisation profile source bytes program before export image
         → AreWithin (params_of image) args
         → RunsFor given image args seen stop end
         → IsRightSoFar program image args given stop end }
-    ensures shown { (optimisation : Optimisation) (profile : Profile) (text bytes : List ℕ) (program : ProgramTree)
+    ensures shown { (optimisation : Optimisation) (profile : Profile) (source bytes : List ℕ) (program : ProgramTree)
         (before : List ProcedureTree) (export : ProcedureTree) (image : Fields) (one other : List Arg) (given : ℕ)
         (seen seen' : List Observation) (stop stop' : Stop) (end end' : State)
-        → Builds optimisation profile text bytes program before export image
+        → Builds optimisation profile source bytes program before export image
         → Agree (params_of image) one other
         → RunsFor given image one seen stop end
         → RunsFor given image other seen' stop' end'
         → seen ≡ seen' }
 {
-    one_answer_for_a_text();
+    one_answer_for_a_source();
 }
 
-/// What `eval` answers for an accepted text, with a budget that the most work fits, as the command gives it: the one
-/// outcome that the text means. So it never says that the text has no meaning, or that the budget is used up.
-pub fn accepted_texts_are_evaluated()
-    ensures { (profile : Profile) (text : List ℕ) (program : ProgramTree) (before : List ProcedureTree)
+/// What `eval` answers for an accepted source, with a budget that the most work fits, as the command gives it: the one
+/// outcome that the source means. So it never says that the source has no meaning, or that the budget is used up.
+pub fn accepted_sources_are_evaluated()
+    ensures { (profile : Profile) (source : List ℕ) (program : ProgramTree) (before : List ProcedureTree)
         (export : ProcedureTree) (args : List Arg) (budget : ℕ)
-        → Judges profile text (accepts program before export)
+        → Judges profile source (accepts program before export)
         → AreWithin (map param_of export.parameters) args
         → most_work ≤ budget
         → (results : Results) × Means program args results × (answer program args budget ≡ Ok results) }

@@ -1,4 +1,4 @@
-// The calls of the compiler and of its simulator: a text to an image's bytes, an image run on arguments, and two runs
+// The calls of the compiler and of its simulator: a source to an image's bytes, an image run on arguments, and two runs
 // compared by what an observer sees. Each pass is a library below this one; here they are put together, and what the
 // whole promises is said.
 #![tactic(auto)]
@@ -23,7 +23,7 @@ pub mod run_bounds;
 pub mod source_work;
 
 pub use building::{
-    accepted_or_refused, build, build_as, build_with, each_text_is_judged, one_refusal,
+    accepted_or_refused, build, build_as, build_with, each_source_is_judged, one_refusal,
 };
 pub use checking::first_fault;
 pub use comparing::{fault_of_both, pair};
@@ -33,9 +33,9 @@ pub use fault::RunFault;
 pub use flattening::{Flattened, flatten};
 pub use judging::{Accepted, judge, judge_as};
 pub use laws::{
-    accepted_texts_are_evaluated, bases_fit, builds_agree, comparisons_agree,
-    compilations_are_spelled, cut_off_runs_are_right, executions_agree, images_do_what_texts_mean,
-    readings_agree, texts_are_compiled,
+    accepted_sources_are_evaluated, bases_fit, builds_agree, comparisons_agree,
+    compilations_are_spelled, cut_off_runs_are_right, executions_agree,
+    images_do_what_sources_mean, readings_agree, sources_are_compiled,
 };
 pub use loading::{CODE_BASE, FRAME_BASE, code, frame, load, params, put_argument, put_arguments};
 pub use optimised::Optimisation;

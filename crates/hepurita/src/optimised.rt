@@ -1,6 +1,6 @@
-// Which of its two codes a text is compiled to.
+// Which of its two codes a source is compiled to.
 
-/// Whether a text is compiled to optimised code. Both codes are promised the same: what the text means, within the
+/// Whether a source is compiled to optimised code. Both codes are promised the same: what the source means, within the
 /// stated steps and the frame, shown alike for arguments that are equal where they are public.
 #[derive(Clone, Copy, Debug, PartialEq, Eq)]
 pub enum Optimisation {

@@ -9,7 +9,7 @@ use branch_removal::{StraightCode, replaced_is_removed};
 use codegen::{Code, generate_optimised};
 use language::Refusal;
 use optimisation::constants::{simplify, unroll};
-use optimisation::element_words::Words;
+use optimisation::element_words::ElementWords;
 use optimisation::live_words::share_words;
 use std::alloc::Global;
 
@@ -34,7 +34,7 @@ fn finished(alloc: Global, straight: &StraightCode<'_>) -> Result<Option<Code>, 
     ensures allowed { IfOk result (λ made. IfSome made IsImage) }
     ensures memory { IfErr result (λ refusal. IsWantOfMemory refusal.rule refusal.place) }
 {
-    let words = Words::of(alloc, straight)?;
+    let words = ElementWords::of(alloc, straight)?;
     let with_words = words.apply(alloc, straight)?;
     let split = made_or_given(&with_words, straight);
     let with_numbers = simplify(alloc, split)?;

@@ -57,12 +57,12 @@ abbrev pub is_word_count : ℕ → Bool
 is_word_count n = nat_le 1 n && nat_le n most_words
 
 -- what a field that holds another number breaks, how many bytes it has, and which numbers it may hold
-pub record Row : Type 0 where
+pub record FieldRow : Type 0 where
   pub rule : ImageRule
   pub size : ℕ
   pub allowed : ℕ → Bool
 
-abbrev pub row : ImageField → Row
+abbrev pub row : ImageField → FieldRow
 row fields.Magic = record { rule = Magic; size = 4; allowed = λ n. n == magic_number }
 row fields.Version = record { rule = Version; size = 2; allowed = λ n. n == format_version }
 row fields.Profile = record { rule = Profile; size = 2; allowed = is_profile }

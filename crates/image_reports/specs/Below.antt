@@ -4,7 +4,7 @@ pub use Rattle.rv_machine.specs.Bytes.{ByteMap, zeros}
 unfoldable pub use Rattle.rv_machine.specs.Bytes.{with_number}
 pub use Rattle.rv_machine.specs.Entries.{Compares, entries_of, Entry, event, IsFirstDifference, program_counter}
 pub use Rattle.rv_machine.specs.Harts.{pc_of, regs_of, state_of}
-pub use Rattle.rv_machine.specs.Machine.{Code, State, word_at}
+pub use Rattle.rv_machine.specs.Machine.{MachineCode, State, word_at}
 pub use Rattle.rv_machine.specs.Paged.{paged_bytes}
 pub use Rattle.rv_machine.specs.Regions.{code_of}
 pub use Rattle.rv_machine.specs.Registers.{initial_registers}
@@ -15,7 +15,7 @@ pub use Rattle.rv_machine.specs.declared.stops.Stop.{Stop}
 pub use Rattle.certified_runs.specs.Amounts.{ShiftsBy}
 pub use Rattle.certified_runs.specs.Certified.{CertifiedRun, may_differ, RunEnding, same}
 pub use Rattle.certified_runs.specs.End.{end_of}
-pub use Rattle.certified_runs.specs.Known.{Covers, Known, with_bytes_known}
+pub use Rattle.certified_runs.specs.Known.{Covers, KnownState, with_bytes_known}
 pub use Rattle.certified_runs.specs.Parts.{is_known_mark, known_bytes, known_of, known_registers}
 pub use Rattle.certified_runs.specs.declared.certifying.CertifiedEnd.{CertifiedEnd}
 pub use Rattle.certified_runs.specs.declared.certifying.CertifiedEnd.TheVariants.{MayDiffer, Same}

@@ -148,7 +148,7 @@ NamesGiven names own (p ∷ ps) (e ∷ es) =
     × NamesGiven names own ps es
 
 -- the body of these parameters begins in these names, with these types and this next number
-pub record Enters (scope : Scope) (names : Numbers) (ps : List ParameterTree) (es : List ExprTree) (own : Numbers)
+pub record EntersBody (scope : Scope) (names : Numbers) (ps : List ParameterTree) (es : List ExprTree) (own : Numbers)
     (types : Types) (n : ℕ) : Type 0 where
   pub linked : Linked (with_parameters scope ps) own types n
   pub named : NamesGiven names own ps es
@@ -166,7 +166,7 @@ kept_begun names (p ∷ ps) (e ∷ es) own n text x is = elim (cases_Bool (is_wo
 pub enters : {scope : Scope} {names : Numbers} {ps : List ParameterTree} {es : List ExprTree} → ArePassed scope ps es
     → {inner : Scope} {own : Numbers} {types : Types} {n : ℕ} → AreNew inner ps → Linked scope names types n
     → Linked inner own types n → Distinct names own ps es
-    → Enters inner names ps es (begun names own n ps es) (types_after_all types (passed names n ps es))
+    → EntersBody inner names ps es (begun names own n ps es) (types_after_all types (passed names n ps es))
     (n + length (passed_variables ps es))
 enters none_passed new linked within apart = record { linked = later (omega arith) within; named = tt }
 enters {names = names} (one_passed {p = p} {ps = ps} {argument = e} {arguments = es} is shares are) {own = own} {n = n}

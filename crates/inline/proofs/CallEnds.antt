@@ -13,14 +13,14 @@ use Rattle.inline.specs.Below.{copied_out, ExprTree, is_mutable, is_word, IsCall
 use Rattle.inline.specs.Below.{one_passed, ParameterTree, ProcedureTree, result_value, Scope, State, ValueType}
 use Rattle.language.specs.Meaning as meaning
 use Rattle.inline.proofs.Below.{known-named}
-use Rattle.inline.proofs.Begun.{Enters, array_passed, enters, distinct_none}
-use Rattle.inline.proofs.Called.{Agrees, Spares, IsKept, Ready}
+use Rattle.inline.proofs.Begun.{EntersBody, array_passed, enters, distinct_none}
+use Rattle.inline.proofs.Called.{Agrees, Spares, IsKept, StatementReady}
 use Rattle.inline.proofs.Chains.{after_chain, fault_chain}
 use Rattle.inline.proofs.Comes.{Comes, then_comes, also, either-assoc}
 use Rattle.inline.proofs.Copied.{Changes, spares_begun, copied, word_immutable}
 use Rattle.inline.proofs.Linked.{Linked}
 use Rattle.inline.proofs.Parameters.{no_names}
-use Rattle.inline.proofs.Procedures.{IsCallable}
+use Rattle.inline.proofs.Procedures.{IsCallee}
 use Rattle.inline.proofs.Passing.{passed_keeps, passed_comes}
 use Rattle.inline.proofs.Terms.{Shows}
 
@@ -39,7 +39,7 @@ no_change (one_passed {p = p} is shares are) linked spares =
     (no_change are linked spares)
 
 module _ {earlier : List ProcedureTree} {scope : Scope} {names : Numbers} {n : ℕ}
-    (ready : Ready earlier scope names n) where
+    (ready : StatementReady earlier scope names n) where
   -- what is known of a call, by what is known of its name
   pub record CallMeans (c : CallTree) (type : ValueType) (o : Option Callable) : Type 0 where
     pub result : result_value (call_result o) ≡ type
@@ -54,7 +54,7 @@ module _ {earlier : List ProcedureTree} {scope : Scope} {names : Numbers} {n : �
 
   -- a call of a procedure that means the same
   module _ (c : CallTree) (callee : Callee) (p : ProcedureTree)
-      (meant : IsCallable IsKept earlier scope.profile c.name callee p)
+      (meant : IsCallee IsKept earlier scope.profile c.name callee p)
       (passed_are : ArePassed scope p.parameters c.arguments) where
     abbrev own : Numbers
     own = begun names [] n p.parameters c.arguments
@@ -68,7 +68,7 @@ module _ {earlier : List ProcedureTree} {scope : Scope} {names : Numbers} {n : �
     abbrev body_block : FlatBlock
     body_block = block (callables meant.before) own start p.body
 
-    entered : Enters meant.good.scope names p.parameters c.arguments own
+    entered : EntersBody meant.good.scope names p.parameters c.arguments own
         (types_after_all ready.types passed_block) start
     entered = enters passed_are meant.good.parameters ready.linked
         (no_names meant.good.procedures (ready.linked.observed ∙ sym (meant.good.observed ∙ meant.observed))

@@ -3,7 +3,7 @@ use Rattle.std.proofs.Common.{◌≡◌, ℕ, false, List, length, Option, Some,
 use Rattle.std.proofs.lemmas.Bool.{cases_Bool}
 use Rattle.inline.specs.declared.flat.FlatVariable.{FlatVariable}
 use Rattle.inline.specs.Flat.{TermTree, word_as}
-use Rattle.inline.specs.FlatTyping.{Types, AreTyped, IsResult, Suits, types_after_all}
+use Rattle.inline.specs.FlatTyping.{Types, AreTyped, IsResult, TermSuits, types_after_all}
 use Rattle.inline.specs.Numbering.{Numbers, Callable, callable, callables, passed, passed_variables, call_block}
 use Rattle.inline.specs.Numbering.{call_variables, call_result, call_value, value_given, value_of, declared_in_all}
 use Rattle.inline.specs.Numbering.{names_after_all, block, dropped_block, dropped_variables}
@@ -111,15 +111,15 @@ module _ (earlier : List ProcedureTree) (at : Scope) (stand : Stand TypedBody ea
 -- What a call gives.
 
 -- a value of the one type, put where the other is wanted
-pub suits_as : {types : Types} {given wanted : WordType} {e : TermTree} → Suits types given e
+pub suits_as : {types : Types} {given wanted : WordType} {e : TermTree} → TermSuits types given e
     → rules.Suits given wanted
-    → Suits types wanted e
+    → TermSuits types wanted e
 suits_as is (rules.suits flow) = record
     { word = is.word; has_type = is.has_type; kind = is.kind; label = λ e. is.label (still_public flow e) }
 
 pub result_suits : (types : Types) (result : Option WordType) (value : Option TermTree) (given wanted : WordType)
     → IsResult types result value → Word given ≡ result_value result → rules.Suits given wanted
-    → Suits types wanted (value_given value)
+    → TermSuits types wanted (value_given value)
 result_suits types None value given wanted is same suit = absurd cc
 result_suits types (Some word) None given wanted is same suit = absurd is
 result_suits types (Some word) (Some value) given wanted is same suit =

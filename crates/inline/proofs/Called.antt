@@ -16,19 +16,19 @@ use Rattle.inline.proofs.Comes.{Comes}
 use Rattle.inline.proofs.Linked.{Linked, later, linked_declared, variable_as}
 use Rattle.inline.proofs.Listed.{linked_after}
 use Rattle.inline.proofs.Parameters.{NoVariables}
-use Rattle.inline.proofs.Procedures.{EachCallable, IsCallable, callable_after, callable_declared}
+use Rattle.inline.proofs.Procedures.{EachCallable, IsCallee, callable_after, callable_declared}
 use Rattle.inline.proofs.Terms.{Shows, word_at}
 
 -- a result that is the flat one's value, where there is one
-pub data HasResult (m : Values) : Option WordType → Option TermTree → Option Word → Type 0 where
-  nothing_given : HasResult m None None None
+pub data ResultAgrees (m : Values) : Option WordType → Option TermTree → Option Word → Type 0 where
+  nothing_given : ResultAgrees m None None None
   a_word : {word : WordType} {value : TermTree} {w : Word} → w ≡ word_at word.kind (value_in m value)
-      → HasResult m (Some word) (Some value) (Some w)
+      → ResultAgrees m (Some word) (Some value) (Some w)
 
 -- what a body or a call came to is what the flat one came to
 pub record Agrees (names : Numbers) (m : Values) (result : Option WordType) (value : Option TermTree) (r : Returned) :
     Type 0 where
-  pub word : HasResult m result value r.word
+  pub word : ResultAgrees m result value r.word
   pub shows : Shows names r.state m
 
 -- A number that a body changes nowhere, where n is the next number: it is none of its own, and none of a mutable
@@ -66,39 +66,40 @@ abbrev pub IsKept : List ProcedureTree → Scope → ProcedureTree → Type 0
 IsKept before scope p = Behaves scope.profile before p
 
 -- where a statement begins: its names go together with numbers, of which the next is n, and with types
-pub record Ready (earlier : List ProcedureTree) (scope : Scope) (names : Numbers) (n : ℕ) : Type 0 where
+pub record StatementReady (earlier : List ProcedureTree) (scope : Scope) (names : Numbers) (n : ℕ) : Type 0 where
   pub types : Types
   pub linked : Linked scope names types n
-  pub calls : EachCallable earlier (IsCallable IsKept earlier) scope
+  pub calls : EachCallable earlier (IsCallee IsKept earlier) scope
 
 module _ {earlier : List ProcedureTree} where
-  pub ready_later : {scope : Scope} {names : Numbers} {n m : ℕ} → n ≤ m → Ready earlier scope names n
-      → Ready earlier scope names m
+  pub ready_later : {scope : Scope} {names : Numbers} {n m : ℕ} → n ≤ m → StatementReady earlier scope names n
+      → StatementReady earlier scope names m
   ready_later more ready = record { types = ready.types; linked = later more ready.linked; calls = ready.calls }
 
   -- after a declaration
-  pub ready_declared : {scope : Scope} {names : Numbers} {n : ℕ} → Ready earlier scope names n
+  pub ready_declared : {scope : Scope} {names : Numbers} {n : ℕ} → StatementReady earlier scope names n
       → (place : Place) (text : List ℕ) (own : FlatVariable) → found scope.names text ≡ None
-      → Ready earlier (declared scope place text (Variable (variable_as own))) (naming names text n own) (n + 1)
+      → StatementReady earlier (declared scope place text (Variable (variable_as own))) (naming names text n own)
+      (n + 1)
   ready_declared {scope = scope} {n = n} ready place text own new = record {
     types = with_type ready.types n own;
     linked = linked_declared ready.linked place text own new;
-    calls = callable_declared earlier (IsCallable IsKept earlier) scope place text (variable_as own) ready.calls;
+    calls = callable_declared earlier (IsCallee IsKept earlier) scope place text (variable_as own) ready.calls;
   }
 
   pub ready_after : {scope : Scope} {control : Label} {s : StatementTree} → IsWellTyped earlier scope control s
-      → {names : Numbers} {n : ℕ} → Ready earlier scope names n
-      → Ready earlier (scope_after scope s) (names_after (callables earlier) names n s)
+      → {names : Numbers} {n : ℕ} → StatementReady earlier scope names n
+      → StatementReady earlier (scope_after scope s) (names_after (callables earlier) names n s)
       (n + numbers_taken (callables earlier) s)
   ready_after {s = s} here {names = names} {n = n} ready = record {
     types = types_after_all ready.types (statement (callables earlier) names n s);
     linked = linked_after earlier here ready.linked;
-    calls = callable_after earlier (IsCallable IsKept earlier) here ready.calls;
+    calls = callable_after earlier (IsCallee IsKept earlier) here ready.calls;
   }
 
   pub ready_after_all : {scope : Scope} {control : Label} {b : BlockTree} → AreWellTyped earlier scope control b
-      → {names : Numbers} {n : ℕ} → Ready earlier scope names n
-      → Ready earlier (scope_after_all scope b) (names_after_all (callables earlier) names n b)
+      → {names : Numbers} {n : ℕ} → StatementReady earlier scope names n
+      → StatementReady earlier (scope_after_all scope b) (names_after_all (callables earlier) names n b)
       (n + numbers_taken_all (callables earlier) b)
   ready_after_all no_statement ready = ready_later (omega arith) ready
   ready_after_all (one_more {statement = s} {rest = rest} here there) ready =

@@ -19,7 +19,7 @@ use Rattle.inline.proofs.Called.{Spares}
 use Rattle.inline.proofs.Linked.{Linked, entry}
 use Rattle.inline.proofs.Below.{found-split}
 use Rattle.inline.proofs.Passing.{held_by_other}
-use Rattle.inline.proofs.Terms.{Holds, Shows}
+use Rattle.inline.proofs.Terms.{VariableHolds, Shows}
 
 -- a call may change the array of this number
 abbrev pub Changes : Numbers → ℕ → List ParameterTree → List ExprTree → Type 0
@@ -67,7 +67,7 @@ module _ {scope : Scope} {names : Numbers} {types : Types} {n : ℕ} (linked : L
   -- a name holds what its variable does, unless one of these goes back to it
   abbrev Back : List ParameterTree → List ExprTree → State → Type 0
   Back ps es s = (text : List ℕ) (x : Numbered) → found names text ≡ Some x → (Changes names x.number ps es → ⊥)
-      → Holds x.declaration (s text) (m x.number)
+      → VariableHolds x.declaration (s text) (m x.number)
 
   immutable_back : (p : ParameterTree) (form : Form) (e : ExprTree) (ps : List ParameterTree) (es : List ExprTree)
       (s : State) → p.form ≡ form → is_mutable form ≡ false → gone_back form s t e p.name ≡ s

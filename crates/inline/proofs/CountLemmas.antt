@@ -9,14 +9,14 @@ use Rattle.inline.specs.Below.{right_bodies, right_nodes, right_words, RightTree
 use Rattle.inline.specs.Below.{statement_words, StatementTree, words_of_called}
 
 -- so many nodes, words and open bodies count the same as so many others
-pub record AreAlike (n w b m v d : ℕ) : Type 0 where
+pub record CountsAlike (n w b m v d : ℕ) : Type 0 where
   pub nodes : counted n ≡ counted m
   pub words : counted w ≡ counted v
   pub bodies : counted b ≡ counted d
 
 abbrev CallAlike : CallTree → Option Extent → Option Extent → Type 0
 CallAlike c one other =
-    AreAlike (called_nodes one c) (words_of_called one) (bodies_of_called one) (called_nodes other c)
+    CountsAlike (called_nodes one c) (words_of_called one) (bodies_of_called one) (called_nodes other c)
     (words_of_called other) (bodies_of_called other)
 
 called_alike : (c : CallTree) (e : Option Extent) → CallAlike c (option_map counted_extent e) e
@@ -27,14 +27,14 @@ module _ (counts extents : Extents) (same : AreCountsOf counts extents) where
   call_alike : (c : CallTree) → CallAlike c (counts c.name) (extents c.name)
   call_alike c = rw (same c.name) (called_alike c (extents c.name))
 
-  right_alike : (r : RightTree) → AreAlike (right_nodes counts r) (right_words counts r) (right_bodies counts r)
+  right_alike : (r : RightTree) → CountsAlike (right_nodes counts r) (right_words counts r) (right_bodies counts r)
       (right_nodes extents r) (right_words extents r) (right_bodies extents r)
   right_alike (called c) = call_alike c
   right_alike (computed e) = record { nodes = refl; words = refl; bodies = refl }
 
   mutual
     pub statement_alike : (s : StatementTree)
-        → AreAlike (statement_nodes counts s) (statement_words counts s) (statement_bodies counts s)
+        → CountsAlike (statement_nodes counts s) (statement_words counts s) (statement_bodies counts s)
         (statement_nodes extents s) (statement_words extents s) (statement_bodies extents s)
     statement_alike (declaration p l m k t r) =
         let h = right_alike r in
@@ -56,7 +56,7 @@ module _ (counts extents : Extents) (same : AreCountsOf counts extents) where
         record { nodes = omega arith; words = omega arith; bodies = k.bodies }
 
     pub block_alike : (b : BlockTree)
-        → AreAlike (block_nodes counts b) (block_words counts b) (block_bodies counts b)
+        → CountsAlike (block_nodes counts b) (block_words counts b) (block_bodies counts b)
         (block_nodes extents b) (block_words extents b) (block_bodies extents b)
     block_alike nothing = record { nodes = refl; words = refl; bodies = refl }
     block_alike (first s b) =

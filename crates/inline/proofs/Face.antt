@@ -1,8 +1,8 @@
 -- What the crates above take from these proofs, in one place.
-pub use Rattle.inline.proofs.Begun.{Enters, distinct_none, enters}
+pub use Rattle.inline.proofs.Begun.{EntersBody, distinct_none, enters}
 pub use Rattle.inline.proofs.CallEnds.{call_means}
 pub use Rattle.inline.proofs.CallSizes.{GoTogether, same_all, same_nodes, same_result, some_nodes, value_there}
-pub use Rattle.inline.proofs.Called.{Behaves, IsKept, Ready, ready_after, ready_declared, ready_later}
+pub use Rattle.inline.proofs.Called.{Behaves, IsKept, StatementReady, ready_after, ready_declared, ready_later}
 pub use Rattle.inline.proofs.Chains.{iterations_keep}
 pub use Rattle.inline.proofs.Comes.{Comes, fails, well}
 pub use Rattle.inline.proofs.Fitting.{
@@ -29,7 +29,7 @@ pub use Rattle.inline.proofs.Passing.{passed_comes}
 pub use Rattle.inline.proofs.Procedures.{
   EachCallable,
   IsAt,
-  IsCallable,
+  IsCallee,
   IsWithin,
   Stand,
   callable_after,

@@ -15,9 +15,9 @@ use Rattle.word.specs.Widths.{IsWord}
 use Rattle.inline.specs.Fitting.{IsWithinKind, Fits}
 use Rattle.inline.specs.Flat.{TermTree, word_as, array_as}
 use Rattle.inline.specs.FlatMeaning.{Values, value_in}
-use Rattle.inline.specs.FlatTyping.{Types, HasType, of_number, of_truth, of_variable, of_prefix, of_binary}
-use Rattle.inline.specs.FlatTyping.{of_rotation, of_conversion, of_selection, of_element, Suits}
-use Rattle.language.specs.declared.operators.BinaryOperator.TheVariants.{Either, Both, Equal, Unequal, Less}
+use Rattle.inline.specs.FlatTyping.{Types, TermHasType, of_number, of_truth, of_variable, of_prefix, of_binary}
+use Rattle.inline.specs.FlatTyping.{of_rotation, of_conversion, of_selection, of_element, TermSuits}
+use Rattle.language.specs.declared.operators.BinaryOperator.TheVariants.{LogicalOr, LogicalAnd, Equal, Unequal, Less}
 use Rattle.language.specs.declared.operators.BinaryOperator.TheVariants.{LessOrEqual, Greater, GreaterOrEqual, BitOr}
 use Rattle.language.specs.declared.operators.BinaryOperator.TheVariants.{BitXor, BitAnd, ShiftLeft, ShiftRight, Add}
 use Rattle.language.specs.declared.operators.BinaryOperator.TheVariants.{Subtract, Multiply, Divide, Remainder}
@@ -68,8 +68,8 @@ pub operated_fits : {profile : Profile} (operator : BinaryOperator) {one other w
     → Makes profile (operation_of operator) one other whole
     → IsWithinKind one.kind a → IsWithinKind other.kind b
     → IsWithinKind whole.kind (operated operator (width_of one.kind) a b)
-operated_fits Either a b logic low high = bit_fits (truth_of a || truth_of b)
-operated_fits Both a b logic low high = bit_fits (truth_of a && truth_of b)
+operated_fits LogicalOr a b logic low high = bit_fits (truth_of a || truth_of b)
+operated_fits LogicalAnd a b logic low high = bit_fits (truth_of a && truth_of b)
 operated_fits Equal a b equality low high = bit_fits (a == b)
 operated_fits Unequal a b equality low high = bit_fits (not (a == b))
 operated_fits Less a b (order numeric) low high = bit_fits (nat_lt a b)
@@ -106,7 +106,8 @@ either_fits kind true x y one other = other
 either_fits kind false x y one other = one
 
 module _ (types : Types) (m : Values) (fits : Fits types m) where
-  pub value_fits : {e : TermTree} {whole : WordType} → HasType types e whole → IsWithinKind whole.kind (value_in m e)
+  pub value_fits : {e : TermTree} {whole : WordType} → TermHasType types e whole → IsWithinKind whole.kind
+      (value_in m e)
   value_fits (of_number below) = below
   value_fits (of_truth {value = value}) = bit_fits value
   value_fits (of_variable {x = x} {word = word} {mutable = mutable} is) =
@@ -127,6 +128,6 @@ module _ (types : Types) (m : Values) (fits : Fits types m) where
       element_fits word.kind (m x) (value_in m index) (fits x (array_as word mutable size) is).within
 
   -- and what suits is within the kind that is wanted
-  pub suited_fits : (wanted : WordType) (e : TermTree) → Suits types wanted e
+  pub suited_fits : (wanted : WordType) (e : TermTree) → TermSuits types wanted e
       → IsWithinKind wanted.kind (value_in m e)
   suited_fits wanted e suits = rw (← suits.kind) (value_fits suits.has_type)

@@ -13,7 +13,7 @@ use Rattle.inline.specs.Fitting.{IsWithinKind, IsHeld, Fits}
 use Rattle.inline.specs.Flat.{TermTree, FlatTree, declare, array, assign, put, hold, skip, branch, loop, FlatBlock}
 use Rattle.inline.specs.Flat.{nothing, first, FlatProgram, word_as, array_as, declaration_of, numbers_in}
 use Rattle.inline.specs.FlatMeaning.{Values, with_value, value_in, elements, after, after_all, given, end_of}
-use Rattle.inline.specs.FlatTyping.{Types, with_type, AllSuit, HasCount, IsTyped, AreTyped, IsTypedProgram}
+use Rattle.inline.specs.FlatTyping.{Types, with_type, AllSuit, HasCount, IsTyped, AreTyped, IsTypedFlat}
 use Rattle.inline.specs.FlatTyping.{counter_type, types_after, types_after_all, parameter_types, end_types}
 use Rattle.inline.proofs.Chains.{iterations_keep}
 use Rattle.inline.proofs.Fitting.{value_fits, suited_fits, some_bit}
@@ -168,18 +168,18 @@ first_there (suc n) (e ∷ ds) zero d is = is
 first_there (suc n) (e ∷ ds) (suc x) d is = first_there n ds x d is
 
 -- in a well-typed program
-pub parameters_fit : (p : FlatProgram) (args : List Arg) → IsTypedProgram p → AreWithin p.parameters args
+pub parameters_fit : (p : FlatProgram) (args : List Arg) → IsTypedFlat p → AreWithin p.parameters args
     → Fits (parameter_types p.profile p.parameters) (given p.declared args)
 parameters_fit p args typed within x d is =
     given_fits p.parameters p.declared args within typed.parameters x d
     (first_there (length p.parameters) p.declared x d (ap (λ ds. slice_get ds x) typed.parameters ∙ is))
 
-pub end_fits : (p : FlatProgram) (args : List Arg) → IsTypedProgram p → AreWithin p.parameters args
+pub end_fits : (p : FlatProgram) (args : List Arg) → IsTypedFlat p → AreWithin p.parameters args
     → Fits (end_types p) (end_of p args)
 end_fits p args typed within = fits_after_all p.declared p.body (parameter_types p.profile p.parameters) Public
     typed.body (given p.declared args) (parameters_fit p args typed within)
 
-pub result_fits : (p : FlatProgram) (args : List Arg) (word : WordType) (value : TermTree) → IsTypedProgram p
+pub result_fits : (p : FlatProgram) (args : List Arg) (word : WordType) (value : TermTree) → IsTypedFlat p
     → AreWithin p.parameters args → p.returned ≡ Some word → p.value ≡ Some value
     → IsWithinKind word.kind (value_in (end_of p args) value)
 result_fits p args word value typed within returned valued =

@@ -26,7 +26,7 @@ use Rattle.inline.specs.Path.{Path, either, first_fault}
 use Rattle.language.specs.Meaning.{one_more, declares, declares_array, assigns, assigns_element, calls}
 use Rattle.language.specs.State as state
 use Rattle.language.specs.WellTyped as rules
-use Rattle.inline.proofs.Called.{Spares, Ready, ready_later, ready_declared, ready_after}
+use Rattle.inline.proofs.Called.{Spares, StatementReady, ready_later, ready_declared, ready_after}
 use Rattle.inline.proofs.CallEnds.{call_means}
 use Rattle.inline.proofs.Chains.{after_chain, fault_chain}
 use Rattle.inline.proofs.Comes.{Comes, well, then_comes, also, either-assoc, either-none, across}
@@ -37,12 +37,12 @@ use Rattle.inline.proofs.Below.{found-kept}
 use Rattle.inline.proofs.Rights.{right_means, call_gives, path_given}
 use Rattle.inline.proofs.States.{shows_declared, shows_changed, shows_before, shows_kept, with_value-other}
 use Rattle.inline.proofs.States.{with_value-same}
-use Rattle.inline.proofs.Terms.{Holds, Shows, word_at, element_comes, means}
+use Rattle.inline.proofs.Terms.{VariableHolds, Shows, word_at, element_comes, means}
 
 -- Words.
 
 holds_word : (own : WordType) (mutable : Bool) (w : state.Word) (v : ℕ) → w ≡ word_at own.kind v
-    → Holds (word_as own mutable) (Some (single w)) (v ∷ [])
+    → VariableHolds (word_as own mutable) (Some (single w)) (v ∷ [])
 holds_word own mutable w v same = record { is = ap (λ u. Some (single u)) same; count = refl }
 
 -- Arrays.
@@ -111,7 +111,7 @@ element_shown {names = names} linked text own is s m shows {i = i} {v = v} same 
     let x = linked.known text d is in
     let y = number_of names text in
     let holds = shows text (entry y d) x.found in
-    let changed : Holds d (Some (state.array own.element.kind (slice_set (m y) i v))) (slice_set (m y) i v) =
+    let changed : VariableHolds d (Some (state.array own.element.kind (slice_set (m y) i v))) (slice_set (m y) i v) =
     record { is = refl; count = length-set (m y) i v ∙ holds.count } in
     rw (same, alike, holds.is)
     (shows_changed linked s m shows text changed y x.found refl)
@@ -145,7 +145,7 @@ values_come linked s m shows (rules.one_suits has (rules.suits flow) all) small 
 module _ {ps : List ProcedureTree} where
   mutual
     pub same_end : {scope : Scope} {control : Label} {statement : StatementTree}
-        → rules.IsWellTyped ps scope control statement → {names : Numbers} {n : ℕ} → Ready ps scope names n
+        → rules.IsWellTyped ps scope control statement → {names : Numbers} {n : ℕ} → StatementReady ps scope names n
         → IsPlain statement → (s : State) (m : Values) → Shows names s m → SameEnd ps names n statement s m
     same_end (rules.declares {label = label} {mutable = mutable} {kind = kind} {text = text} {right = value} new has
         (rules.suits suits) flow) {n = n} ready plain s m shows =
@@ -166,7 +166,7 @@ module _ {ps : List ProcedureTree} where
         rw (across, either-none)
         (also (values_come ready.linked s m shows all (small_values values plain.1))
         (λ vs is same.
-        let holds : Holds d (Some (made_array kind size vs)) (elements m size terms) = record {
+        let holds : VariableHolds d (Some (made_array kind size vs)) (elements m size terms) = record {
           is = rw same (ap Some (made_elements kind size m terms));
           count = filled_count m names count;
         } in (
@@ -317,7 +317,7 @@ module _ {ps : List ProcedureTree} where
         (λ at is. bounds_fault (this_faults is)))
 
     pub same_ends : {scope : Scope} {control : Label} {b : BlockTree} → rules.AreWellTyped ps scope control b
-        → {names : Numbers} {n : ℕ} → Ready ps scope names n
+        → {names : Numbers} {n : ℕ} → StatementReady ps scope names n
         → ArePlain b → (s : State) (m : Values) → Shows names s m → SameEnds ps names n b s m
     same_ends rules.no_statement ready plain s m shows = well s ends shows
     same_ends (rules.one_more here there) ready plain s m shows =

@@ -15,15 +15,15 @@ use Rattle.inline.specs.Numbering.{flattened, block, term, declared_in_all}
 use Rattle.inline.specs.Path.{first_fault}
 use Rattle.language.specs.State.{Word}
 use Rattle.language.specs.WellTyped as rules
-use Rattle.inline.proofs.Called.{Agrees, HasResult, nothing_given, a_word, Behaves, BodyComes, IsKept, Ready}
-use Rattle.inline.proofs.Called.{ready_after_all}
+use Rattle.inline.proofs.Called.{Agrees, ResultAgrees, nothing_given, a_word, Behaves, BodyComes, IsKept}
+use Rattle.inline.proofs.Called.{StatementReady, ready_after_all}
 use Rattle.inline.proofs.Comes.{Comes, well, fails, then_comes, also, across}
 use Rattle.inline.proofs.FlatEnds.{same_ends}
 use Rattle.inline.proofs.Kept.{block_keeps}
 use Rattle.inline.proofs.Linked.{Linked}
 use Rattle.inline.proofs.Parameters.{shows_arguments, arrays_same, all_own, where_begun, linked_parameters}
 use Rattle.inline.proofs.Passing.{kind_suits}
-use Rattle.inline.proofs.Procedures.{Stand, IsCallable, callable_parameters, callable_within, own_typing}
+use Rattle.inline.proofs.Procedures.{Stand, IsCallee, callable_parameters, callable_within, own_typing}
 use Rattle.inline.proofs.Procedures.{variables_within}
 use Rattle.inline.proofs.States.{shows_before}
 use Rattle.inline.proofs.Terms.{Shows, means}
@@ -60,11 +60,11 @@ module _ (before : List ProcedureTree) (scope : Scope) (p : ProcedureTree) (stan
     (typed : rules.IsProcedure before scope p) (plain : IsGrammatical p) where
   module _ (names : Numbers) (types : Types) (n : ℕ)
       (linked : Linked (body_scope scope (length before) p) names types n) where
-    pub begins : Ready before (body_scope scope (length before) p) names n
+    pub begins : StatementReady before (body_scope scope (length before) p) names n
     begins = record {
       types = types;
       linked = linked;
-      calls = callable_parameters before (IsCallable IsKept before)
+      calls = callable_parameters before (IsCallee IsKept before)
           p.parameters (with_procedure scope (length before) p)
           (callable_within IsKept before scope stand p typed.is_new);
     }
@@ -99,7 +99,7 @@ module _ (before : List ProcedureTree) (scope : Scope) (p : ProcedureTree) (stan
 
 -- a word as a result
 word_same : {m : Values} {result : Option WordType} {value : Option TermTree} {word : Option Word}
-    → HasResult m result value word → option_map (λ (w : Word). w.value) word ≡ option_map (value_in m) value
+    → ResultAgrees m result value word → option_map (λ (w : Word). w.value) word ≡ option_map (value_in m) value
 word_same nothing_given = refl
 word_same (a_word same) = ap (λ (w : Word). Some w.value) same
 

@@ -9,7 +9,7 @@ use Rattle.inline.specs.Below.{IsSmallReturn, joined, Label, nothing_returned, p
 use Rattle.inline.specs.Below.{ProcedureTree, Profile, ProgramTree, Public, Returns, ReturnTree, Scope, Secret}
 use Rattle.inline.specs.Below.{value_returned, violations, with_procedure, WordType}
 use Rattle.inline.specs.Flat.{declaration_of}
-use Rattle.inline.specs.FlatTyping.{Types, IsTypedProgram, IsResult, parameter_types}
+use Rattle.inline.specs.FlatTyping.{Types, IsTypedFlat, IsResult, parameter_types}
 use Rattle.inline.specs.Numbering.{Numbers, param_of, parameter_names, flattened, callables, declared_in_all}
 use Rattle.inline.specs.Numbering.{value_of}
 use Rattle.inline.proofs.CallTypes.{TypedBody}
@@ -82,7 +82,7 @@ own_count ps = length-map (map param_of ps) declaration_of ∙ length-map ps par
 pub flat_is_typed : (profile : Profile) (program : ProgramTree) (before : List ProcedureTree) (p : ProcedureTree)
     → length (violations profile program) ≡ 0 → exported [] program.procedures ≡ Some (before, p)
     → AllByRecursion IsGrammatical before → IsGrammatical p
-    → IsTypedProgram (flattened profile before p)
+    → IsTypedFlat (flattened profile before p)
 flat_is_typed profile program before p h is earlier plain =
     let e = export_typed profile program before p h is earlier in
     let one = typed_one before e.scope p e.stand e.typed plain in

@@ -17,7 +17,7 @@ use Rattle.inline.specs.Below.{parameter_words, ParameterTree, Place, ProcedureT
 use Rattle.inline.specs.Below.{Returns, ReturnTree, right_nodes, right_words, RightTree, Scope, SingleWord}
 use Rattle.inline.specs.Below.{size_violations, statement_nodes, statement_words, StatementTree, value_returned}
 use Rattle.inline.specs.Below.{violations, with_procedure, Word, WordType, written}
-use Rattle.language.specs.WellTyped.{Gives}
+use Rattle.language.specs.WellTyped.{RightHasType}
 use Rattle.inline.proofs.Below.{few_of}
 use Rattle.inline.proofs.CallSizes.{same_nodes, same_all, same_result, GoTogether, value_there, dropped_nodes}
 use Rattle.inline.proofs.CallSizes.{dropped_words, words-append, SizedBody, call_sized}
@@ -41,7 +41,7 @@ module _ (earlier : List ProcedureTree) (at : Scope) (stand : Stand SizedBody ea
     pub words : 3 * declared_words (right_variables known r) ≤ 3 * right_words extents r + right_nodes extents r
 
   right_sized : {scope : Scope} {control : Label} {r : RightTree} {given : WordType}
-      → Gives earlier scope control r (Word given) → IsWithin earlier at scope → (names : Numbers) (n : ℕ)
+      → RightHasType earlier scope control r (Word given) → IsWithin earlier at scope → (names : Numbers) (n : ℕ)
       → RightSized names n r
   right_sized (of_value {e = e} has) inside names n =
       record { nodes = omega (arith, same_nodes names e); words = omega arith }
@@ -61,7 +61,7 @@ module _ (earlier : List ProcedureTree) (at : Scope) (stand : Stand SizedBody ea
     pub words : 3 * declared_words (declared_in_all known b) ≤ 3 * block_words extents b + block_nodes extents b
 
   element_sized : {scope : Scope} {control : Label} {r : RightTree} {given : WordType}
-      → Gives earlier scope control r (Word given) → IsWithin earlier at scope
+      → RightHasType earlier scope control r (Word given) → IsWithin earlier at scope
       → (place bracket target : Place) (text : List ℕ) (index : ExprTree) (names : Numbers) (n : ℕ)
       → StatementSized names n (element_assignment place bracket target text index r)
   element_sized (of_value {e = e} has) inside place bracket target text index names n =

@@ -6,7 +6,7 @@ use Rattle.std.proofs.lemmas.Bool.{or_parts}
 use Rattle.std.proofs.lemmas.List.{length-map}
 use Rattle.inline.specs.declared.flat.FlatVariable.{FlatVariable}
 use Rattle.inline.specs.Flat.{word_as, array_as}
-use Rattle.inline.specs.FlatTyping.{Types, AreTyped, Suits, types_after_all, with_type, counter_type}
+use Rattle.inline.specs.FlatTyping.{Types, AreTyped, TermSuits, types_after_all, with_type, counter_type}
 use Rattle.inline.specs.FlatTyping as flat
 use Rattle.inline.specs.Numbering.{Numbers, Callables, callables, call_block, call_variables, call_result, call_value}
 use Rattle.inline.specs.Numbering.{right_block, right_variables, right, element_block, element_variables}
@@ -19,11 +19,11 @@ use Rattle.inline.specs.Below.{joined, Label, labelled, no_statement, of_call, o
 use Rattle.inline.specs.Below.{Public, public_flows, repeats, right_assigns, RightTree, Scope, Secret, secret_flows}
 use Rattle.inline.specs.Below.{statement_assigns, StatementTree, Word, WordType, written}
 use Rattle.language.specs.WellTyped as rules
-use Rattle.language.specs.WellTyped.{Gives}
+use Rattle.language.specs.WellTyped.{RightHasType}
 use Rattle.inline.proofs.CallTypes.{TypedBody, call_fits, result_suits, dropped_typed}
 use Rattle.inline.proofs.ChainTypes.{chain-types, chain-typed, types_before}
 use Rattle.inline.proofs.Hiding.{Hides, hides_after, hides_counter}
-use Rattle.inline.proofs.Linked.{Linked, Serves, Known, linked_beside, linked_declared, later, with_type-same}
+use Rattle.inline.proofs.Linked.{Linked, Serves, IsKnownName, linked_beside, linked_declared, later, with_type-same}
 use Rattle.inline.proofs.Listed.{Lists, IsCounted, call_takes, passed_over, all_counted, first_new, lists_left}
 use Rattle.inline.proofs.Listed.{lists_rest, lists_right, AllKnown, linked_after, linked_right}
 use Rattle.inline.proofs.Procedures.{Stand, IsAt, IsWithin, callable_after, callable_declared}
@@ -57,7 +57,7 @@ served {d = d} serves free = serves.is
 
 -- an array's number and size
 array_there : {names : Numbers} {types : Types} {text : List ℕ} {array : ArrayType}
-    → Known names types text (array_as array.element true array.length)
+    → IsKnownName names types text (array_as array.element true array.length)
     → types.at (number_of names text) ≡ Some (array_as array.element true (size_of names text))
 array_there x = rw (x.declared, size_of) (served x.typed refl)
 
@@ -101,10 +101,10 @@ module _ (earlier : List ProcedureTree) where
     record RightFits (types : Types) (control : Label) (names : Numbers) (n : ℕ) (r : RightTree) (wanted : WordType) :
         Type 0 where
       pub typed : AreTyped all types control (right_block known names n r)
-      pub suits : Suits (types_after_all types (right_block known names n r)) wanted (right known names n r)
+      pub suits : TermSuits (types_after_all types (right_block known names n r)) wanted (right known names n r)
 
     right_fits : {scope : Scope} {control : Label} {r : RightTree} {given wanted : WordType}
-        → Gives earlier scope control r (Word given) → rules.Suits given wanted → IsWithin earlier at scope
+        → RightHasType earlier scope control r (Word given) → rules.Suits given wanted → IsWithin earlier at scope
         → (outer ≡ Secret → right_assigns at r ≡ false)
         → {names : Numbers} {types : Types} {n : ℕ} → Linked scope names types n → IsSmallRight r
         → Lists all n (right_variables known r) → RightFits types (joined outer control) names n r wanted
@@ -124,7 +124,7 @@ module _ (earlier : List ProcedureTree) where
     element_typed : (text : List ℕ) {scope : Scope} {control : Label} {index : ExprTree} {r : RightTree}
         {given : WordType} {array : ArrayType} → IsVariable scope text (Array array) true
         → rules.HasType scope index (Word counter_type)
-        → Gives earlier scope control r (Word given) → rules.Suits given array.element
+        → RightHasType earlier scope control r (Word given) → rules.Suits given array.element
         → FlowsTo control array.element.label → IsWithin earlier at scope
         → IsHushed outer scope (right_assigns at r) → (bracket : Place)
         → {names : Numbers} {types : Types} {n : ℕ} → Linked scope names types n → AreSmall index → IsSmallRight r
@@ -231,7 +231,7 @@ module _ (earlier : List ProcedureTree) where
           (lists_left ones others lists) in
           let b = typed_block other within (λ e. ((hush e).0, (quiet e).1)) (later {m = m} (omega arith) linked) plain.2
           (lists_right ones others lists) in
-          let both = λ (l k : Label). flat.HasType types (term names condition) (labelled Boolean l)
+          let both = λ (l k : Label). flat.TermHasType types (term names condition) (labelled Boolean l)
           × AreTyped all types k (block known names n accepted)
           × AreTyped all types k (block known names m otherwise) in (
             subst (λ l. both l (joined l (joined outer control))) (sym c.label)

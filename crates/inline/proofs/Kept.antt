@@ -15,7 +15,7 @@ use Rattle.inline.specs.Below.{AreWellTyped, assigns, assigns_element, BlockTree
 use Rattle.inline.specs.Below.{declares_array, found, IsWellTyped, Label, labelled, no_statement, of_call, of_value}
 use Rattle.inline.specs.Below.{one_more, ProcedureTree, repeats, Scope, StatementTree, Variable, WordType}
 use Rattle.inline.specs.Flat.{TermTree}
-use Rattle.inline.proofs.Called.{Spares, Ready, ready_later, ready_declared, ready_after}
+use Rattle.inline.proofs.Called.{Spares, StatementReady, ready_later, ready_declared, ready_after}
 use Rattle.inline.proofs.CallEnds.{call_means}
 use Rattle.inline.proofs.Chains.{after_chain, iterations_keep}
 use Rattle.inline.proofs.Linked.{entry, variable_as}
@@ -57,7 +57,7 @@ dropped_keeps k x low (Some word) value m = with_value-other m k x _ (λ q. omeg
 
 module _ {earlier : List ProcedureTree} where
   -- what may be assigned to is none of them
-  not_spared : {scope : Scope} {names : Numbers} {n x : ℕ} → Ready earlier scope names n → Spares names n x
+  not_spared : {scope : Scope} {names : Numbers} {n x : ℕ} → StatementReady earlier scope names n → Spares names n x
       → (text : List ℕ) (d : FlatVariable) → found scope.names text ≡ Some (Variable (variable_as d))
       → d.mutable ≡ true → x ≡ number_of names text → ⊥
   not_spared ready spares text d is free same =
@@ -65,7 +65,7 @@ module _ {earlier : List ProcedureTree} where
 
   mutual
     pub statement_keeps : {scope : Scope} {control : Label} {s : StatementTree} → IsWellTyped earlier scope control s
-        → {names : Numbers} {n : ℕ} → Ready earlier scope names n → {x : ℕ} → Spares names n x → (m : Values)
+        → {names : Numbers} {n : ℕ} → StatementReady earlier scope names n → {x : ℕ} → Spares names n x → (m : Values)
         → after_all m (statement (callables earlier) names n s) x ≡ m x
     statement_keeps (declares {right = value} new has suit flow) {names = names} {n = n} ready {x = x} spares m =
         let known = callables earlier in
@@ -115,7 +115,7 @@ module _ {earlier : List ProcedureTree} where
         _ (value_in m (term names low)) m refl refl
 
     pub block_keeps : {scope : Scope} {control : Label} {b : BlockTree} → AreWellTyped earlier scope control b
-        → {names : Numbers} {n : ℕ} → Ready earlier scope names n → {x : ℕ} → Spares names n x → (m : Values)
+        → {names : Numbers} {n : ℕ} → StatementReady earlier scope names n → {x : ℕ} → Spares names n x → (m : Values)
         → after_all m (block (callables earlier) names n b) x ≡ m x
     block_keeps no_statement ready spares m = refl
     block_keeps (one_more here there) ready spares m =

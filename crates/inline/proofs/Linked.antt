@@ -54,13 +54,13 @@ pub serves_itself : {there : Option FlatVariable} {d : FlatVariable} → there �
 serves_itself {d = d} is = record { free = d.mutable; is = is; enough = λ e. e }
 
 -- a variable that is declared so has a number, which serves
-pub record Known (names : Numbers) (types : Types) (text : List ℕ) (d : FlatVariable) : Type 0 where
+pub record IsKnownName (names : Numbers) (types : Types) (text : List ℕ) (d : FlatVariable) : Type 0 where
   pub found : found names text ≡ Some (entry (number_of names text) d)
   pub typed : Serves (types.at (number_of names text)) d
   pub declared : (numbered names text).declaration ≡ d
 
 known_at : {names : Numbers} {types : Types} (text : List ℕ) {number : ℕ} {d : FlatVariable}
-    → found names text ≡ Some (entry number d) → Serves (types.at number) d → Known names types text d
+    → found names text ≡ Some (entry number d) → Serves (types.at number) d → IsKnownName names types text d
 known_at {names = names} {types = types} text {number = number} {d = d} is serves =
     let here : numbered names text ≡ entry number d = rw is in
     record {
@@ -75,7 +75,7 @@ pub record Linked (scope : Scope) (names : Numbers) (types : Types) (n : ℕ) : 
   pub observed : types.profile ≡ scope.profile
   -- a variable's number has its type
   pub known : (text : List ℕ) (d : FlatVariable) → found scope.names text ≡ Some (Variable (variable_as d))
-      → Known names types text d
+      → IsKnownName names types text d
   -- only what is in scope has a number
   pub none : (text : List ℕ) → found scope.names text ≡ None → found names text ≡ None
   pub below : (text : List ℕ) (x : Numbered) → found names text ≡ Some x → x.number < n
@@ -133,12 +133,12 @@ module _ {scope : Scope} {names : Numbers} {types : Types} {n : ℕ} (linked : L
 
   known_by : (other : List ℕ) (d : FlatVariable)
       → found (declared scope place text (Variable (variable_as own))).names other ≡ Some (Variable (variable_as d))
-      → Known after types other d
+      → IsKnownName after types other d
   known_by other d is = elim (found-split scope.names text _ other (Variable (variable_as d)) is) [
     | inl old ↦ (
         let k = linked.known other d old in
         known_at other (found-kept names text (entry number own) other _ k.found) k.typed)
-    | inr same ↦ subst (Known after types other)
+    | inr same ↦ subst (IsKnownName after types other)
         (one_declaration own d (same_variable (variable_as own) (variable_as d) (ap Some same.1)))
         (known_at other (found-new names text (entry number own) other same.0 (linked.none text new)) typed)
   ]

@@ -2,13 +2,13 @@
 use Rattle.std.proofs.Common.{◌≡◌, ℕ, List, refl, ◌∙◌, arith}
 use Rattle.inline.proofs.CountLemmas.{block_alike}
 use Rattle.inline.specs.declared.measured.Measured.{Measured}
-use Rattle.inline.specs.declared.measured.Size.{Size}
+use Rattle.inline.specs.declared.measured.FlatSize.{FlatSize}
 use Rattle.inline.specs.Counts.{AreCountsOf, counted_extent}
 use Rattle.inline.specs.Measured.{extent_of_measured, extents_in, procedure_size}
 use Rattle.inline.specs.Below.{counted, extent_of, Extents, passed_words, Procedure, procedure_tree, ProcedureTree}
 
 -- what is counted by counts, with so many words of parameters, is what is counted by what they count
-pub procedure_alike : (counts extents : Extents) (p : ProcedureTree) {size : Size} {words : ℕ} (w : ℕ)
+pub procedure_alike : (counts extents : Extents) (p : ProcedureTree) {size : FlatSize} {words : ℕ} (w : ℕ)
     → AreCountsOf counts extents → words ≡ counted w →
     size ≡ procedure_size counts words p → size ≡ procedure_size extents w p
 procedure_alike counts extents p {words = words} w same taken is =

@@ -21,7 +21,7 @@ use Rattle.language.specs.declared.values.Arg.TheVariants.{Word, Array}
 use Rattle.inline.proofs.Below.{found-new, found-other, found-kept}
 use Rattle.inline.proofs.Linked.{Linked, Serves, serves_itself, widened, later, entry, value_as, variable_as}
 use Rattle.inline.proofs.Linked.{linked_beside, linked_named, not_named, with_type-same}
-use Rattle.inline.proofs.Terms.{held, Holds, Shows}
+use Rattle.inline.proofs.Terms.{held, VariableHolds, Shows}
 
 -- what a parameter is declared as
 abbrev pub own : ParameterTree → FlatVariable
@@ -86,14 +86,16 @@ pub itself : (text : List ℕ) → bytes_eq text text ≡ true
 itself text = (bytes_decides text text).1 refl
 
 module _ (profile : Profile) where
-  pub record Begins (scope : Scope) (names : Numbers) (ds : List FlatVariable) (n : ℕ) (ps : List ParameterTree) :
+  pub record ParametersBegin (scope : Scope) (names : Numbers) (ds : List FlatVariable) (n : ℕ)
+      (ps : List ParameterTree) :
       Type 0 where
     pub linked : Linked (with_parameters scope ps) (numbering.with_parameters names n ps)
         (types_of profile (ds ++ all_own ps)) (n + length ps)
     pub named : Named (numbering.with_parameters names n ps) n ps
 
   begins : (ps : List ParameterTree) (scope : Scope) (names : Numbers) (ds : List FlatVariable) (n : ℕ)
-      → n ≡ length ds → AreNew scope ps → Linked scope names (types_of profile ds) n → Begins scope names ds n ps
+      → n ≡ length ds → AreNew scope ps → Linked scope names (types_of profile ds) n
+      → ParametersBegin scope names ds n ps
   begins [] scope names ds n many new linked =
       record { linked = rw append-nil (later (omega arith) linked); named = tt }
   begins (p ∷ ps) scope names ds n many (one_is_new here there) linked =
@@ -133,7 +135,7 @@ no_names none observed fresh = record {
 
 -- where a body begins
 pub where_begun : (profile : Profile) (scope : Scope) → scope.profile ≡ profile → NoVariables scope
-    → (ps : List ParameterTree) → AreNew scope ps → Begins profile scope [] [] 0 ps
+    → (ps : List ParameterTree) → AreNew scope ps → ParametersBegin profile scope [] [] 0 ps
 where_begun profile scope observed none ps new =
     begins profile ps scope [] [] 0 refl new (no_names none (sym observed) (λ x high. refl))
 
@@ -166,7 +168,7 @@ passed : (ps : List ParameterTree) (names : Numbers) (n : ℕ) (rest : List Flat
     → AreWithin (map param_of ps) args → ((i : ℕ) → m (n + i) ≡ given (all_own ps ++ rest) args i)
     → (text : List ℕ) (x : Numbered) → found names text ≡ None
     → found (numbering.with_parameters names n ps) text ≡ Some x
-    → Holds x.declaration (holding ps args text) (m x.number)
+    → VariableHolds x.declaration (holding ps args text) (m x.number)
 passed [] names n rest args m within are text x none is = absurd (none-some x (sym none ∙ is))
 passed (p ∷ ps) names n rest [] m within are text x none is = absurd within
 passed (p ∷ ps) names n rest (arg ∷ args) m within are text x none is = elim (cases_Bool (bytes_eq text p.name)) [

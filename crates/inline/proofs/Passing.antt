@@ -23,7 +23,7 @@ use Rattle.inline.proofs.Comes.{Comes, well, then_comes, also, across}
 use Rattle.inline.proofs.Linked.{Linked, entry, later, not_named}
 use Rattle.inline.proofs.Below.{found-new, found-other}
 use Rattle.inline.proofs.States.{with_value-other, with_value-same, shows_kept}
-use Rattle.inline.proofs.Terms.{Holds, Shows, word_at, held, means}
+use Rattle.inline.proofs.Terms.{VariableHolds, Shows, word_at, held, means}
 
 -- words go into new variables
 pub passed_keeps : (names : Numbers) (ps : List ParameterTree) (es : List ExprTree) (n x : ℕ) → x < n → (m : Values)
@@ -59,16 +59,17 @@ kind_suits (rules.suits flow) = refl
 abbrev pub AreHeld : Numbers → ℕ → List ParameterTree → List ExprTree → State → Values → List Word → Type 0
 AreHeld names n ps es s m vs =
     (own : Numbers) (text : List ℕ) (x : Numbered) → found own text ≡ None
-    → found (begun names own n ps es) text ≡ Some x → Holds x.declaration (meaning.begun s ps es vs text)
+    → found (begun names own n ps es) text ≡ Some x → VariableHolds x.declaration (meaning.begun s ps es vs text)
     (after_all m (passed names n ps es) x.number)
 
 -- with one more name, for what its variable holds
 with_one : (names : Numbers) (s : State) (p : ParameterTree) (ps : List ParameterTree) (es : List ExprTree)
     (number n : ℕ) (m : Values) (value : Option Value) (w : Value) (left : List Word) → value ≡ Some w
-    → Holds (own_variable p) (Some w) (after_all m (passed names n ps es) number) → AreHeld names n ps es s m left
+    → VariableHolds (own_variable p) (Some w) (after_all m (passed names n ps es) number)
+    → AreHeld names n ps es s m left
     → (own : Numbers) (text : List ℕ) (x : Numbered) → found own text ≡ None
     → found (begun names (naming own p.name number (own_variable p)) n ps es) text ≡ Some x
-    → Holds x.declaration (with_some (meaning.begun s ps es left) p.name value text)
+    → VariableHolds x.declaration (with_some (meaning.begun s ps es left) p.name value text)
     (after_all m (passed names n ps es) x.number)
 with_one names s p ps es number n m value w left there first rest own text x none is =
     let named = entry number (own_variable p) in
@@ -83,7 +84,7 @@ with_one names s p ps es number n m value w left there first rest own text x non
     ]
 
 word_holds : (p : ParameterTree) (w : Word) (v : ℕ) → p.form ≡ SingleWord → w ≡ word_at p.kind v
-    → Holds (own_variable p) (Some (single w)) (v ∷ [])
+    → VariableHolds (own_variable p) (Some (single w)) (v ∷ [])
 word_holds p w v form same = record { is = rw (same, form); count = rw form }
 
 -- the words of arguments, from left to right

@@ -85,7 +85,7 @@ IsWithin earlier at scope = EachCallable earlier (IsAt at) scope
 
 module _ (Good : List ProcedureTree → Scope → ProcedureTree → Type 0) where
   -- what a name stands for that may be called behind these
-  pub record IsCallable (earlier : List ProcedureTree) (profile : Profile) (text : List ℕ) (c : Callee)
+  pub record IsCallee (earlier : List ProcedureTree) (profile : Profile) (text : List ℕ) (c : Callee)
       (p : ProcedureTree) : Type 0 where
     pub before : List ProcedureTree
     pub at : Scope
@@ -99,7 +99,7 @@ module _ (Good : List ProcedureTree → Scope → ProcedureTree → Type 0) wher
     pub variables : NoVariables scope
     pub below : (text : List ℕ) (c : Callee) → found scope text ≡ Some (Procedure c) → c.number < length earlier
     pub new : (text : List ℕ) → found scope text ≡ None → named [] earlier text ≡ None
-    pub callable : EachCallable earlier (IsCallable earlier) scope
+    pub callable : EachCallable earlier (IsCallee earlier) scope
 
   none_stand : (profile : Profile) → Stand [] (empty profile)
   none_stand profile = record {
@@ -144,7 +144,7 @@ module _ (Good : List ProcedureTree → Scope → ProcedureTree → Type 0) wher
     )
 
     -- so what it may call is what stands before it
-    pub callable_within : EachCallable earlier (IsCallable earlier) after
+    pub callable_within : EachCallable earlier (IsCallee earlier) after
     callable_within text c q is get = stand.callable text c q (earlier_within text c q is get).1 get
 
     below_by : (text : List ℕ) (c : Callee) → found after text ≡ Some (Procedure c)
@@ -166,13 +166,13 @@ module _ (Good : List ProcedureTree → Scope → ProcedureTree → Type 0) wher
       ) refl
     ]
 
-    callable_by : Good earlier scope p → EachCallable (earlier ++ p ∷ []) (IsCallable (earlier ++ p ∷ [])) after
+    callable_by : Good earlier scope p → EachCallable (earlier ++ p ∷ []) (IsCallee (earlier ++ p ∷ [])) after
     callable_by good text c q is get = elim (split text c is) [
       | inr this ↦ (
           let tree = same_Some p q (sym (get_last earlier p)
           ∙ (ap (λ (d : Callee). slice_get (earlier ++ p ∷ []) d.number) this.1 ∙ get)) in
           let absent = stand.new text (ap (found scope) ((bytes_decides text p.name).0 this.0) ∙ new) in
-          subst (IsCallable (earlier ++ p ∷ []) scope.profile text c) tree (record {
+          subst (IsCallee (earlier ++ p ∷ []) scope.profile text c) tree (record {
             before = earlier;
             at = scope;
             observed = refl;

@@ -11,7 +11,7 @@ use Rattle.inline.specs.Below.{Returned, Rights, RightTree, Scope, State, Word, 
 use Rattle.language.specs.Meaning.{of_call}
 use Rattle.language.specs.State as state
 use Rattle.language.specs.WellTyped as rules
-use Rattle.inline.proofs.Called.{HasResult, a_word, Spares, Ready}
+use Rattle.inline.proofs.Called.{ResultAgrees, a_word, Spares, StatementReady}
 use Rattle.inline.proofs.CallEnds.{call_means}
 use Rattle.inline.proofs.Chains.{after_chain, fault_chain}
 use Rattle.inline.proofs.Comes.{Comes, also, either-none}
@@ -32,11 +32,11 @@ word_result None given h = absurd cc
 word_result (Some word) given h = cc
 
 pub given_word : {m : Values} {given : WordType} {value : Option TermTree} {w : Option state.Word}
-    → HasResult m (Some given) value w → word_given w ≡ word_at given.kind (value_in m (value_given value))
+    → ResultAgrees m (Some given) value w → word_given w ≡ word_at given.kind (value_in m (value_given value))
 given_word (a_word same) = same
 
 module _ {earlier : List ProcedureTree} {scope : Scope} {names : Numbers} {n : ℕ}
-    (ready : Ready earlier scope names n) where
+    (ready : StatementReady earlier scope names n) where
   -- a call that gives a word
   pub call_gives : {control : Label} {c : CallTree} {given : WordType}
       → rules.IsCall earlier scope control c (Word given) → (s : State) (m : Values) → Shows names s m
@@ -72,7 +72,7 @@ module _ {earlier : List ProcedureTree} {scope : Scope} {names : Numbers} {n : �
         → after_all m (right_block (callables earlier) names n value) x ≡ m x
 
   pub right_means : {control : Label} {value : RightTree} {given : WordType}
-      → rules.Gives earlier scope control value (Word given) → RightMeans value given
+      → rules.RightHasType earlier scope control value (Word given) → RightMeans value given
   right_means (rules.of_value has) = record {
     comes = λ s m shows small.
         also ((means ready.linked has small).value s m shows)

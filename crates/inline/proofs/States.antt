@@ -15,7 +15,7 @@ use Rattle.inline.specs.Below.{array, BlockTree, declaration, first, found, noth
 use Rattle.inline.specs.Below.{with_value}
 use Rattle.inline.proofs.Linked.{Linked, entry, not_named}
 use Rattle.inline.proofs.Below.{found-new, found-other, found-kept}
-use Rattle.inline.proofs.Terms.{Holds, Shows}
+use Rattle.inline.proofs.Terms.{VariableHolds, Shows}
 
 pub with_value-other : (m : Values) (x y : ℕ) (v : List ℕ) → (y ≡ x → ⊥) → flat.with_value m x v y ≡ m y
 with_value-other m x y v other = ap (λ b. if b then v else m y) (ne_eqb y x other)
@@ -25,7 +25,7 @@ with_value-same m x v = ap (λ b. if b then v else m x) (eq-eqb x x refl)
 
 module _ {scope : Scope} {names : Numbers} {types : Types} {n : ℕ} (linked : Linked scope names types n) (s : State)
     (m : Values) (shows : Shows names s m) (text : List ℕ) {own : FlatVariable} {v : Value} {numbers : List ℕ}
-    (holds : Holds own (Some v) numbers) where
+    (holds : VariableHolds own (Some v) numbers) where
   -- after a declaration
   pub shows_declared : found scope.names text ≡ None
       → Shows (naming names text n own) (with_value s text v) (flat.with_value m n numbers)

@@ -11,7 +11,7 @@ use Rattle.inline.specs.declared.numbering.Numbered.{Numbered}
 use Rattle.inline.specs.Flat.{word_as, array_as, numbers_in}
 use Rattle.inline.specs.FlatMeaning.{Values, value_in, path_in, marks_of, ending_by}
 use Rattle.inline.specs.FlatTyping as flat
-use Rattle.inline.specs.FlatTyping.{Types, HasType, Suits}
+use Rattle.inline.specs.FlatTyping.{Types, TermHasType, TermSuits}
 use Rattle.inline.specs.Numbering.{Numbers, number_of, size_of, kind_in, label_in, term}
 use Rattle.inline.specs.Path.{indexed, divided, multiplied, fault_at, either, first_fault}
 use Rattle.language.specs.declared.operation.Operation.{Operation}
@@ -21,7 +21,7 @@ use Rattle.language.specs.State.{array}
 use Rattle.language.specs.State as state
 use Rattle.language.specs.WellTyped as rules
 use Rattle.inline.proofs.Comes.{Comes, well, fails, then_comes, also, either-assoc, either-none, across}
-use Rattle.inline.proofs.Linked.{Known, Linked}
+use Rattle.inline.proofs.Linked.{IsKnownName, Linked}
 
 -- States.
 
@@ -33,14 +33,14 @@ abbrev pub held : Kind → Option ℕ → List ℕ → Value
 held kind None numbers = single (word_at kind (slice_index numbers 0))
 held kind (Some size) numbers = array kind numbers
 
-pub record Holds (d : FlatVariable) (value : Option Value) (numbers : List ℕ) : Type 0 where
+pub record VariableHolds (d : FlatVariable) (value : Option Value) (numbers : List ℕ) : Type 0 where
   pub is : value ≡ Some (held d.word.kind d.elements numbers)
   pub count : length numbers ≡ numbers_in d.elements
 
 -- each name in scope holds what its variable does
 abbrev pub Shows : Numbers → State → Values → Type 0
 Shows names s m = (text : List ℕ) (x : Numbered) → found names text ≡ Some x
-    → Holds x.declaration (s text) (m x.number)
+    → VariableHolds x.declaration (s text) (m x.number)
 
 -- it comes to this word, or meets this fault
 pub ended : {A : Type 0} {Is : Ending A → Type 0} (fault : Option Place) {w : A} → Is (ending_by fault w)
@@ -62,7 +62,8 @@ refused false place w = refl
 
 -- an element that is asked for is there, or it is the fault
 pub element_comes : {names : Numbers} {types : Types} {text : List ℕ} {own : ArrayType} {mutable : Bool}
-    → Known names types text (array_as own.element mutable own.length) → (s : State) (m : Values) → Shows names s m
+    → IsKnownName names types text (array_as own.element mutable own.length) → (s : State) (m : Values)
+    → Shows names s m
     → (place target : Place) {index : ExprTree} {u : state.Word} {i : ℕ} → Evaluates s index (gives u)
     → u ≡ word_at Uint32 i → Comes (Evaluates s (element place target text index))
     (λ w. w ≡ word_at own.element.kind (slice_index (m (number_of names text)) i))
@@ -101,16 +102,16 @@ picked true k a b = refl
 picked false k a b = refl
 
 -- what is known of an expression of this type
-pub record Means (names : Numbers) (types : Types) (e : ExprTree) (type : WordType) : Type 0 where
+pub record TermMeans (names : Numbers) (types : Types) (e : ExprTree) (type : WordType) : Type 0 where
   pub kind : kind_in names e ≡ type.kind
   pub label : label_in names e ≡ type.label
-  pub typed : HasType types (term names e) type
+  pub typed : TermHasType types (term names e) type
   pub value : (s : State) (m : Values) → Shows names s m → Comes (Evaluates s e)
       (λ v. v ≡ word_at type.kind (value_in m (term names e))) (first_fault (path_in m (term names e)))
 
 module _ {scope : Scope} {names : Numbers} {types : Types} {n : ℕ} (linked : Linked scope names types n) where
   pub means : {e : ExprTree} {type : WordType} → rules.HasType scope e (Word type) → AreSmall e
-      → Means names types e type
+      → TermMeans names types e type
   means (rules.of_number below) small = record {
     kind = refl;
     label = refl;
@@ -238,7 +239,7 @@ still_public rules.public_flows e = refl
 still_public rules.secret_flows e = e
 
 pub suits_there : {names : Numbers} {types : Types} {e : ExprTree} {given wanted : WordType}
-    → Means names types e given
-    → rules.Suits given wanted → Suits types wanted (term names e)
+    → TermMeans names types e given
+    → rules.Suits given wanted → TermSuits types wanted (term names e)
 suits_there means (rules.suits {kind = kind} {label = label} flow) =
     record { word = labelled kind label; has_type = means.typed; kind = refl; label = still_public flow }

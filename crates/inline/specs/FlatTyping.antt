@@ -26,59 +26,59 @@ abbrev pub types_of : Profile → List FlatVariable → Types
 types_of profile declared = record { profile = profile; at = λ x. slice_get declared x }
 
 -- an expression of this type, by rules of inference
-pub data HasType (types : Types) : TermTree → WordType → Type 0 where
+pub data TermHasType (types : Types) : TermTree → WordType → Type 0 where
   of_number : {value : ℕ} {kind : Kind}
       → value < 2 ^ bits_of kind
-      → HasType types (number value kind) (labelled kind Public)
+      → TermHasType types (number value kind) (labelled kind Public)
   of_truth : {value : Bool}
-      → HasType types (truth value) (labelled Boolean Public)
+      → TermHasType types (truth value) (labelled Boolean Public)
   of_variable : {x : ℕ} {word : WordType} {mutable : Bool}
       → types.at x ≡ Some (word_as word mutable)
-      → HasType types (variable x) word
+      → TermHasType types (variable x) word
   of_prefix : {operator : PrefixOperator} {width : Width} {operand : TermTree} {kind : Kind} {label : Label}
-      → HasType types operand (labelled kind label)
+      → TermHasType types operand (labelled kind label)
       → Takes operator kind
       → width ≡ width_of kind
-      → HasType types (prefix operator width operand) (labelled kind label)
+      → TermHasType types (prefix operator width operand) (labelled kind label)
   of_binary : {place : Place} {operator : BinaryOperator} {width : Width} {left right : TermTree}
       {one other whole : WordType}
-      → HasType types left one
-      → HasType types right other
+      → TermHasType types left one
+      → TermHasType types right other
       → Makes types.profile (operation_of operator) one other whole
       → width ≡ width_of one.kind
-      → HasType types (binary place operator width left right) whole
+      → TermHasType types (binary place operator width left right) whole
   of_rotation : {width : Width} {operand : TermTree} {amount : ℕ} {kind : Kind} {label : Label}
-      → HasType types operand (labelled kind label)
+      → TermHasType types operand (labelled kind label)
       → IsNumberKind kind
       → 0 < amount
       → amount < bits_of kind
       → width ≡ width_of kind
-      → HasType types (rotate width operand amount) (labelled kind label)
+      → TermHasType types (rotate width operand amount) (labelled kind label)
   of_conversion : {kind other : Kind} {operand : TermTree} {label : Label}
-      → HasType types operand (labelled other label)
+      → TermHasType types operand (labelled other label)
       → IsNumberKind kind
-      → HasType types (convert kind operand) (labelled kind label)
+      → TermHasType types (convert kind operand) (labelled kind label)
   of_selection : {condition accepted otherwise : TermTree} {kind : Kind} {l m n : Label}
-      → HasType types condition (labelled Boolean l)
-      → HasType types accepted (labelled kind m)
-      → HasType types otherwise (labelled kind n)
-      → HasType types (select condition accepted otherwise) (labelled kind (joined l (joined m n)))
+      → TermHasType types condition (labelled Boolean l)
+      → TermHasType types accepted (labelled kind m)
+      → TermHasType types otherwise (labelled kind n)
+      → TermHasType types (select condition accepted otherwise) (labelled kind (joined l (joined m n)))
   of_element : {place : Place} {x size : ℕ} {index : TermTree} {word : WordType} {mutable : Bool}
       → types.at x ≡ Some (array_as word mutable size)
-      → HasType types index (labelled Uint32 Public)
-      → HasType types (element place x size index) word
+      → TermHasType types index (labelled Uint32 Public)
+      → TermHasType types (element place x size index) word
 
 -- an expression that may be put where this type is wanted: of the same kind, and no secret where it is public
-pub record Suits (types : Types) (wanted : WordType) (term : TermTree) : Type 0 where
+pub record TermSuits (types : Types) (wanted : WordType) (term : TermTree) : Type 0 where
   pub word : WordType
-  pub has_type : HasType types term word
+  pub has_type : TermHasType types term word
   pub kind : word.kind ≡ wanted.kind
   pub label : wanted.label ≡ Public → word.label ≡ Public
 
 -- so does each of these
 abbrev pub AllSuit : Types → WordType → List TermTree → Type 0
 AllSuit types wanted [] = Unit {0}
-AllSuit types wanted (e ∷ es) = Suits types wanted e × AllSuit types wanted es
+AllSuit types wanted (e ∷ es) = TermSuits types wanted e × AllSuit types wanted es
 
 -- no first values, or one for each of so many elements
 abbrev pub HasCount : ℕ → List TermTree → Type 0
@@ -105,15 +105,15 @@ types_after_all types (first statement rest) = types_after_all (types_after type
 pub record IsAssigned (types : Types) (control : Label) (x : ℕ) (value : TermTree) : Type 0 where
   pub word : WordType
   pub known : types.at x ≡ Some (word_as word true)
-  pub suits : Suits types word value
+  pub suits : TermSuits types word value
   pub hidden : control ≡ Secret → word.label ≡ Secret
 
 -- an array whose elements may be assigned to under the control label, an index, and a value for the element
-pub record IsPut (types : Types) (control : Label) (x size : ℕ) (index value : TermTree) : Type 0 where
+pub record IsElementAssigned (types : Types) (control : Label) (x size : ℕ) (index value : TermTree) : Type 0 where
   pub word : WordType
   pub known : types.at x ≡ Some (array_as word true size)
-  pub index_type : HasType types index (labelled Uint32 Public)
-  pub suits : Suits types word value
+  pub index_type : TermHasType types index (labelled Uint32 Public)
+  pub suits : TermSuits types word value
   pub hidden : control ≡ Secret → word.label ≡ Secret
 
 -- a variable that is new where it is declared, and is so declared in the list of all
@@ -125,20 +125,20 @@ abbrev mutual
   -- a well-typed statement under a control label, where this is the list of all variables
   pub IsTyped : List FlatVariable → Types → Label → FlatTree → Type 0
   IsTyped declared types control (declare x word mutable value) = IsNew declared types x (word_as word mutable)
-      × Suits types word value
+      × TermSuits types word value
   IsTyped declared types control (array x word mutable size values) =
       IsNew declared types x (array_as word mutable size) × AllSuit types word values × HasCount size values
   IsTyped declared types control (assign x value) = IsAssigned types control x value
-  IsTyped declared types control (put place x size index value) = IsPut types control x size index value
+  IsTyped declared types control (put place x size index value) = IsElementAssigned types control x size index value
   IsTyped declared types control (hold x place size index) =
-      IsNew declared types x (word_as counter_type false) × HasType types index counter_type
+      IsNew declared types x (word_as counter_type false) × TermHasType types index counter_type
   IsTyped declared types control skip = Unit {0}
   IsTyped declared types control (branch label condition accepted otherwise) =
-      HasType types condition (labelled Boolean label)
+      TermHasType types condition (labelled Boolean label)
       × AreTyped declared types (joined label control) accepted
       × AreTyped declared types (joined label control) otherwise
   IsTyped declared types control (loop x low high body) =
-      HasType types low counter_type × HasType types high counter_type
+      TermHasType types low counter_type × TermHasType types high counter_type
       × IsNew declared types x (word_as counter_type false)
       × AreTyped declared (with_type types x (word_as counter_type false)) control body
 
@@ -190,14 +190,14 @@ abbrev pub IsResult : Types → Option WordType → Option TermTree → Type 0
 IsResult types None None = Unit {0}
 IsResult types None (Some value) = ⊥
 IsResult types (Some word) None = ⊥
-IsResult types (Some word) (Some value) = Suits types word value
+IsResult types (Some word) (Some value) = TermSuits types word value
 
 -- the types where the body has ended
 abbrev pub end_types : FlatProgram → Types
 end_types p = types_after_all (parameter_types p.profile p.parameters) p.body
 
 -- a well-typed program
-pub record IsTypedProgram (p : FlatProgram) : Type 0 where
+pub record IsTypedFlat (p : FlatProgram) : Type 0 where
   -- the parameters are the first variables
   pub parameters : take (length p.parameters) p.declared ≡ map declaration_of p.parameters
   -- and what the body declares comes behind them

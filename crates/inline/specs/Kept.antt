@@ -1,9 +1,9 @@
 -- What all bodies with numbered variables keep.
 use Rattle.inline.specs.Flat.{FlatProgram}
 use Rattle.inline.specs.FlatSize.{IsSized}
-use Rattle.inline.specs.FlatTyping.{IsTypedProgram}
+use Rattle.inline.specs.FlatTyping.{IsTypedFlat}
 
 -- it is well typed, and within the limits on size
 pub record IsFlat (p : FlatProgram) : Type 0 where
-  pub typed : IsTypedProgram p
+  pub typed : IsTypedFlat p
   pub sized : IsSized p

@@ -9,7 +9,7 @@ ghost use Rattle.inline.specs.Below.{parameter_tree, place_of, procedure_tree, r
 ghost use Rattle.inline.specs.Below.{statement_bodies, statement_bytes, statement_nodes, statement_shares};
 ghost use Rattle.inline.specs.Below.{statement_tree};
 
-use crate::measured::{Measured, Size};
+use crate::measured::{FlatSize, Measured};
 use crate::nodes::nodes_in;
 use crate::sizes::{measured_all, size_of_export, size_of_statement};
 use language::names::Names;
@@ -141,7 +141,7 @@ fn largest_statements<'s>(
 }
 
 /// The largest parts, with a statement of this size behind them.
-fn larger_statement(most: Largest, place: Place, size: Size) -> Largest
+fn larger_statement(most: Largest, place: Place, size: FlatSize) -> Largest
     ensures nodes { result.nodes ≡ larger most.nodes (record { place = place; count = size.nodes }) }
     ensures bodies { result.bodies ≡ larger most.bodies (record { place = place; count = size.bodies }) }
     ensures declared_bytes { result.declared_bytes

@@ -9,7 +9,7 @@ ghost use Rattle.inline.specs.Fitting.{Fits, IsWithinKind};
 ghost use Rattle.inline.specs.Flat.{FlatBlock, FlatProgram, FlatTree, TermTree};
 ghost use Rattle.inline.specs.FlatMeaning.{Values, after, after_all, end_of, ending_of, given, value_in};
 ghost use Rattle.inline.specs.FlatSize.{IsSized};
-ghost use Rattle.inline.specs.FlatTyping.{AreTyped, HasType, IsTyped, IsTypedProgram, Suits, Types, end_types};
+ghost use Rattle.inline.specs.FlatTyping.{AreTyped, TermHasType, IsTyped, IsTypedFlat, TermSuits, Types, end_types};
 ghost use Rattle.inline.specs.FlatTyping.{parameter_types, types_after, types_after_all};
 ghost use Rattle.inline.specs.Numbering.{flattened, param_of};
 
@@ -21,7 +21,7 @@ pub fn flat_is_typed()
         → exported [] program.procedures ≡ Some (before, p)
         → AllByRecursion IsGrammatical before
         → IsGrammatical p
-        → IsTypedProgram (flattened profile before p) }
+        → IsTypedFlat (flattened profile before p) }
 {}
 
 /// And it keeps the limits on size, where the procedure passes none.
@@ -52,9 +52,9 @@ pub fn flat_keeps_meaning()
 /// each well-typed statement leaves it so, also where it meets a fault.
 pub fn typed_values_fit()
     ensures value { (types : Types) (m : Values) (e : TermTree) (word : WordType) → Fits types m
-        → HasType types e word → IsWithinKind word.kind (value_in m e) }
+        → TermHasType types e word → IsWithinKind word.kind (value_in m e) }
     ensures suited { (types : Types) (m : Values) (e : TermTree) (wanted : WordType) → Fits types m
-        → Suits types wanted e → IsWithinKind wanted.kind (value_in m e) }
+        → TermSuits types wanted e → IsWithinKind wanted.kind (value_in m e) }
     ensures statement { (declared : List FlatVariable) (types : Types) (control : Label) (s : FlatTree) (m : Values)
         → IsTyped declared types control s
         → Fits types m
@@ -67,14 +67,14 @@ pub fn typed_values_fit()
 
 /// So it is throughout a well-typed program, on arguments within its parameter types.
 pub fn flat_values_fit()
-    ensures parameters { (p : FlatProgram) (args : List Arg) → IsTypedProgram p → AreWithin p.parameters args
+    ensures parameters { (p : FlatProgram) (args : List Arg) → IsTypedFlat p → AreWithin p.parameters args
         → Fits (parameter_types p.profile p.parameters) (given p.declared args) }
     ensures end { (p : FlatProgram) (args : List Arg)
-        → IsTypedProgram p
+        → IsTypedFlat p
         → AreWithin p.parameters args
         → Fits (end_types p) (end_of p args) }
     ensures result { (p : FlatProgram) (args : List Arg) (word : WordType) (value : TermTree)
-        → IsTypedProgram p
+        → IsTypedFlat p
         → AreWithin p.parameters args
         → p.returned ≡ Some word
         → p.value ≡ Some value

@@ -7,7 +7,7 @@ use language::Parameter;
 /// How large code is. The greatest number stands for those above it too: what is never reached may be larger than a
 /// number tells.
 #[derive(Clone, Copy)]
-pub struct Size {
+pub struct FlatSize {
     pub nodes: u64,
     /// The words, of 4 bytes each, that it declares.
     pub words: u64,
@@ -15,12 +15,12 @@ pub struct Size {
     pub bodies: u64,
 }
 
-impl Size {
+impl FlatSize {
     /// Of code in which no body is open.
-    pub fn of(nodes: u64, words: u64) -> Size
+    pub fn of(nodes: u64, words: u64) -> FlatSize
         ensures { result ≡ counted_size nodes words 0 }
     {
-        Size {
+        FlatSize {
             nodes,
             words,
             bodies: 0,
@@ -28,10 +28,10 @@ impl Size {
     }
 
     /// With so many nodes and words more.
-    pub fn with(self, nodes: u64, words: u64) -> Size
+    pub fn with(self, nodes: u64, words: u64) -> FlatSize
         ensures { result ≡ counted_size (self.nodes + nodes) (self.words + words) self.bodies }
     {
-        Size {
+        FlatSize {
             nodes: self.nodes.saturating_add(nodes),
             words: self.words.saturating_add(words),
             bodies: self.bodies,
@@ -46,11 +46,11 @@ impl Size {
     }
 
     /// Of this and of what stands behind it.
-    pub fn and(self, behind: Size) -> Size
+    pub fn and(self, behind: FlatSize) -> FlatSize
         ensures { result
             ≡ counted_size (self.nodes + behind.nodes) (self.words + behind.words) (max self.bodies behind.bodies) }
     {
-        Size {
+        FlatSize {
             bodies: self.bodies.max(behind.bodies),
             ..self.with(behind.nodes, behind.words)
         }
@@ -61,5 +61,5 @@ impl Size {
 #[derive(Clone, Copy)]
 pub struct Measured<'s> {
     pub parameters: &'s [Parameter],
-    pub size: Size,
+    pub size: FlatSize,
 }

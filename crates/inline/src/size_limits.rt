@@ -7,7 +7,7 @@ ghost use Rattle.inline.specs.Below.{limits_passed, most_bodies, most_declared_b
 ghost use Rattle.inline.specs.Below.{procedure_tree, size_violations};
 
 use crate::costs::{SizeCosts, costs_of};
-use crate::measured::{Measured, Size};
+use crate::measured::{FlatSize, Measured};
 use crate::sizes::{measured_all, size_of_export};
 use language::names::Names;
 use language::{
@@ -17,7 +17,7 @@ use language::{
 use std::alloc::Global;
 
 /// How many nodes there are, where such a size passes no limit.
-fn nodes_within(size: Size) -> Option<u32>
+fn nodes_within(size: FlatSize) -> Option<u32>
     ensures nodes { IfSome result (λ nodes. nodes ≡ size.nodes) }
     ensures limits { is_none result
         ≡ (nat_lt most_nodes size.nodes

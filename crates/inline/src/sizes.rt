@@ -10,7 +10,7 @@ ghost use Rattle.inline.specs.Below.{nodes_in_all, parameter_tree, parameter_wor
 ghost use Rattle.inline.specs.Below.{return_nodes, return_tree, right_bodies, right_nodes, right_tree, right_words};
 ghost use Rattle.inline.specs.Below.{statement_tree, written};
 
-use crate::measured::{Measured, Size};
+use crate::measured::{FlatSize, Measured};
 use crate::nodes::{nodes_in, nodes_in_all, nodes_passed};
 use language::names::Names;
 use language::{
@@ -20,7 +20,7 @@ use language::{
 use std::alloc::{AllocError, Global};
 
 /// How large a call is: itself, its word arguments and the called body.
-fn size_of_call<'s>(earlier: &Names<'s, Measured<'s>>, call: &Call) -> Size
+fn size_of_call<'s>(earlier: &Names<'s, Measured<'s>>, call: &Call) -> FlatSize
     ensures { result ≡ call_size (extents_in earlier.now) (call_tree call.now) }
 {
     match earlier.find(call.name.as_str()) {
@@ -28,22 +28,22 @@ fn size_of_call<'s>(earlier: &Names<'s, Measured<'s>>, call: &Call) -> Size
             let passed = nodes_passed(called.parameters, &call.arguments);
             called.size.with(passed.saturating_add(1), 0)
         }
-        None => Size::of(1, 0),
+        None => FlatSize::of(1, 0),
     }
 }
 
 /// How large a right side is.
-fn size_of_right<'s>(earlier: &Names<'s, Measured<'s>>, right: &RightSide) -> Size
+fn size_of_right<'s>(earlier: &Names<'s, Measured<'s>>, right: &RightSide) -> FlatSize
     ensures { result ≡ right_size (extents_in earlier.now) (right_tree right.now) }
 {
     match right {
         RightSide::Call(call) => size_of_call(earlier, call),
-        RightSide::Value(expr) => Size::of(nodes_in(expr), 0),
+        RightSide::Value(expr) => FlatSize::of(nodes_in(expr), 0),
     }
 }
 
 /// How large a declaration of an array is.
-fn size_of_array(array: &ArrayDeclaration) -> Size
+fn size_of_array(array: &ArrayDeclaration) -> FlatSize
     ensures { result ≡ counted_size
         (1 + nodes_in_all (written (option_map (λ values. map expr_tree values.items) array.now.values)))
         (array_words array.now.kind array.now.length) 0 }
@@ -52,14 +52,17 @@ fn size_of_array(array: &ArrayDeclaration) -> Size
         Some(values) => nodes_in_all(values),
         None => 0,
     };
-    Size::of(
+    FlatSize::of(
         values.saturating_add(1),
         u64::from(array.kind.array_words(array.length)),
     )
 }
 
 /// How large an assignment to an element is.
-fn size_of_element<'s>(earlier: &Names<'s, Measured<'s>>, assignment: &ElementAssignment) -> Size
+fn size_of_element<'s>(
+    earlier: &Names<'s, Measured<'s>>,
+    assignment: &ElementAssignment,
+) -> FlatSize
     ensures { result ≡ counted_size
         (1 + (1 + nodes_in (expr_tree assignment.now.index))
         + right_nodes (extents_in earlier.now) (right_tree assignment.now.value))
@@ -71,7 +74,7 @@ fn size_of_element<'s>(earlier: &Names<'s, Measured<'s>>, assignment: &ElementAs
 }
 
 /// How large a conditional is, whose arms are so large.
-fn size_of_branch(condition: &Expr, accepted: Size, otherwise: Size) -> Size
+fn size_of_branch(condition: &Expr, accepted: FlatSize, otherwise: FlatSize) -> FlatSize
     ensures { result ≡ counted_size (1 + nodes_in (expr_tree condition.now) + accepted.nodes + otherwise.nodes)
         (accepted.words + otherwise.words) (max accepted.bodies otherwise.bodies) }
 {
@@ -80,7 +83,7 @@ fn size_of_branch(condition: &Expr, accepted: Size, otherwise: Size) -> Size
 }
 
 /// How large a loop is, whose body is so large.
-fn size_of_loop(low: &Expr, high: &Expr, body: Size) -> Size
+fn size_of_loop(low: &Expr, high: &Expr, body: FlatSize) -> FlatSize
     ensures { result ≡ counted_size (1 + nodes_in (expr_tree low.now) + nodes_in (expr_tree high.now) + body.nodes)
         (1 + body.words) body.bodies }
 {
@@ -90,7 +93,7 @@ fn size_of_loop(low: &Expr, high: &Expr, body: Size) -> Size
 
 /// How large a statement is.
 #[cycle(sizes)]
-pub fn size_of_statement<'s>(earlier: &Names<'s, Measured<'s>>, statement: &Statement) -> Size
+pub fn size_of_statement<'s>(earlier: &Names<'s, Measured<'s>>, statement: &Statement) -> FlatSize
     ensures { result ≡ statement_size (extents_in earlier.now) (statement_tree statement.now) }
 {
     match statement {
@@ -112,10 +115,10 @@ pub fn size_of_statement<'s>(earlier: &Names<'s, Measured<'s>>, statement: &Stat
 
 /// How large some statements are.
 #[cycle(sizes)]
-fn size_of_block<'s>(earlier: &Names<'s, Measured<'s>>, block: &[Statement]) -> Size
+fn size_of_block<'s>(earlier: &Names<'s, Measured<'s>>, block: &[Statement]) -> FlatSize
     ensures { result ≡ block_size (extents_in earlier.now) (block_tree block.now) }
 {
-    let mut size = Size::of(0, 0);
+    let mut size = FlatSize::of(0, 0);
     for statement in block {
         size = size.and(size_of_statement(earlier, statement));
     }
@@ -133,19 +136,19 @@ fn nodes_of_return(returned: &Option<Return>) -> u64
 }
 
 /// How large a procedure is whose parameters take so many words.
-fn size_of<'s>(earlier: &Names<'s, Measured<'s>>, procedure: &Procedure, words: u64) -> Size
+fn size_of<'s>(earlier: &Names<'s, Measured<'s>>, procedure: &Procedure, words: u64) -> FlatSize
     ensures { result ≡ procedure_size (extents_in earlier.now) words (procedure_tree procedure.now) }
 {
     let returned = nodes_of_return(&procedure.returned);
     let inside = size_of_block(earlier, &procedure.body).with(returned, words);
-    Size {
+    FlatSize {
         bodies: inside.bodies.saturating_add(1),
         ..inside
     }
 }
 
 /// How large the export is.
-pub fn size_of_export<'s>(earlier: &Names<'s, Measured<'s>>, export: &Procedure) -> Size
+pub fn size_of_export<'s>(earlier: &Names<'s, Measured<'s>>, export: &Procedure) -> FlatSize
     ensures { result ≡ export_size (extents_in earlier.now) (procedure_tree export.now) }
 {
     size_of(earlier, export, parameter_words(&export.parameters))

@@ -23,7 +23,7 @@ use std::alloc::AllocError;
 
 /// What a call gives: the type of its result and the result, where it has one.
 #[derive(Drop)]
-pub struct Given {
+pub struct CallGiven {
     word: Option<WordType>,
     value: Option<Term>,
 }
@@ -48,7 +48,7 @@ impl<'a> Numbering<'a> {
         call: &Call,
         declared: &mut Vec<FlatVariable>,
         flat: &mut Vec<FlatStatement>,
-    ) -> Result<Given, AllocError>
+    ) -> Result<CallGiven, AllocError>
         ensures word { IfOk result (λ given. given.word ≡ numbered.call_result (called_by earlier.now call.now.name)) }
         ensures value { IfOk result (λ given. option_map term_tree given.value
             ≡ numbered.call_value (called_by earlier.now call.now.name) self.now.names (length declared.old.items)
@@ -61,14 +61,14 @@ impl<'a> Numbering<'a> {
             ++ numbered.call_variables (called_by earlier.now call.now.name) (map expr_tree call.now.arguments.items)) }
     {
         let Some((before, callee)) = procedure_named(earlier, &call.name) else {
-            return Ok(Given {
+            return Ok(CallGiven {
                 word: None,
                 value: None,
             });
         };
         let mut own = self.pass(&callee.parameters, &call.arguments, declared, flat)?;
         let value = own.inside(before, callee, declared, flat)?;
-        Ok(Given {
+        Ok(CallGiven {
             word: callee.result,
             value,
         })
@@ -256,7 +256,7 @@ impl<'a> Numbering<'a> {
             ++ numbered.declared_in (called_by earlier.now) (source.call (call_tree call.now))) }
     {
         push(flat, FlatStatement::Skip)?;
-        let Given { word, value } = self.call(earlier, call, declared, flat)?;
+        let CallGiven { word, value } = self.call(earlier, call, declared, flat)?;
         if let Some(word) = word {
             let number = add(declared, FlatVariable::word(word, false))?;
             push(

@@ -11,6 +11,6 @@ mod reader;
 mod taking;
 
 pub use fault::PlanFault;
-pub use jobs::Job;
+pub use jobs::FileJob;
 pub use laws::each_text_gives_one_answer;
-pub use plan::{Plan, read};
+pub use plan::{HartsPlan, read};

@@ -1,6 +1,6 @@
 -- Intervals, narrowing, iterations and work by small examples: each is computed.
 use Rattle.std.proofs.Common.{◌≡◌, ℕ, List, [], ◌∷◌, length, false, true, None, Some, refl}
-use Rattle.intervals.specs.Below.{Add, array_as, binary, BinaryOperator, BitAnd, BitOr, BitXor, Both, Complement}
+use Rattle.intervals.specs.Below.{Add, array_as, binary, BinaryOperator, BitAnd, BitOr, BitXor, LogicalAnd, Complement}
 use Rattle.intervals.specs.Below.{convert, declare, Divide, element, Equal, first, FlatBlock, FlatProgram, FlatVariable}
 use Rattle.intervals.specs.Below.{Greater, hold, Interval, Label, labelled, Less, LessOrEqual, loop, Multiply, Negate}
 use Rattle.intervals.specs.Below.{nothing, number, Public, put, Remainder, rotate, Secret, select, ShiftLeft}
@@ -97,7 +97,7 @@ abbrev equal : TermTree → TermTree → TermTree
 equal a b = binary origin Equal W8 a b
 
 abbrev both : TermTree → TermTree → TermTree
-both a b = binary origin Both W8 a b
+both a b = binary origin LogicalAnd W8 a b
 
 abbrev free : Bounds
 free = facts (between 0 255)

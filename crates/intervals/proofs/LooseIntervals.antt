@@ -6,11 +6,11 @@ use Rattle.std.proofs.Math.Nat.{le-max_left, le-max_right, le-min, min-le_left, 
 use Rattle.std.proofs.lemmas.Bool.{and_parts, cond_both}
 use Rattle.std.proofs.lemmas.Bool.Decides.{nat_tests}
 use Rattle.std.proofs.lemmas.Nat.{and_le_l, and_le_r, le-div, mul-le, pow_pos}
-use Rattle.intervals.specs.Below.{Add, BinaryOperator, BitAnd, bits, bits_of, Boolean, Both, Complement, converted}
-use Rattle.intervals.specs.Below.{difference, Divide, Either, Equal, Greater, GreaterOrEqual, Interval, IsWithinKind}
-use Rattle.intervals.specs.Below.{IsWord, Kind, Less, LessOrEqual, Multiply, Negate, Not, operated, prefix_value}
-use Rattle.intervals.specs.Below.{PrefixOperator, Remainder, shifted_right, ShiftRight, Subtract, truth_of, Uint16}
-use Rattle.intervals.specs.Below.{Uint32, Uint8, Unequal, W16, W32, W8, Width, width_of, word_of}
+use Rattle.intervals.specs.Below.{Add, BinaryOperator, BitAnd, bits, bits_of, Boolean, LogicalAnd, Complement}
+use Rattle.intervals.specs.Below.{converted, difference, Divide, LogicalOr, Equal, Greater, GreaterOrEqual, Interval}
+use Rattle.intervals.specs.Below.{IsWithinKind, IsWord, Kind, Less, LessOrEqual, Multiply, Negate, Not, operated}
+use Rattle.intervals.specs.Below.{prefix_value, PrefixOperator, Remainder, shifted_right, ShiftRight, Subtract}
+use Rattle.intervals.specs.Below.{truth_of, Uint16, Uint32, Uint8, Unequal, W16, W32, W8, Width, width_of, word_of}
 use Rattle.intervals.specs.Intervals.{between, either_truth, greatest, full, full_of, fitting, shifted_interval}
 use Rattle.intervals.specs.Intervals.{operated_interval, prefix_interval, converted_interval, hull}
 use Rattle.intervals.proofs.Below.{complement_fits, number_fits, wrapped_fits}
@@ -117,8 +117,8 @@ module _ (w : Width) (a b : Interval) (x y : ℕ) (one : IsIn a x) (other : IsIn
 
   pub operated_in : (operator : BinaryOperator) → (IsWord w (operated operator w x y))
       → IsIn (operated_interval operator w a b) (operated operator w x y)
-  operated_in Either fits = truth_in (truth_of x || truth_of y)
-  operated_in Both fits = truth_in (truth_of x && truth_of y)
+  operated_in LogicalOr fits = truth_in (truth_of x || truth_of y)
+  operated_in LogicalAnd fits = truth_in (truth_of x && truth_of y)
   operated_in Equal fits = truth_in (x == y)
   operated_in Unequal fits = truth_in (not (x == y))
   operated_in Less fits = truth_in (nat_lt x y)

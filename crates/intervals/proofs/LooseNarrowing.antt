@@ -1,23 +1,23 @@
 -- What a public condition tells holds in a loose run.
-use Rattle.std.proofs.Common.{◌≡◌, ◌≢◌, ◌⊎◌, ⊎_elim, inl, inr, ℕ, zero, suc, ◌+◌, ◌-◌, ◌<◌, ◌≤◌, ◌==◌, ◌&&◌, min, max, nat_lt}
-use Rattle.std.proofs.Common.{nat_le, Bool, true, false, if◌then◌else◌, List, [], ◌∷◌, ◌++◌, Option, Some, None}
+use Rattle.std.proofs.Common.{◌≡◌, ◌≢◌, ◌⊎◌, ⊎_elim, inl, inr, ℕ, zero, suc, ◌+◌, ◌-◌, ◌<◌, ◌≤◌, ◌==◌, ◌&&◌, min, max}
+use Rattle.std.proofs.Common.{nat_lt, nat_le, Bool, true, false, if◌then◌else◌, List, [], ◌∷◌, ◌++◌, Option, Some, None}
 use Rattle.std.proofs.Common.{slice_index, refl, sym, ap, arith}
 use Rattle.std.specs.Option.{option_to_list}
 use Rattle.std.proofs.Math.Nat.{le-min, max-le}
 use Rattle.std.proofs.lemmas.Bool.{and_parts, cases_Bool}
 use Rattle.std.proofs.lemmas.Bool.Decides.{nat_tests}
 use Rattle.std.proofs.lemmas.Option.{none-some, same_Some}
-use Rattle.intervals.specs.Below.{BinaryOperator, Both, Equal, FlatVariable, HasType, Interval, Label, Less}
+use Rattle.intervals.specs.Below.{BinaryOperator, LogicalAnd, Equal, FlatVariable, TermHasType, Interval, Label, Less}
 use Rattle.intervals.specs.Below.{LessOrEqual, of_binary, of_variable, operated, Path, Profile, Public, Secret}
 use Rattle.intervals.specs.Below.{TermTree, truth_of, Types, types_of, Values, variable, word_as, word_of, WordType}
-use Rattle.intervals.specs.declared.said.Said.{Said}
+use Rattle.intervals.specs.declared.said.SaidOfVariable.{SaidOfVariable}
 use Rattle.intervals.specs.Intervals.{Bounds, known, with_bound, between, full_at, interval}
-use Rattle.intervals.specs.Loose.{Comes, to_variable, to_binary, to_anything}
+use Rattle.intervals.specs.Loose.{LooselyComes, to_variable, to_binary, to_anything}
 use Rattle.intervals.specs.Narrowing.{is_both, meet, met, met_all, met_at, named, said_where_false, said_where_true}
 use Rattle.intervals.specs.Narrowing.{says, told_false, told_true, told_where_false, told_where_true, where_false}
 use Rattle.intervals.specs.Narrowing.{where_true, with_meet}
 use Rattle.intervals.proofs.LooseIntervals.{IsIn}
-use Rattle.intervals.proofs.LooseTerms.{Holds, IsKept, both_public, element_of, full_of_variable, loose_in}
+use Rattle.intervals.proofs.LooseTerms.{BoundsHold, KeepsItsValue, both_public, element_of, full_of_variable, loose_in}
 use Rattle.intervals.proofs.LooseTerms.{secret_is_not}
 use Rattle.intervals.proofs.LooseTypes.{one_type}
 
@@ -35,16 +35,16 @@ at_number (b ∷ bs) (suc x) i (suc y) j h =
     ⊎_elim (λ here. inl (ap suc here.0, here.1)) (λ there. inr there) (at_number bs x i y j h)
 
 -- all that is said of variables is so
-abbrev pub AreSo : Values → List Said → Type 0
+abbrev pub AreSo : Values → List SaidOfVariable → Type 0
 AreSo m [] = Unit {0}
 AreSo m (said ∷ rest) = IsIn said.interval (slice_index (m said.variable) 0) × AreSo m rest
 
-so_both : (m : Values) (xs ys : List Said) → AreSo m xs → AreSo m ys → AreSo m (xs ++ ys)
+so_both : (m : Values) (xs ys : List SaidOfVariable) → AreSo m xs → AreSo m ys → AreSo m (xs ++ ys)
 so_both m [] ys one other = other
 so_both m (x ∷ xs) ys one other = (one.0, so_both m xs ys one.1 other)
 
 abbrev Kept : Types → Values → Bounds → Type 0
-Kept types m bounds = (x : ℕ) (i : Interval) → known bounds x ≡ Some i → IsKept types m x i
+Kept types m bounds = (x : ℕ) (i : Interval) → known bounds x ≡ Some i → KeepsItsValue types m x i
 
 module _ (types : Types) (m : Values) where
   -- a meet of two intervals in which a value lies
@@ -55,7 +55,7 @@ module _ (types : Types) (m : Values) where
       both : Interval
       both = between (max before.low i.low) (min before.high i.high)
 
-      here : IsKept types m x both
+      here : KeepsItsValue types m x both
       here =
           let old = kept x before there in
           record {
@@ -73,7 +73,7 @@ module _ (types : Types) (m : Values) where
       by true = learned
       by false = kept
 
-  said_kept : (bounds : Bounds) (said : Said) → Kept types m bounds
+  said_kept : (bounds : Bounds) (said : SaidOfVariable) → Kept types m bounds
       → IsIn said.interval (slice_index (m said.variable) 0) → Kept types m (met bounds said)
   said_kept bounds said kept so = by (known bounds said.variable) refl
     where
@@ -82,7 +82,7 @@ module _ (types : Types) (m : Values) where
       by None e = kept
       by (Some before) e = met_kept bounds said.variable before said.interval kept e so
 
-  all_kept : (told : List Said) (bounds : Bounds) → Kept types m bounds → AreSo m told
+  all_kept : (told : List SaidOfVariable) (bounds : Bounds) → Kept types m bounds → AreSo m told
       → Kept types m (met_all bounds told)
   all_kept [] bounds kept so = kept
   all_kept (said ∷ rest) bounds kept so = all_kept rest (met bounds said) (said_kept bounds said kept so.0) so.1
@@ -140,8 +140,8 @@ module _ (m : Values) (x b : ℕ) (e : Interval) (inside : IsIn e b) where
 
 -- Conditions.
 
-is_both_alone : (operator : BinaryOperator) → is_both operator ≡ true → operator ≡ Both
-is_both_alone Both is = refl
+is_both_alone : (operator : BinaryOperator) → is_both operator ≡ true → operator ≡ LogicalAnd
+is_both_alone LogicalAnd is = refl
 is_both_alone operator is = absurd cc
 
 named_variable : (e : TermTree) (x : ℕ) → named e ≡ Some x → e ≡ variable x
@@ -149,22 +149,24 @@ named_variable (variable y) x is = ap variable (same_Some y x is)
 named_variable other x is = absurd (none-some x is)
 
 module _ (declared : List FlatVariable) (types : Types) (bounds : Bounds) (m : Values)
-    (holds : Holds declared types bounds m) where
+    (holds : BoundsHold declared types bounds m) where
   public_value : {profile : Profile} {x v : ℕ} {p : Path} {w : WordType}
-      → Comes (types_of profile declared) m (variable x) v p → HasType types (variable x) w → w.label ≡ Public
+      → LooselyComes (types_of profile declared) m (variable x) v p → TermHasType types (variable x) w
+      → w.label ≡ Public
       → v ≡ slice_index (m x) 0
   public_value to_variable t public = refl
   public_value {w = w} (to_anything {word = word} c t secret within) u public =
       absurd (secret_is_not w word (one_type declared types holds.listed u t) public secret)
 
   named_value : {profile : Profile} {e : TermTree} {v : ℕ} {p : Path} {w : WordType}
-      → Comes (types_of profile declared) m e v p → HasType types e w → w.label ≡ Public → (x : ℕ) → named e ≡ Some x
+      → LooselyComes (types_of profile declared) m e v p → TermHasType types e w → w.label ≡ Public → (x : ℕ)
+      → named e ≡ Some x
       → v ≡ slice_index (m x) 0
   named_value {profile = profile} {e = e} {v = v} {p = p} {w = w} c t public x is =
       let same = named_variable e x is in
       public_value (rw same at c) (rw same at t) public
 
-  greatest_value : {x : ℕ} {w : WordType} → HasType types (variable x) w
+  greatest_value : {x : ℕ} {w : WordType} → TermHasType types (variable x) w
       → slice_index (m x) 0 ≤ (full_at declared x).high
   greatest_value {x = x} (of_variable {word = word} {mutable = mutable} is) =
       (full_of_variable declared types bounds m holds x (slice_index (m x) 0) (word_as word mutable) is
@@ -187,7 +189,7 @@ module _ (declared : List FlatVariable) (types : Types) (bounds : Bounds) (m : V
       (rw (value x refl).0 at h)
 
   condition_true : {profile : Profile} {e : TermTree} {v : ℕ} {p : Path} {w : WordType}
-      → Comes (types_of profile declared) m e v p → HasType types e w → w.label ≡ Public → v ≢ 0
+      → LooselyComes (types_of profile declared) m e v p → TermHasType types e w → w.label ≡ Public → v ≢ 0
       → AreSo m (told_true declared bounds e)
   condition_true (to_binary {operator = operator} {width = width} {left = left} {right = right} {a = a} {b = b} c d)
       (of_binary t u makes same) public h =
@@ -206,7 +208,7 @@ module _ (declared : List FlatVariable) (types : Types) (bounds : Bounds) (m : V
   condition_true other t public h = tt
 
   condition_false : {profile : Profile} {e : TermTree} {v : ℕ} {p : Path} {w : WordType}
-      → Comes (types_of profile declared) m e v p → HasType types e w → w.label ≡ Public → v ≡ 0
+      → LooselyComes (types_of profile declared) m e v p → TermHasType types e w → w.label ≡ Public → v ≡ 0
       → AreSo m (option_to_list (told_false declared bounds e))
   condition_false (to_binary {operator = operator} {width = width} {left = left} {right = right} {a = a} {b = b} c d)
       (of_binary {one = one} t u makes same) public h =
@@ -223,8 +225,8 @@ module _ (declared : List FlatVariable) (types : Types) (bounds : Bounds) (m : V
 
   -- what is known in an arm holds where a run takes it
   pub holds_where_true : (label : Label) {profile : Profile} {e : TermTree} {v : ℕ} {p : Path} {w : WordType}
-      → Comes (types_of profile declared) m e v p → HasType types e w → w.label ≡ label → v ≢ 0
-      → Holds declared types (where_true declared bounds label e) m
+      → LooselyComes (types_of profile declared) m e v p → TermHasType types e w → w.label ≡ label → v ≢ 0
+      → BoundsHold declared types (where_true declared bounds label e) m
   holds_where_true Public {e = e} c t public h = record {
     fits = holds.fits;
     kept = all_kept types m (told_true declared bounds e) bounds holds.kept (condition_true c t public h);
@@ -233,8 +235,8 @@ module _ (declared : List FlatVariable) (types : Types) (bounds : Bounds) (m : V
   holds_where_true Secret c t label h = holds
 
   pub holds_where_false : (label : Label) {profile : Profile} {e : TermTree} {v : ℕ} {p : Path} {w : WordType}
-      → Comes (types_of profile declared) m e v p → HasType types e w → w.label ≡ label → v ≡ 0
-      → Holds declared types (where_false declared bounds label e) m
+      → LooselyComes (types_of profile declared) m e v p → TermHasType types e w → w.label ≡ label → v ≡ 0
+      → BoundsHold declared types (where_false declared bounds label e) m
   holds_where_false Public {e = e} c t public h = record {
     fits = holds.fits;
     kept = all_kept types m (option_to_list (told_false declared bounds e)) bounds holds.kept

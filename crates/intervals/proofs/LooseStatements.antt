@@ -11,22 +11,23 @@ use Rattle.std.proofs.lemmas.Option.{same_Some}
 use Rattle.intervals.specs.Below.{AllSuit, AreFine, AreTyped, array_as, bounded, branch, counter_type, first, FlatBlock}
 use Rattle.intervals.specs.Below.{FlatTree, FlatVariable, HasCount, indexed, Interval, is_secret, IsHeld, IsNew}
 use Rattle.intervals.specs.Below.{IsTyped, IsWithinKind, joined, Label, loop, nothing, Path, Profile, Public, Secret}
-use Rattle.intervals.specs.Below.{Suits, TermTree, Types, types_after, types_after_all, types_of, Values, with_type}
+use Rattle.intervals.specs.Below.{TermSuits, TermTree, Types, types_after, types_after_all, types_of, Values, with_type}
 use Rattle.intervals.specs.Below.{with_value, word_as, WordType}
 use Rattle.intervals.proofs.Below.{some_bit, fine_both, fits_assigned, fits_declared, one_held, with_type-same}
 use Rattle.intervals.proofs.Below.{with_type-other, with_value-same, with_value-other}
 use Rattle.intervals.proofs.Below.{new_number, type_kept, types_kept}
 use Rattle.intervals.specs.Intervals.{Bounds, known, with_bound, between, interval}
-use Rattle.intervals.specs.Loose.{Comes, ComeAll, none_left, one_more, made, Leads, declares, declares_array, assigns}
-use Rattle.intervals.specs.Loose.{puts, holds as holding, skips, chooses, repeats, Iterations, no_iteration}
-use Rattle.intervals.specs.Loose.{an_iteration, LeadAll, ends, goes_on}
+use Rattle.intervals.specs.Loose.{LooselyComes, LooselyComeAll, none_left, one_more, made, LooselyLeads, declares}
+use Rattle.intervals.specs.Loose.{declares_array, assigns, puts, holds as holding, skips, chooses, repeats, Iterations}
+use Rattle.intervals.specs.Loose.{no_iteration, an_iteration, LooselyLeadAll, ends, goes_on}
 use Rattle.intervals.specs.Narrowing.{where_true, where_false}
 use Rattle.intervals.specs.Ranges.{bounds_after, bounds_after_all, counter_interval, in_loop, index_violations}
 use Rattle.intervals.specs.Ranges.{is_steady, most_iterations, term_violations, terms_violations, violations}
 use Rattle.intervals.specs.Ranges.{violations_all}
 use Rattle.intervals.proofs.LooseIntervals.{IsIn}
 use Rattle.intervals.proofs.LooseNarrowing.{at_number, holds_where_false, holds_where_true}
-use Rattle.intervals.proofs.LooseTerms.{Holds, IsKept, loose_below, loose_fine, loose_fits, loose_in, none_in}
+use Rattle.intervals.proofs.LooseTerms.{BoundsHold, KeepsItsValue, loose_below, loose_fine, loose_fits, loose_in}
+use Rattle.intervals.proofs.LooseTerms.{none_in}
 use Rattle.intervals.proofs.LooseTypes.{IsListed, listed_beside}
 
 is_zero : (v : ℕ) → (v == 0) ≡ true → v ≡ 0
@@ -75,15 +76,17 @@ module _ (declared : List FlatVariable) (iterations : List ℕ) where
     AllCounted bounds (first s rest) = AreCounted bounds s × AllCounted (bounds_after declared bounds s) rest
 
   -- what a loose run leads to
-  pub record Done (types after : Types) (bounds : Bounds) (m t : Values) (path : Path) : Type 0 where
-    pub holds : Holds declared after bounds t
+  pub record IsLooseEnd (types after : Types) (bounds : Bounds) (m t : Values) (path : Path) : Type 0 where
+    pub holds : BoundsHold declared after bounds t
     pub same : (x : ℕ) (word : WordType) → types.at x ≡ Some (word_as word false) → t x ≡ m x
     pub fine : AreFine iterations path
 
   -- at the end of an arm or an iteration all is known that was known before
-  back : (types after : Types) {before inside : Bounds} {m t : Values} {path : Path} → Holds declared types before m
-      → Done types after inside m t path
-      → ((x : ℕ) (d : FlatVariable) → types.at x ≡ Some d → after.at x ≡ Some d) → Done types types before m t path
+  back : (types after : Types) {before inside : Bounds} {m t : Values} {path : Path}
+      → BoundsHold declared types before m
+      → IsLooseEnd types after inside m t path
+      → ((x : ℕ) (d : FlatVariable) → types.at x ≡ Some d → after.at x ≡ Some d)
+      → IsLooseEnd types types before m t path
   back types after holds done kept = record {
     holds = record {
       fits = λ x d is. done.holds.fits x d (kept x d is);
@@ -103,7 +106,7 @@ module _ (declared : List FlatVariable) (iterations : List ℕ) where
 
   -- also behind a condition
   after_both : {types after : Types} {bounds : Bounds} {m t : Values} (p q : Path) → AreFine iterations p
-      → Done types after bounds m t q → Done types after bounds m t (p ++ q)
+      → IsLooseEnd types after bounds m t q → IsLooseEnd types after bounds m t (p ++ q)
   after_both p q fine done = record {
     holds = done.holds;
     same = done.same;
@@ -111,10 +114,10 @@ module _ (declared : List FlatVariable) (iterations : List ℕ) where
         done.fine;
   }
 
-  module _ (types : Types) (bounds : Bounds) (m : Values) (holds : Holds declared types bounds m) where
+  module _ (types : Types) (bounds : Bounds) (m : Values) (holds : BoundsHold declared types bounds m) where
     -- what suits is within the kind that is wanted
-    suited : {profile : Profile} {e : TermTree} {v : ℕ} {p : Path} (word : WordType) → Suits types word e
-        → Comes (types_of profile declared) m e v p → IsWithinKind word.kind v
+    suited : {profile : Profile} {e : TermTree} {v : ℕ} {p : Path} (word : WordType) → TermSuits types word e
+        → LooselyComes (types_of profile declared) m e v p → IsWithinKind word.kind v
     suited {v = v} word suits c =
         rw suits.kind at (loose_fits declared types bounds m holds c suits.has_type)
 
@@ -126,7 +129,7 @@ module _ (declared : List FlatVariable) (iterations : List ℕ) where
 
       -- what was known of another one
       kept_other : (y : ℕ) (i : Interval) → known bounds y ≡ Some i
-          → IsKept (with_type types x d) (with_value m x numbers) y i
+          → KeepsItsValue (with_type types x d) (with_value m x numbers) y i
       kept_other y i is =
           let old = holds.kept y i is in
           let other = apart y (word_as old.word false) old.typed in
@@ -140,7 +143,7 @@ module _ (declared : List FlatVariable) (iterations : List ℕ) where
       listed_too : IsListed declared (with_type types x d)
       listed_too = listed_beside declared types x d new.listed holds.listed
 
-      new_holds : Holds declared (with_type types x d) bounds (with_value m x numbers)
+      new_holds : BoundsHold declared (with_type types x d) bounds (with_value m x numbers)
       new_holds = record {
         fits = fits_declared types m x numbers d held holds.fits;
         kept = kept_other;
@@ -153,15 +156,15 @@ module _ (declared : List FlatVariable) (iterations : List ℕ) where
       -- and its interval is known where it keeps its value
       known_holds : (word : WordType) (i : Interval) → d ≡ word_as word false → word.label ≡ Public
           → IsIn i (slice_index numbers 0)
-          → Holds declared (with_type types x d) (with_bound bounds x i) (with_value m x numbers)
+          → BoundsHold declared (with_type types x d) (with_bound bounds x i) (with_value m x numbers)
       known_holds word i is public within =
           record { fits = new_holds.fits; kept = λ y j h. at y j (at_number bounds x i y j h); listed = listed_too }
         where
           at : (y : ℕ) (j : Interval) → ((y ≡ x) × (i ≡ j)) ⊎ (known bounds y ≡ Some j)
-              → IsKept (with_type types x d) (with_value m x numbers) y j
+              → KeepsItsValue (with_type types x d) (with_value m x numbers) y j
           at y j (inr old) = kept_other y j old
           at y j (inl (same, k)) =
-              subst (λ z. IsKept (with_type types x d) (with_value m x numbers) z j) (sym same)
+              subst (λ z. KeepsItsValue (with_type types x d) (with_value m x numbers) z j) (sym same)
               (record {
                 word = word;
                 typed = with_type-same types x d ∙ ap Some is;
@@ -177,7 +180,7 @@ module _ (declared : List FlatVariable) (iterations : List ℕ) where
           → with_value m x numbers y ≡ m y
       assigned_same y word is = with_value-other m x y numbers (not_mutable types x y d word there may is)
 
-      assigned_holds : Holds declared types bounds (with_value m x numbers)
+      assigned_holds : BoundsHold declared types bounds (with_value m x numbers)
       assigned_holds = record {
         fits = fits_assigned types m x numbers d there held holds.fits;
         kept = λ y i is.
@@ -193,18 +196,18 @@ module _ (declared : List FlatVariable) (iterations : List ℕ) where
 
     -- the elements of a new array
     all_fit : (word : WordType) {profile : Profile} {es : List TermTree} {vs : List ℕ} {p : Path}
-        → ComeAll (types_of profile declared) m es vs p → AllSuit types word es → All (IsWithinKind word.kind) vs
+        → LooselyComeAll (types_of profile declared) m es vs p → AllSuit types word es → All (IsWithinKind word.kind) vs
     all_fit word none_left suit = All-nil (IsWithinKind word.kind)
     all_fit word (one_more {v = v} {vs = vs} c cs) suit =
         All-cons (IsWithinKind word.kind) v vs (suited word suit.0 c) (all_fit word cs suit.1)
 
     as_many : {profile : Profile} {es : List TermTree} {vs : List ℕ} {p : Path}
-        → ComeAll (types_of profile declared) m es vs p → length vs ≡ length es
+        → LooselyComeAll (types_of profile declared) m es vs p → length vs ≡ length es
     as_many none_left = refl
     as_many (one_more c cs) = ap suc (as_many cs)
 
     made_held : (word : WordType) (mutable : Bool) (size : ℕ) {profile : Profile} {es : List TermTree} {vs : List ℕ}
-        {p : Path} → ComeAll (types_of profile declared) m es vs p → AllSuit types word es → HasCount size es
+        {p : Path} → LooselyComeAll (types_of profile declared) m es vs p → AllSuit types word es → HasCount size es
         → IsHeld (array_as word mutable size) (made size vs)
     made_held word mutable size none_left suit count =
         record {
@@ -216,7 +219,7 @@ module _ (declared : List FlatVariable) (iterations : List ℕ) where
         record { count = as_many (one_more c cs) ∙ count; within = all_fit word (one_more c cs) suit }
 
     all_fine : (word : WordType) {profile : Profile} {es : List TermTree} {vs : List ℕ} {p : Path}
-        → ComeAll (types_of profile declared) m es vs p → AllSuit types word es
+        → LooselyComeAll (types_of profile declared) m es vs p → AllSuit types word es
         → terms_violations declared bounds es ≡ [] → AreFine iterations p
     all_fine word none_left suit none = tt
     all_fine word (one_more {e = e} {es = es} {p = p} {q = q} c cs) suit none =
@@ -226,10 +229,10 @@ module _ (declared : List FlatVariable) (iterations : List ℕ) where
 
     -- a declared word
     declared_done : (x : ℕ) (word : WordType) (mutable : Bool) {profile : Profile} {e : TermTree} {v : ℕ} {p : Path}
-        → IsNew declared types x (word_as word mutable) → Suits types word e
-        → Comes (types_of profile declared) m e v p
+        → IsNew declared types x (word_as word mutable) → TermSuits types word e
+        → LooselyComes (types_of profile declared) m e v p
         → (b : Bool) → is_steady word mutable ≡ b
-        → Holds declared (with_type types x (word_as word mutable)) (if b
+        → BoundsHold declared (with_type types x (word_as word mutable)) (if b
         then with_bound bounds x (interval declared bounds e) else bounds) (with_value m x (v ∷ []))
     declared_done x word mutable {e = e} {v = v} new suits c true steady =
         let parts = steady_parts word.label mutable steady in
@@ -244,9 +247,9 @@ module _ (declared : List FlatVariable) (iterations : List ℕ) where
   module _ (profile : Profile) where
     mutual
       pub loose_done : {types : Types} {bounds : Bounds} (control : Label) {m t : Values} {s : FlatTree} {path : Path}
-          → Leads (types_of profile declared) m s t path → IsTyped declared types control s
-          → Holds declared types bounds m → violations declared bounds s ≡ [] → AreCounted bounds s
-          → Done types (types_after types s) (bounds_after declared bounds s) m t path
+          → LooselyLeads (types_of profile declared) m s t path → IsTyped declared types control s
+          → BoundsHold declared types bounds m → violations declared bounds s ≡ [] → AreCounted bounds s
+          → IsLooseEnd types (types_after types s) (bounds_after declared bounds s) m t path
       loose_done {types = types} {bounds = bounds} control {m =
           m} (declares {x = x} {word = word} {mutable = mutable} {v = v} c) typed holds none counted = record {
             holds = declared_done types bounds m holds x word mutable typed.0 typed.1 c (is_steady word mutable) refl;
@@ -324,7 +327,7 @@ module _ (declared : List FlatVariable) (iterations : List ℕ) where
           let under = joined label control in
           let block : FlatBlock = if z == 0 then otherwise else accepted in
           let inside : Bounds = if z == 0 then other else one in
-          let facts : AreTyped declared types under block × Holds declared types inside m
+          let facts : AreTyped declared types under block × BoundsHold declared types inside m
           × (violations_all declared inside block ≡ []) × AllCounted inside block =
           elim (cases_Bool (z == 0)) [
             | inl zero ↦ rw zero (
@@ -371,9 +374,9 @@ module _ (declared : List FlatVariable) (iterations : List ℕ) where
           → (interval declared bounds low).low ≤ i
           → IsNew declared types x (word_as counter_type false)
           → AreTyped declared (with_type types x (word_as counter_type false)) control body
-          → Holds declared types bounds m → violations_all declared (in_loop declared bounds x low high) body ≡ []
+          → BoundsHold declared types bounds m → violations_all declared (in_loop declared bounds x low high) body ≡ []
           → AllCounted (in_loop declared bounds x low high) body
-          → Done types types bounds m t path
+          → IsLooseEnd types types bounds m t path
       iterations_done control low high b below most no_iteration count least new typed holds none counted =
           record { holds = holds; same = λ y word is. refl; fine = tt }
       iterations_done {types = types} {bounds = bounds} control {m = m} {t = t} {x = x}
@@ -405,9 +408,9 @@ module _ (declared : List FlatVariable) (iterations : List ℕ) where
           }
 
       pub all_done : {types : Types} {bounds : Bounds} (control : Label) {m t : Values} {b : FlatBlock} {path : Path}
-          → LeadAll (types_of profile declared) m b t path → AreTyped declared types control b
-          → Holds declared types bounds m → violations_all declared bounds b ≡ [] → AllCounted bounds b
-          → Done types (types_after_all types b) (bounds_after_all declared bounds b) m t path
+          → LooselyLeadAll (types_of profile declared) m b t path → AreTyped declared types control b
+          → BoundsHold declared types bounds m → violations_all declared bounds b ≡ [] → AllCounted bounds b
+          → IsLooseEnd types (types_after_all types b) (bounds_after_all declared bounds b) m t path
       all_done control ends typed holds none counted = record { holds = holds; same = λ x word is. refl; fine = tt }
       all_done {types = types} {bounds = bounds} control
           (goes_on {statement = s} {rest = rest} {p = p} {q = q} run more) typed holds none counted =

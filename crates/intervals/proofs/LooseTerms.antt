@@ -4,16 +4,16 @@ use Rattle.std.proofs.Common.{◌≡◌, ℕ, ◌<◌, ◌==◌, nat_le, Bool, t
 use Rattle.std.proofs.Common.{Option, Some, None, unwrap_or, option_map, slice_index, refl, sym, ap, subst, arith}
 use Rattle.std.proofs.lemmas.Bool.Decides.{nat_tests}
 use Rattle.intervals.specs.Below.{AreFine, array_as, because, BinaryOperator, Boolean, counter_type, Divide, divided}
-use Rattle.intervals.specs.Below.{divides, Divisor, DivisorMayBeZero, equality, Fits, FlatVariable, HasType, Index}
+use Rattle.intervals.specs.Below.{divides, Divisor, DivisorMayBeZero, equality, Fits, FlatVariable, TermHasType, Index}
 use Rattle.intervals.specs.Below.{indexed, IndexOutOfRange, Interval, IsWithinKind, IsWord, joined, Kind, logic, Makes}
 use Rattle.intervals.specs.Below.{marks_of, multiplied, multiplies, of_binary, of_conversion, of_element, of_number}
 use Rattle.intervals.specs.Below.{of_prefix, of_rotation, of_selection, of_truth, of_variable, operated, operation_of}
 use Rattle.intervals.specs.Below.{order, Path, Place, prefix_value, Profile, Public, Remainder, rotated_left, Secret}
 use Rattle.intervals.specs.Below.{TermTree, Types, types_of, Uint32, Values, when, width_of, word_as, WordType}
-use Rattle.intervals.proofs.Below.{bit_fits, fine_both, element_fits, either_fits, number_fits, operated_fits, prefix_fits}
-use Rattle.intervals.proofs.Below.{wrapped_fits}
+use Rattle.intervals.proofs.Below.{bit_fits, fine_both, element_fits, either_fits, number_fits, operated_fits}
+use Rattle.intervals.proofs.Below.{prefix_fits, wrapped_fits}
 use Rattle.intervals.specs.Intervals.{Bounds, known, full_at, full_of, interval}
-use Rattle.intervals.specs.Loose.{Comes, to_number, to_truth, to_variable, to_prefix, to_binary, to_rotation}
+use Rattle.intervals.specs.Loose.{LooselyComes, to_number, to_truth, to_variable, to_prefix, to_binary, to_rotation}
 use Rattle.intervals.specs.Loose.{to_conversion, to_selection, to_element, to_anything}
 use Rattle.intervals.specs.Ranges.{divisor_violations, index_violations, term_violations}
 use Rattle.intervals.proofs.LooseIntervals.{IsIn, truth_in, word_in, kind_in, prefix_in, operated_in, converted_in}
@@ -23,16 +23,16 @@ use Rattle.language.specs.declared.why.Why.{Why}
 use Rattle.language.specs.WellTyped as typing
 
 -- a variable keeps its value, which lies within this interval
-pub record IsKept (types : Types) (m : Values) (x : ℕ) (i : Interval) : Type 0 where
+pub record KeepsItsValue (types : Types) (m : Values) (x : ℕ) (i : Interval) : Type 0 where
   pub word : WordType
   pub typed : types.at x ≡ Some (word_as word false)
   pub public : word.label ≡ Public
   pub within : IsIn i (slice_index (m x) 0)
 
 -- what is known holds: of each variable in scope its type, and the interval of each that keeps its value
-pub record Holds (declared : List FlatVariable) (types : Types) (bounds : Bounds) (m : Values) : Type 0 where
+pub record BoundsHold (declared : List FlatVariable) (types : Types) (bounds : Bounds) (m : Values) : Type 0 where
   pub fits : Fits types m
-  pub kept : (x : ℕ) (i : Interval) → known bounds x ≡ Some i → IsKept types m x i
+  pub kept : (x : ℕ) (i : Interval) → known bounds x ≡ Some i → KeepsItsValue types m x i
   pub listed : IsListed declared types
 
 -- no violations in two lists, none in each
@@ -68,12 +68,12 @@ pub secret_is_not : (a b : WordType) → a ≡ b → a.label ≡ Public → b.la
 secret_is_not a b same public secret = let labels = ap (λ (t : WordType). t.label) same in absurd cc
 
 module _ (declared : List FlatVariable) (types : Types) (bounds : Bounds) (m : Values)
-    (holds : Holds declared types bounds m) where
+    (holds : BoundsHold declared types bounds m) where
   pub element_of : (x i : ℕ) (d : FlatVariable) → types.at x ≡ Some d → IsWithinKind d.word.kind (slice_index (m x) i)
   element_of x i d is = element_fits d.word.kind (m x) i (holds.fits x d is).within
 
   pub loose_fits : {profile : Profile} {e : TermTree} {v : ℕ} {p : Path} {w : WordType}
-      → Comes (types_of profile declared) m e v p → HasType types e w → IsWithinKind w.kind v
+      → LooselyComes (types_of profile declared) m e v p → TermHasType types e w → IsWithinKind w.kind v
   loose_fits to_number (of_number below) = below
   loose_fits (to_truth {value = value}) of_truth = bit_fits value
   loose_fits (to_variable {x = x}) (of_variable {word = word} {mutable = mutable} is) =
@@ -109,7 +109,7 @@ module _ (declared : List FlatVariable) (types : Types) (bounds : Bounds) (m : V
   variable_in x d is None there = full_of_variable x (slice_index (m x) 0) d is (element_of x 0 d is)
 
   pub loose_in : {profile : Profile} {e : TermTree} {v : ℕ} {p : Path} {w : WordType}
-      → Comes (types_of profile declared) m e v p → HasType types e w → w.label ≡ Public
+      → LooselyComes (types_of profile declared) m e v p → TermHasType types e w → w.label ≡ Public
       → IsIn (interval declared bounds e) v
   loose_in to_number (of_number below) public = (omega arith, omega arith)
   loose_in (to_truth {value = value}) of_truth public = truth_in value
@@ -172,14 +172,15 @@ module _ (declared : List FlatVariable) (types : Types) (bounds : Bounds) (m : V
         by false e false = tt
 
     pub loose_below : (place : Place) (size : ℕ) {profile : Profile} {e : TermTree} {i : ℕ} {p : Path}
-        → Comes (types_of profile declared) m e i p → HasType types e counter_type
+        → LooselyComes (types_of profile declared) m e i p → TermHasType types e counter_type
         → index_violations place size (interval declared bounds e) ≡ [] → i < size
     loose_below place size {e = e} c t none =
         let inside = loose_in c t refl in
         let high = index_below size (interval declared bounds e) place none in omega (arith, inside, high)
 
     pub loose_fine : {profile : Profile} {e : TermTree} {v : ℕ} {p : Path} {w : WordType}
-        → Comes (types_of profile declared) m e v p → HasType types e w → term_violations declared bounds e ≡ []
+        → LooselyComes (types_of profile declared) m e v p → TermHasType types e w
+        → term_violations declared bounds e ≡ []
         → AreFine iterations p
     loose_fine (to_prefix c) (of_prefix t takes width) none = loose_fine c t none
     loose_fine (to_binary {place = place} {operator = operator} {left = left} {right = right} {a = a} {b = b} {p =

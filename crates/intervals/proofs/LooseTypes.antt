@@ -2,7 +2,7 @@
 use Rattle.std.proofs.Common.{◌≡◌, ℕ, ◌==◌, List, Some, inl, inr, slice_get, refl, sym, ap, ap₂, ◌∙◌}
 use Rattle.std.proofs.lemmas.Bool.{cases_Bool, eqb-true}
 use Rattle.std.proofs.lemmas.Option.{same_Some}
-use Rattle.intervals.specs.Below.{arithmetic, array_as, Boolean, division, equality, FlatVariable, HasType, joined}
+use Rattle.intervals.specs.Below.{arithmetic, array_as, Boolean, division, equality, FlatVariable, TermHasType, joined}
 use Rattle.intervals.specs.Below.{Label, labelled, logic, Makes, multiplication, of_binary, of_conversion, of_element}
 use Rattle.intervals.specs.Below.{of_number, of_prefix, of_rotation, of_selection, of_truth, of_variable, order}
 use Rattle.intervals.specs.Below.{Profile, Public, Secret, shift, TermTree, Types, types_of, with_type, word_as}
@@ -34,8 +34,8 @@ listed_beside declared types x d there listed y e is = elim (cases_Bool (y == x)
 ]
 
 module _ (declared : List FlatVariable) (types : Types) (listed : IsListed declared types) where
-  pub one_type : {profile : Profile} {e : TermTree} {a b : WordType} → HasType types e a
-      → HasType (types_of profile declared) e b → a ≡ b
+  pub one_type : {profile : Profile} {e : TermTree} {a b : WordType} → TermHasType types e a
+      → TermHasType (types_of profile declared) e b → a ≡ b
   one_type (of_number p) (of_number q) = refl
   one_type of_truth of_truth = refl
   one_type (of_variable {x = x} {word = word} {mutable = mutable} p)

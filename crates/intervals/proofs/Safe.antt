@@ -8,18 +8,18 @@ use Rattle.std.proofs.lemmas.Option.{none-some, same_Some, slice_get-map}
 use Rattle.intervals.specs.Below.{AreFine, AreWithin, Arg, bounded, decided, declaration_of, divided, either}
 use Rattle.intervals.specs.Below.{elements_by, end_types, ending_by, ending_of, fault_at, first_fault, Fits, FixedArray}
 use Rattle.intervals.specs.Below.{FlatProgram, FlatVariable, Form, given, gives, indexed, Interval, IsFine, IsResult}
-use Rattle.intervals.specs.Below.{IsTypedProgram, Kind, Label, Mark, multiplied, MutableArray, outcome_of, Param}
+use Rattle.intervals.specs.Below.{IsTypedFlat, Kind, Label, Mark, multiplied, MutableArray, outcome_of, Param}
 use Rattle.intervals.specs.Below.{parameter_types, Path, path_of, Profile, Public, Secret, SingleWord, TermTree, Types}
 use Rattle.intervals.specs.Below.{types_of, Values, WordType}
 use Rattle.intervals.proofs.Below.{element_fits, fine_both, parameters_fit}
 use Rattle.intervals.specs.Intervals.{Bounds, full_of, known}
-use Rattle.intervals.specs.Loose.{IsSafe, Returns, nothing_returned, returned}
+use Rattle.intervals.specs.Loose.{IsSafe, LooselyReturns, nothing_returned, returned}
 use Rattle.intervals.specs.Ranges.{bound_by, bound_of, bounds_after_all, first_bounds, range_violations}
 use Rattle.intervals.specs.Ranges.{result_violations, iterations_of, violations_all}
 use Rattle.intervals.proofs.Counting.{enough_all}
 use Rattle.intervals.proofs.LooseIntervals.{IsIn, kind_in}
 use Rattle.intervals.proofs.LooseStatements.{all_done}
-use Rattle.intervals.proofs.LooseTerms.{Holds, IsKept, loose_fine, none_in}
+use Rattle.intervals.proofs.LooseTerms.{BoundsHold, KeepsItsValue, loose_fine, none_in}
 use Rattle.intervals.proofs.StrictRuns.{strict_is_loose}
 use Rattle.language.specs.Typing.{is_mutable}
 
@@ -78,7 +78,7 @@ get_before (suc n) [] x y h = h
 get_before (suc n) (z ∷ xs) zero y h = h
 get_before (suc n) (z ∷ xs) (suc x) y h = get_before n xs x y h
 
-module _ (p : FlatProgram) (typed : IsTypedProgram p) (args : List Arg) (within : AreWithin p.parameters args) where
+module _ (p : FlatProgram) (typed : IsTypedFlat p) (args : List Arg) (within : AreWithin p.parameters args) where
   abbrev m : Values
   m = given p.declared args
 
@@ -88,7 +88,7 @@ module _ (p : FlatProgram) (typed : IsTypedProgram p) (args : List Arg) (within 
   fits : Fits begun m
   fits = parameters_fit p args typed within
 
-  kept_parameter : (x : ℕ) (i : Interval) → known (first_bounds p) x ≡ Some i → IsKept begun m x i
+  kept_parameter : (x : ℕ) (i : Interval) → known (first_bounds p) x ≡ Some i → KeepsItsValue begun m x i
   kept_parameter x i h =
       let found = known_parameter p.parameters (length p.declared - length p.parameters) x i h in
       let q = found.0 in
@@ -106,7 +106,7 @@ module _ (p : FlatProgram) (typed : IsTypedProgram p) (args : List Arg) (within 
             (element_fits q.kind (m x) 0 (fits x (declaration_of q) there).within));
       }
 
-  pub begins : Holds p.declared begun (first_bounds p) m
+  pub begins : BoundsHold p.declared begun (first_bounds p) m
   begins = record {
     fits = fits;
     kept = kept_parameter;
@@ -117,8 +117,9 @@ module _ (p : FlatProgram) (typed : IsTypedProgram p) (args : List Arg) (within 
 -- The result.
 
 result_fine : (declared : List FlatVariable) (iterations : List ℕ) (types : Types) (bounds : Bounds) (m : Values)
-    → Holds declared types bounds m
-    → {profile : Profile} {value : Option TermTree} {path : Path} → Returns (types_of profile declared) m value path
+    → BoundsHold declared types bounds m
+    → {profile : Profile} {value : Option TermTree} {path : Path} → LooselyReturns
+    (types_of profile declared) m value path
     → (returned : Option WordType) → IsResult types returned value → result_violations declared bounds value ≡ []
     → AreFine iterations path
 result_fine declared iterations types bounds m holds nothing_returned word suits none = tt
@@ -131,7 +132,7 @@ empty [] h = refl
 empty (x ∷ xs) h = absurd (omega (arith, h))
 
 -- a well-typed program without violations is safe, with the iterations that are counted for it
-pub accepted_is_safe : (p : FlatProgram) → IsTypedProgram p → length (range_violations p) ≡ 0 → IsSafe p
+pub accepted_is_safe : (p : FlatProgram) → IsTypedFlat p → length (range_violations p) ≡ 0 → IsSafe p
     (iterations_of p)
 accepted_is_safe p typed in_range args path within run =
     let types = parameter_types p.profile p.parameters in

@@ -6,14 +6,14 @@ use Rattle.intervals.specs.Below.{end_of, first, FlatBlock, FlatProgram, FlatTre
 use Rattle.intervals.specs.Below.{path_along, path_at, path_in, path_in_all, path_of, path_of_result}
 use Rattle.intervals.specs.Below.{path_of_iterations, prefix, put, rotate, select, skip, TermTree, truth, iterations}
 use Rattle.intervals.specs.Below.{Types, types_of, value_in, Values, variable, with_value}
-use Rattle.intervals.specs.Loose.{Comes, to_number, to_truth, to_variable, to_prefix, to_binary, to_rotation}
-use Rattle.intervals.specs.Loose.{to_conversion, to_selection, to_element, ComeAll, none_left, one_more, Leads}
-use Rattle.intervals.specs.Loose.{declares, declares_array, assigns, puts, holds, skips, chooses, repeats, Iterations}
-use Rattle.intervals.specs.Loose.{no_iteration, an_iteration, LeadAll, ends, goes_on, Returns, nothing_returned}
-use Rattle.intervals.specs.Loose.{returned, IsLooseRun}
+use Rattle.intervals.specs.Loose.{LooselyComes, to_number, to_truth, to_variable, to_prefix, to_binary, to_rotation}
+use Rattle.intervals.specs.Loose.{to_conversion, to_selection, to_element, LooselyComeAll, none_left, one_more}
+use Rattle.intervals.specs.Loose.{LooselyLeads, declares, declares_array, assigns, puts, holds, skips, chooses, repeats}
+use Rattle.intervals.specs.Loose.{Iterations, no_iteration, an_iteration, LooselyLeadAll, ends, goes_on, LooselyReturns}
+use Rattle.intervals.specs.Loose.{nothing_returned, returned, IsLooseRun}
 
 module _ (types : Types) where
-  pub comes : (m : Values) (e : TermTree) → Comes types m e (value_in m e) (path_in m e)
+  pub comes : (m : Values) (e : TermTree) → LooselyComes types m e (value_in m e) (path_in m e)
   comes m (number value kind) = to_number
   comes m (truth value) = to_truth
   comes m (variable x) = to_variable
@@ -25,22 +25,22 @@ module _ (types : Types) where
       to_selection (comes m condition) (comes m accepted) (comes m otherwise)
   comes m (element place x size index) = to_element (comes m index)
 
-  pub come_all : (m : Values) (es : List TermTree) → ComeAll types m es (map (value_in m) es) (path_in_all m es)
+  pub come_all : (m : Values) (es : List TermTree) → LooselyComeAll types m es (map (value_in m) es) (path_in_all m es)
   come_all m [] = none_left
   come_all m (e ∷ es) = one_more (comes m e) (come_all m es)
 
   -- one of two arms
   either : (b : Bool) (m : Values) (accepted otherwise : FlatBlock)
-      → LeadAll types m accepted (after_all m accepted) (path_along m accepted)
-      → LeadAll types m otherwise (after_all m otherwise) (path_along m otherwise)
-      → LeadAll types m (if b then otherwise else accepted) (if b then after_all m otherwise
+      → LooselyLeadAll types m accepted (after_all m accepted) (path_along m accepted)
+      → LooselyLeadAll types m otherwise (after_all m otherwise) (path_along m otherwise)
+      → LooselyLeadAll types m (if b then otherwise else accepted) (if b then after_all m otherwise
       else after_all m accepted) (if b then path_along m otherwise else path_along m accepted)
   either true m accepted otherwise one other = other
   either false m accepted otherwise one other = one
 
   -- the iterations of a loop, where each leads on
   iterations_lead : (x : ℕ) (body : FlatBlock)
-      → ((m : Values) → LeadAll types m body (after_all m body) (path_along m body)) → (n i : ℕ) (m : Values)
+      → ((m : Values) → LooselyLeadAll types m body (after_all m body) (path_along m body)) → (n i : ℕ) (m : Values)
       → Iterations types x body n i m (iterations n i (λ j t. after_all (with_value t x (j ∷ [])) body) m)
       (path_of_iterations n i (λ j t. after_all (with_value t x (j ∷ [])) body)
       (λ j t. path_along (with_value t x (j ∷ [])) body) m)
@@ -50,7 +50,7 @@ module _ (types : Types) where
       (iterations_lead x body each n (i + 1) (after_all (with_value m x (i ∷ [])) body))
 
   mutual
-    pub leads : (s : FlatTree) (m : Values) → Leads types m s (after m s) (path_at m s)
+    pub leads : (s : FlatTree) (m : Values) → LooselyLeads types m s (after m s) (path_at m s)
     leads (declare x word mutable value) m = declares (comes m value)
     leads (array x word mutable size []) m = declares_array none_left
     leads (array x word mutable size (e ∷ es)) m = declares_array (one_more (comes m e) (come_all m es))
@@ -65,11 +65,11 @@ module _ (types : Types) where
         repeats (comes m low) (comes m high)
         (iterations_lead x body (λ t. lead_all body t) (value_in m high - value_in m low) (value_in m low) m)
 
-    pub lead_all : (b : FlatBlock) (m : Values) → LeadAll types m b (after_all m b) (path_along m b)
+    pub lead_all : (b : FlatBlock) (m : Values) → LooselyLeadAll types m b (after_all m b) (path_along m b)
     lead_all nothing m = ends
     lead_all (first s rest) m = goes_on (leads s m) (lead_all rest (after m s))
 
-  pub result_comes : (m : Values) (value : Option TermTree) → Returns types m value (path_of_result m value)
+  pub result_comes : (m : Values) (value : Option TermTree) → LooselyReturns types m value (path_of_result m value)
   result_comes m None = nothing_returned
   result_comes m (Some value) = returned (comes m value)
 

@@ -6,7 +6,7 @@ use Rattle.intervals.specs.Below.{Branch, branch, first, flat_block, flat_tree, 
 use Rattle.intervals.specs.Below.{Label, Loop, loop, sooner, Term, term_tree, Violation}
 use Rattle.intervals.specs.Intervals.{Bounds, interval, with_bound}
 use Rattle.intervals.specs.Narrowing.{met, met_all, where_true, where_false}
-use Rattle.intervals.specs.declared.said.Said.{Said}
+use Rattle.intervals.specs.declared.said.SaidOfVariable.{SaidOfVariable}
 use Rattle.intervals.specs.Ranges.{counted, counted_all, counter_interval, in_loop, most_iterations}
 use Rattle.intervals.proofs.Below.{branch_tree, loop_tree}
 use Rattle.intervals.specs.Ranges.{violations, violations_all, term_violations}
@@ -98,7 +98,7 @@ next_statement body i d within =
     ap flat_block (drop-cons body i d within)
     ∙ ap (λ n. first (flat_tree (get_or body i d)) (flat_block (drop n body))) (sym (add-one i))
 
-pub next_said : (bounds : Bounds) (told : List Said) (i : ℕ) (d : Said) → i < length told
+pub next_said : (bounds : Bounds) (told : List SaidOfVariable) (i : ℕ) (d : SaidOfVariable) → i < length told
     → met_all bounds (drop i told) ≡ met_all (met bounds (get_or told i d)) (drop (i + 1) told)
 next_said bounds told i d within =
     ap (met_all bounds) (drop-cons told i d within)

@@ -16,10 +16,11 @@ pub use Rattle.language.specs.WellTyped.{shift}
 pub use Rattle.language.specs.arguments.Within.{AreWithin}
 pub use Rattle.language.specs.declared.interval.Interval.{Interval}
 pub use Rattle.language.specs.declared.operators.BinaryOperator.{BinaryOperator}
-pub use Rattle.language.specs.declared.operators.BinaryOperator.TheVariants.{Add, BitAnd, BitOr, BitXor, Both, Divide}
-pub use Rattle.language.specs.declared.operators.BinaryOperator.TheVariants.{Either, Equal, Greater, GreaterOrEqual}
-pub use Rattle.language.specs.declared.operators.BinaryOperator.TheVariants.{Less, LessOrEqual, Multiply, Remainder}
-pub use Rattle.language.specs.declared.operators.BinaryOperator.TheVariants.{ShiftLeft, ShiftRight, Subtract, Unequal}
+pub use Rattle.language.specs.declared.operators.BinaryOperator.TheVariants.{Add, BitAnd, BitOr, BitXor, LogicalAnd}
+pub use Rattle.language.specs.declared.operators.BinaryOperator.TheVariants.{Divide, LogicalOr, Equal, Greater}
+pub use Rattle.language.specs.declared.operators.BinaryOperator.TheVariants.{GreaterOrEqual, Less, LessOrEqual}
+pub use Rattle.language.specs.declared.operators.BinaryOperator.TheVariants.{Multiply, Remainder, ShiftLeft, ShiftRight}
+pub use Rattle.language.specs.declared.operators.BinaryOperator.TheVariants.{Subtract, Unequal}
 pub use Rattle.language.specs.declared.operators.PrefixOperator.{PrefixOperator}
 pub use Rattle.language.specs.declared.operators.PrefixOperator.TheVariants.{Complement, Negate, Not}
 pub use Rattle.language.specs.declared.rule.Rule.TheVariants.{DivisorMayBeZero, IndexOutOfRange, TooMuchWork}
@@ -45,10 +46,10 @@ pub use Rattle.inline.specs.FlatMeaning.{path_along, path_at, path_in, path_in_a
 pub use Rattle.inline.specs.FlatMeaning.{path_of_iterations, iterations, value_in, Values, with_value}
 pub use Rattle.inline.specs.FlatSize.{term_nodes, terms_nodes, value_nodes}
 pub use Rattle.inline.specs.FlatTyping.{AllSuit, AreNumbered, AreTyped, counter_type, declarations_in}
-pub use Rattle.inline.specs.FlatTyping.{declarations_in_all, end_types, HasCount, HasType, IsNew, IsNumbered, IsResult}
-pub use Rattle.inline.specs.FlatTyping.{IsTyped, IsTypedProgram, of_binary, of_conversion, of_element, of_number}
+pub use Rattle.inline.specs.FlatTyping.{declarations_in_all, end_types, HasCount, TermHasType, IsNew, IsNumbered}
+pub use Rattle.inline.specs.FlatTyping.{IsResult, IsTyped, IsTypedFlat, of_binary, of_conversion, of_element, of_number}
 pub use Rattle.inline.specs.FlatTyping.{of_prefix, of_rotation, of_selection, of_truth, of_variable, parameter_types}
-pub use Rattle.inline.specs.FlatTyping.{Suits, Types, types_after, types_after_all, types_of, with_type}
+pub use Rattle.inline.specs.FlatTyping.{TermSuits, Types, types_after, types_after_all, types_of, with_type}
 pub use Rattle.inline.specs.Path.{AreFine, bounded, decided, divided, either, fault_at, first_fault, indexed, IsFine}
 pub use Rattle.inline.specs.Path.{Mark, multiplied, Path}
 pub use Rattle.inline.specs.declared.flat.FlatStatement.{Branch, FlatStatement, Loop}

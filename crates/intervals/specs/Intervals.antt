@@ -2,10 +2,11 @@
 use Rattle.std.specs.Prelude.{ℕ, ◌+◌, ◌-◌, ◌*◌, ◌/◌, ◌%◌, ◌^◌, ◌==◌, ◌&&◌, nat_le, min, max, List, Option, None, Some}
 use Rattle.std.specs.Prelude.{unwrap_or, if◌then◌else◌, slice_get, slice_set}
 use Rattle.std.specs.Option.{option_map}
-use Rattle.intervals.specs.Below.{Add, binary, BinaryOperator, BitAnd, bits, bits_of, Both, Complement, convert, Divide}
-use Rattle.intervals.specs.Below.{Either, element, Equal, FlatVariable, Greater, GreaterOrEqual, Interval, Kind, Less}
-use Rattle.intervals.specs.Below.{LessOrEqual, Multiply, Negate, Not, number, prefix, PrefixOperator, Remainder, rotate}
-use Rattle.intervals.specs.Below.{select, ShiftRight, Subtract, TermTree, truth, Uint32, Unequal, variable, Width}
+use Rattle.intervals.specs.Below.{Add, binary, BinaryOperator, BitAnd, bits, bits_of, LogicalAnd, Complement, convert}
+use Rattle.intervals.specs.Below.{Divide, LogicalOr, element, Equal, FlatVariable, Greater, GreaterOrEqual, Interval}
+use Rattle.intervals.specs.Below.{Kind, Less, LessOrEqual, Multiply, Negate, Not, number, prefix, PrefixOperator}
+use Rattle.intervals.specs.Below.{Remainder, rotate, select, ShiftRight, Subtract, TermTree, truth, Uint32, Unequal}
+use Rattle.intervals.specs.Below.{variable, Width}
 
 abbrev pub between : ℕ → ℕ → Interval
 between low high = record { low = low; high = high }
@@ -48,8 +49,8 @@ shifted_interval a b =
 
 -- what an operator makes of two intervals, the left of this width
 abbrev pub operated_interval : BinaryOperator → Width → Interval → Interval → Interval
-operated_interval Either w a b = either_truth
-operated_interval Both w a b = either_truth
+operated_interval LogicalOr w a b = either_truth
+operated_interval LogicalAnd w a b = either_truth
 operated_interval Equal w a b = either_truth
 operated_interval Unequal w a b = either_truth
 operated_interval Less w a b = either_truth

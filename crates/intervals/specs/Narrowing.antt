@@ -2,27 +2,27 @@
 use Rattle.std.specs.Prelude.{ℕ, ◌+◌, ◌-◌, Bool, true, false, nat_lt, nat_le, min, max, List, [], ◌∷◌, ◌++◌, Option}
 use Rattle.std.specs.Prelude.{None, Some, if◌then◌else◌}
 use Rattle.std.specs.Option.{option_to_list}
-use Rattle.intervals.specs.Below.{binary, BinaryOperator, Both, convert, element, Equal, FlatVariable, Interval, Label}
-use Rattle.intervals.specs.Below.{Less, LessOrEqual, number, prefix, Public, rotate, Secret, select, TermTree, truth}
-use Rattle.intervals.specs.Below.{variable}
-use Rattle.intervals.specs.declared.said.Said.{Said}
+use Rattle.intervals.specs.Below.{binary, BinaryOperator, LogicalAnd, convert, element, Equal, FlatVariable, Interval}
+use Rattle.intervals.specs.Below.{Label, Less, LessOrEqual, number, prefix, Public, rotate, Secret, select, TermTree}
+use Rattle.intervals.specs.Below.{truth, variable}
+use Rattle.intervals.specs.declared.said.SaidOfVariable.{SaidOfVariable}
 use Rattle.intervals.specs.Intervals.{Bounds, known, with_bound, between, interval, full_at}
 
 -- What is said.
 
 -- that a variable lies from one number to another
-abbrev pub says : ℕ → ℕ → ℕ → Option Said
+abbrev pub says : ℕ → ℕ → ℕ → Option SaidOfVariable
 says x low high = Some (record { variable = x; interval = between low high })
 
 -- what a comparison of a variable with a number of this interval tells where it is true: no number is below 0
-abbrev pub said_where_true : BinaryOperator → ℕ → Interval → Option Said
+abbrev pub said_where_true : BinaryOperator → ℕ → Interval → Option SaidOfVariable
 said_where_true Less x e = if nat_lt 0 e.high then says x 0 (e.high - 1) else None
 said_where_true LessOrEqual x e = says x 0 e.high
 said_where_true Equal x e = says x e.low e.high
 said_where_true _ x e = None
 
 -- and where it is false; the greatest number that the variable may be is given, and none is above it
-abbrev pub said_where_false : BinaryOperator → ℕ → ℕ → Interval → Option Said
+abbrev pub said_where_false : BinaryOperator → ℕ → ℕ → Interval → Option SaidOfVariable
 said_where_false Less x greatest e = says x e.low greatest
 said_where_false LessOrEqual x greatest e = if nat_lt e.low greatest then says x (e.low + 1) greatest else None
 said_where_false _ x greatest e = None
@@ -40,21 +40,21 @@ named (select condition accepted otherwise) = None
 named (element place x size index) = None
 
 -- the same of a comparison whose left operand is this variable, or none
-abbrev pub told_where_true : BinaryOperator → Option ℕ → Interval → Option Said
+abbrev pub told_where_true : BinaryOperator → Option ℕ → Interval → Option SaidOfVariable
 told_where_true operator None e = None
 told_where_true operator (Some x) e = said_where_true operator x e
 
-abbrev pub told_where_false : List FlatVariable → BinaryOperator → Option ℕ → Interval → Option Said
+abbrev pub told_where_false : List FlatVariable → BinaryOperator → Option ℕ → Interval → Option SaidOfVariable
 told_where_false declared operator None e = None
 told_where_false declared operator (Some x) e = said_where_false operator x (full_at declared x).high e
 
 abbrev pub is_both : BinaryOperator → Bool
-is_both Both = true
+is_both LogicalAnd = true
 is_both _ = false
 
 -- what a condition tells where it is true: it is taken apart at `&&`, from left to right. All parts are read by what
 -- is known before any of them
-abbrev pub told_true : List FlatVariable → Bounds → TermTree → List Said
+abbrev pub told_true : List FlatVariable → Bounds → TermTree → List SaidOfVariable
 told_true declared bounds (number value kind) = []
 told_true declared bounds (truth value) = []
 told_true declared bounds (variable x) = []
@@ -68,7 +68,7 @@ told_true declared bounds (select condition accepted otherwise) = []
 told_true declared bounds (element place x size index) = []
 
 -- and where it is false: only as a whole
-abbrev pub told_false : List FlatVariable → Bounds → TermTree → Option Said
+abbrev pub told_false : List FlatVariable → Bounds → TermTree → Option SaidOfVariable
 told_false declared bounds (number value kind) = None
 told_false declared bounds (truth value) = None
 told_false declared bounds (variable x) = None
@@ -97,10 +97,10 @@ abbrev pub met_at : Bounds → ℕ → Option Interval → Interval → Bounds
 met_at bounds x None i = bounds
 met_at bounds x (Some before) i = with_meet bounds x (meet before i)
 
-abbrev pub met : Bounds → Said → Bounds
+abbrev pub met : Bounds → SaidOfVariable → Bounds
 met bounds said = met_at bounds said.variable (known bounds said.variable) said.interval
 
-abbrev pub met_all : Bounds → List Said → Bounds
+abbrev pub met_all : Bounds → List SaidOfVariable → Bounds
 met_all bounds [] = bounds
 met_all bounds (said ∷ rest) = met_all (met bounds said) rest
 

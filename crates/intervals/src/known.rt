@@ -4,22 +4,22 @@ ghost use Rattle.intervals.specs.Narrowing.{meet, met, met_all};
 ghost use Rattle.intervals.specs.Undoing.{rewound, CameFrom};
 
 use crate::Interval;
-use crate::said::Said;
+use crate::said::SaidOfVariable;
 use std::alloc::{AllocError, Global};
 
 /// What was known of a variable before something else was.
 #[derive(Clone, Copy)]
-pub struct Change {
+pub struct BoundChange {
     pub variable: u32,
     pub before: Option<Interval>,
 }
 
 /// What is known of the variables, at their numbers, and all changes of it, the last one last.
 #[derive(Drop)]
-pub struct Known {
+pub struct KnownBounds {
     pub alloc: Global,
     pub bounds: Vec<Option<Interval>>,
-    pub changes: Vec<Change>,
+    pub changes: Vec<BoundChange>,
 }
 
 /// What both say, where they do not exclude each other.
@@ -45,7 +45,7 @@ pub fn bound_of(bounds: &[Option<Interval>], variable: u32) -> Option<Interval>
     }
 }
 
-impl Known {
+impl KnownBounds {
     /// How many changes there are.
     pub fn mark(&self) -> usize
         ensures { result ≡ length self.now.changes.items }
@@ -61,13 +61,13 @@ impl Known {
         let Some(before) = self.bounds.get(variable as usize).copied() else {
             return Ok(());
         };
-        self.changes.push(Change { variable, before })?;
+        self.changes.push(BoundChange { variable, before })?;
         self.bounds[variable as usize] = Some(interval);
         Ok(())
     }
 
     /// A variable of which something is known lies in this interval too. Where that cannot be, it is passed over.
-    pub fn meet(&mut self, said: Said) -> Result<(), AllocError>
+    pub fn meet(&mut self, said: SaidOfVariable) -> Result<(), AllocError>
         ensures bounds { OnOk result (self.new.bounds.items ≡ met self.old.bounds.items said) }
         ensures from { OnOk result (CameFrom self.old self.new) }
     {
@@ -81,7 +81,7 @@ impl Known {
     }
 
     /// One after the other.
-    pub fn meet_all(&mut self, told: &[Said]) -> Result<(), AllocError>
+    pub fn meet_all(&mut self, told: &[SaidOfVariable]) -> Result<(), AllocError>
         ensures bounds { OnOk result (self.new.bounds.items ≡ met_all self.old.bounds.items told.now) }
         ensures from { OnOk result (CameFrom self.old self.new) }
     {
@@ -92,7 +92,7 @@ impl Known {
     }
 
     /// What is known of a variable is again what was known before a change.
-    fn restore(&mut self, change: Change)
+    fn restore(&mut self, change: BoundChange)
         ensures bounds { self.new.bounds.items ≡ slice_set self.old.bounds.items change.variable change.before }
         ensures changes { self.new.changes ≡ self.old.changes }
     {

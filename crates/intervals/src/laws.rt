@@ -1,7 +1,7 @@
 // The laws, which hold of the definitions alone.
 
 ghost use Rattle.std.specs.Prelude.{◌≡◌, ℕ, ◌+◌, ◌≤◌, List, length};
-ghost use Rattle.intervals.specs.Below.{AreWithin, Arg, ending_of, FlatProgram, gives, IsTypedProgram, outcome_of};
+ghost use Rattle.intervals.specs.Below.{AreWithin, Arg, ending_of, FlatProgram, gives, IsTypedFlat, outcome_of};
 ghost use Rattle.intervals.specs.Below.{path_of, value_nodes};
 ghost use Rattle.intervals.specs.Evaluated.{evaluated_by};
 ghost use Rattle.intervals.specs.Loose.{IsLooseRun, IsSafe};
@@ -22,7 +22,7 @@ pub fn safe_runs_meet_no_fault()
 /// A well-typed program whose ranges are kept is safe: no run on arguments within its parameter types, whatever the
 /// secrets in it are, meets a fault or makes more iterations in a loop than are counted for it.
 pub fn accepted_is_safe()
-    ensures { (p : FlatProgram) → IsTypedProgram p → length (range_violations p) ≡ 0 → IsSafe p (iterations_of p) }
+    ensures { (p : FlatProgram) → IsTypedFlat p → length (range_violations p) ≡ 0 → IsSafe p (iterations_of p) }
 {}
 
 /// A run of a safe program on arguments within its parameter types evaluates at most as many nodes as its work.

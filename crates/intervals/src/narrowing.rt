@@ -9,23 +9,23 @@ ghost use Rattle.intervals.specs.Narrowing.{where_true};
 ghost use Rattle.intervals.specs.Undoing.{CameFrom};
 
 use crate::Interval;
-use crate::known::Known;
-use crate::said::Said;
+use crate::known::KnownBounds;
+use crate::said::SaidOfVariable;
 use crate::terms::{full_at, interval};
 use inline::{FlatVariable, Term};
 use language::{BinaryOperator, Label};
 use std::alloc::AllocError;
 
 /// That a variable lies from one number to another.
-fn says(variable: u32, low: u32, high: u32) -> Option<Said>
+fn says(variable: u32, low: u32, high: u32) -> Option<SaidOfVariable>
     ensures { result ≡ says variable low high }
 {
     let interval = Interval { low, high };
-    Some(Said { variable, interval })
+    Some(SaidOfVariable { variable, interval })
 }
 
 /// What a comparison of a variable with a number of this interval tells where it is true.
-fn said_where_true(operator: BinaryOperator, variable: u32, e: Interval) -> Option<Said>
+fn said_where_true(operator: BinaryOperator, variable: u32, e: Interval) -> Option<SaidOfVariable>
     ensures { result ≡ said_where_true operator variable e }
 {
     match operator {
@@ -45,7 +45,7 @@ fn said_where_false(
     variable: u32,
     greatest: u32,
     e: Interval,
-) -> Option<Said>
+) -> Option<SaidOfVariable>
     ensures { result ≡ said_where_false operator variable greatest e }
 {
     match operator {
@@ -75,11 +75,15 @@ fn named(term: &Term) -> Option<u32>
 fn is_both(operator: BinaryOperator) -> bool
     ensures { result ≡ is_both operator }
 {
-    matches!(operator, BinaryOperator::Both)
+    matches!(operator, BinaryOperator::LogicalAnd)
 }
 
 /// What a comparison with a number of this interval tells where it is true, if its left operand is a variable.
-fn told_where_true(operator: BinaryOperator, left: Option<u32>, e: Interval) -> Option<Said>
+fn told_where_true(
+    operator: BinaryOperator,
+    left: Option<u32>,
+    e: Interval,
+) -> Option<SaidOfVariable>
     ensures { result ≡ told_where_true operator left e }
 {
     said_where_true(operator, left?, e)
@@ -91,7 +95,7 @@ fn told_where_false(
     operator: BinaryOperator,
     left: Option<u32>,
     e: Interval,
-) -> Option<Said>
+) -> Option<SaidOfVariable>
     ensures { result ≡ told_where_false declared.now operator left e }
 {
     let variable = left?;
@@ -103,7 +107,7 @@ fn gather_true(
     declared: &[FlatVariable],
     bounds: &[Option<Interval>],
     condition: &Term,
-    told: &mut Vec<Said>,
+    told: &mut Vec<SaidOfVariable>,
 ) -> Result<(), AllocError>
     ensures { OnOk result (told.new.items
         ≡ told.old.items ++ told_true declared.now bounds.now (term_tree condition.now)) }
@@ -127,7 +131,7 @@ fn told_false(
     declared: &[FlatVariable],
     bounds: &[Option<Interval>],
     condition: &Term,
-) -> Option<Said>
+) -> Option<SaidOfVariable>
     ensures { result ≡ told_false declared.now bounds.now (term_tree condition.now) }
 {
     let Term::Binary(_, operator, _, left, right) = condition else {
@@ -140,7 +144,7 @@ fn told_false(
 /// Learns what a public condition tells where it is true. A secret one tells nothing.
 pub fn learn_true(
     declared: &[FlatVariable],
-    known: &mut Known,
+    known: &mut KnownBounds,
     label: Label,
     condition: &Term,
 ) -> Result<(), AllocError>
@@ -161,7 +165,7 @@ pub fn learn_true(
 /// And where it is false.
 pub fn learn_false(
     declared: &[FlatVariable],
-    known: &mut Known,
+    known: &mut KnownBounds,
     label: Label,
     condition: &Term,
 ) -> Result<(), AllocError>

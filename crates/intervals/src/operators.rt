@@ -133,8 +133,8 @@ pub fn operated_interval(
     ensures { result ≡ operated_interval operator width a b }
 {
     match operator {
-        BinaryOperator::Either
-        | BinaryOperator::Both
+        BinaryOperator::LogicalOr
+        | BinaryOperator::LogicalAnd
         | BinaryOperator::Equal
         | BinaryOperator::Unequal
         | BinaryOperator::Less

@@ -6,7 +6,7 @@ ghost use Rattle.intervals.specs.Work.{IsRefusedByRanges, IsToldByRanges, ranged
 ghost use Rattle.intervals.specs.Below.{IsFirst, IsNamed, sooner, TellsOf};
 
 use crate::costs::program_cost;
-use crate::known::Known;
+use crate::known::KnownBounds;
 use crate::operators::full_of;
 use crate::terms::note_term;
 use crate::walk::{Walk, statements};
@@ -61,7 +61,7 @@ fn walked(alloc: Global, flat: &Flat) -> Result<Walk, AllocError>
 {
     let declared = flat.declared();
     let mut walk = Walk {
-        known: Known {
+        known: KnownBounds {
             alloc,
             bounds: first_bounds(alloc, flat)?,
             changes: Vec::new(alloc),

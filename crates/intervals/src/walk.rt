@@ -9,7 +9,7 @@ ghost use Rattle.intervals.specs.Ranges.{is_steady, most_iterations, violations,
 ghost use Rattle.intervals.specs.Undoing.{CameFrom};
 
 use crate::Interval;
-use crate::known::Known;
+use crate::known::KnownBounds;
 use crate::narrowing::{learn_false, learn_true};
 use crate::terms::{note_index, note_term, note_terms};
 use inline::{FlatStatement, FlatVariable, Term};
@@ -19,7 +19,7 @@ use std::alloc::AllocError;
 /// What a walk gathers.
 #[derive(Drop)]
 pub struct Walk {
-    pub known: Known,
+    pub known: KnownBounds,
     /// The iterations of each loop, at its counter's number.
     pub iterations: Vec<u32>,
     pub first: First,

@@ -19,7 +19,7 @@ use std::alloc::{AllocError, Global};
 
 /// An assignment at a place, under control, to a name that is declared at another.
 #[derive(Clone, Copy)]
-struct Change {
+struct AssignmentAt {
     place: Place,
     control: Option<SecretControl>,
     declared_at: Place,
@@ -43,7 +43,7 @@ fn note_target(first: &mut First, place: Place, target: ValueType, given: Typed)
 }
 
 /// Notes what may not be changed: what is immutable, and what is public under secret control.
-fn note_change(first: &mut First, change: Change, mutable: bool, label: Label)
+fn note_change(first: &mut First, change: AssignmentAt, mutable: bool, label: Label)
     ensures { first.new.seen
         ≡ fold sooner first.old.seen (change_violations change.control change.place change.declared_at mutable label) }
 {
@@ -55,7 +55,7 @@ fn note_change(first: &mut First, change: Change, mutable: bool, label: Label)
 /// Notes what an assignment to a name violates, by its value.
 fn note_assignment(
     first: &mut First,
-    change: Change,
+    change: AssignmentAt,
     variable: Option<VariableType>,
     given: Option<Typed>,
 )
@@ -86,7 +86,7 @@ pub fn assignment(
 {
     let text = assignment.name.as_str();
     let variable = names.variable(text);
-    let change = Change {
+    let change = AssignmentAt {
         place: assignment.place,
         control,
         declared_at: names.place(text),
@@ -100,7 +100,7 @@ pub fn assignment(
 /// Notes what an assignment to an element violates, by its value.
 fn note_element_assignment(
     first: &mut First,
-    change: Change,
+    change: AssignmentAt,
     variable: Option<VariableType>,
     element: Option<ValueType>,
     given: Option<Typed>,
@@ -144,7 +144,7 @@ pub fn element_assignment(
 {
     let text = assignment.name.as_str();
     let variable = names.variable(text);
-    let change = Change {
+    let change = AssignmentAt {
         place: assignment.place,
         control,
         declared_at: names.place(text),

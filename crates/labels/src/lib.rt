@@ -1,4 +1,4 @@
-// Names, types and labels: accepts exactly the programs that are well typed for an observer, and
+// The type checker, of names, types and labels: accepts exactly the programs that are well typed for an observer, and
 // otherwise names the first violation. It stands on the definitions of typing in `language`.
 #![tactic(auto)]
 

@@ -8,7 +8,7 @@ use Rattle.word.specs.declared.width.Width.TheVariants.{W8, W16, W32}
 use Rattle.language.specs.declared.signature.Kind.{Kind}
 use Rattle.language.specs.declared.signature.Kind.TheVariants.{Boolean, Uint8, Uint16, Uint32}
 use Rattle.language.specs.declared.operators.BinaryOperator.{BinaryOperator}
-use Rattle.language.specs.declared.operators.BinaryOperator.TheVariants.{Either, Both, Equal, Unequal, Less}
+use Rattle.language.specs.declared.operators.BinaryOperator.TheVariants.{LogicalOr, LogicalAnd, Equal, Unequal, Less}
 use Rattle.language.specs.declared.operators.BinaryOperator.TheVariants.{LessOrEqual}
 use Rattle.language.specs.declared.operators.BinaryOperator.TheVariants.{Greater, GreaterOrEqual, BitOr, BitXor, BitAnd}
 use Rattle.language.specs.declared.operators.BinaryOperator.TheVariants.{ShiftLeft, ShiftRight, Add, Subtract, Multiply}
@@ -31,8 +31,8 @@ truth_of v = not (v == 0)
 
 -- what an operator makes of its operands
 abbrev pub operation_of : BinaryOperator → Operation
-operation_of Either = Logic
-operation_of Both = Logic
+operation_of LogicalOr = Logic
+operation_of LogicalAnd = Logic
 operation_of Equal = Equality
 operation_of Unequal = Equality
 operation_of Less = Order
@@ -52,8 +52,8 @@ operation_of Remainder = Division
 
 -- the value between two operands, the left of this width
 abbrev pub operated : BinaryOperator → Width → ℕ → ℕ → ℕ
-operated Either w a b = word_of (truth_of a || truth_of b)
-operated Both w a b = word_of (truth_of a && truth_of b)
+operated LogicalOr w a b = word_of (truth_of a || truth_of b)
+operated LogicalAnd w a b = word_of (truth_of a && truth_of b)
 operated Equal w a b = word_of (a == b)
 operated Unequal w a b = word_of (not (a == b))
 operated Less w a b = word_of (nat_lt a b)

@@ -189,13 +189,14 @@ pub data IsCall (earlier : List ProcedureTree) (scope : Scope) (control : Label)
       → IsCall earlier scope control c (result_value p.result)
 
 -- a right side gives a value of this type
-pub data Gives (earlier : List ProcedureTree) (scope : Scope) (control : Label) : RightTree → ValueType → Type 0 where
+pub data RightHasType (earlier : List ProcedureTree) (scope : Scope) (control : Label) : RightTree → ValueType
+    → Type 0 where
   of_call : {c : CallTree} {type : ValueType}
       → IsCall earlier scope control c type
-      → Gives earlier scope control (called c) type
+      → RightHasType earlier scope control (called c) type
   of_value : {e : ExprTree} {type : ValueType}
       → HasType scope e type
-      → Gives earlier scope control (computed e) type
+      → RightHasType earlier scope control (computed e) type
 
 -- Statements.
 
@@ -221,7 +222,7 @@ mutual
     declares : {scope : Scope} {control : Label} {place : Place} {label : Label} {mutable : Bool} {kind : Kind}
         {text : List ℕ} {right : RightTree} {given : WordType}
         → found scope text ≡ None
-        → Gives earlier scope control right (Word given)
+        → RightHasType earlier scope control right (Word given)
         → Suits given (labelled kind label)
         → (mutable ≡ true → FlowsTo control label)
         → IsWellTyped earlier scope control (declaration place label mutable kind text right)
@@ -235,7 +236,7 @@ mutual
     assigns : {scope : Scope} {control : Label} {place target : Place} {text : List ℕ} {right : RightTree}
         {given wanted : WordType}
         → IsVariable scope text (Word wanted) true
-        → Gives earlier scope control right (Word given)
+        → RightHasType earlier scope control right (Word given)
         → Suits given wanted
         → FlowsTo control wanted.label
         → IsWellTyped earlier scope control (assignment place target text right)
@@ -243,7 +244,7 @@ mutual
         {index : ExprTree} {right : RightTree} {given : WordType} {array : ArrayType}
         → IsVariable scope text (Array array) true
         → HasType scope index (word Uint32 Public)
-        → Gives earlier scope control right (Word given)
+        → RightHasType earlier scope control right (Word given)
         → Suits given array.element
         → FlowsTo control array.element.label
         → IsWellTyped earlier scope control (element_assignment place bracket target text index right)

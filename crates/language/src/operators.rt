@@ -21,9 +21,9 @@ pub enum PrefixOperator {
 #[derive(Clone, Copy, Debug, PartialEq, Eq)]
 pub enum BinaryOperator {
     /// `||`
-    Either,
+    LogicalOr,
     /// `&&`
-    Both,
+    LogicalAnd,
     /// `==`
     Equal,
     /// `!=`
@@ -85,8 +85,8 @@ impl BinaryOperator {
         ensures { result ≡ operation_of self }
     {
         match self {
-            BinaryOperator::Either => Operation::Logic,
-            BinaryOperator::Both => Operation::Logic,
+            BinaryOperator::LogicalOr => Operation::Logic,
+            BinaryOperator::LogicalAnd => Operation::Logic,
             BinaryOperator::Equal => Operation::Equality,
             BinaryOperator::Unequal => Operation::Equality,
             BinaryOperator::Less => Operation::Order,
@@ -126,8 +126,8 @@ impl BinaryOperator {
         ensures { result ≡ operated self width a b }
     {
         match self {
-            BinaryOperator::Either => word::from_bool(word::either(is_true(a), is_true(b))),
-            BinaryOperator::Both => word::from_bool(word::both(is_true(a), is_true(b))),
+            BinaryOperator::LogicalOr => word::from_bool(word::or(is_true(a), is_true(b))),
+            BinaryOperator::LogicalAnd => word::from_bool(word::and(is_true(a), is_true(b))),
             BinaryOperator::Equal => word::from_bool(word::equal(a, b)),
             BinaryOperator::Unequal => word::from_bool(word::unequal(a, b)),
             BinaryOperator::Less => word::from_bool(word::less(a, b)),

@@ -5,11 +5,11 @@ use Rattle.std.proofs.Common.{◌≡◌, ℕ, ◌+◌, ◌*◌, ◌≤◌, List,
 use Rattle.std.proofs.Common.{sym, ap, ◌∙◌, subst, arith}
 use Rattle.std.proofs.lemmas.List.{length-map}
 use Rattle.linked_calls.proofs.Below.{AreData, Arg, argument_code, argument_offset, argument_steps, arguments_code}
-use Rattle.linked_calls.proofs.Below.{arguments_end, Array, array_bytes, ByteMap, CanBeCopied, CanBePut, Code, Data}
-use Rattle.linked_calls.proofs.Below.{element_bytes, elements_at, Fields, FixedArray, Form, frame_room, HasArray}
-use Rattle.linked_calls.proofs.Below.{is_some-with_number, IsBesides, IsOfCall, IsOnStack, LiesIn, meant}
-use Rattle.linked_calls.proofs.Below.{MutableArray, Pointed, ReadsAnArray, room_base, SingleWord, Site, Size, Slot}
-use Rattle.linked_calls.proofs.Below.{with_argument, with_number_outside, word_in, WritesAnArray}
+use Rattle.linked_calls.proofs.Below.{arguments_end, Array, array_bytes, ByteMap, CanBeCopied, CanBePut, MachineCode}
+use Rattle.linked_calls.proofs.Below.{Data, element_bytes, elements_at, Fields, FixedArray, Form, frame_room, HasArray}
+use Rattle.linked_calls.proofs.Below.{is_some-with_number, IsBesides, IsOfCall, IsOnStack, LiesIn, meant, MutableArray}
+use Rattle.linked_calls.proofs.Below.{Pointed, ReadsAnArray, room_base, SingleWord, CallSite, Size, Slot, with_argument}
+use Rattle.linked_calls.proofs.Below.{with_number_outside, word_in, WritesAnArray}
 use Rattle.language.specs.declared.values.Arg.TheVariants.{Word}
 use Rattle.rv_machine.specs.declared.memory.Size.TheVariants as sizes
 use Rattle.rv_machine.specs.declared.observation.Event.TheVariants as event
@@ -18,14 +18,14 @@ use Rattle.linked_calls.proofs.Bytes.{IsOutside, SameData, number_there, numbers
 use Rattle.linked_calls.proofs.Bytes.{is_some-with_numbers}
 use Rattle.linked_calls.proofs.Copies.{array_runs as copies_run}
 use Rattle.linked_calls.proofs.SectionSteps.{arguments_steps}
-use Rattle.linked_calls.proofs.Pieces.{Runs, Setting, no_code, then_runs, weaken_runs}
+use Rattle.linked_calls.proofs.Pieces.{Runs, CallSetting, no_code, then_runs, weaken_runs}
 use Rattle.linked_calls.proofs.Rooms.{RoomNumbers}
 use Rattle.linked_calls.proofs.SameRegisters.{IsNone, same_beside}
 use Rattle.linked_calls.proofs.Staying.{stay_ready}
 use Rattle.linked_calls.proofs.Words.{word_runs}
 
 -- the setting of a call: its code, and the accesses that it may make
-abbrev pub call_setting : Fields → Code → Site → Setting
+abbrev pub call_setting : Fields → MachineCode → CallSite → CallSetting
 call_setting image code site = record { code = code; allowed = IsOfCall image site; silent = λ sp. tt }
 
 -- what the code of arguments and arrays writes
@@ -33,11 +33,11 @@ abbrev pub taken_registers : List ℕ
 taken_registers = 5 ∷ 6 ∷ 7 ∷ 28 ∷ []
 
 -- the bytes are those that a function gives, and no other register has changed
-pub record Takes (goal : Data → ByteMap) (s t : Data) : Type 0 where
+pub record TakesArguments (goal : Data → ByteMap) (s t : Data) : Type 0 where
   pub bytes : t.bytes ≡ goal s
   pub others : (q : ℕ) → IsNone taken_registers q → t.regs q ≡ s.regs q
 
-pub still_base : (goal : Data → ByteMap) (s t : Data) → Takes goal s t → t.regs 2 ≡ s.regs 2
+pub still_base : (goal : Data → ByteMap) (s t : Data) → TakesArguments goal s t → t.regs 2 ≡ s.regs 2
 still_base goal s t takes = (same_beside taken_registers t.regs s.regs takes.others (2 ∷ []) refl).0
 
 -- An argument at its slot.
@@ -63,7 +63,7 @@ put_data frame bytes slot (Word word) there x =
 put_data frame bytes slot (Array words) there x =
     is_some-with_numbers bytes (element_bytes slot.param.kind) (frame + slot.offset) words there x
 
-module _ (image : Fields) (site : Site) where
+module _ (image : Fields) (site : CallSite) where
   -- where the i-th argument points
   abbrev pub spot_at : ℕ → Pointed
   spot_at i = record { frame = room_base image site; index = i; pointer = site.pointers i }
@@ -100,7 +100,7 @@ module _ (image : Fields) (site : Site) where
   AreKnown i (slot ∷ slots) = IsKnown i slot slot.param.form × AreKnown (i + 1) slots
 
   -- x2 is the frame's base, room and arguments are data, and the arrays are ready
-  pub record Begins (Ready : ByteMap → Type 0) (s : Data) : Type 0 where
+  pub record ArgumentsBegin (Ready : ByteMap → Type 0) (s : Data) : Type 0 where
     pub stack : s.regs 2 ≡ room_base image site
     pub there : AreData (room_base image site) (arguments_end image site) s.bytes
     pub ready : Ready s.bytes
@@ -174,8 +174,8 @@ module _ (image : Fields) (site : Site) where
 
   -- One after another.
 
-  module _ (code : Code) (numbers : RoomNumbers image site) where
-    abbrev z : Setting
+  module _ (code : MachineCode) (numbers : RoomNumbers image site) where
+    abbrev z : CallSetting
     z = call_setting image code site
 
     room : saved_at image site ≤ arguments_end image site
@@ -197,7 +197,7 @@ module _ (image : Fields) (site : Site) where
 
     -- what stands in memory where an array is copied
     pub array_begins : (i : ℕ) (slot : Slot) → KnownArray i slot → (s : Data)
-        → Begins (λ bytes. IsReady image site bytes i slot FixedArray) s → HasArray image slot (spot_at i) s
+        → ArgumentsBegin (λ bytes. IsReady image site bytes i slot FixedArray) s → HasArray image slot (spot_at i) s
     array_begins i slot known s begins =
         let under = room in
         record {
@@ -209,11 +209,12 @@ module _ (image : Fields) (site : Site) where
 
     array_runs : (i : ℕ) (slot : Slot) → KnownArray i slot
         → Runs z (argument_steps image i slot FixedArray) (argument_code image i slot FixedArray)
-        (Begins (λ bytes. IsReady image site bytes i slot FixedArray)) (Takes (λ s. taken s.bytes i slot FixedArray))
+        (ArgumentsBegin (λ bytes. IsReady image site bytes i slot FixedArray))
+        (TakesArguments (λ s. taken s.bytes i slot FixedArray))
     array_runs i slot known =
         let at = room_base image site + slot.offset in
-        weaken_runs z {P' = Begins (λ bytes. IsReady image site bytes i slot FixedArray)}
-        {R' = Takes (λ s. taken s.bytes i slot FixedArray)} (argument_code image i slot FixedArray)
+        weaken_runs z {P' = ArgumentsBegin (λ bytes. IsReady image site bytes i slot FixedArray)}
+        {R' = TakesArguments (λ s. taken s.bytes i slot FixedArray)} (argument_code image i slot FixedArray)
         (copies_run image slot (spot_at i) known.can true z (place_allowed i known.place_inside)
         (λ a size lies. inr (known.reads a size lies))
         (λ a size lies. inl (on_stack at (array_bytes slot) (omega arith)
@@ -226,12 +227,13 @@ module _ (image : Fields) (site : Site) where
 
     argument_runs : (i : ℕ) (slot : Slot) (form : Form) → IsKnown i slot form
         → Runs z (argument_steps image i slot form) (argument_code image i slot form)
-        (Begins (λ bytes. IsReady image site bytes i slot form)) (Takes (λ s. taken s.bytes i slot form))
+        (ArgumentsBegin (λ bytes. IsReady image site bytes i slot form))
+        (TakesArguments (λ s. taken s.bytes i slot form))
     argument_runs i slot SingleWord known =
         let under = room in
         let ends = slot_within slot 4 known.inside in
-        weaken_runs z {P' = Begins (λ bytes. IsReady image site bytes i slot SingleWord)}
-        {R' = Takes (λ s. taken s.bytes i slot SingleWord)} (argument_code image i slot SingleWord)
+        weaken_runs z {P' = ArgumentsBegin (λ bytes. IsReady image site bytes i slot SingleWord)}
+        {R' = TakesArguments (λ s. taken s.bytes i slot SingleWord)} (argument_code image i slot SingleWord)
         (word_runs z image slot (room_base image site) i known.can (place_allowed i known.place_inside)
         (inl ((omega arith, omega arith), omega arith)))
         (λ s begins. record {
@@ -246,14 +248,14 @@ module _ (image : Fields) (site : Site) where
     -- all of them
     pub arguments_runs : (i : ℕ) (slots : List Slot) → i + length slots ≡ length image.slots → AreKnown i slots
         → Runs z (arguments_steps image i slots) (arguments_code image i slots)
-        (Begins (λ bytes. AreReady image site bytes i slots)) (Takes (λ s. all_taken s.bytes i slots))
+        (ArgumentsBegin (λ bytes. AreReady image site bytes i slots)) (TakesArguments (λ s. all_taken s.bytes i slots))
     arguments_runs i [] count known = no_code z (λ s begins. record { bytes = refl; others = λ q none. refl })
     arguments_runs i (slot ∷ slots) count known =
         let form = slot.param.form in
         let under = room in
         then_runs z (argument_code image i slot form) (arguments_code image (i + 1) slots)
-        (weaken_runs z {P' = Begins (λ bytes. AreReady image site bytes i (slot ∷ slots))}
-        {R' = Takes (λ s. taken s.bytes i slot form)} (argument_code image i slot form)
+        (weaken_runs z {P' = ArgumentsBegin (λ bytes. AreReady image site bytes i (slot ∷ slots))}
+        {R' = TakesArguments (λ s. taken s.bytes i slot form)} (argument_code image i slot form)
         (argument_runs i slot form known.0)
         (λ s begins. record { stack = begins.stack; there = begins.there; ready = begins.ready.0 })
         (λ s t begins takes. takes))

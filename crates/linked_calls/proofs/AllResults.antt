@@ -3,23 +3,23 @@
 use Rattle.std.specs.Prelude.{is_some}
 use Rattle.std.proofs.Common.{◌≡◌, ℕ, ◌+◌, ◌*◌, ◌<◌, ◌≤◌, List, [], ◌∷◌, ◌++◌, length, inl, inr, refl, sym, ap, ap₂}
 use Rattle.std.proofs.Common.{◌∙◌, subst, arith}
-use Rattle.linked_calls.proofs.Below.{AreData, arguments_end, array_bytes, array_in, arrays_behind, arrays_in}
-use Rattle.linked_calls.proofs.Below.{ByteMap, Code, copy_out_code, element_bytes, elements_at, Fields, FixedArray}
-use Rattle.linked_calls.proofs.Below.{Form, IsBesides, IsOnStack, MutableArray, results_code, room_base, SingleWord}
-use Rattle.linked_calls.proofs.Below.{Site, Size, Slot, with_array, with_arrays, with_numbers}
-use Rattle.linked_calls.proofs.AllArguments.{AreKnown, Begins, IsKnown, Takes, array_begins, call_setting, on_stack}
-use Rattle.linked_calls.proofs.AllArguments.{place_allowed, slot_within, spot_at, still_base}
+use Rattle.linked_calls.proofs.Below.{AreData, arguments_end, array_bytes, array_in, arrays_behind, arrays_in, ByteMap}
+use Rattle.linked_calls.proofs.Below.{MachineCode, copy_out_code, element_bytes, elements_at, Fields, FixedArray, Form}
+use Rattle.linked_calls.proofs.Below.{IsBesides, IsOnStack, MutableArray, results_code, room_base, SingleWord, CallSite}
+use Rattle.linked_calls.proofs.Below.{Size, Slot, with_array, with_arrays, with_numbers}
+use Rattle.linked_calls.proofs.AllArguments.{AreKnown, ArgumentsBegin, IsKnown, TakesArguments, array_begins}
+use Rattle.linked_calls.proofs.AllArguments.{call_setting, on_stack, place_allowed, slot_within, spot_at, still_base}
 use Rattle.linked_calls.proofs.Between.{AreReady, IsReady}
 use Rattle.linked_calls.proofs.Bytes.{IsOutside, SameData, numbers_count, numbers_outside, is_some-with_numbers}
 use Rattle.linked_calls.proofs.Bytes.{numbers_same}
 use Rattle.linked_calls.proofs.Copies.{handed_runs as handed_by}
 use Rattle.linked_calls.proofs.SectionSteps.{output_steps, outputs_steps}
-use Rattle.linked_calls.proofs.Pieces.{Runs, Setting, no_code, then_runs, weaken_runs}
+use Rattle.linked_calls.proofs.Pieces.{Runs, CallSetting, no_code, then_runs, weaken_runs}
 use Rattle.linked_calls.proofs.Rooms.{RoomNumbers}
 use Rattle.linked_calls.proofs.Staying.{stay_ready}
 
-module _ (image : Fields) (code : Code) (site : Site) (numbers : RoomNumbers image site) where
-  abbrev z : Setting
+module _ (image : Fields) (code : MachineCode) (site : CallSite) (numbers : RoomNumbers image site) where
+  abbrev z : CallSetting
   z = call_setting image code site
 
   abbrev base : ℕ
@@ -49,10 +49,11 @@ module _ (image : Fields) (code : Code) (site : Site) (numbers : RoomNumbers ima
 
   output_runs : (i : ℕ) (slot : Slot) (form : Form) → IsKnown image site i slot form
       → Runs z (output_steps image i slot form) (copy_out_code image i slot form)
-      (Begins image site (λ bytes. IsReady image site bytes i slot form)) (Takes (λ s. handed s.bytes i slot form))
+      (ArgumentsBegin image site (λ bytes. IsReady image site bytes i slot form))
+      (TakesArguments (λ s. handed s.bytes i slot form))
   output_runs i slot MutableArray known =
-      weaken_runs z {P' = Begins image site (λ bytes. IsReady image site bytes i slot MutableArray)}
-      {R' = Takes (λ s. handed s.bytes i slot MutableArray)} (copy_out_code image i slot MutableArray)
+      weaken_runs z {P' = ArgumentsBegin image site (λ bytes. IsReady image site bytes i slot MutableArray)}
+      {R' = TakesArguments (λ s. handed s.bytes i slot MutableArray)} (copy_out_code image i slot MutableArray)
       (handed_by image slot (spot_at image site i) known.known.can z (place_allowed image site code numbers i known.known.place_inside)
       (λ a size lies. inl (longer a size (on_stack image site code numbers (base + slot.offset) (array_bytes slot) (omega arith)
       (slot_within image site code numbers slot (array_bytes slot) known.known.inside) a size lies)))
@@ -143,13 +144,14 @@ module _ (image : Fields) (code : Code) (site : Site) (numbers : RoomNumbers ima
 
   handed_runs : (i : ℕ) (slots : List Slot) → i + length slots ≡ length image.slots → AreKnown image site i slots
       → Runs z (outputs_steps image i slots) (results_code image i slots)
-      (Begins image site (λ bytes. AreReady image site bytes i slots)) (Takes (λ s. all_handed s.bytes i slots))
+      (ArgumentsBegin image site (λ bytes. AreReady image site bytes i slots))
+      (TakesArguments (λ s. all_handed s.bytes i slots))
   handed_runs i [] count known = no_code z (λ s begins. record { bytes = refl; others = λ q none. refl })
   handed_runs i (slot ∷ slots) count known =
       let form = slot.param.form in
       then_runs z (copy_out_code image i slot form) (results_code image (i + 1) slots)
-      (weaken_runs z {P' = Begins image site (λ bytes. AreReady image site bytes i (slot ∷ slots))}
-      {R' = Takes (λ s. handed s.bytes i slot form)} (copy_out_code image i slot form)
+      (weaken_runs z {P' = ArgumentsBegin image site (λ bytes. AreReady image site bytes i (slot ∷ slots))}
+      {R' = TakesArguments (λ s. handed s.bytes i slot form)} (copy_out_code image i slot form)
       (output_runs i slot form known.0)
       (λ s begins. record { stack = begins.stack; there = begins.there; ready = begins.ready.0 })
       (λ s t begins takes. takes))
@@ -172,8 +174,8 @@ module _ (image : Fields) (code : Code) (site : Site) (numbers : RoomNumbers ima
   -- the outcome of each, as the slots hold it at the beginning
   pub results_runs : AreKnown image site 0 image.slots
       → Runs z (outputs_steps image 0 image.slots) (results_code image 0 image.slots)
-      (Begins image site (λ bytes. AreReady image site bytes 0 image.slots))
-      (Takes (λ s. with_arrays site s.bytes 0 image.slots (arrays_in base s.bytes image.slots)))
+      (ArgumentsBegin image site (λ bytes. AreReady image site bytes 0 image.slots))
+      (TakesArguments (λ s. with_arrays site s.bytes 0 image.slots (arrays_in base s.bytes image.slots)))
   results_runs known =
       weaken_runs z (results_code image 0 image.slots) (handed_runs 0 image.slots (omega arith) known)
       (λ s begins. begins)

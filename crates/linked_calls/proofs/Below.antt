@@ -41,11 +41,11 @@ pub use Rattle.linked_calls.specs.Called.{arrays_behind, IsLeft, IsOfCall, IsOnS
 pub use Rattle.linked_calls.specs.Called.{ReadsArray, with_array, with_arrays, WritesAnArray, WritesArray}
 pub use Rattle.linked_calls.specs.Calls.{argument_of, arguments_end, arguments_from, arguments_of, IsBesides}
 pub use Rattle.linked_calls.specs.Calls.{IsCalled, IsReadable, IsSite, LiesWell, LieWell, raw_argument, room_base}
-pub use Rattle.linked_calls.specs.Calls.{Site}
+pub use Rattle.linked_calls.specs.Calls.{CallSite}
 pub use Rattle.linked_calls.specs.Cleared.{AreCleared, IsSilent, RegistersAreCleared}
 pub use Rattle.linked_calls.specs.Convention.{argument_registers, saved_registers, scratch_registers, stack_register}
 pub use Rattle.linked_calls.specs.Copies.{AreApart, ArrayIsHandedBack, ArrayIsTaken, CanBeCopied, elements_at}
-pub use Rattle.linked_calls.specs.Copies.{HasArray, IsCopying, IsHandedBack, IsTaken, OthersAsBefore, place_of}
+pub use Rattle.linked_calls.specs.Copies.{HasArray, IsCopying, IsHandedBack, IsArrayTaken, OthersAsBefore, place_of}
 pub use Rattle.linked_calls.specs.Copies.{Pointed, slot_of}
 pub use Rattle.linked_calls.specs.Does.{AreThere, at, Data, Does}
 pub use Rattle.linked_calls.specs.FunctionCode.{added, argument_code, argument_offset, arguments_code, array_bytes}
@@ -60,9 +60,9 @@ pub use Rattle.linked_calls.specs.Sections.{argument_sections, argument_steps, a
 pub use Rattle.linked_calls.specs.Sections.{array_sections, array_steps, block_steps, code_of, element_steps}
 pub use Rattle.linked_calls.specs.Sections.{enter_sections, frame_sections, leave_sections, section_steps}
 pub use Rattle.linked_calls.specs.Stretches.{AreData, AreZeroed, LiesIn}
-pub use Rattle.linked_calls.specs.Words.{CanBePut, HasResult, HasWordArgument, IsLoadOf, IsPut, IsPutting, IsReturned}
-pub use Rattle.linked_calls.specs.Words.{ResultIsHandedBack, WordIsTaken}
-pub use Rattle.linked_calls.specs.Zeros.{frame_steps, FrameIsZeroed, HasFrame, HasRoom, IsStoreIn, IsWiped}
+pub use Rattle.linked_calls.specs.Words.{CanBePut, HasResultSlot, HasWordArgument, IsLoadOf, IsArgumentPut, IsPutting}
+pub use Rattle.linked_calls.specs.Words.{IsReturned, ResultIsHandedBack, WordIsTaken}
+pub use Rattle.linked_calls.specs.Zeros.{frame_steps, FrameIsZeroed, HasFrame, HasRoomBounds, IsStoreIn, IsWiped}
 pub use Rattle.linked_calls.specs.Zeros.{IsZeroFrame, RoomIsWiped}
 pub use Rattle.linked_calls.specs.declared.section.Section.{Section}
 pub use Rattle.linked_calls.specs.declared.section.Section.TheVariants.{ArgumentIn, CallersStack, ClearedFrame}
@@ -85,7 +85,7 @@ pub use Rattle.rv_machine.specs.Bytes.{ByteMap, number_at, with_byte, zeros}
 unfoldable pub use Rattle.rv_machine.specs.Bytes.{with_number}
 pub use Rattle.rv_machine.specs.Effects.{branch_target, difference_of, holds, register_target, register_value}
 pub use Rattle.rv_machine.specs.Effects.{shift_value, sign_extended, sum_of}
-pub use Rattle.rv_machine.specs.Machine.{Code, goes_on, IsAt, next, observed, State, Step}
+pub use Rattle.rv_machine.specs.Machine.{MachineCode, goes_on, IsAt, next, observed, State, Step}
 unfoldable pub use Rattle.rv_machine.specs.Machine.{moved_to, with_link}
 pub use Rattle.rv_machine.specs.Registers.{register, with_register}
 pub use Rattle.rv_machine.specs.Sizes.{byte_count}

@@ -4,19 +4,19 @@ use Rattle.std.specs.Prelude.{sum}
 use Rattle.std.proofs.Common.{◌≡◌, ℕ, suc, ◌+◌, ◌-◌, ◌*◌, ◌%◌, ◌^◌, ◌<◌, List, [], ◌∷◌, length, map, Some}
 use Rattle.std.proofs.Common.{None}
 use Rattle.linked_calls.proofs.Below.{AreData, argument_offset, arguments_end, arguments_of, array_bytes, body_words}
-use Rattle.linked_calls.proofs.Below.{ByteMap, Code, enter_code, enter_sections, Fields, FixedArray, Form, frame_room}
-use Rattle.linked_calls.proofs.Below.{function_words, goes_on, IsCalled, IsImage, IsLeft, IsLoaded, IsOfCall, IsSite}
-use Rattle.linked_calls.proofs.Below.{LeadsWithin, leave_sections, moved_to, MutableArray, number_at, Observation}
-use Rattle.linked_calls.proofs.Below.{observed, results_in, room_base, saved_registers, section_steps, SingleWord}
-use Rattle.linked_calls.proofs.Below.{Site, Slot, State, Step}
+use Rattle.linked_calls.proofs.Below.{ByteMap, MachineCode, enter_code, enter_sections, Fields, FixedArray, Form}
+use Rattle.linked_calls.proofs.Below.{frame_room, function_words, goes_on, IsCalled, IsImage, IsLeft, IsLoaded}
+use Rattle.linked_calls.proofs.Below.{IsOfCall, IsSite, LeadsWithin, leave_sections, moved_to, MutableArray, number_at}
+use Rattle.linked_calls.proofs.Below.{Observation, observed, results_in, room_base, saved_registers, section_steps}
+use Rattle.linked_calls.proofs.Below.{SingleWord, CallSite, Slot, State, Step}
 use Rattle.linked_calls.proofs.Bytes.{IsOutside}
 use Rattle.linked_calls.proofs.SameRegisters.{AreSame}
 
 -- where the body begins, and the code behind it
-abbrev pub body_at : Fields → Site → ℕ
+abbrev pub body_at : Fields → CallSite → ℕ
 body_at image site = site.entry + 4 * length (enter_code image)
 
-abbrev pub leave_at : Fields → Site → ℕ
+abbrev pub leave_at : Fields → CallSite → ℕ
 leave_at image site = body_at image site + 4 * length (body_words image.words)
 
 abbrev pub enter_steps : Fields → ℕ
@@ -35,33 +35,33 @@ abbrev pub untouched_registers : List ℕ
 untouched_registers = 1 ∷ 3 ∷ 4 ∷ []
 
 -- the caller's registers, above the frame
-abbrev pub saved_at : Fields → Site → ℕ
+abbrev pub saved_at : Fields → CallSite → ℕ
 saved_at image site = room_base image site + frame_room image
 
 -- an array's pointer stands at its argument's place, and the array is data
-pub record ReadyArray (image : Fields) (site : Site) (bytes : ByteMap) (i : ℕ) (slot : Slot) : Type 0 where
+pub record ReadyArray (image : Fields) (site : CallSite) (bytes : ByteMap) (i : ℕ) (slot : Slot) : Type 0 where
   pub pointer : number_at bytes 4 (room_base image site + argument_offset image i) ≡ Some (site.pointers i)
   pub array : AreData (site.pointers i) (site.pointers i + array_bytes slot) bytes
 
-abbrev pub IsReady : Fields → Site → ByteMap → ℕ → Slot → Form → Type 0
+abbrev pub IsReady : Fields → CallSite → ByteMap → ℕ → Slot → Form → Type 0
 IsReady image site bytes i slot SingleWord = Unit {0}
 IsReady image site bytes i slot FixedArray = ReadyArray image site bytes i slot
 IsReady image site bytes i slot MutableArray = ReadyArray image site bytes i slot
 
 -- those from the i-th argument on
-abbrev pub AreReady : Fields → Site → ByteMap → ℕ → List Slot → Type 0
+abbrev pub AreReady : Fields → CallSite → ByteMap → ℕ → List Slot → Type 0
 AreReady image site bytes i [] = Unit {0}
 AreReady image site bytes i (slot ∷ slots) = IsReady image site bytes i slot slot.param.form
     × AreReady image site bytes (i + 1) slots
 
 -- an address before the room of the call or behind it
-abbrev pub IsOutsideRoom : Fields → Site → ℕ → Type 0
+abbrev pub IsOutsideRoom : Fields → CallSite → ℕ → Type 0
 IsOutsideRoom image site x = IsOutside (room_base image site) site.stack x
 
 -- Before the body.
 
 -- from a state in which the function is called to one in which its body is loaded
-pub record IsEntered (image : Fields) (site : Site) (s t : State) : Type 0 where
+pub record IsEntered (image : Fields) (site : CallSite) (s t : State) : Type 0 where
   pub at_body : t.pc ≡ body_at image site
   pub loaded : IsLoaded image (room_base image site) (arguments_of image site s) t
   pub untouched : AreSame t.regs s.regs untouched_registers
@@ -70,24 +70,24 @@ pub record IsEntered (image : Fields) (site : Site) (s t : State) : Type 0 where
   pub outside : (x : ℕ) → IsOutsideRoom image site x → t.bytes x ≡ s.bytes x
   pub there : AreData (room_base image site) site.stack t.bytes
 
-pub record EntersFrom (image : Fields) (code : Code) (site : Site) (list : List Observation) (s : State) :
+pub record EntersFrom (image : Fields) (code : MachineCode) (site : CallSite) (list : List Observation) (s : State) :
     Type 0 where
   pub end : State
   pub leads : LeadsWithin code (IsOfCall image site) (enter_steps image) s list end
   pub entered : IsEntered image site s end
 
-pub record Enters (image : Fields) (code : Code) (site : Site) : Type 0 where
+pub record Enters (image : Fields) (code : MachineCode) (site : CallSite) : Type 0 where
   pub shown : List Observation
   pub runs : (s : State) → IsCalled image site s → EntersFrom image code site shown s
 
 abbrev pub EnteringLeads : Type 0
-EnteringLeads = (image : Fields) (code : Code) (site : Site) → IsImage image → IsSite image code site
+EnteringLeads = (image : Fields) (code : MachineCode) (site : CallSite) → IsImage image → IsSite image code site
     → Enters image code site
 
 -- Behind the body.
 
 -- the body is done, of a call whose caller had these registers
-pub record CanLeave (image : Fields) (site : Site) (regs : ℕ → ℕ) (s : State) : Type 0 where
+pub record CanLeave (image : Fields) (site : CallSite) (regs : ℕ → ℕ) (s : State) : Type 0 where
   pub at_leave : s.pc ≡ leave_at image site
   pub base : s.regs 2 ≡ room_base image site
   pub stack : regs 2 ≡ site.stack
@@ -97,7 +97,7 @@ pub record CanLeave (image : Fields) (site : Site) (regs : ℕ → ℕ) (s : Sta
   pub there : AreData (room_base image site) (arguments_end image site) s.bytes
   pub ready : AreReady image site s.bytes 0 image.slots
 
-pub record LeavesFrom (image : Fields) (code : Code) (site : Site) (list : List Observation) (regs : ℕ
+pub record LeavesFrom (image : Fields) (code : MachineCode) (site : CallSite) (list : List Observation) (regs : ℕ
     → ℕ) (s : State) : Type 0 where
   pub step_count : ℕ
   pub counted : suc step_count ≡ leave_steps image
@@ -107,10 +107,10 @@ pub record LeavesFrom (image : Fields) (code : Code) (site : Site) (list : List 
   pub left : IsLeft image site regs s.bytes (results_in (room_base image site) image s.bytes) end
   pub goes_back : regs 1 % 4 ≡ 0 → Step code end (goes_on (observed end None) (moved_to end (regs 1)))
 
-pub record Leaves (image : Fields) (code : Code) (site : Site) : Type 0 where
+pub record Leaves (image : Fields) (code : MachineCode) (site : CallSite) : Type 0 where
   pub shown : List Observation
   pub runs : (regs : ℕ → ℕ) (s : State) → CanLeave image site regs s → LeavesFrom image code site shown regs s
 
 abbrev pub LeavesEverywhere : Type 0
-LeavesEverywhere = (image : Fields) (code : Code) (site : Site) → IsImage image → IsSite image code site
+LeavesEverywhere = (image : Fields) (code : MachineCode) (site : CallSite) → IsImage image → IsSite image code site
     → Leaves image code site

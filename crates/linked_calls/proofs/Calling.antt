@@ -5,13 +5,13 @@ use Rattle.std.proofs.Common.{inr, ⊎_elim, refl, sym, ap, ◌∙◌, subst, ar
 use Rattle.std.proofs.lemmas.Bool.{cases_lt}
 use Rattle.std.proofs.lemmas.List.{map-append}
 use Rattle.std.proofs.lemmas.List.Sums.{sum_by-append}
-use Rattle.linked_calls.proofs.Below.{AreData, Arg, arguments_end, arguments_of, around_steps, both_within, Code}
+use Rattle.linked_calls.proofs.Below.{AreData, Arg, arguments_end, arguments_of, around_steps, both_within, MachineCode}
 use Rattle.linked_calls.proofs.Below.{enter_sections, Event, Fields, IsCalled, IsInside, IsLeft, IsLinked, IsOfCall}
 use Rattle.linked_calls.proofs.Below.{IsSite, LeadsWithin-append, leave_sections, Observation, ProcedureTree}
 use Rattle.linked_calls.proofs.Below.{ProgramTree, Results, results_in, room_base, RunsLinked, saved_registers}
-use Rattle.linked_calls.proofs.Below.{section_steps, Site, State}
+use Rattle.linked_calls.proofs.Below.{section_steps, CallSite, State}
 use Rattle.linked_calls.specs.Below.{BodyRun, IsBeside, IsPlaced, Load, Store}
-use Rattle.linked_calls.specs.Callable.{Returns, IsCallable, CallsAreLinked}
+use Rattle.linked_calls.specs.Callable.{CallReturns, IsCallable, CallsAreLinked}
 use Rattle.linked_calls.proofs.Between.{IsOutsideRoom, body_at, saved_at, enter_steps, leave_steps, Enters}
 use Rattle.linked_calls.proofs.Between.{EntersFrom, EnteringLeads, CanLeave, Leaves, LeavesFrom, LeavesEverywhere}
 use Rattle.linked_calls.proofs.Between.{untouched_registers}
@@ -25,7 +25,7 @@ use Rattle.linked_calls.proofs.WithinParameters.{arguments_within}
 
 -- Places.
 
-is_placed : (image : Fields) (code : Code) (site : Site) → IsSite image code site
+is_placed : (image : Fields) (code : MachineCode) (site : CallSite) → IsSite image code site
     → IsPlaced image code (body_at image site) (room_base image site)
 is_placed image code site is = record {
   observed = is.observed;
@@ -37,7 +37,7 @@ is_placed image code site is = record {
 -- Accesses.
 
 -- the body's, with x2 at the frame's base
-inside_is_of_call : (image : Fields) (code : Code) (site : Site) → IsSite image code site
+inside_is_of_call : (image : Fields) (code : MachineCode) (site : CallSite) → IsSite image code site
     → (sp : ℕ) (event : Option Event) → sp ≡ room_base image site
     → IsInside (room_base image site) image.frame_bytes event → IsOfCall image site sp event
 inside_is_of_call image code site is sp None at inside = tt
@@ -61,7 +61,7 @@ steps_counted enter body leave around rest e counted = omega arith
 
 -- The body, between the two.
 
-module _ (image : Fields) (code : Code) (site : Site) (is : IsSite image code site) (s : State)
+module _ (image : Fields) (code : MachineCode) (site : CallSite) (is : IsSite image code site) (s : State)
     (called : IsCalled image site s)
     (before : List Observation) (entered : EntersFrom image code site before s)
     (list : List Observation) (run : BodyRun image code (body_at image site) (room_base image site) entered.end
@@ -135,7 +135,7 @@ module _ (image : Fields) (code : Code) (site : Site) (is : IsSite image code si
 
 -- The call.
 
-module _ (program : ProgramTree) (p : ProcedureTree) (image : Fields) (code : Code) (site : Site)
+module _ (program : ProgramTree) (p : ProcedureTree) (image : Fields) (code : MachineCode) (site : CallSite)
     (is : IsSite image code site)
     (enters : Enters image code site)
     (linked : IsLinked program p image code (body_at image site) (room_base image site))
@@ -147,7 +147,7 @@ module _ (program : ProgramTree) (p : ProcedureTree) (image : Fields) (code : Co
       (body : RunsLinked program image code (body_at image site) (room_base image site) (arguments_of image site s)
       entered.end (linked.shown (arguments_of image site s)))
       → LeavesFrom image code site leaves.shown s.regs body.run.end
-      → Returns program image code site s (shown_on (arguments_of image site s))
+      → CallReturns program image code site s (shown_on (arguments_of image site s))
   returns_by s called entered body left =
       let args = arguments_of image site s in
       let run = body.run in
@@ -169,7 +169,7 @@ module _ (program : ProgramTree) (p : ProcedureTree) (image : Fields) (code : Co
       }
 
   returns : (s : State) → IsCalled image site s
-      → Returns program image code site s (shown_on (arguments_of image site s))
+      → CallReturns program image code site s (shown_on (arguments_of image site s))
   returns s called =
       let args = arguments_of image site s in
       let entered = enters.runs s called in

@@ -3,13 +3,13 @@ use Rattle.std.specs.Prelude.{not}
 use Rattle.std.proofs.Common.{ℕ, Bool, [], length, refl, ap}
 use Rattle.linked_calls.proofs.Below.{after_all, AreCleared, clear_registers_code, Data, IsSilent, register_kept}
 use Rattle.linked_calls.proofs.Below.{RegistersAreCleared, scratch_registers}
-use Rattle.linked_calls.proofs.Pieces.{Runs, Setting, placed, silent_runs}
+use Rattle.linked_calls.proofs.Pieces.{Runs, CallSetting, placed, silent_runs}
 use Rattle.linked_calls.proofs.SameRegisters.{all_same, is_none, is_none_of, same_values}
 
 abbrev is_scratch : ℕ → Bool
 is_scratch q = not (is_none scratch_registers q)
 
-pub clear_runs : (z : Setting) {P : Data → Type 0} → Runs z (length scratch_registers)
+pub clear_runs : (z : CallSetting) {P : Data → Type 0} → Runs z (length scratch_registers)
     (clear_registers_code scratch_registers) P (AreCleared scratch_registers)
 clear_runs z =
     let is = clear_registers_code scratch_registers in

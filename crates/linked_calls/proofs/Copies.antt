@@ -4,13 +4,13 @@ use Rattle.std.specs.Prelude.{◌⊎◌, is_some, unwrap_or}
 use Rattle.std.proofs.Common.{◌≡◌, ◌≢◌, ℕ, suc, ◌+◌, ◌*◌, ◌%◌, ◌^◌, ◌<◌, ◌≤◌, Bool, true, false, List, [], ◌∷◌, ◌++◌}
 use Rattle.std.proofs.Common.{length, map, Some, inl, inr, refl, sym, ap, ap₂, ◌∙◌, subst, arith, append_assoc}
 use Rattle.std.proofs.lemmas.List.{length-map, map-append, map-id}
-use Rattle.linked_calls.proofs.Below.{Add, AreApart, AreData, argument_code, argument_offset, array_bytes}
-use Rattle.linked_calls.proofs.Below.{array_steps, ArrayIsHandedBack, ArrayIsTaken, bounds_code, ByteMap, CanBeCopied}
-use Rattle.linked_calls.proofs.Below.{Code, constant_code, copy_out_code, Data, element_bytes, element_steps, Fields}
-use Rattle.linked_calls.proofs.Below.{FixedArray, HasArray, Instr, IsCopying, IsHandedBack, IsTaken, Kind, load_code}
-use Rattle.linked_calls.proofs.Below.{MutableArray, number_at, number_or_zero, numbers_at, OthersAsBefore, place_of}
-use Rattle.linked_calls.proofs.Below.{Pointed, Register, register_kept, Slot, slot_of, sum_of, until_equal, unwritten}
-use Rattle.linked_calls.proofs.Below.{with_number, with_numbers, with_register, with_result}
+use Rattle.linked_calls.proofs.Below.{Add, AreApart, AreData, argument_code, argument_offset, array_bytes, array_steps}
+use Rattle.linked_calls.proofs.Below.{ArrayIsHandedBack, ArrayIsTaken, bounds_code, ByteMap, CanBeCopied, MachineCode}
+use Rattle.linked_calls.proofs.Below.{constant_code, copy_out_code, Data, element_bytes, element_steps, Fields}
+use Rattle.linked_calls.proofs.Below.{FixedArray, HasArray, Instr, IsCopying, IsHandedBack, IsArrayTaken, Kind}
+use Rattle.linked_calls.proofs.Below.{load_code, MutableArray, number_at, number_or_zero, numbers_at, OthersAsBefore}
+use Rattle.linked_calls.proofs.Below.{place_of, Pointed, Register, register_kept, Slot, slot_of, sum_of, until_equal}
+use Rattle.linked_calls.proofs.Below.{unwritten, with_number, with_numbers, with_register, with_result}
 use Rattle.linked_calls.proofs.Bytes.{number_beside, number_there, numbers_count, is_some-with_numbers, numbers_more}
 use Rattle.linked_calls.proofs.Bytes.{numbers_then}
 use Rattle.linked_calls.proofs.CopyElements.{Reached, chosen, copied_code, copied_value, copy_fit, copy_leaves}
@@ -19,7 +19,7 @@ use Rattle.linked_calls.proofs.CopyElements.{element_size}
 use Rattle.linked_calls.proofs.CopyElements.{element_lies, elements_fit, some_bytes, source, target}
 use Rattle.linked_calls.proofs.Loops.{loop}
 use Rattle.linked_calls.proofs.Parts.{load_runs, number_then, same_number}
-use Rattle.linked_calls.proofs.Pieces.{MayAt, Runs, Setting, as_straight, in_steps, makes_on, makes_then, placed}
+use Rattle.linked_calls.proofs.Pieces.{MayAt, Runs, CallSetting, as_straight, in_steps, makes_on, makes_then, placed}
 use Rattle.linked_calls.proofs.Pieces.{straight_runs, weaken_runs}
 use Rattle.linked_calls.specs.Below.{Word}
 use Rattle.rv_machine.specs.declared.observation.Event.TheVariants as event
@@ -48,7 +48,7 @@ regrouped : (a b c d e : List Instr) → a ++ (b ++ c) ++ (d ++ e) ≡ a ++ b ++
 regrouped a b c d e = simp append_assoc
 
 module _ (image : Fields) (slot : Slot) (spot : Pointed) (can : CanBeCopied image slot spot) (inward : Bool)
-    (z : Setting) (place : z.allowed spot.frame (Some (event.Load (place_of image spot) Word)))
+    (z : CallSetting) (place : z.allowed spot.frame (Some (event.Load (place_of image spot) Word)))
     (loads : MayAt z spot.frame event.Load (chosen inward spot.pointer (slot_of slot spot))
     (chosen inward spot.pointer (slot_of slot spot) + array_bytes slot))
     (stores : MayAt z spot.frame event.Store (chosen inward (slot_of slot spot) spot.pointer)
@@ -313,7 +313,7 @@ module _ (image : Fields) (slot : Slot) (spot : Pointed) (can : CanBeCopied imag
       })
 
 -- from a slot to where the argument points
-pub handed_runs : (image : Fields) (slot : Slot) (spot : Pointed) → CanBeCopied image slot spot → (z : Setting)
+pub handed_runs : (image : Fields) (slot : Slot) (spot : Pointed) → CanBeCopied image slot spot → (z : CallSetting)
     → z.allowed spot.frame (Some (event.Load (place_of image spot) Word))
     → MayAt z spot.frame event.Load (slot_of slot spot) (slot_of slot spot + array_bytes slot)
     → MayAt z spot.frame event.Store spot.pointer (spot.pointer + array_bytes slot)
@@ -330,7 +330,7 @@ handed_runs image slot spot can z place loads stores =
       others = copied.others;
     })
 
-abbrev copying : Code → Fields → Slot → Pointed → ℕ → ℕ → Setting
+abbrev copying : MachineCode → Fields → Slot → Pointed → ℕ → ℕ → CallSetting
 copying code image slot spot from to = record {
   code = code;
   allowed = IsCopying spot.frame (place_of image spot) (array_bytes slot) from to;
@@ -341,7 +341,7 @@ pub array_is_taken : ArrayIsTaken
 array_is_taken code start image slot spot there can =
     let z = copying code image slot spot spot.pointer (slot_of slot spot) in
     let is = argument_code image spot.index slot FixedArray in
-    weaken_runs z {P' = HasArray image slot spot} {R' = IsTaken slot spot} is
+    weaken_runs z {P' = HasArray image slot spot} {R' = IsArrayTaken slot spot} is
     (array_runs image slot spot can true z (inl refl, refl) (λ a size lies. (inr lies, refl))
     (λ a size lies. (lies, refl))) (λ s has. has)
     (λ s t has copied. record { bytes = copied.bytes; others = copied.others })

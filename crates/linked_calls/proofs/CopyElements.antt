@@ -113,14 +113,14 @@ copy_met inward kind a b d one other = (
 )
 
 -- what it makes
-pub record Stepped (inward : Bool) (kind : Kind) (a b : ℕ) (d t : Data) : Type 0 where
+pub record ElementCopied (inward : Bool) (kind : Kind) (a b : ℕ) (d t : Data) : Type 0 where
   pub source_on : source inward t.regs ≡ sum_of (source inward d.regs) (element_bytes kind)
   pub target_on : target inward t.regs ≡ sum_of (target inward d.regs) (element_bytes kind)
   pub bytes : t.bytes ≡ with_number d.bytes (element_bytes kind) b
       (copied_value inward kind (number_or_zero (number_at d.bytes (element_bytes kind) a)))
 
 pub copy_made : (inward : Bool) (kind : Kind) (a b : ℕ) (d : Data)
-    → Stepped inward kind a b d (after_all (copied_code inward kind) (a ∷ b ∷ []) d)
+    → ElementCopied inward kind a b d (after_all (copied_code inward kind) (a ∷ b ∷ []) d)
 copy_made true Boolean a b d = record {
   source_on = refl;
   target_on = refl;

@@ -3,7 +3,7 @@ use Rattle.std.proofs.Common.{◌≡◌, ℕ, ◌+◌, ◌-◌, ◌%◌, ◌^◌
 use Rattle.linked_calls.proofs.Below.{added, AreData, argument_registers, ByteMap, Data, entry_code, saved_registers}
 use Rattle.linked_calls.proofs.Below.{stores_code, sum_of, with_numbers, with_register, with_result}
 use Rattle.linked_calls.proofs.Parts.{MayStore, computes_runs, stored, stores_runs}
-use Rattle.linked_calls.proofs.Pieces.{Runs, Setting, makes_then}
+use Rattle.linked_calls.proofs.Pieces.{Runs, CallSetting, makes_then}
 
 -- s0 to s11 and a0 to a7, in the order in which they stand in the room
 abbrev pub stored_registers : List ℕ
@@ -16,7 +16,7 @@ entered_bytes above s = with_numbers s.bytes 4 above (map s.regs stored_register
 abbrev pub entered : ℕ → Data → Data
 entered above s = record { regs = with_register s.regs 2 above; bytes = entered_bytes above s }
 
-module _ (z : Setting) (above : ℕ) (even : above % 16 ≡ 0) (below : above + 80 < 2 ^ 32)
+module _ (z : CallSetting) (above : ℕ) (even : above % 16 ≡ 0) (below : above + 80 < 2 ^ 32)
     (may : MayStore z above above (above + 80)) {P : Data → Type 0}
     (begins : (s : Data) → P s → (s.regs 2 ≡ above + 80) × AreData above (above + 80) s.bytes) where
   lowered : (s : Data) → P s → sum_of (s.regs 2) 4294967216 ≡ above

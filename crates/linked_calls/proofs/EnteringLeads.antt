@@ -4,12 +4,13 @@ use Rattle.std.proofs.Common.{◌≡◌, ℕ, ◌+◌, ◌-◌, ◌*◌, ◌^◌
 use Rattle.std.proofs.Common.{◌∷◌, ◌++◌, length, map, Some, inl, inr, ⊎_elim, refl, sym, ap, ◌∙◌, subst, arith}
 use Rattle.std.proofs.lemmas.Bool.{cases_lt, ltb-false, ltb-true}
 use Rattle.linked_calls.proofs.Below.{AreData, argument_offset, argument_registers, arguments_code, arguments_end}
-use Rattle.linked_calls.proofs.Below.{arguments_of, at, ByteMap, Code, Data, enter_code, entry_code, Fields, found}
-use Rattle.linked_calls.proofs.Below.{frame_code, frame_room, frame_steps, HasFrame, IsCalled, IsImage, IsLoaded}
-use Rattle.linked_calls.proofs.Below.{IsOfCall, IsSite, IsZeroFrame, LeadsWithin, number_at, number_at_same}
-use Rattle.linked_calls.proofs.Below.{room_base, saved_registers, Site, State, word_in, zeros}
-use Rattle.linked_calls.proofs.AllArguments.{AreKnown, Begins, Takes, all_taken, all_taken_data, all_taken_outside}
-use Rattle.linked_calls.proofs.AllArguments.{arguments_runs, call_setting, still_base, taken_registers}
+use Rattle.linked_calls.proofs.Below.{arguments_of, at, ByteMap, MachineCode, Data, enter_code, entry_code, Fields}
+use Rattle.linked_calls.proofs.Below.{found, frame_code, frame_room, frame_steps, HasFrame, IsCalled, IsImage, IsLoaded}
+use Rattle.linked_calls.proofs.Below.{IsOfCall, IsSite, IsZeroFrame, LeadsWithin, number_at, number_at_same, room_base}
+use Rattle.linked_calls.proofs.Below.{saved_registers, CallSite, State, word_in, zeros}
+use Rattle.linked_calls.proofs.AllArguments.{AreKnown, ArgumentsBegin, TakesArguments, all_taken, all_taken_data}
+use Rattle.linked_calls.proofs.AllArguments.{all_taken_outside, arguments_runs, call_setting, still_base}
+use Rattle.linked_calls.proofs.AllArguments.{taken_registers}
 use Rattle.linked_calls.proofs.Between.{AreReady, AreSaved, EnteringLeads, IsEntered, IsOutsideRoom, body_at}
 use Rattle.linked_calls.proofs.Between.{enter_steps, saved_at, untouched_registers}
 use Rattle.linked_calls.proofs.Bytes.{IsOutside, SameData, number_there, numbers_outside, is_some-with_numbers}
@@ -20,16 +21,16 @@ use Rattle.linked_calls.proofs.KnownArguments.{all_known}
 use Rattle.linked_calls.proofs.LoadedArguments.{all_taken_is}
 use Rattle.linked_calls.proofs.Parts.{same_number}
 use Rattle.linked_calls.proofs.Passed.{StandAsPassed, all_ready, still_passed}
-use Rattle.linked_calls.proofs.Pieces.{Runs, Setting, in_steps, makes_then, then_runs}
+use Rattle.linked_calls.proofs.Pieces.{Runs, CallSetting, in_steps, makes_then, then_runs}
 use Rattle.linked_calls.proofs.Rooms.{RoomNumbers, place_inside, place_stacked, room_numbers}
 use Rattle.linked_calls.proofs.SameRegisters.{AreSame, same_beside, still_same}
 use Rattle.linked_calls.proofs.SavedRegisters.{stored_are_saved, saved_first, saved_one, saved_same, saved_then}
 use Rattle.linked_calls.proofs.Standing.{enter_placed}
 use Rattle.linked_calls.proofs.Zeros.{zeroed_runs}
 
-module _ (image : Fields) (code : Code) (site : Site) (is : IsImage image) (is_site : IsSite image code site)
+module _ (image : Fields) (code : MachineCode) (site : CallSite) (is : IsImage image) (is_site : IsSite image code site)
     (numbers : RoomNumbers image site) where
-  abbrev z : Setting
+  abbrev z : CallSetting
   z = call_setting image code site
 
   abbrev frame : ℕ
@@ -147,7 +148,7 @@ module _ (image : Fields) (code : Code) (site : Site) (is : IsImage image) (is_s
       (cases_lt x above)
 
   taking_begins : (d t : Data) → Called d → IsFramed d t
-      → Begins image site (λ bytes. AreReady image site bytes 0 image.slots) t
+      → ArgumentsBegin image site (λ bytes. AreReady image site bytes 0 image.slots) t
   taking_begins d t called frames = record {
     stack = frames.stack;
     there = framed_there d t called frames;
@@ -156,7 +157,7 @@ module _ (image : Fields) (code : Code) (site : Site) (is : IsImage image) (is_s
   }
 
   abbrev TakesAll : Data → Data → Type 0
-  TakesAll = Takes (λ t. all_taken image site t.bytes 0 image.slots)
+  TakesAll = TakesArguments (λ t. all_taken image site t.bytes 0 image.slots)
 
   module _ (d t u : Data) (called : Called d) (frames : IsFramed d t) (takes : TakesAll t u) where
     taken_outside : (x : ℕ) → IsOutside frame above x → u.bytes x ≡ stored d x
@@ -209,7 +210,7 @@ module _ (image : Fields) (code : Code) (site : Site) (is : IsImage image) (is_s
 
 -- The state at the call, as the part has it.
 
-at_own : (site : Site) (image : Fields) (s : State) → IsCalled image site s
+at_own : (site : CallSite) (image : Fields) (s : State) → IsCalled image site s
     → at site.entry (record { regs = s.regs; bytes = s.bytes }) ≡ s
 at_own site image s called = ap (λ p. at p (record { regs = s.regs; bytes = s.bytes })) (sym called.at_entry)
 

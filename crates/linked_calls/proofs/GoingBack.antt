@@ -1,7 +1,7 @@
 -- The last instruction of a function, which goes back to the caller.
 use Rattle.std.proofs.Common.{◌≡◌, ℕ, ◌+◌, ◌%◌, ◌^◌, ◌<◌, Bool, true, false, cond, nat_eq, None, refl, ap, ◌∙◌, arith}
 use Rattle.std.proofs.Math.Path.{fun_ext}
-use Rattle.linked_calls.proofs.Below.{Code, goes_on, IsAt, jump_done, JumpRegister, moved_to, near_address, next}
+use Rattle.linked_calls.proofs.Below.{MachineCode, goes_on, IsAt, jump_done, JumpRegister, moved_to, near_address, next}
 use Rattle.linked_calls.proofs.Below.{observed, register_target, sign_extended, State, sum_of, Step, step_of}
 use Rattle.linked_calls.proofs.Below.{with_link}
 
@@ -23,7 +23,7 @@ target_is regs target is below even =
     (omega arith) in
     omega arith
 
-pub goes_back : (code : Code) (s : State) (target : ℕ) → IsAt code s.pc (JumpRegister 0 1 0) → s.regs 1 ≡ target
+pub goes_back : (code : MachineCode) (s : State) (target : ℕ) → IsAt code s.pc (JumpRegister 0 1 0) → s.regs 1 ≡ target
     → target < 2 ^ 32 → target % 4 ≡ 0
     → Step code s (goes_on (observed s None) (moved_to s target))
 goes_back code s target is link below even =

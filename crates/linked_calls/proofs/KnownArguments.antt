@@ -7,7 +7,8 @@ use Rattle.std.proofs.lemmas.Bool.Decides.{nat_tests}
 use Rattle.linked_calls.proofs.Below.{AreApart, arguments_end, array_bytes, array_words, Boolean, bytes_within}
 use Rattle.linked_calls.proofs.Below.{CanBeCopied, element_bytes, Fields, FixedArray, Form, IsBesides, IsImage}
 use Rattle.linked_calls.proofs.Below.{IsReadable, Kind, LiesWell, LieWell, most_elements, MutableArray, ReadsAnArray}
-use Rattle.linked_calls.proofs.Below.{ReadsArray, room_base, SingleWord, Site, Size, Slot, WritesAnArray, WritesArray}
+use Rattle.linked_calls.proofs.Below.{ReadsArray, room_base, SingleWord, CallSite, Size, Slot, WritesAnArray}
+use Rattle.linked_calls.proofs.Below.{WritesArray}
 use Rattle.linked_calls.specs.Below.{AreSlots, is_length, slot_bytes, slot_end}
 use Rattle.linked_calls.proofs.AllArguments.{AreKnown, IsKnown, KnownArray, KnownWord, spot_at}
 use Rattle.linked_calls.proofs.CopyElements.{elements_fit, some_bytes}
@@ -32,7 +33,7 @@ both_beside a n low mid high some (inl below) other = inl below
 both_beside a n low mid high some (inr above) (inl below) = absurd (omega arith)
 both_beside a n low mid high some (inr above) (inr beyond) = inr beyond
 
-module _ (image : Fields) (site : Site) (is : IsImage image) (lie_well : LieWell image site 0 image.slots)
+module _ (image : Fields) (site : CallSite) (is : IsImage image) (lie_well : LieWell image site 0 image.slots)
     (numbers : RoomNumbers image site) where
   abbrev frame : ℕ
   frame = room_base image site

@@ -6,14 +6,14 @@ use Rattle.std.proofs.Common.{◌≡◌, ℕ, suc, ◌+◌, ◌-◌, ◌*◌, �
 use Rattle.std.proofs.Common.{Some, None, drop, inl, refl, sym, ap, ◌∙◌, subst, arith, length-append, append_assoc}
 use Rattle.std.proofs.lemmas.List.Elements.{All-head}
 use Rattle.linked_calls.proofs.Below.{Add, AreZeroed, arguments_end, arrays_in, at, block_steps, ByteMap}
-use Rattle.linked_calls.proofs.Below.{clear_registers_code, Code, constant_code, Data, Fields, frame_room}
+use Rattle.linked_calls.proofs.Below.{clear_registers_code, MachineCode, constant_code, Data, Fields, frame_room}
 use Rattle.linked_calls.proofs.Below.{function_words, Instr, IsAt, IsImage, IsLeft, IsOfCall, IsSite, JumpRegister}
 use Rattle.linked_calls.proofs.Below.{kept_registers, LeadsWithin, number_at, Placed-left, Placed-right, Register}
 use Rattle.linked_calls.proofs.Below.{restore_code, result_code, results_code, results_in, ResultSlot, room_base}
-use Rattle.linked_calls.proofs.Below.{saved_registers, scratch_registers, Site, State, unwritten, wipe_code}
+use Rattle.linked_calls.proofs.Below.{saved_registers, scratch_registers, CallSite, State, unwritten, wipe_code}
 use Rattle.linked_calls.proofs.Below.{with_arrays, with_register, with_result, word_in}
 use Rattle.linked_calls.specs.Below.{IsResultSlot, result_end, slots_end}
-use Rattle.linked_calls.proofs.AllArguments.{AreKnown, Begins, call_setting, taken_registers}
+use Rattle.linked_calls.proofs.AllArguments.{AreKnown, ArgumentsBegin, call_setting, taken_registers}
 use Rattle.linked_calls.proofs.AllResults.{all_handed_apart, all_handed_are, results_runs}
 use Rattle.linked_calls.proofs.Between.{AreReady, CanLeave, Leaves, LeavesEverywhere, leave_at, leave_steps}
 use Rattle.linked_calls.proofs.Between.{saved_at, untouched_registers}
@@ -22,7 +22,7 @@ use Rattle.linked_calls.proofs.KnownArguments.{all_known}
 use Rattle.linked_calls.proofs.SectionSteps.{outputs_steps, leave_steps_are}
 use Rattle.linked_calls.proofs.Parts.{computes_runs, load_runs, same_number}
 use Rattle.linked_calls.proofs.Bytes.{number_there}
-use Rattle.linked_calls.proofs.Pieces.{Runs, Setting, as_code, makes_then, then_runs, weaken_runs}
+use Rattle.linked_calls.proofs.Pieces.{Runs, CallSetting, as_code, makes_then, then_runs, weaken_runs}
 use Rattle.linked_calls.proofs.Restoring.{lasts_run}
 use Rattle.linked_calls.proofs.Rooms.{RoomNumbers, room_numbers}
 use Rattle.linked_calls.proofs.SameRegisters.{IsNone, all_same, same_beside, same_then, still_same}
@@ -36,7 +36,7 @@ front image =
     result_code image.returned ++ results_code image 0 image.slots ++ restore_code
     (frame_room image) ++ wipe_code ++ clear_registers_code scratch_registers
 
-last_place : (image : Fields) (site : Site)
+last_place : (image : Fields) (site : CallSite)
     → leave_at image site + 4 * length (front image) ≡ site.entry + 4 * (length (function_words image) - 1)
 last_place image site =
     let count = function_length image in
@@ -46,9 +46,9 @@ last_place image site =
 grouped : (x r w c : List Instr) → x ++ (r ++ w ++ c) ≡ x ++ r ++ w ++ c
 grouped x r w c = simp append_assoc
 
-module _ (image : Fields) (code : Code) (site : Site) (is : IsImage image) (at_site : IsSite image code site)
+module _ (image : Fields) (code : MachineCode) (site : CallSite) (is : IsImage image) (at_site : IsSite image code site)
     (numbers : RoomNumbers image site) where
-  abbrev z : Setting
+  abbrev z : CallSetting
   z = call_setting image code site
 
   abbrev base : ℕ
@@ -62,7 +62,7 @@ module _ (image : Fields) (code : Code) (site : Site) (is : IsImage image) (at_s
 
   -- room and arguments are data, and the arrays are ready
   abbrev Starts : Data → Type 0
-  Starts = Begins image site (λ bytes. AreReady image site bytes 0 image.slots)
+  Starts = ArgumentsBegin image site (λ bytes. AreReady image site bytes 0 image.slots)
 
   -- The result.
 

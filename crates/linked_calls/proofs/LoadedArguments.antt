@@ -3,7 +3,7 @@ use Rattle.std.specs.Prelude.{unwrap_or}
 use Rattle.std.proofs.Common.{◌≡◌, ℕ, ◌+◌, ◌<◌, List, [], ◌∷◌, length, map, ap, ◌∙◌, arith}
 use Rattle.linked_calls.proofs.Below.{Arg, argument_of, arguments_from, Array, ByteMap, element_bytes, Fields}
 use Rattle.linked_calls.proofs.Below.{FixedArray, Form, IsReadable, LiesWell, LieWell, meant, MutableArray, room_base}
-use Rattle.linked_calls.proofs.Below.{SingleWord, Site, Slot, State, with_argument, with_arguments}
+use Rattle.linked_calls.proofs.Below.{SingleWord, CallSite, Slot, State, with_argument, with_arguments}
 use Rattle.language.specs.declared.values.Arg.TheVariants.{Word}
 use Rattle.linked_calls.proofs.AllArguments.{AreKnown, all_taken, argument_in, taken, taken_outside}
 use Rattle.linked_calls.proofs.Bytes.{with_number_agree, numbers_agree, numbers_same}
@@ -17,7 +17,7 @@ put_agree frame one other slot (Word word) x same = with_number_agree one other 
 put_agree frame one other slot (Array words) x same =
     numbers_agree one other (element_bytes slot.param.kind) (frame + slot.offset) words x same
 
-module _ (image : Fields) (site : Site) (numbers : RoomNumbers image site) (s : State) where
+module _ (image : Fields) (site : CallSite) (numbers : RoomNumbers image site) (s : State) where
   array_is : (bytes : ByteMap) (i : ℕ) (slot : Slot) → StandAsPassed image site s bytes → IsReadable image site i slot
       → argument_in image site bytes i slot FixedArray ≡ argument_of site s i slot FixedArray
   array_is bytes i slot passed readable =

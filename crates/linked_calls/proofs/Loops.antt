@@ -6,7 +6,7 @@ use Rattle.std.proofs.lemmas.Bool.Decides.{nat_tests}
 use Rattle.linked_calls.proofs.Below.{at, Bne, Branch, branch_leads, branch_passes, branch_target, Data, holds, Instr}
 use Rattle.linked_calls.proofs.Below.{LeadsWithin, LeadsWithin-append, moved_to, Observation, one_within, Placed}
 use Rattle.linked_calls.proofs.Below.{Placed-left, Placed-right, register, sign_extended, stands, until_equal}
-use Rattle.linked_calls.proofs.Pieces.{Setting, Runs, in_steps, leads_as, weaken_runs}
+use Rattle.linked_calls.proofs.Pieces.{CallSetting, Runs, in_steps, leads_as, weaken_runs}
 
 -- a branch back over so many instructions
 back : (p count : ℕ) → 0 < count → count < 1024 → p + 4 * count < 2 ^ 32
@@ -21,7 +21,8 @@ moved : (p q : ℕ) (d : Data) → moved_to (at p d) q ≡ at q d
 unfolding moved_to
 moved p q d = refl
 
-module _ (z : Setting) (one other : ℕ) (small : (one < 32) × (other < 32)) (body : List Instr) (some : 0 < length body)
+module _ (z : CallSetting) (one other : ℕ) (small : (one < 32) × (other < 32)) (body : List Instr)
+    (some : 0 < length body)
     (few : length body < 1024) where
   abbrev branch : Instr
   branch = Branch Bne one other (2 ^ 12 - 2 * length body)

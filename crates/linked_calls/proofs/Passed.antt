@@ -3,14 +3,14 @@ use Rattle.std.specs.Prelude.{◌⊎◌, is_some}
 use Rattle.std.proofs.Common.{◌≡◌, ℕ, ◌+◌, ◌<◌, ◌≤◌, List, [], ◌∷◌, length, Some, inl, inr, ap, ◌∙◌, arith}
 use Rattle.linked_calls.proofs.Below.{argument_offset, array_bytes, ByteMap, Fields, FixedArray, Form, IsReadable}
 use Rattle.linked_calls.proofs.Below.{LiesWell, LieWell, MutableArray, number_at, number_at_same, raw_argument}
-use Rattle.linked_calls.proofs.Below.{room_base, SingleWord, Site, Slot, State}
+use Rattle.linked_calls.proofs.Below.{room_base, SingleWord, CallSite, Slot, State}
 use Rattle.linked_calls.specs.Calls.{IsPointedTo, IsPassed, ArePassed}
 use Rattle.linked_calls.proofs.Between.{AreReady, IsOutsideRoom, IsReady, ReadyArray, saved_at}
 use Rattle.linked_calls.proofs.Rooms.{RoomNumbers, outside_frame}
 use Rattle.linked_calls.proofs.Bytes.{IsOutside}
 
 -- an array lies outside the room
-pub array_outside : (image : Fields) (site : Site) (i : ℕ) (slot : Slot) → IsReadable image site i slot
+pub array_outside : (image : Fields) (site : CallSite) (i : ℕ) (slot : Slot) → IsReadable image site i slot
     → (x : ℕ) → site.pointers i ≤ x → x < site.pointers i + array_bytes slot → IsOutsideRoom image site x
 array_outside image site i slot readable x from to = by readable.beside_room
   where
@@ -20,13 +20,13 @@ array_outside image site i slot readable x from to = by readable.beside_room
     by (inr high) = inr (omega arith)
 
 -- each argument's word at its place, and nothing changed outside the room
-pub record StandAsPassed (image : Fields) (site : Site) (s : State) (bytes : ByteMap) : Type 0 where
+pub record StandAsPassed (image : Fields) (site : CallSite) (s : State) (bytes : ByteMap) : Type 0 where
   pub raw : (i : ℕ) → i < length image.slots → number_at bytes 4 (room_base image site + argument_offset image i)
       ≡ Some (raw_argument site s i)
   pub outside : (x : ℕ) → IsOutsideRoom image site x → bytes x ≡ s.bytes x
 
 -- also after the frame is written
-pub still_passed : (image : Fields) (site : Site) → RoomNumbers image site → (s : State) (old new : ByteMap)
+pub still_passed : (image : Fields) (site : CallSite) → RoomNumbers image site → (s : State) (old new : ByteMap)
     → ((x : ℕ) → IsOutside (room_base image site) (saved_at image site) x → new x ≡ old x)
     → StandAsPassed image site s old → StandAsPassed image site s new
 still_passed image site numbers s old new same passed = record {
@@ -38,7 +38,7 @@ still_passed image site numbers s old new same passed = record {
 }
 
 -- the arrays are ready
-module _ (image : Fields) (site : Site) (s : State) (bytes : ByteMap)
+module _ (image : Fields) (site : CallSite) (s : State) (bytes : ByteMap)
     (passed : StandAsPassed image site s bytes) where
   ready_array : (i : ℕ) (slot : Slot) → i < length image.slots → IsReadable image site i slot
       → IsPointedTo site s i slot → ReadyArray image site bytes i slot

@@ -3,8 +3,8 @@
 use Rattle.std.proofs.Common.{◌≡◌, ℕ, ◌+◌, ◌*◌, Bool, true, false, List, [], ◌∷◌, ◌++◌, length, Option, None, Some}
 use Rattle.std.proofs.Common.{subst, sym, ◌∙◌}
 use Rattle.std.proofs.Common.{arith, refl, length-append}
-use Rattle.linked_calls.proofs.Below.{after_all, are_straight, AreFit, AreMet, AreThere, at, Code, Data, Does, Event}
-use Rattle.linked_calls.proofs.Below.{Instr, LeadsWithin, LeadsWithin-append, LiesIn, Observation, Placed}
+use Rattle.linked_calls.proofs.Below.{after_all, are_straight, AreFit, AreMet, AreThere, at, MachineCode, Data, Does}
+use Rattle.linked_calls.proofs.Below.{Event, Instr, LeadsWithin, LeadsWithin-append, LiesIn, Observation, Placed}
 use Rattle.linked_calls.proofs.Below.{Placed-left, Placed-right, register_after, shown_by, Size, State}
 use Rattle.linked_calls.proofs.Within.{straight_within}
 
@@ -13,23 +13,23 @@ abbrev pub IsNone : Option Event → Type 0
 IsNone event = event ≡ None
 
 -- the code, and the accesses that are allowed
-pub record Setting : Type 1 where
-  pub code : Code
+pub record CallSetting : Type 1 where
+  pub code : MachineCode
   pub allowed : ℕ → Option Event → Type 0
   pub silent : (sp : ℕ) → allowed sp None
 
 -- instructions wherever they stand
-abbrev pub Runs : Setting → ℕ → List Instr → (Data → Type 0) → (Data → Data → Type 0) → Type 0
+abbrev pub Runs : CallSetting → ℕ → List Instr → (Data → Type 0) → (Data → Data → Type 0) → Type 0
 Runs z n is P R = (p : ℕ) → Placed z.code p is → Does z.code p is n z.allowed P R
 
 -- to the same address in as many steps, otherwise written
-pub leads_as : (z : Setting) (s : State) (list : List Observation) (d : Data) {m n q r : ℕ} → m ≡ n → q ≡ r
+pub leads_as : (z : CallSetting) (s : State) (list : List Observation) (d : Data) {m n q r : ℕ} → m ≡ n → q ≡ r
     → LeadsWithin z.code z.allowed m s list (at q d) → LeadsWithin z.code z.allowed n s list (at r d)
 leads_as z s list d {m = m} {r = r} steps there leads =
     subst (λ k. LeadsWithin z.code z.allowed k s list (at r d)) steps
     (subst (λ a. LeadsWithin z.code z.allowed m s list (at a d)) there leads)
 
-module _ (z : Setting) where
+module _ (z : CallSetting) where
   -- straight-line code with accesses at these addresses, which leaves x2 where it is
   pub straight_runs : {P : Data → Type 0} {R : Data → Data → Type 0} (sp : ℕ) (works : ℕ → Bool) (is : List Instr)
       (places : List ℕ) → are_straight works is ≡ true → works 2 ≡ false → AreFit (z.allowed sp) is places
@@ -134,12 +134,12 @@ module _ (z : Setting) where
   as_straight {P = P} {R = R} is js same one = subst (λ (xs : List Instr). Runs z (length xs) xs P R) same one
 
 -- accesses that lie in a stretch, where x2 is there
-abbrev pub MayAt : Setting → ℕ → (ℕ → Size → Event) → ℕ → ℕ → Type 0
+abbrev pub MayAt : CallSetting → ℕ → (ℕ → Size → Event) → ℕ → ℕ → Type 0
 MayAt z sp accesses low high =
     (a : ℕ) (size : Size) → LiesIn low high a size → z.allowed sp (Some (accesses a size))
 
 -- Code and its words.
 
-pub placed : (code : Code) (p : ℕ) (is : List Instr) → AreThere code p is → Placed code p is
+pub placed : (code : MachineCode) (p : ℕ) (is : List Instr) → AreThere code p is → Placed code p is
 placed code p [] h = tt
 placed code p (i ∷ is) h = (h.0, h.1, h.2, placed code (p + 4) is h.3)

@@ -8,7 +8,7 @@ use Rattle.linked_calls.proofs.Below.{with_register, with_result}
 use Rattle.linked_calls.proofs.Between.{AreSaved}
 use Rattle.linked_calls.proofs.Cleared.{clear_runs}
 use Rattle.linked_calls.proofs.Parts.{MayLoad, computes_runs, loads_runs, number_then, words_at}
-use Rattle.linked_calls.proofs.Pieces.{Runs, Setting, as_code, makes_then, then_runs}
+use Rattle.linked_calls.proofs.Pieces.{Runs, CallSetting, as_code, makes_then, then_runs}
 use Rattle.linked_calls.proofs.SameRegisters.{AreSame, IsNone, all_differ, same_beside, still_same}
 use Rattle.linked_calls.proofs.SavedRegisters.{saved_values}
 use Rattle.linked_calls.proofs.Zeros.{MayZero, up_runs}
@@ -21,7 +21,7 @@ others_still = 1 ∷ 3 ∷ 4 ∷ 10 ∷ []
 abbrev AreBack : ℕ → Data → Data → Type 0
 AreBack a s t = (regs : ℕ → ℕ) → AreSaved s.bytes regs a saved_registers → AreSame t.regs regs saved_registers
 
-module _ (z : Setting) (frame room : ℕ) (even : frame % 16 ≡ 0) (whole : room % 16 ≡ 0)
+module _ (z : CallSetting) (frame room : ℕ) (even : frame % 16 ≡ 0) (whole : room % 16 ≡ 0)
     (below : frame + (room + 80) < 2 ^ 32)
     (may : MayLoad z frame (frame + room) (frame + room + 48))
     (stores : MayZero z frame (frame + (room + 80)))

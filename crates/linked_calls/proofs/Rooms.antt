@@ -1,11 +1,11 @@
 -- The room of a call: where its frame, the saved registers and the arguments lie in it, in numbers.
 use Rattle.std.proofs.Common.{◌≡◌, ℕ, ◌+◌, ◌-◌, ◌*◌, ◌%◌, ◌^◌, ◌<◌, ◌≤◌, length, inl, inr, arith}
-use Rattle.linked_calls.proofs.Below.{argument_offset, arguments_end, Code, Fields, frame_room, IsSite, room_base}
-use Rattle.linked_calls.proofs.Below.{Site}
+use Rattle.linked_calls.proofs.Below.{argument_offset, arguments_end, MachineCode, Fields, frame_room, IsSite}
+use Rattle.linked_calls.proofs.Below.{room_base, CallSite}
 use Rattle.linked_calls.proofs.Between.{IsOutsideRoom, saved_at}
 use Rattle.linked_calls.proofs.Bytes.{IsOutside}
 
-pub record RoomNumbers (image : Fields) (site : Site) : Type 0 where
+pub record RoomNumbers (image : Fields) (site : CallSite) : Type 0 where
   pub ends : room_base image site + (frame_room image + 80) ≡ site.stack
   pub even : room_base image site % 16 ≡ 0
   pub whole : frame_room image % 16 ≡ 0
@@ -13,7 +13,8 @@ pub record RoomNumbers (image : Fields) (site : Site) : Type 0 where
   pub arguments : site.stack ≤ arguments_end image site
   pub below : arguments_end image site < 2 ^ 32
 
-pub room_numbers : (image : Fields) (code : Code) (site : Site) → IsSite image code site → RoomNumbers image site
+pub room_numbers : (image : Fields) (code : MachineCode) (site : CallSite) → IsSite image code site
+    → RoomNumbers image site
 room_numbers image code site is =
     record {
       ends = omega arith;
@@ -24,7 +25,7 @@ room_numbers image code site is =
       below = is.stack_ends;
     }
 
-module _ (image : Fields) (site : Site) (numbers : RoomNumbers image site) where
+module _ (image : Fields) (site : CallSite) (numbers : RoomNumbers image site) where
   -- an argument's word lies in the room or among those on the stack
   pub place_inside : (i : ℕ) → i < length image.slots
       → room_base image site + argument_offset image i + 4 ≤ arguments_end image site

@@ -3,19 +3,19 @@
 use Rattle.std.proofs.Common.{◌≡◌, ℕ, suc, ◌+◌, ◌*◌, List, [], ◌∷◌, ◌++◌, length, map, refl, ap, ap₂, ◌∙◌, subst}
 use Rattle.std.proofs.Common.{arith, length-append}
 use Rattle.std.proofs.lemmas.List.{length-map}
-use Rattle.linked_calls.proofs.Below.{body_words, Code, enter_code, Fields, function_words, IsSite, leave_code}
-use Rattle.linked_calls.proofs.Below.{Placed, Site, Stand}
+use Rattle.linked_calls.proofs.Below.{body_words, MachineCode, enter_code, Fields, function_words, IsSite, leave_code}
+use Rattle.linked_calls.proofs.Below.{Placed, CallSite, Stand}
 use Rattle.linked_calls.proofs.Between.{body_at, leave_at}
 use Rattle.linked_calls.proofs.Pieces.{placed}
 use Rattle.linked_calls.specs.Below.{word_of}
 
 -- Words, one list after another.
 
-stand_first : (code : Code) (p : ℕ) (xs ys : List ℕ) → Stand code p (xs ++ ys) → Stand code p xs
+stand_first : (code : MachineCode) (p : ℕ) (xs ys : List ℕ) → Stand code p (xs ++ ys) → Stand code p xs
 stand_first code p [] ys h = tt
 stand_first code p (x ∷ xs) ys h = (h.0, h.1, h.2, stand_first code (p + 4) xs ys h.3)
 
-stand_then : (code : Code) (p : ℕ) (xs ys : List ℕ) → Stand code p (xs ++ ys) → Stand code (p + 4 * length xs) ys
+stand_then : (code : MachineCode) (p : ℕ) (xs ys : List ℕ) → Stand code p (xs ++ ys) → Stand code (p + 4 * length xs) ys
 stand_then code p [] ys h =
     let e : p ≡ p + 4 * 0 = omega arith in
     subst (λ q. Stand code q ys) e h
@@ -45,7 +45,7 @@ function_length image =
     ∙ ap (λ a. a + length (body_words image.words)) (length-map (enter_code image) word_of))
     (length-map (leave_code image) word_of)
 
-module _ (image : Fields) (code : Code) (site : Site) (is : IsSite image code site) where
+module _ (image : Fields) (code : MachineCode) (site : CallSite) (is : IsSite image code site) where
   all_stand : Stand code site.entry (enter_words image ++ body_words image.words ++ leave_words image)
   all_stand = subst (λ words. Stand code site.entry words) (words_are image) is.words
 

@@ -1,14 +1,14 @@
 -- What stays as it was while the room of a call is written: pointers, arrays, and bytes outside the room.
 use Rattle.std.proofs.Common.{◌≡◌, ℕ, ◌+◌, ◌≤◌, ◌<◌, List, [], ◌∷◌, length, ◌∙◌, arith}
 use Rattle.linked_calls.proofs.Below.{argument_offset, arguments_end, arrays_behind, ByteMap, element_bytes, Fields}
-use Rattle.linked_calls.proofs.Below.{FixedArray, Form, MutableArray, number_at_same, room_base, SingleWord, Site}
+use Rattle.linked_calls.proofs.Below.{FixedArray, Form, MutableArray, number_at_same, room_base, SingleWord, CallSite}
 use Rattle.linked_calls.proofs.Below.{Slot, with_array, with_arrays}
 use Rattle.linked_calls.proofs.Between.{AreReady, IsReady, ReadyArray, saved_at}
 use Rattle.linked_calls.proofs.Bytes.{SameData, numbers_agree}
 use Rattle.linked_calls.proofs.Rooms.{RoomNumbers, place_inside}
 
 -- Arrays that are ready stay so where nothing above the frame changes, and what is data stays data.
-module _ (image : Fields) (site : Site) (numbers : RoomNumbers image site) (old new : ByteMap)
+module _ (image : Fields) (site : CallSite) (numbers : RoomNumbers image site) (old new : ByteMap)
     (same : (x : ℕ) → saved_at image site ≤ x → x < arguments_end image site → new x ≡ old x)
     (data_same : SameData old new) where
   array_stays : (i : ℕ) (slot : Slot) → i < length image.slots → ReadyArray image site old i slot
@@ -35,7 +35,7 @@ module _ (image : Fields) (site : Site) (numbers : RoomNumbers image site) (old 
   )
 
 -- the same arrays put into two maps that agree at an address
-module _ (site : Site) (x : ℕ) where
+module _ (site : CallSite) (x : ℕ) where
   array_agrees : (one other : ByteMap) (i : ℕ) (slot : Slot) (form : Form) (arrays : List (List ℕ)) → one x ≡ other x
       → with_array site one i slot form arrays x ≡ with_array site other i slot form arrays x
   array_agrees one other i slot SingleWord arrays same = same

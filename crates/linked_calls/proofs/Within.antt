@@ -2,14 +2,14 @@
 use Rattle.std.proofs.Common.{◌≡◌, ℕ, suc, ◌+◌, ◌*◌, Bool, true, List, [], ◌∷◌, length, Option}
 use Rattle.std.proofs.Common.{None, refl, subst, arith}
 use Rattle.std.proofs.lemmas.List.Elements.{All-head}
-use Rattle.linked_calls.proofs.Below.{after, after_all, are_straight, AreFit, AreMet, at, both_left, both_right, Code}
-use Rattle.linked_calls.proofs.Below.{Data, Event, first_fit, first_met, Instr, LeadsWithin, LeadsWithin-append}
-use Rattle.linked_calls.proofs.Below.{Observation, one_within, Placed, rest_fit, rest_met, shown_allowed, shown_by}
-use Rattle.linked_calls.proofs.Below.{stays_within, straight_code_leads}
+use Rattle.linked_calls.proofs.Below.{after, after_all, are_straight, AreFit, AreMet, at, both_left, both_right}
+use Rattle.linked_calls.proofs.Below.{MachineCode, Data, Event, first_fit, first_met, Instr, LeadsWithin}
+use Rattle.linked_calls.proofs.Below.{LeadsWithin-append, Observation, one_within, Placed, rest_fit, rest_met}
+use Rattle.linked_calls.proofs.Below.{shown_allowed, shown_by, stays_within, straight_code_leads}
 use Rattle.linked_calls.specs.Below.{event_of, fit_and, is_straight, left_by, met_and, next_of}
 
 -- The code's own accesses are allowed wherever x2 is, of which something holds that no instruction changes.
-module _ (code : Code) (Allowed : ℕ → Option Event → Type 0) (works : ℕ → Bool) (Allows : Option Event → Type 0)
+module _ (code : MachineCode) (Allowed : ℕ → Option Event → Type 0) (works : ℕ → Bool) (Allows : Option Event → Type 0)
     (silence : Allows None) (Here : ℕ → Type 0)
     (may : (sp : ℕ) (event : Option Event) → Here sp → Allows event → Allowed sp event)
     (stays : (i : Instr) (a : ℕ) (c : Data) → is_straight works i ≡ true → Here (c.regs 2)

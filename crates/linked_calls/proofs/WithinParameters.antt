@@ -4,7 +4,8 @@ use Rattle.std.proofs.Common.{ℕ, ◌+◌, ◌≤◌, ◌==◌, Bool, true, fal
 use Rattle.std.proofs.lemmas.List.{length-map}
 use Rattle.std.proofs.lemmas.List.Elements.{All-map}
 use Rattle.linked_calls.proofs.Below.{argument_of, arguments_from, arguments_of, Boolean, element_bytes, Fields, Form}
-use Rattle.linked_calls.proofs.Below.{Kind, meant, numbers_at, params_of, raw_argument, SingleWord, Site, Slot, State}
+use Rattle.linked_calls.proofs.Below.{Kind, meant, numbers_at, params_of, raw_argument, SingleWord, CallSite, Slot}
+use Rattle.linked_calls.proofs.Below.{State}
 use Rattle.language.specs.arguments.Within.{greatest_of, words_of, HasShape, AreWithin}
 use Rattle.linked_calls.proofs.Bytes.{numbers_count}
 use Rattle.word.specs.Operators.{word_of}
@@ -21,7 +22,7 @@ all_meant : (kind : Kind) (raws : List ℕ) → All (λ word. word ≤ greatest_
 all_meant kind raws = All-map (λ word. word ≤ greatest_of kind) (meant kind) raws
     (λ k d below. meant_within kind (slice_index_or raws k d))
 
-module _ (site : Site) (s : State) where
+module _ (site : CallSite) (s : State) where
   abbrev elements : ℕ → Slot → List ℕ
   elements i slot = numbers_at s.bytes (element_bytes slot.param.kind) (site.pointers i) slot.param.length
 
@@ -45,6 +46,6 @@ module _ (site : Site) (s : State) where
     all_within (i + 1) slots,
   )
 
-pub arguments_within : (image : Fields) (site : Site) (s : State)
+pub arguments_within : (image : Fields) (site : CallSite) (s : State)
     → AreWithin (params_of image) (arguments_of image site s)
 arguments_within image site s = all_within site s 0 image.slots

@@ -4,16 +4,16 @@ use Rattle.std.proofs.Common.{◌≡◌, ◌≢◌, ℕ, suc, ◌+◌, ◌-◌, 
 use Rattle.std.proofs.Common.{[], ◌∷◌, ◌++◌, length, Some, refl, sym, ap, ◌∙◌, subst, arith, append_assoc}
 use Rattle.std.proofs.Common.{length-append, if◌then◌else◌}
 use Rattle.std.proofs.lemmas.Bool.{eqb-false, eqb-true}
-use Rattle.linked_calls.proofs.Below.{added, AreData, AreZeroed, block_steps, ByteMap, Code, constant_code, Data}
-use Rattle.linked_calls.proofs.Below.{difference_of, frame_code, frame_steps, FrameIsZeroed, HasFrame, HasRoom, Instr}
-use Rattle.linked_calls.proofs.Below.{IsStoreIn, IsWiped, IsZeroFrame, Register, RoomIsWiped, Sub, sum_of}
+use Rattle.linked_calls.proofs.Below.{added, AreData, AreZeroed, block_steps, ByteMap, MachineCode, constant_code, Data}
+use Rattle.linked_calls.proofs.Below.{difference_of, frame_code, frame_steps, FrameIsZeroed, HasFrame, HasRoomBounds}
+use Rattle.linked_calls.proofs.Below.{Instr, IsStoreIn, IsWiped, IsZeroFrame, Register, RoomIsWiped, Sub, sum_of}
 use Rattle.linked_calls.proofs.Below.{until_equal, unwritten, wipe_code, with_numbers, with_register, with_result}
 use Rattle.linked_calls.proofs.Below.{zeros_code}
 use Rattle.linked_calls.proofs.Bytes.{no_zeros, is_some-with_numbers, zeroed_words, zeros_down, zeros_of, zeros_up}
 use Rattle.linked_calls.specs.Below.{Store, Word}
 use Rattle.linked_calls.proofs.Loops.{loop}
 use Rattle.linked_calls.proofs.Parts.{computes_runs, number_then, stored, stores_runs}
-use Rattle.linked_calls.proofs.Pieces.{Runs, Setting, as_code, in_steps, makes_then, no_code, placed, weaken_runs}
+use Rattle.linked_calls.proofs.Pieces.{Runs, CallSetting, as_code, in_steps, makes_then, no_code, placed, weaken_runs}
 
 abbrev down_code : List Instr
 down_code = added 2 (4096 - 16) ∷ zeros_code
@@ -25,14 +25,14 @@ up_code = zeros_code ++ added 2 16 ∷ []
 abbrev some_frame : ℕ → List Instr
 some_frame room = constant_code 5 room ++ Register Sub 5 2 5 ∷ until_equal 2 5 down_code
 
-abbrev storing : Code → ℕ → ℕ → Setting
+abbrev storing : MachineCode → ℕ → ℕ → CallSetting
 storing code bottom room = record { code = code; allowed = IsStoreIn bottom (bottom + room); silent = λ sp. tt }
 
 -- words are stored in a stretch, not below the stack pointer
-abbrev pub MayZero : Setting → ℕ → ℕ → Type 0
+abbrev pub MayZero : CallSetting → ℕ → ℕ → Type 0
 MayZero z low high = (sp x : ℕ) → low ≤ x → x + 4 ≤ high → sp ≤ x → z.allowed sp (Some (Store x Word))
 
-module _ (z : Setting) (bottom room : ℕ) (even : bottom % 16 ≡ 0) (whole : room % 16 ≡ 0) (positive : 0 < room)
+module _ (z : CallSetting) (bottom room : ℕ) (even : bottom % 16 ≡ 0) (whole : room % 16 ≡ 0) (positive : 0 < room)
     (below : bottom + room < 2 ^ 32) (may : MayZero z bottom (bottom + room)) where
   abbrev top : ℕ
   top = bottom + room
@@ -163,7 +163,7 @@ module _ (z : Setting) (bottom room : ℕ) (even : bottom % 16 ≡ 0) (whole : r
       (subst (λ y. AreZeroed (down_at (suc i)) y two three) next more))
       (λ i few same. omega arith) (omega arith) (omega arith)
 
-  pub up_runs : Runs z (block_steps room) (until_equal 2 5 up_code) (HasRoom bottom room) (IsWiped bottom room)
+  pub up_runs : Runs z (block_steps room) (until_equal 2 5 up_code) (HasRoomBounds bottom room) (IsWiped bottom room)
   up_runs =
       let end : up_at blocks ≡ top = omega arith in
       weaken_runs z (until_equal 2 5 up_code)
@@ -203,7 +203,7 @@ module _ (z : Setting) (bottom room : ℕ) (even : bottom % 16 ≡ 0) (whole : r
       }))
 
 -- the code of a frame, which is none where the frame has no room
-pub zeroed_runs : (z : Setting) (bottom room : ℕ) → bottom % 16 ≡ 0 → room % 16 ≡ 0 → bottom + room < 2 ^ 32
+pub zeroed_runs : (z : CallSetting) (bottom room : ℕ) → bottom % 16 ≡ 0 → room % 16 ≡ 0 → bottom + room < 2 ^ 32
     → MayZero z bottom (bottom + room)
     → Runs z (frame_steps room) (frame_code room) (HasFrame bottom room) (IsZeroFrame bottom room)
 zeroed_runs z bottom room even whole below may = by (room == 0) refl

@@ -7,7 +7,7 @@ pub use Rattle.rv_code.specs.declared.operations.ImmediateOperation.TheVariants.
 pub use Rattle.rv_code.specs.declared.operations.RegisterOperation.TheVariants.{Add, Sub}
 pub use Rattle.rv_machine.specs.Bytes.{ByteMap}
 unfoldable pub use Rattle.rv_machine.specs.Bytes.{number_at}
-pub use Rattle.rv_machine.specs.Machine.{Code, goes_on, observed, State, Step}
+pub use Rattle.rv_machine.specs.Machine.{MachineCode, goes_on, observed, State, Step}
 unfoldable pub use Rattle.rv_machine.specs.Machine.{moved_to}
 pub use Rattle.rv_machine.specs.declared.memory.Size.{Size}
 pub use Rattle.rv_machine.specs.declared.memory.Size.TheVariants.{Byte, Half, Word}

@@ -3,18 +3,18 @@
 use Rattle.std.specs.Prelude.{◌≡◌, ℕ, suc, ◌+◌, ◌-◌, ◌*◌, ◌%◌, ◌<◌, List, length, None}
 use Rattle.language.specs.arguments.Agreement.{Agree}
 use Rattle.language.specs.arguments.PublicResults.{AgreeInPublic}
-use Rattle.linked_calls.specs.Below.{Arg, Code, Fields, goes_on, IsImage, LeadsWithin, moved_to, Observation, observed}
-use Rattle.linked_calls.specs.Below.{params_of, Results, State, Step}
+use Rattle.linked_calls.specs.Below.{Arg, MachineCode, Fields, goes_on, IsImage, LeadsWithin, moved_to, Observation}
+use Rattle.linked_calls.specs.Below.{observed, params_of, Results, State, Step}
 use Rattle.hepurita.specs.Compiled.{IsCompiled}
 use Rattle.hepurita.specs.Meant.{Means}
 use Rattle.language.specs.Tree.{ProcedureTree, ProgramTree}
 use Rattle.linked_calls.specs.Called.{IsOfCall, IsLeft}
-use Rattle.linked_calls.specs.Calls.{Site, IsSite, IsCalled, arguments_of}
+use Rattle.linked_calls.specs.Calls.{CallSite, IsSite, IsCalled, arguments_of}
 use Rattle.linked_calls.specs.FunctionCode.{function_words}
 use Rattle.linked_calls.specs.Sections.{around_steps}
 
 -- a call from this state: all its steps but the last, which jumps back, and that one. What it shows is this list
-pub record Returns (program : ProgramTree) (image : Fields) (code : Code) (site : Site) (s : State)
+pub record CallReturns (program : ProgramTree) (image : Fields) (code : MachineCode) (site : CallSite) (s : State)
     (list : List Observation) : Type 0 where
   pub results : Results
   pub means : Means program (arguments_of image site s) results
@@ -32,13 +32,14 @@ pub record Returns (program : ProgramTree) (image : Fields) (code : Code) (site 
   pub goes_back : s.regs 1 % 4 ≡ 0 → Step code end (goes_on (observed end None) (moved_to end (s.regs 1)))
 
 -- the function of an image can be called from where it stands
-pub record IsCallable (program : ProgramTree) (p : ProcedureTree) (image : Fields) (code : Code) (site : Site) :
+pub record IsCallable (program : ProgramTree) (p : ProcedureTree) (image : Fields) (code : MachineCode)
+    (site : CallSite) :
     Type 0 where
   -- one list for each list of arguments, whatever the rest of the state
   pub shown : List Arg → List Observation
   -- results: from every state in which it is called, whatever words it is given
   pub runs : (s : State) → IsCalled image site s
-      → Returns program image code site s (shown (arguments_of image site s))
+      → CallReturns program image code site s (shown (arguments_of image site s))
   -- equal leakage: on arguments that agree it is one list
   pub equal_leakage : (args args' : List Arg) → Agree (params_of image) args args' → shown args ≡ shown args'
   -- and what is left is one result and one list of `mut` arrays, where these are public
@@ -52,6 +53,6 @@ CallsAreLinked =
     (program : ProgramTree) (before : List ProcedureTree) (p : ProcedureTree) (image : Fields)
     → IsCompiled program before p image
     → IsImage image
-    → (code : Code) (site : Site)
+    → (code : MachineCode) (site : CallSite)
     → IsSite image code site
     → IsCallable program p image code site

@@ -3,7 +3,7 @@
 -- registers and the distances are written out here, since what they are is promised to C.
 use Rattle.std.specs.Prelude.{◌≡◌, ◌⊎◌, ℕ, ◌+◌, ◌-◌, ◌*◌, ◌%◌, ◌^◌, ◌<◌, ◌≤◌, nat_lt, List, [], ◌∷◌, length, map}
 use Rattle.std.specs.Prelude.{if◌then◌else◌}
-use Rattle.linked_calls.specs.Below.{Arg, Array, Code, element_bytes, Fields, FixedArray, Form, MutableArray}
+use Rattle.linked_calls.specs.Below.{Arg, Array, MachineCode, element_bytes, Fields, FixedArray, Form, MutableArray}
 use Rattle.linked_calls.specs.Below.{numbers_at, SingleWord, Slot, Stand, State, word_in}
 use Rattle.language.specs.declared.values.Arg.TheVariants.{Word}
 use Rattle.linked_calls.specs.FunctionCode.{function_words, room_of, array_bytes}
@@ -12,17 +12,17 @@ use Rattle.linked_calls.specs.Stretches.{AreData}
 
 -- where a function's words begin, where the stack pointer is at the call, and where the i-th argument points if it is
 -- an array
-pub record Site : Type 0 where
+pub record CallSite : Type 0 where
   pub entry : ℕ
   pub stack : ℕ
   pub pointers : ℕ → ℕ
 
 -- The stack: the room of the call lies below the stack pointer, the arguments that no register holds from it on.
 
-abbrev pub room_base : Fields → Site → ℕ
+abbrev pub room_base : Fields → CallSite → ℕ
 room_base image site = site.stack - room_of image
 
-abbrev pub arguments_end : Fields → Site → ℕ
+abbrev pub arguments_end : Fields → CallSite → ℕ
 arguments_end image site = site.stack + 4 * (length image.slots - 8)
 
 -- a stretch of so many bytes from an address on does not meet that from `low` to `high`
@@ -32,30 +32,30 @@ IsBesides a n low high = (a + n ≤ low) ⊎ (high ≤ a)
 -- Where the arrays lie.
 
 -- an array that is read: aligned to its elements, below the end of memory, and not in the room
-pub record IsReadable (image : Fields) (site : Site) (i : ℕ) (slot : Slot) : Type 0 where
+pub record IsReadable (image : Fields) (site : CallSite) (i : ℕ) (slot : Slot) : Type 0 where
   pub aligned : site.pointers i % element_bytes slot.param.kind ≡ 0
   pub ends : site.pointers i + array_bytes slot ≤ 2 ^ 32
   pub beside_room : IsBesides (site.pointers i) (array_bytes slot) (room_base image site) site.stack
 
 -- one that is written as well: beside the arguments on the stack too
-pub record IsWritable (image : Fields) (site : Site) (i : ℕ) (slot : Slot) : Type 0 where
+pub record IsWritable (image : Fields) (site : CallSite) (i : ℕ) (slot : Slot) : Type 0 where
   pub readable : IsReadable image site i slot
   pub beside_arguments : IsBesides (site.pointers i) (array_bytes slot) site.stack (arguments_end image site)
 
-abbrev pub LiesWell : Fields → Site → ℕ → Slot → Form → Type 0
+abbrev pub LiesWell : Fields → CallSite → ℕ → Slot → Form → Type 0
 LiesWell image site i slot SingleWord = Unit {0}
 LiesWell image site i slot FixedArray = IsReadable image site i slot
 LiesWell image site i slot MutableArray = IsWritable image site i slot
 
 -- all of them, from the i-th argument on
-abbrev pub LieWell : Fields → Site → ℕ → List Slot → Type 0
+abbrev pub LieWell : Fields → CallSite → ℕ → List Slot → Type 0
 LieWell image site i [] = Unit {0}
 LieWell image site i (slot ∷ slots) = LiesWell image site i slot slot.param.form × LieWell image site (i + 1) slots
 
 -- the function's words stand in the code, which the image's observer observes; the stack has room, and the arrays lie
 -- well.
 -- Two `mut` arrays may be one
-pub record IsSite (image : Fields) (code : Code) (site : Site) : Type 0 where
+pub record IsSite (image : Fields) (code : MachineCode) (site : CallSite) : Type 0 where
   pub observed : code.profile ≡ image.profile
   pub words : Stand code site.entry (function_words image)
   pub stack_aligned : site.stack % 16 ≡ 0
@@ -66,27 +66,27 @@ pub record IsSite (image : Fields) (code : Code) (site : Site) : Type 0 where
 -- The state at the call.
 
 -- the i-th argument's word: the first eight in a0 to a7, the others on the stack
-abbrev pub raw_argument : Site → State → ℕ → ℕ
+abbrev pub raw_argument : CallSite → State → ℕ → ℕ
 raw_argument site s i = if nat_lt i 8 then s.regs (10 + i) else word_in site.stack s.bytes (4 * (i - 8))
 
 -- an array is passed by a pointer to its elements, which are data
-pub record IsPointedTo (site : Site) (s : State) (i : ℕ) (slot : Slot) : Type 0 where
+pub record IsPointedTo (site : CallSite) (s : State) (i : ℕ) (slot : Slot) : Type 0 where
   pub pointer : raw_argument site s i ≡ site.pointers i
   pub there : AreData (site.pointers i) (site.pointers i + array_bytes slot) s.bytes
 
 -- a word by any word
-abbrev pub IsPassed : Site → State → ℕ → Slot → Form → Type 0
+abbrev pub IsPassed : CallSite → State → ℕ → Slot → Form → Type 0
 IsPassed site s i slot SingleWord = Unit {0}
 IsPassed site s i slot FixedArray = IsPointedTo site s i slot
 IsPassed site s i slot MutableArray = IsPointedTo site s i slot
 
-abbrev pub ArePassed : Site → State → ℕ → List Slot → Type 0
+abbrev pub ArePassed : CallSite → State → ℕ → List Slot → Type 0
 ArePassed site s i [] = Unit {0}
 ArePassed site s i (slot ∷ slots) = IsPassed site s i slot slot.param.form × ArePassed site s (i + 1) slots
 
 -- the function is called: the registers hold words, room and arguments on the stack are data, among whatever other
 -- data
-pub record IsCalled (image : Fields) (site : Site) (s : State) : Type 0 where
+pub record IsCalled (image : Fields) (site : CallSite) (s : State) : Type 0 where
   pub at_entry : s.pc ≡ site.entry
   pub stack : s.regs 2 ≡ site.stack
   pub words : (r : ℕ) → s.regs r < 2 ^ 32
@@ -95,7 +95,7 @@ pub record IsCalled (image : Fields) (site : Site) (s : State) : Type 0 where
 
 -- What the arguments mean.
 
-abbrev pub argument_of : Site → State → ℕ → Slot → Form → Arg
+abbrev pub argument_of : CallSite → State → ℕ → Slot → Form → Arg
 argument_of site s i slot SingleWord = Word (meant slot.param.kind (raw_argument site s i))
 argument_of site s i slot FixedArray =
     Array
@@ -106,11 +106,11 @@ argument_of site s i slot MutableArray =
     (map (meant slot.param.kind)
     (numbers_at s.bytes (element_bytes slot.param.kind) (site.pointers i) slot.param.length))
 
-abbrev pub arguments_from : Site → State → ℕ → List Slot → List Arg
+abbrev pub arguments_from : CallSite → State → ℕ → List Slot → List Arg
 arguments_from site s i [] = []
 arguments_from site s i (slot ∷ slots) = argument_of site s i slot slot.param.form
     ∷ arguments_from site s (i + 1) slots
 
 -- the arguments of the call, as they stand at its entry
-abbrev pub arguments_of : Fields → Site → State → List Arg
+abbrev pub arguments_of : Fields → CallSite → State → List Arg
 arguments_of image site s = arguments_from site s 0 image.slots

@@ -3,7 +3,7 @@ use Rattle.std.specs.Prelude.{◌≡◌, ◌≢◌, ℕ, List, length, All, Opti
 use Rattle.linked_calls.specs.Convention.{scratch_registers}
 use Rattle.linked_calls.specs.FunctionCode.{clear_registers_code}
 use Rattle.linked_calls.specs.Does.{Data, Does, AreThere}
-use Rattle.linked_calls.specs.Below.{Code, Event}
+use Rattle.linked_calls.specs.Below.{MachineCode, Event}
 
 -- no access at all
 abbrev pub IsSilent : ℕ → Option Event → Type 0
@@ -18,7 +18,7 @@ pub record AreCleared (rs : List ℕ) (s t : Data) : Type 0 where
 -- the code that clears the registers which a function may change does so from any state
 abbrev pub RegistersAreCleared : Type 0
 RegistersAreCleared =
-    (code : Code) (start : ℕ)
+    (code : MachineCode) (start : ℕ)
     → AreThere code start (clear_registers_code scratch_registers)
     → Does code start (clear_registers_code scratch_registers) (length scratch_registers)
     IsSilent (λ s. Unit {0}) (AreCleared scratch_registers)

@@ -1,8 +1,8 @@
 -- An argument that points to an array: the array is copied into its slot before the body, and back behind it where it
 -- may be changed.
 use Rattle.std.specs.Prelude.{◌≡◌, ◌≢◌, ◌⊎◌, ℕ, ◌+◌, ◌%◌, ◌^◌, ◌<◌, ◌≤◌, List, map, Option, Some, None}
-use Rattle.linked_calls.specs.Below.{Array, ByteMap, Code, Div, element_bytes, Event, Fields, FixedArray, Load, Mul}
-use Rattle.linked_calls.specs.Below.{MutableArray, number_at, numbers_at, Slot, Store, with_argument, with_numbers}
+use Rattle.linked_calls.specs.Below.{Array, ByteMap, MachineCode, Div, element_bytes, Event, Fields, FixedArray, Load}
+use Rattle.linked_calls.specs.Below.{Mul, MutableArray, number_at, numbers_at, Slot, Store, with_argument, with_numbers}
 use Rattle.linked_calls.specs.FunctionCode.{argument_offset, array_bytes, argument_code, copy_out_code}
 use Rattle.linked_calls.specs.Sections.{argument_steps, array_steps}
 use Rattle.linked_calls.specs.Does.{Data, Does, AreThere}
@@ -63,7 +63,7 @@ IsCopying frame place n from to sp (Some (Div a b)) = ⊥
 IsCopying frame place n from to sp (Some (Mul a b)) = ⊥
 
 -- the slot holds the elements of the array, each as it is meant
-pub record IsTaken (slot : Slot) (spot : Pointed) (s t : Data) : Type 0 where
+pub record IsArrayTaken (slot : Slot) (spot : Pointed) (s t : Data) : Type 0 where
   pub bytes : t.bytes ≡ with_argument spot.frame s.bytes slot
       (Array (map (meant slot.param.kind) (elements_at slot s.bytes spot.pointer)))
   pub others : OthersAsBefore s t
@@ -71,13 +71,13 @@ pub record IsTaken (slot : Slot) (spot : Pointed) (s t : Data) : Type 0 where
 -- the code that takes an array does so, whether it may be changed or not
 abbrev pub ArrayIsTaken : Type 0
 ArrayIsTaken =
-    (code : Code) (start : ℕ) (image : Fields) (slot : Slot) (spot : Pointed)
+    (code : MachineCode) (start : ℕ) (image : Fields) (slot : Slot) (spot : Pointed)
     → AreThere code start (argument_code image spot.index slot FixedArray)
     → CanBeCopied image slot spot
     → Does code start (argument_code image spot.index slot FixedArray)
     (argument_steps image spot.index slot FixedArray)
     (IsCopying spot.frame (place_of image spot) (array_bytes slot) spot.pointer (slot_of slot spot))
-    (HasArray image slot spot) (IsTaken slot spot)
+    (HasArray image slot spot) (IsArrayTaken slot spot)
 
 -- the array holds what the slot holds
 pub record IsHandedBack (slot : Slot) (spot : Pointed) (s t : Data) : Type 0 where
@@ -88,7 +88,7 @@ pub record IsHandedBack (slot : Slot) (spot : Pointed) (s t : Data) : Type 0 whe
 -- the code that hands an array back does so
 abbrev pub ArrayIsHandedBack : Type 0
 ArrayIsHandedBack =
-    (code : Code) (start : ℕ) (image : Fields) (slot : Slot) (spot : Pointed)
+    (code : MachineCode) (start : ℕ) (image : Fields) (slot : Slot) (spot : Pointed)
     → AreThere code start (copy_out_code image spot.index slot MutableArray)
     → CanBeCopied image slot spot
     → Does code start (copy_out_code image spot.index slot MutableArray) (array_steps image spot.index slot)

@@ -1,6 +1,6 @@
 -- An argument that is a word, of which what it means is put into its slot before the body, and the result behind it.
 use Rattle.std.specs.Prelude.{◌≡◌, ◌≢◌, ℕ, ◌+◌, ◌%◌, ◌^◌, ◌<◌, ◌≤◌, length, Option, Some, None}
-use Rattle.linked_calls.specs.Below.{Code, Event, Fields, ResultSlot, SingleWord, Slot, with_argument, word_in}
+use Rattle.linked_calls.specs.Below.{MachineCode, Event, Fields, ResultSlot, SingleWord, Slot, with_argument, word_in}
 use Rattle.linked_calls.specs.Convention.{result_register}
 use Rattle.linked_calls.specs.FunctionCode.{argument_offset, argument_code, result_code}
 use Rattle.linked_calls.specs.Sections.{argument_steps}
@@ -29,7 +29,7 @@ abbrev pub meant_in : Fields → Slot → ℕ → ℕ → Data → ℕ
 meant_in image slot frame i s = meant slot.param.kind (word_in frame s.bytes (argument_offset image i))
 
 -- the slot holds it
-pub record IsPut (image : Fields) (slot : Slot) (frame i : ℕ) (s t : Data) : Type 0 where
+pub record IsArgumentPut (image : Fields) (slot : Slot) (frame i : ℕ) (s t : Data) : Type 0 where
   pub bytes : t.bytes ≡ with_argument frame s.bytes slot (Word (meant_in image slot frame i s))
   pub others : (q : ℕ) → q ≢ 5 → q ≢ 28 → t.regs q ≡ s.regs q
 
@@ -44,17 +44,17 @@ IsPutting place target sp (Some (event.Mul a b)) = ⊥
 -- the code that takes a word does so, and shows nothing of it
 abbrev pub WordIsTaken : Type 0
 WordIsTaken =
-    (code : Code) (start : ℕ) (image : Fields) (slot : Slot) (frame i : ℕ)
+    (code : MachineCode) (start : ℕ) (image : Fields) (slot : Slot) (frame i : ℕ)
     → AreThere code start (argument_code image i slot SingleWord)
     → CanBePut image slot frame i
     → Does code start (argument_code image i slot SingleWord) (argument_steps image i slot SingleWord)
     (IsPutting (frame + argument_offset image i) (frame + slot.offset)) (HasWordArgument image slot frame i)
-    (IsPut image slot frame i)
+    (IsArgumentPut image slot frame i)
 
 -- The result, which a call hands back in a0.
 
 -- the frame's base is in x2, and the result's slot is data
-pub record HasResult (slot : ResultSlot) (frame : ℕ) (s : Data) : Type 0 where
+pub record HasResultSlot (slot : ResultSlot) (frame : ℕ) (s : Data) : Type 0 where
   pub stack : s.regs 2 ≡ frame
   pub slot_there : AreData (frame + slot.offset) (frame + slot.offset + 4) s.bytes
 
@@ -75,9 +75,9 @@ IsLoadOf place sp (Some (event.Mul a b)) = ⊥
 -- the code that hands a result back does so, and shows nothing of it
 abbrev pub ResultIsHandedBack : Type 0
 ResultIsHandedBack =
-    (code : Code) (start : ℕ) (slot : ResultSlot) (frame : ℕ)
+    (code : MachineCode) (start : ℕ) (slot : ResultSlot) (frame : ℕ)
     → AreThere code start (result_code (Some slot))
     → (frame + slot.offset) % 4 ≡ 0
     → frame + slot.offset < 2 ^ 32
     → Does code start (result_code (Some slot)) (length (result_code (Some slot)))
-    (IsLoadOf (frame + slot.offset)) (HasResult slot frame) (IsReturned slot frame)
+    (IsLoadOf (frame + slot.offset)) (HasResultSlot slot frame) (IsReturned slot frame)

@@ -1,6 +1,6 @@
 -- The frame of a call, zeroed before the body, and all its room, zeroed behind it.
 use Rattle.std.specs.Prelude.{◌≡◌, ◌≢◌, ℕ, ◌+◌, ◌%◌, ◌^◌, ◌<◌, ◌≤◌, ◌==◌, length, Option, Some, None, if◌then◌else◌}
-use Rattle.linked_calls.specs.Below.{Code, constant_code, Div, Event, Load, Mul, Store}
+use Rattle.linked_calls.specs.Below.{MachineCode, constant_code, Div, Event, Load, Mul, Store}
 use Rattle.linked_calls.specs.FunctionCode.{frame_code, wipe_code}
 use Rattle.linked_calls.specs.Sections.{block_steps}
 use Rattle.linked_calls.specs.Does.{Data, Does, AreThere}
@@ -31,7 +31,7 @@ frame_steps room = if room == 0 then 0 else length (constant_code 5 room) + 1 + 
 -- the code that zeroes a frame does so
 abbrev pub FrameIsZeroed : Type 0
 FrameIsZeroed =
-    (code : Code) (start bottom room : ℕ)
+    (code : MachineCode) (start bottom room : ℕ)
     → AreThere code start (frame_code room)
     → bottom % 16 ≡ 0
     → room % 16 ≡ 0
@@ -40,7 +40,7 @@ FrameIsZeroed =
     (IsStoreIn bottom (bottom + room)) (HasFrame bottom room) (IsZeroFrame bottom room)
 
 -- x2 is where a room of so many bytes begins, and x5 where it ends
-pub record HasRoom (bottom room : ℕ) (s : Data) : Type 0 where
+pub record HasRoomBounds (bottom room : ℕ) (s : Data) : Type 0 where
   pub stack : s.regs 2 ≡ bottom
   pub top : s.regs 5 ≡ bottom + room
   pub there : AreData bottom (bottom + room) s.bytes
@@ -54,11 +54,11 @@ pub record IsWiped (bottom room : ℕ) (s t : Data) : Type 0 where
 -- the code that wipes a room does so
 abbrev pub RoomIsWiped : Type 0
 RoomIsWiped =
-    (code : Code) (start bottom room : ℕ)
+    (code : MachineCode) (start bottom room : ℕ)
     → AreThere code start wipe_code
     → bottom % 16 ≡ 0
     → room % 16 ≡ 0
     → 0 < room
     → bottom + room < 2 ^ 32
     → Does code start wipe_code (block_steps room)
-    (IsStoreIn bottom (bottom + room)) (HasRoom bottom room) (IsWiped bottom room)
+    (IsStoreIn bottom (bottom + room)) (HasRoomBounds bottom room) (IsWiped bottom room)

@@ -1,9 +1,9 @@
 -- A run, a step at a time, and what is written of it.
 use Rattle.std.proofs.Common.{◌≡◌, ℕ, suc, ◌+◌, ◌-◌, ◌<◌, ◌≤◌, List, [], ◌∷◌, ◌++◌, Option, Some, None, Result, Ok}
 use Rattle.std.proofs.Common.{Err, IfOk, OnOk, OnErr, refl, sym, ap, ◌∙◌, subst, append_assoc, append-nil, arith}
-use Rattle.listing.specs.Below.{Budget, Code, entries_of, Entry, GainsPart, goes_on, halted, halts, Leads, listed}
-use Rattle.listing.specs.Below.{Observation, Runs, spent, State, stays, Stop, stops, Step, OneStep, steps_on, Writes}
-use Rattle.listing.specs.Below.{WritesPart}
+use Rattle.listing.specs.Below.{Budget, MachineCode, entries_of, Entry, GainsPart, goes_on, halted, halts, Leads}
+use Rattle.listing.specs.Below.{listed, Observation, RunsWithin, spent, State, stays, Stop, stops, Step, OneStep}
+use Rattle.listing.specs.Below.{steps_on, Writes, WritesPart}
 use Rattle.listing.proofs.Below.{Leads-more, entries_of-append, Runs-more, step_stops, run_of_state}
 use Rattle.listing.specs.Lines.{entry_line, entry_lines, lines_of, stop_line}
 use Rattle.listing.specs.Listings.{listing, Ends, IsListing}
@@ -11,15 +11,15 @@ use Rattle.rv_machine.specs.OneStep as one_step
 use Rattle.listing.proofs.Pieces.{put-more, part-inside, part-at_end}
 
 -- steps, and then a run
-Runs-after : {code : Code} {k n : ℕ} {s t u : State} {seen more : List Observation} {stop : Stop}
-    → Leads code k s seen t → Runs code n t more stop u → Runs code (k + n) s (seen ++ more) stop u
+Runs-after : {code : MachineCode} {k n : ℕ} {s t u : State} {seen more : List Observation} {stop : Stop}
+    → Leads code k s seen t → RunsWithin code n t more stop u → RunsWithin code (k + n) s (seen ++ more) stop u
 Runs-after {code} {n = n} {u = u} {more = more} {stop = stop} (stays {s = s}) run =
     let e : n ≡ 0 + n = omega arith in
-    subst (λ k. Runs code k s more stop u) e run
+    subst (λ k. RunsWithin code k s more stop u) e run
 Runs-after {code} {n = n} {u = u} {more = more} {stop =
     stop} (steps_on {n = k} {o = o} {seen = seen} {s = s} first rest) run =
     let e : suc (k + n) ≡ suc k + n = omega arith in
-    subst (λ k. Runs code k s (o ∷ (seen ++ more)) stop u) e (Runs-more first (Runs-after rest run))
+    subst (λ k. RunsWithin code k s (o ∷ (seen ++ more)) stop u) e (Runs-more first (Runs-after rest run))
 
 entry_lines-append : (a b : List Entry) → entry_lines (a ++ b) ≡ entry_lines a ++ entry_lines b
 entry_lines-append [] b = refl
@@ -31,16 +31,26 @@ lines_of-append : (a b : List Observation) → lines_of (a ++ b) ≡ lines_of a 
 lines_of-append a b = ap entry_lines (entries_of-append a b) ∙ entry_lines-append (entries_of a) (entries_of b)
 
 -- steps that showed this, and then to the end
-ends_from : (code : Code) (budget : ℕ) (s : State) (k : ℕ) (t : State) (seen : List Observation)
+ends_from : (code : MachineCode) (budget : ℕ) (s : State) (k : ℕ) (t : State) (seen : List Observation)
     → Leads code k s seen t → k ≤ budget → (more : List Observation) × (stop : Stop)
     × Ends code budget s (seen ++ more) stop
 ends_from code budget s k t seen led within =
     let run = run_of_state code (budget - k) t in
-    let e : k + (budget - k) ≡ budget = omega arith in
-    (run.0, run.1, (run.2, (subst (λ n. Runs code n s (seen ++ run.0) run.1 run.2) e (Runs-after led run.3), run.4)))
+    let e : k + (budget - k) ≡ budget = omega arith in (
+      run.0,
+      run.1,
+      (
+        run.2,
+        (
+          subst (λ n. RunsWithin code n s (seen ++ run.0) run.1 run.2) e
+              (Runs-after led run.3),
+          run.4,
+        ),
+      ),
+    )
 
 -- so many steps were made from a state, which showed this
-module _ (code : Code) (budget : ℕ) (s : State) (k : ℕ) (t : State) (seen : List Observation)
+module _ (code : MachineCode) (budget : ℕ) (s : State) (k : ℕ) (t : State) (seen : List Observation)
     (led : Leads code k s seen t) where
   -- the next one goes on
   pub leads_on : (o : Observation) (u : State) → Step code t (goes_on o u) → Leads code (k + 1) s (seen ++ o ∷ []) u
@@ -77,7 +87,8 @@ module _ (before now : List ℕ) (seen : List Observation) (so_far : now ≡ bef
       ∙ ap (λ l. before ++ l) (sym (lines_of-append seen last))
 
   -- and then a stop's line
-  pub wrote_all : (code : Code) (budget : ℕ) (s : State) (after : List ℕ) (stop : Stop) → Ends code budget s seen stop
+  pub wrote_all : (code : MachineCode) (budget : ℕ) (s : State) (after : List ℕ) (stop : Stop)
+      → Ends code budget s seen stop
       → after ≡ now ++ stop_line stop → Writes (IsListing code budget s stop) before after
   wrote_all code budget s after stop ends is = record {
     bytes = listing seen stop;
@@ -86,7 +97,7 @@ module _ (before now : List ℕ) (seen : List Observation) (so_far : now ≡ bef
   }
 
   -- and a part of a stop's line
-  pub cut_at_stop : (code : Code) (budget : ℕ) (s : State) (after : List ℕ) (stop : Stop)
+  pub cut_at_stop : (code : MachineCode) (budget : ℕ) (s : State) (after : List ℕ) (stop : Stop)
       → Ends code budget s seen stop → GainsPart now after (stop_line stop)
       → WritesPart (λ bytes. (stop : Stop) × IsListing code budget s stop bytes) before after
   cut_at_stop code budget s after stop ends part = record {
@@ -96,7 +107,7 @@ module _ (before now : List ℕ) (seen : List Observation) (so_far : now ≡ bef
   }
 
   -- and a part of the next step's lines
-  pub cut_at_lines : (code : Code) (budget : ℕ) (s : State) (after : List ℕ) (last more : List Observation)
+  pub cut_at_lines : (code : MachineCode) (budget : ℕ) (s : State) (after : List ℕ) (last more : List Observation)
       (stop : Stop) → Ends code budget s ((seen ++ last) ++ more) stop → GainsPart now after (lines_of last)
       → WritesPart (λ bytes. (stop : Stop) × IsListing code budget s stop bytes) before after
   cut_at_lines code budget s after last more stop ends part =

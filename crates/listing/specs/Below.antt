@@ -3,8 +3,8 @@ pub use Rattle.word.specs.Counts.{one_more}
 pub use Rattle.rv_code.specs.Text.{text_of}
 pub use Rattle.rv_machine.specs.Entries.{entries_of, Entry, event, program_counter}
 pub use Rattle.rv_machine.specs.Harts.{state_of}
-pub use Rattle.rv_machine.specs.Leakage.{halted, halts, Leads, Runs, spent, stays, steps_on}
-pub use Rattle.rv_machine.specs.Machine.{Code, goes_on, State, stops, Step, word_at}
+pub use Rattle.rv_machine.specs.Leakage.{halted, halts, Leads, RunsWithin, spent, stays, steps_on}
+pub use Rattle.rv_machine.specs.Machine.{MachineCode, goes_on, State, stops, Step, word_at}
 pub use Rattle.rv_machine.specs.Regions.{code_of}
 pub use Rattle.rv_machine.specs.OneStep.{listed, OneStep}
 pub use Rattle.rv_machine.specs.declared.observation.Observation.{Observation}

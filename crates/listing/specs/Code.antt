@@ -1,7 +1,7 @@
 -- The listing of code: a line for each word, with its address and its text.
 use Rattle.std.specs.Prelude.{◌≡◌, ◌≢◌, ℕ, ◌+◌, List, [], ◌∷◌, ◌++◌, codes, Option, Some, None}
 use Rattle.rv_code.specs.declared.instructions.Instr.{Instr}
-use Rattle.listing.specs.Below.{Code, text_of, word_at}
+use Rattle.listing.specs.Below.{MachineCode, text_of, word_at}
 use Rattle.rv_code.specs.Words.{word_of, IsInstr}
 use Rattle.listing.specs.Lines.{word_head}
 
@@ -26,5 +26,5 @@ IsLineOf address (Some word) told = (text : List ℕ) × IsTextOf word text × (
 IsLineOf address None told = told ≡ None
 
 -- the line of the word of code that begins at an address, and none where none does
-abbrev pub IsLineAt : Code → ℕ → Option (List ℕ) → Type 0
+abbrev pub IsLineAt : MachineCode → ℕ → Option (List ℕ) → Type 0
 IsLineAt code address told = IsLineOf address (word_at code address) told

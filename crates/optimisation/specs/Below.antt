@@ -15,10 +15,11 @@ pub use Rattle.language.specs.WantOfMemory.{IsWantOfMemory}
 pub use Rattle.language.specs.WellTyped.{arithmetic, division, logic, Makes, multiplication, shift, Takes}
 pub use Rattle.language.specs.arguments.Within.{AreWithin}
 pub use Rattle.language.specs.declared.operators.BinaryOperator.{BinaryOperator}
-pub use Rattle.language.specs.declared.operators.BinaryOperator.TheVariants.{Add, BitAnd, BitOr, BitXor, Both, Divide}
-pub use Rattle.language.specs.declared.operators.BinaryOperator.TheVariants.{Either, Equal, Greater, GreaterOrEqual}
-pub use Rattle.language.specs.declared.operators.BinaryOperator.TheVariants.{Less, LessOrEqual, Multiply, Remainder}
-pub use Rattle.language.specs.declared.operators.BinaryOperator.TheVariants.{ShiftLeft, ShiftRight, Subtract, Unequal}
+pub use Rattle.language.specs.declared.operators.BinaryOperator.TheVariants.{Add, BitAnd, BitOr, BitXor, LogicalAnd}
+pub use Rattle.language.specs.declared.operators.BinaryOperator.TheVariants.{Divide, LogicalOr, Equal, Greater}
+pub use Rattle.language.specs.declared.operators.BinaryOperator.TheVariants.{GreaterOrEqual, Less, LessOrEqual}
+pub use Rattle.language.specs.declared.operators.BinaryOperator.TheVariants.{Multiply, Remainder, ShiftLeft, ShiftRight}
+pub use Rattle.language.specs.declared.operators.BinaryOperator.TheVariants.{Subtract, Unequal}
 pub use Rattle.language.specs.declared.operators.PrefixOperator.{PrefixOperator}
 pub use Rattle.language.specs.declared.operators.PrefixOperator.TheVariants.{Complement, Negate, Not}
 pub use Rattle.language.specs.declared.signature.Kind.{Kind}
@@ -33,9 +34,9 @@ pub use Rattle.inline.specs.FlatMeaning.{array_of, arrays_from, elements, given,
 pub use Rattle.inline.specs.FlatMeaning.{path_of_result, path_of_iterations, results_of, iterations, value_in, Values}
 pub use Rattle.inline.specs.FlatMeaning.{with_value}
 pub use Rattle.inline.specs.FlatSize.{declared_words, HasLength, words_by}
-pub use Rattle.inline.specs.FlatTyping.{AllSuit, HasCount, HasType, IsResult, of_binary, of_conversion, of_element}
-pub use Rattle.inline.specs.FlatTyping.{of_number, of_prefix, of_rotation, of_selection, of_truth, of_variable, Suits}
-pub use Rattle.inline.specs.FlatTyping.{Types, types_of}
+pub use Rattle.inline.specs.FlatTyping.{AllSuit, HasCount, TermHasType, IsResult, of_binary, of_conversion, of_element}
+pub use Rattle.inline.specs.FlatTyping.{of_number, of_prefix, of_rotation, of_selection, of_truth, of_variable}
+pub use Rattle.inline.specs.FlatTyping.{TermSuits, Types, types_of}
 pub use Rattle.inline.specs.Limits.{most_variable_bytes}
 pub use Rattle.inline.specs.Path.{AreFine, bounded, decided, indexed, multiplied, Path}
 pub use Rattle.inline.specs.declared.flat.FlatVariable.{FlatVariable}
@@ -51,5 +52,5 @@ pub use Rattle.branch_removal.specs.Straight.{with_body, with_variables}
 pub use Rattle.branch_removal.specs.StraightMeaning.{after, after_all, counted, end_of, holds, outcome_of, path_along}
 pub use Rattle.branch_removal.specs.StraightMeaning.{path_at, path_of, start, StraightState, value_at, with_controls}
 pub use Rattle.branch_removal.specs.StraightMeaning.{with_element, with_variable}
-pub use Rattle.branch_removal.specs.StraightTyping.{AreTyped, IsFilled, IsPut, IsSet, IsTyped, IsTypedStraight}
+pub use Rattle.branch_removal.specs.StraightTyping.{AreTyped, IsFilled, IsElementSet, IsSet, IsTyped, IsTypedStraight}
 pub use Rattle.branch_removal.specs.StraightTyping.{types_but}

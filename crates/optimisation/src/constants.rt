@@ -11,7 +11,7 @@
 // (`specs/constants/private/Choice.antt`); the proof holds for any choice.
 
 mod choice;
-mod copies;
+mod copy_propagation;
 mod fields;
 mod known;
 mod operators;

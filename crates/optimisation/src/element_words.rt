@@ -11,4 +11,4 @@ mod plan;
 mod statements;
 mod terms;
 
-pub use plan::Words;
+pub use plan::ElementWords;

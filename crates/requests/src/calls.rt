@@ -9,7 +9,7 @@ ghost use Rattle.rv_machine.specs.ListRecording.{recorded};
 ghost use Rattle.rv_machine.specs.declared.observation.Observation.{Observation};
 ghost use Rattle.language.specs.declared.refusal.Refusal.{Refusal};
 
-use crate::fault::Fault;
+use crate::fault::RequestsFault;
 use hepurita::{Optimisation, RunFault, build, execute, pair};
 use image::Image;
 use language::{Arg, Args, Outcome, Profile};
@@ -18,37 +18,37 @@ use std::alloc::Global;
 use streams::{ByteSink, put_all};
 
 /// The bytes of the plain image of an accepted text.
-pub fn bytes_of(alloc: Global, text: &str) -> Result<Vec<u8>, Fault>
+pub fn bytes_of(alloc: Global, text: &str) -> Result<Vec<u8>, RequestsFault>
     ensures accepted { IfOk result (λ bytes. IsBuilt Optimisation.Off Profile.P1 text.now bytes.items) }
     ensures refused { IfErr result (λ given. (refusal : Refusal)
-        × (given ≡ Fault.Build refusal.rule refusal.name) × IsRefusalOf Profile.P1 text.now refusal) }
+        × (given ≡ RequestsFault.Build refusal.rule refusal.name) × IsRefusalOf Profile.P1 text.now refusal) }
 {
     match build(alloc, text) {
         Ok(bytes) => Ok(bytes),
-        Err(refusal) => Err(Fault::Build(refusal.rule, refusal.name)),
+        Err(refusal) => Err(RequestsFault::Build(refusal.rule, refusal.name)),
     }
 }
 
 /// The image that bytes spell.
-pub fn image_of(alloc: Global, bytes: &[u8]) -> Result<Image, Fault>
+pub fn image_of(alloc: Global, bytes: &[u8]) -> Result<Image, RequestsFault>
     ensures found { IfOk result (λ image. Spells bytes.now image) }
     ensures fault { IfErr result (λ given. (fault : ImageFault)
-        × (given ≡ Fault.Read fault) × IsUnlessMemory (Err fault) (reading bytes.now)) }
+        × (given ≡ RequestsFault.Read fault) × IsUnlessMemory (Err fault) (reading bytes.now)) }
 {
     match image::read(alloc, bytes) {
         Ok(image) => Ok(image),
-        Err(fault) => Err(Fault::Read(fault)),
+        Err(fault) => Err(RequestsFault::Read(fault)),
     }
 }
 
 /// A condition, and two words to choose from.
-pub fn arguments(alloc: Global, condition: u32) -> Result<Args, Fault>
+pub fn arguments(alloc: Global, condition: u32) -> Result<Args, RequestsFault>
     ensures words { IfOk result (λ args. args ≡ Arg.Word condition ∷ Arg.Word 5 ∷ Arg.Word 9 ∷ []) }
-    ensures memory { IfErr result (λ given. given ≡ Fault.Arguments) }
+    ensures memory { IfErr result (λ given. given ≡ RequestsFault.Arguments) }
 {
     match vec![in alloc; Arg::Word(condition), Arg::Word(5), Arg::Word(9)] {
         Ok(words) => Ok(Args::new(words)),
-        Err(_) => Err(Fault::Arguments),
+        Err(_) => Err(RequestsFault::Arguments),
     }
 }
 
@@ -61,26 +61,31 @@ pub fn fault_of_pair(alloc: Global, image: &Image, one: &Args, other: &Args) -> 
 
 /// Runs an image with a recorder that keeps what an observer sees. Where there is no outcome, it says
 /// how much was kept up to there.
-pub fn observe(alloc: Global, image: &Image, args: &Args) -> Result<(Outcome, ListRecorder), Fault>
+pub fn observe(
+    alloc: Global,
+    image: &Image,
+    args: &Args,
+) -> Result<(Outcome, ListRecorder), RequestsFault>
     ensures outcome { IfOk result (λ run. Executed image.now args.now true [] (Ok run.0) (recorded run.1)) }
     ensures fault { IfErr result (λ given. (fault : RunFault) × (list : List Observation)
-        × (given ≡ Fault.Execute fault (length list)) × Executed image.now args.now true [] (Err fault) list) }
+        × (given ≡ RequestsFault.Execute fault (length list)) × Executed image.now args.now true [] (Err fault) list) }
 {
     let mut recorder = ListRecorder::new(alloc);
     match execute(alloc, image, args, &mut recorder) {
         Ok(outcome) => Ok((outcome, recorder)),
-        Err(fault) => Err(Fault::Execute(fault, recorder.list().len())),
+        Err(fault) => Err(RequestsFault::Execute(fault, recorder.list().len())),
     }
 }
 
 /// A sink in memory that has taken these bytes. Where it refuses, it says how many it had taken.
-pub fn keep(alloc: Global, bytes: &[u8]) -> Result<ByteSink, Fault>
+pub fn keep(alloc: Global, bytes: &[u8]) -> Result<ByteSink, RequestsFault>
     ensures taken { IfOk result (λ sink. sink.bytes ≡ bytes.now) }
-    ensures refused { IfErr result (λ given. (taken : ℕ) × (given ≡ Fault.Put taken) × (taken < length bytes.now)) }
+    ensures refused { IfErr result
+        (λ given. (taken : ℕ) × (given ≡ RequestsFault.Put taken) × (taken < length bytes.now)) }
 {
     let mut sink = ByteSink::new(alloc);
     match put_all(&mut sink, bytes) {
         Ok(()) => Ok(sink),
-        Err(_) => Err(Fault::Put(sink.as_slice().len())),
+        Err(_) => Err(RequestsFault::Put(sink.as_slice().len())),
     }
 }

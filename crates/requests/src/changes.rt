@@ -3,7 +3,7 @@
 ghost use Rattle.std.specs.Prelude.{◌≡◌, ◌<◌, map, length, IfOk};
 ghost use Rattle.codegen.specs.declared.image_fields.slot.Slot.{Slot};
 
-use crate::fault::Fault;
+use crate::fault::RequestsFault;
 use codegen::image_fields::Slot;
 use hepurita::{RunFault, execute};
 use image::{Image, ImageFault, read};
@@ -14,63 +14,63 @@ use std::fmt;
 
 /// What comes of bytes.
 #[derive(Drop)]
-pub enum Answer {
+pub enum BytesAnswer {
     /// They spell no image.
-    Fault(ImageFault),
+    RequestsFault(ImageFault),
     /// They spell one, and its run on zeros stops so.
     Stop(Stop),
 }
 
 /// The fault or the stop, as `B4 at byte 31: truncated` or `Ecall`.
-impl fmt::Display for Answer {
+impl fmt::Display for BytesAnswer {
     fn fmt<W: fmt::Write>(&self, f: &mut fmt::Formatter<W>) -> fmt::Result {
         match self {
-            Answer::Fault(fault) => write!(f, "{fault}"),
-            Answer::Stop(stop) => write!(f, "{stop}"),
+            BytesAnswer::Fault(fault) => write!(f, "{fault}"),
+            BytesAnswer::Stop(stop) => write!(f, "{stop}"),
         }
     }
 }
 
 /// Zeros for a parameter.
-fn zero(alloc: Global, slot: &Slot) -> Result<Arg, Fault> {
+fn zero(alloc: Global, slot: &Slot) -> Result<Arg, RequestsFault> {
     match slot.param.form {
         Form::SingleWord => Ok(Arg::Word(0)),
         Form::FixedArray | Form::MutableArray => {
             match vec![in alloc; 0; usize::from(slot.param.length)] {
                 Ok(words) => Ok(Arg::Array(Numbers::new(words))),
-                Err(_) => Err(Fault::Arguments),
+                Err(_) => Err(RequestsFault::Arguments),
             }
         }
     }
 }
 
 /// Zeros for each parameter of an image.
-fn zeros(alloc: Global, image: &Image) -> Result<Args, Fault> {
+fn zeros(alloc: Global, image: &Image) -> Result<Args, RequestsFault> {
     let mut args = Vec::new(alloc);
     for slot in image.slots() {
         if args.push(zero(alloc, slot)?).is_err() {
-            return Err(Fault::Arguments);
+            return Err(RequestsFault::Arguments);
         }
     }
     Ok(Args::new(args))
 }
 
 /// How an image's run on zeros stops.
-fn stop_of(alloc: Global, image: &Image) -> Result<Stop, Fault> {
+fn stop_of(alloc: Global, image: &Image) -> Result<Stop, RequestsFault> {
     let args = zeros(alloc, image)?;
     match execute(alloc, image, &args, &mut NullRecorder) {
         Ok(_) => Ok(Stop::Ecall),
         Err(RunFault::Stopped(stop)) => Ok(stop),
-        Err(fault) => Err(Fault::Execute(fault, 0)),
+        Err(fault) => Err(RequestsFault::Execute(fault, 0)),
     }
 }
 
 /// What comes of bytes.
-fn answer_to(alloc: Global, bytes: &[u8]) -> Result<Answer, Fault> {
+fn answer_to(alloc: Global, bytes: &[u8]) -> Result<BytesAnswer, RequestsFault> {
     match read(alloc, bytes) {
-        Ok(image) => Ok(Answer::Stop(stop_of(alloc, &image)?)),
-        Err(ImageFault::Memory) => Err(Fault::Read(ImageFault::Memory)),
-        Err(fault) => Ok(Answer::Fault(fault)),
+        Ok(image) => Ok(BytesAnswer::Stop(stop_of(alloc, &image)?)),
+        Err(ImageFault::Memory) => Err(RequestsFault::Read(ImageFault::Memory)),
+        Err(fault) => Ok(BytesAnswer::Fault(fault)),
     }
 }
 

@@ -5,7 +5,7 @@ use thiserror::Error;
 
 /// Which call gave no answer, and why.
 #[derive(Debug, Drop, Error)]
-pub enum Fault {
+pub enum RequestsFault {
     #[error("build: {0}: {1}")]
     Build(Rule, &'static str),
     #[error("read: {0}")]

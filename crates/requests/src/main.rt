@@ -15,7 +15,7 @@ mod fault;
 
 use calls::{arguments, bytes_of, fault_of_pair, image_of, keep, observe};
 use changes::print_changes;
-use fault::Fault;
+use fault::RequestsFault;
 use hepurita::RunFault;
 use image::Image;
 use language::{Args, Outcome};
@@ -46,7 +46,7 @@ struct Answers {
 }
 
 /// Makes the calls.
-fn ask(alloc: Global) -> Result<Answers, Fault> {
+fn ask(alloc: Global) -> Result<Answers, RequestsFault> {
     let bytes = bytes_of(alloc, TEXT)?;
     let image = image_of(alloc, bytes.as_slice())?;
     let (outcome, recorder) = run(alloc, &image)?;
@@ -61,13 +61,13 @@ fn ask(alloc: Global) -> Result<Answers, Fault> {
 }
 
 /// A run of the image that an observer sees.
-fn run(alloc: Global, image: &Image) -> Result<(Outcome, ListRecorder), Fault> {
+fn run(alloc: Global, image: &Image) -> Result<(Outcome, ListRecorder), RequestsFault> {
     let args = arguments(alloc, 1)?;
     observe(alloc, image, &args)
 }
 
 /// Why its runs on a condition that is no bool, and on no arguments, are not compared.
-fn compare(alloc: Global, image: &Image) -> Result<Option<RunFault>, Fault> {
+fn compare(alloc: Global, image: &Image) -> Result<Option<RunFault>, RequestsFault> {
     let large = arguments(alloc, 2)?;
     let none = Args::new(Vec::new(alloc));
     Ok(fault_of_pair(alloc, image, &large, &none))

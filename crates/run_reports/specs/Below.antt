@@ -4,11 +4,11 @@ pub use Rattle.rv_machine.specs.Effects.{effect_of}
 pub use Rattle.rv_machine.specs.Entries.{Compares, entries_of, Entry, event, events_of, IsFirstDifference}
 pub use Rattle.rv_machine.specs.Entries.{program_counter}
 pub use Rattle.rv_machine.specs.Harts.{regs_of, state_of}
-pub use Rattle.rv_machine.specs.Leakage.{cut_short, followed_by, halted, halts, IsShown, Leads, Runs, spent, stays}
-pub use Rattle.rv_machine.specs.Leakage.{steps_on}
-pub use Rattle.rv_machine.specs.Machine.{Code, Ending, executes, goes_on, here, IsAt, no_instruction, not_code}
-pub use Rattle.rv_machine.specs.Machine.{pc_misaligned, State, stops, Step, word_at}
-pub use Rattle.rv_machine.specs.Progress.{advances, begins, finishes, further, Makes, MakesAll, rests}
+pub use Rattle.rv_machine.specs.Leakage.{cut_short, followed_by, halted, halts, IsShown, Leads, RunsWithin, spent}
+pub use Rattle.rv_machine.specs.Leakage.{stays, steps_on}
+pub use Rattle.rv_machine.specs.Machine.{MachineCode, StepEnding, executes, goes_on, here, IsAt, no_instruction}
+pub use Rattle.rv_machine.specs.Machine.{not_code, pc_misaligned, State, stops, Step, word_at}
+pub use Rattle.rv_machine.specs.Progress.{advances, begins, finishes, further, MakesProgress, MakesAll, rests}
 pub use Rattle.rv_machine.specs.Regions.{code_of}
 pub use Rattle.rv_machine.specs.OneStep.{listed, OneStep}
 pub use Rattle.rv_machine.specs.declared.observation.Event.{Event}
@@ -17,7 +17,7 @@ pub use Rattle.rv_machine.specs.declared.stops.Stop.{Stop}
 pub use Rattle.rv_machine.specs.declared.stops.Stop.TheVariants.{Budget, RecorderRefused}
 pub use Rattle.certified_runs.specs.Certified.{CertifiedRun, cut, KnownLeads, leads, may_differ, RunEnding, same}
 pub use Rattle.certified_runs.specs.End.{end_of}
-pub use Rattle.certified_runs.specs.Known.{Known}
+pub use Rattle.certified_runs.specs.Known.{KnownState}
 pub use Rattle.certified_runs.specs.Parts.{known_of}
 pub use Rattle.certified_runs.specs.declared.certifying.CertifiedEnd.{CertifiedEnd}
 pub use Rattle.certified_runs.specs.declared.certifying.CertifiedEnd.TheVariants.{MayDiffer, Same}

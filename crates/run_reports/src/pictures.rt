@@ -14,4 +14,4 @@ mod painting;
 mod picturing;
 
 pub use cells::Area;
-pub use picturing::{Drawing, Runs, picture};
+pub use picturing::{Drawing, PairOfRuns, picture};

@@ -11,9 +11,10 @@ use Rattle.rv_machine.specs.declared.stops.Stop.{Stop}
 use Rattle.rv_machine.specs.declared.stops.Stop.TheVariants.{AccessFault}
 use Rattle.rv_machine.specs.Apart.{Covers, Changes, KeepsInside, AreApart, IsAsAlone, ShowTheSame}
 use Rattle.rv_machine.specs.Bytes.{ByteMap}
-use Rattle.rv_machine.specs.Machine.{Ending, goes_on, stops, Step}
+use Rattle.rv_machine.specs.Machine.{StepEnding, goes_on, stops, Step}
 use Rattle.rv_machine.specs.System.{Member, System, state_in, gone_on, stopped, MemberStep, rests, moves, ends}
-use Rattle.rv_machine.specs.System.{with_member, shown_by, Follows, done, steps_on, none, one_more, of_hart, steps_of}
+use Rattle.rv_machine.specs.System.{with_member, shown_by, FollowsSchedule, done, steps_on, none, one_more, of_hart}
+use Rattle.rv_machine.specs.System.{steps_of}
 use Rattle.rv_machine.proofs.Locality.{changes_nothing, IsSameStep, both_go, both_stop, reaches_out, step_same}
 use Rattle.rv_machine.proofs.RunLaws.{Step-determined}
 use Rattle.rv_machine.proofs.TotalLaws.{step_of_state}
@@ -35,11 +36,11 @@ module _ (own bytes : ByteMap) (covers : Covers own bytes) (m : Member) (inside 
       inside 1 (seen ++ []) own (stopped m stop) (one_more (ends going step) none refl) (ap Some e)
 
   -- what a step that ends so is alone
-  abbrev ends_alone : Ending → Type 0
+  abbrev ends_alone : StepEnding → Type 0
   ends_alone (goes_on o t) = StepAlone own bytes m (o ∷ []) t.bytes (gone_on m t)
   ends_alone (stops seen stop) = StepAlone own bytes m seen bytes (stopped m stop)
 
-  alone_by : {e f : Ending} → m.stop ≡ None → Step m.code (state_in own m) e
+  alone_by : {e f : StepEnding} → m.stop ≡ None → Step m.code (state_in own m) e
       → IsSameStep (state_in own m) bytes e f → ends_alone f
   alone_by going step (both_go {t = t} pcs registers changes) =
       rw (pcs, registers) (record { own' = t.bytes; step = moves going step; changes = changes })
@@ -47,7 +48,7 @@ module _ (own bytes : ByteMap) (covers : Covers own bytes) (m : Member) (inside 
       record { own' = own; step = ends going step; changes = changes_nothing own bytes covers }
   alone_by going step reaches_out = absurd (calm going step refl)
 
-  alone_of_step : {f : Ending} → m.stop ≡ None → Step m.code (state_in bytes m) f → ends_alone f
+  alone_of_step : {f : StepEnding} → m.stop ≡ None → Step m.code (state_in bytes m) f → ends_alone f
   alone_of_step going step =
       let alone = step_of_state m.code (state_in own m) in
       let same = step_same (state_in own m) bytes covers m.code alone.0 alone.1 in
@@ -155,7 +156,7 @@ of_hart_other j k other (o ∷ seen) rest = rw (ne_eqb j k other) (of_hart_other
 
 -- each is what it is alone
 pub alone : (own : ℕ → ByteMap) (schedule : List ℕ) (s end : System) (list : List HartObservation) (k : ℕ)
-    (m : Member) → AreApart own s → Follows schedule s list end → slice_get s.members k ≡ Some m
+    (m : Member) → AreApart own s → FollowsSchedule schedule s list end → slice_get s.members k ≡ Some m
     → IsAsAlone k (steps_of k schedule) (own k) m list end
 alone own [] s end list k m apart done at =
     record {
@@ -252,7 +253,7 @@ module _ (own own' : ℕ → ByteMap) (s s' : System) (alike : AreAlike own s ow
 -- of two systems whose harts alone show the same
 pub shown_the_same : (own own' : ℕ → ByteMap) (schedule : List ℕ) (s s' end end' : System)
     (list list' : List HartObservation) → AreApart own s → AreApart own' s' → AreAlike own s own' s'
-    → Follows schedule s list end → Follows schedule s' list' end' → list ≡ list'
+    → FollowsSchedule schedule s list end → FollowsSchedule schedule s' list' end' → list ≡ list'
 shown_the_same own own' [] s s' end end' list list' apart apart' alike done done = refl
 shown_the_same own own' (j ∷ schedule) s s' end end' list list' apart apart' alike
     (steps_on {m = m} {after = after} {bytes = bytes} {seen = seen} {rest = rest} at step follows is)

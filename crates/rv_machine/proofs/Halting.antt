@@ -10,7 +10,8 @@ use Rattle.rv_machine.specs.Apart.{KeepsInside}
 use Rattle.rv_machine.specs.Bytes.{ByteMap}
 use Rattle.rv_machine.specs.Leakage.{Leads, stays, steps_on, Halts, halts}
 use Rattle.rv_machine.specs.Machine.{State, stops, Step}
-use Rattle.rv_machine.specs.System.{Member, state_in, gone_on, MemberStep, rests, moves, ends, Makes, none, one_more}
+use Rattle.rv_machine.specs.System.{Member, state_in, gone_on, MemberStep, rests, moves, ends, HartMakes, none}
+use Rattle.rv_machine.specs.System.{one_more}
 use Rattle.rv_machine.proofs.RunLaws.{Step-determined, goes_on-determined, goes_on≢stops}
 use Rattle.rv_machine.proofs.TotalLaws.{step_stops}
 
@@ -23,7 +24,7 @@ pub record Made (k n : ℕ) (seen : List Observation) (stop : Stop) (t : State) 
 
 -- one that has stopped stays so
 stays_stopped : {k : ℕ} {bytes bytes' : ByteMap} {m after : Member} {list : List Observation} {stop : Stop}
-    → m.stop ≡ Some stop → Makes k bytes m list bytes' after
+    → m.stop ≡ Some stop → HartMakes k bytes m list bytes' after
     → (after.stop ≡ Some stop) × (bytes' ≡ bytes) × (list ≡ [])
 stays_stopped is none = (is, refl, refl)
 stays_stopped is (one_more (rests same) more e) =
@@ -41,7 +42,7 @@ take_short k (o ∷ p ∷ rest) short = absurd (omega arith)
 -- the step that stops, and then any number
 last_made : {k : ℕ} {own bytes between : ByteMap} {m after next : Member} {last seen rest list : List Observation}
     {stop : Stop} → m.stop ≡ None → Step m.code (state_in own m) (stops last stop)
-    → MemberStep own m seen between next → Makes k between next rest bytes after → list ≡ seen ++ rest
+    → MemberStep own m seen between next → HartMakes k between next rest bytes after → list ≡ seen ++ rest
     → Made (suc k) 1 last stop (state_in own m) list bytes after
 last_made going end (rests is) more e = cc
 last_made going end (moves still step) more e = absurd (goes_on≢stops step end)
@@ -76,7 +77,7 @@ not_yet going = record { stands = inl going; shown = refl; finished = λ within.
 
 made : {k n : ℕ} {own bytes : ByteMap} {m after : Member} {seen last list : List Observation} {stop : Stop}
     {t : State} → m.stop ≡ None → Leads m.code n (state_in own m) seen t → Step m.code t (stops last stop)
-    → Makes k own m list bytes after → Made k (suc n) (seen ++ last) stop t list bytes after
+    → HartMakes k own m list bytes after → Made k (suc n) (seen ++ last) stop t list bytes after
 made going first end none = not_yet going
 made going stays end (one_more step more e) = last_made going end step more e
 made going (steps_on first then) end (one_more (rests is) more e) = cc
@@ -86,7 +87,7 @@ made {m = m} going (steps_on first then) end (one_more (moves {t = u} still step
     more_made (made {m = gone_on m u} refl (rw same.1 at then) end more) (rw (e, same.0))
 
 made_of : {k n : ℕ} {own bytes : ByteMap} {m after : Member} {seen list : List Observation} {stop : Stop} {t : State}
-    → m.stop ≡ None → Halts m.code n (state_in own m) seen stop t → Makes k own m list bytes after
+    → m.stop ≡ None → Halts m.code n (state_in own m) seen stop t → HartMakes k own m list bytes after
     → Made k n seen stop t list bytes after
 made_of going (halts first end is) makes = rw is (made going first end makes)
 
@@ -96,11 +97,11 @@ keeps_inside m own n seen stop t going halting calm k list bytes after makes e =
     elim (made_of going halting makes).stands [ inl is ↦ cc | inr is ↦ calm (same_Some stop AccessFault (sym is ∙ e)) ]
 
 pub shown_alone : (m after : Member) (own bytes : ByteMap) (n k : ℕ) (seen list : List Observation) (stop : Stop)
-    (t : State) → m.stop ≡ None → Halts m.code n (state_in own m) seen stop t → Makes k own m list bytes after
+    (t : State) → m.stop ≡ None → Halts m.code n (state_in own m) seen stop t → HartMakes k own m list bytes after
     → list ≡ take k seen
 shown_alone m after own bytes n k seen list stop t going halting makes = (made_of going halting makes).shown
 
 pub stopped_alone : (m after : Member) (own bytes : ByteMap) (n k : ℕ) (seen list : List Observation) (stop : Stop)
-    (t : State) → m.stop ≡ None → Halts m.code n (state_in own m) seen stop t → Makes k own m list bytes after
+    (t : State) → m.stop ≡ None → Halts m.code n (state_in own m) seen stop t → HartMakes k own m list bytes after
     → n ≤ k → (after.stop ≡ Some stop) × (bytes ≡ t.bytes) × (list ≡ seen)
 stopped_alone m after own bytes n k seen list stop t going halting makes = (made_of going halting makes).finished

@@ -12,9 +12,9 @@ use Rattle.rv_machine.specs.declared.stops.Stop.TheVariants.{AccessFault}
 use Rattle.rv_machine.specs.Apart.{Covers, Changes}
 use Rattle.rv_machine.specs.Bytes.{ByteMap, number_at, with_number}
 use Rattle.rv_machine.specs.Effects.{effect_of, load_size, store_size}
-use Rattle.rv_machine.specs.Machine.{State, Code, Ending, goes_on, stops, loaded, stored, with_value, with_stored}
-use Rattle.rv_machine.specs.Machine.{with_link, moved_to, ending_of, Step, pc_misaligned, not_code, no_instruction}
-use Rattle.rv_machine.specs.Machine.{executes}
+use Rattle.rv_machine.specs.Machine.{State, MachineCode, StepEnding, goes_on, stops, loaded, stored, with_value}
+use Rattle.rv_machine.specs.Machine.{with_stored, with_link, moved_to, ending_of, Step, pc_misaligned, not_code}
+use Rattle.rv_machine.specs.Machine.{no_instruction, executes}
 use Rattle.rv_machine.specs.Sizes.{byte_count}
 use Rattle.rv_machine.specs.Below.{Profile}
 use Rattle.rv_machine.proofs.ByteLaws.{is_inside, is_outside, place, with_number_inside, with_number_outside}
@@ -58,13 +58,13 @@ abbrev pub over : ByteMap → State → State
 over bytes s = record { pc = s.pc; regs = s.regs; bytes = bytes }
 
 -- a step over its own bytes, and over more
-pub data IsSameStep (s : State) (bytes : ByteMap) : Ending → Ending → Type 0 where
+pub data IsSameStep (s : State) (bytes : ByteMap) : StepEnding → StepEnding → Type 0 where
   both_go : {o : Observation} {t t' : State} → t'.pc ≡ t.pc → t'.regs ≡ t.regs → Changes s.bytes bytes t.bytes t'.bytes
       → IsSameStep s bytes (goes_on o t) (goes_on o t')
   both_stop : {seen : List Observation} {stop : Stop} → IsSameStep s bytes (stops seen stop) (stops seen stop)
-  reaches_out : {seen : List Observation} {other : Ending} → IsSameStep s bytes (stops seen AccessFault) other
+  reaches_out : {seen : List Observation} {other : StepEnding} → IsSameStep s bytes (stops seen AccessFault) other
 
-either_same : {s : State} {bytes : ByteMap} {e f e' f' : Ending} (b : Bool) → IsSameStep s bytes e e'
+either_same : {s : State} {bytes : ByteMap} {e f e' f' : StepEnding} (b : Bool) → IsSameStep s bytes e e'
     → IsSameStep s bytes f f' → IsSameStep s bytes (cond b e f) (cond b e' f')
 either_same true one other = one
 either_same false one other = other
@@ -106,8 +106,8 @@ module _ (s : State) (bytes : ByteMap) (covers : Covers s.bytes bytes) where
   effect_same profile _ = both_go refl refl (changes_nothing s.bytes bytes covers)
 
   -- the step over more bytes
-  pub step_same : (code : Code) (e : Ending) → Step code s e
-      → (e' : Ending) × Step code (over bytes s) e' × IsSameStep s bytes e e'
+  pub step_same : (code : MachineCode) (e : StepEnding) → Step code s e
+      → (e' : StepEnding) × Step code (over bytes s) e' × IsSameStep s bytes e e'
   step_same code e (pc_misaligned odd) = (_, pc_misaligned odd, both_stop)
   step_same code e (not_code even none) = (_, not_code even none, both_stop)
   step_same code e (no_instruction even is misfit) = (_, no_instruction even is misfit, both_stop)

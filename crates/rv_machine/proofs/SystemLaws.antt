@@ -15,9 +15,9 @@ use Rattle.rv_machine.specs.Bytes.{ByteMap}
 use Rattle.rv_machine.specs.HartRecording.{kept_of}
 use Rattle.rv_machine.specs.RunningHarts.{Followed, CutShort}
 use Rattle.rv_machine.specs.Leakage.{Done, went_on, stopped, refused, followed_by}
-use Rattle.rv_machine.specs.Machine.{State, Ending, goes_on, stops, Step}
+use Rattle.rv_machine.specs.Machine.{State, StepEnding, goes_on, stops, Step}
 use Rattle.rv_machine.specs.System.{Member, System, MemberStep, rests, moves, ends, state_in, with_member, shown_by}
-use Rattle.rv_machine.specs.System.{Follows, done, steps_on, gone_on}
+use Rattle.rv_machine.specs.System.{FollowsSchedule, done, steps_on, gone_on}
 use Rattle.rv_machine.proofs.RunLaws.{Step-determined, goes_on-determined, goes_on≢stops}
 use Rattle.rv_machine.proofs.Calls.{kept-append}
 use Rattle.rv_machine.proofs.Shown.{first_alone}
@@ -35,7 +35,7 @@ none_of None is = refl
 -- A step.
 
 -- the step that one call made of a hart that had not stopped
-pub member_step_made : (bytes : ByteMap) (m : Member) (t : State) (ending : Ending) (answer : Option Stop)
+pub member_step_made : (bytes : ByteMap) (m : Member) (t : State) (ending : StepEnding) (answer : Option Stop)
     (seen : List Observation) → m.stop ≡ None → Step m.code (state_in bytes m) ending
     → Done (state_in bytes m) ending answer t seen → answer ≢ Some RecorderRefused
     → MemberStep bytes m (followed_by (slice_get seen 0) []) t.bytes
@@ -51,7 +51,7 @@ abbrev pub HasStep : ByteMap → Member → Type 0
 HasStep bytes m =
     (seen : List Observation) × (bytes' : ByteMap) × (after : Member) × MemberStep bytes m seen bytes' after
 
-member_step_of_ending : (bytes : ByteMap) (m : Member) (ending : Ending) → m.stop ≡ None
+member_step_of_ending : (bytes : ByteMap) (m : Member) (ending : StepEnding) → m.stop ≡ None
     → Step m.code (state_in bytes m) ending → HasStep bytes m
 member_step_of_ending bytes m (goes_on o t) running step = (_, _, _, moves running step)
 member_step_of_ending bytes m (stops seen stop) running step = (_, _, _, ends running step)
@@ -102,25 +102,27 @@ member_at (m ∷ rest) (suc k) inside = member_at rest k (omega arith)
 -- one step is a schedule of one entry
 pub Follows-one : {s : System} {k : ℕ} {m after : Member} {bytes : ByteMap} {seen : List Observation}
     → slice_get s.members k ≡ Some m → MemberStep s.bytes m seen bytes after
-    → Follows (k ∷ []) s (shown_by k seen) (record { members = with_member s.members k after; bytes = bytes })
+    → FollowsSchedule (k ∷ []) s (shown_by k seen) (record { members = with_member s.members k after; bytes = bytes })
 Follows-one {k = k} {seen = seen} there step = steps_on there step done (sym (append-nil (shown_by k seen)))
 
 -- a schedule, and then another
-pub Follows-append : {a b : List ℕ} {s t u : System} {x y : List HartObservation} → Follows a s x t → Follows b t y u
-    → Follows (a ++ b) s (x ++ y) u
+pub Follows-append : {a b : List ℕ} {s t u : System} {x y : List HartObservation} → FollowsSchedule a s x t
+    → FollowsSchedule b t y u
+    → FollowsSchedule (a ++ b) s (x ++ y) u
 Follows-append done then = then
 Follows-append {y = y} (steps_on {k = k} {seen = seen} {rest = rest} there step later is) then =
     steps_on there step (Follows-append later then) (rw (is, append_assoc (shown_by k seen) rest y))
 
 -- harts neither come nor go
-pub Follows-count : {schedule : List ℕ} {s t : System} {seen : List HartObservation} → Follows schedule s seen t
+pub Follows-count : {schedule : List ℕ} {s t : System} {seen : List HartObservation} → FollowsSchedule schedule s seen t
     → length t.members ≡ length s.members
 Follows-count done = refl
 Follows-count {s = s} (steps_on {k = k} {after = after} there step later is) = Follows-count later
     ∙ length-with_member s.members k after
 
-pub Follows-determined : {schedule : List ℕ} {s t u : System} {a b : List HartObservation} → Follows schedule s a t
-    → Follows schedule s b u → (a ≡ b) × (t ≡ u)
+pub Follows-determined : {schedule : List ℕ} {s t u : System} {a b : List HartObservation}
+    → FollowsSchedule schedule s a t
+    → FollowsSchedule schedule s b u → (a ≡ b) × (t ≡ u)
 Follows-determined done done = (refl, refl)
 Follows-determined (steps_on {m = m} there step later is) (steps_on {m = m'} here other then js) =
     let same = same_Some m' m (sym here ∙ there) in
@@ -130,7 +132,7 @@ Follows-determined (steps_on {m = m} there step later is) (steps_on {m = m'} her
 
 -- a schedule of numbers that harts have has an end
 pub every_schedule_has_an_end : (schedule : List ℕ) (s : System) → All (λ number. number < length s.members) schedule
-    → (seen : List HartObservation) × (end : System) × Follows schedule s seen end
+    → (seen : List HartObservation) × (end : System) × FollowsSchedule schedule s seen end
 every_schedule_has_an_end [] s within = ([], s, done)
 every_schedule_has_an_end (k ∷ schedule) s within =
     let inside : k < length s.members = All-head (λ number. number < length s.members) k schedule within in
@@ -150,7 +152,7 @@ on_err (Err e) p = p
 module _ (keeps : Bool) (schedule : List ℕ) (i : ℕ) (inside : i < length schedule) (s t u : System)
     (list between : List HartObservation) (shown : List HartObservation)
     (so_far : Followed keeps (take i schedule) s list t between)
-    (step : Follows (get_or schedule i 0 ∷ []) t shown u) where
+    (step : FollowsSchedule (get_or schedule i 0 ∷ []) t shown u) where
   -- one entry more was followed
   pub Followed-more : (list' : List HartObservation) → list' ≡ kept_of keeps between shown
       → Followed keeps (take (i + 1) schedule) s list u list'

@@ -4,7 +4,7 @@ use Rattle.rv_machine.specs.declared.observation.Observation.{Observation}
 use Rattle.rv_machine.specs.declared.hart_recording.HartObservation.{HartObservation}
 use Rattle.rv_machine.specs.declared.stops.Stop.TheVariants.{AccessFault}
 use Rattle.rv_machine.specs.Bytes.{ByteMap}
-use Rattle.rv_machine.specs.System.{Member, System, Makes, of_hart}
+use Rattle.rv_machine.specs.System.{Member, System, HartMakes, of_hart}
 
 -- these bytes are there, with others or without
 abbrev pub Covers : ByteMap → ByteMap → Type 0
@@ -20,7 +20,7 @@ pub record Changes (own bytes own' bytes' : ByteMap) : Type 0 where
 -- alone with these bytes a hart reaches for no others, however many steps it makes
 abbrev pub KeepsInside : ByteMap → Member → Type 0
 KeepsInside own m = (n : ℕ) (seen : List Observation) (bytes : ByteMap) (after : Member)
-    → Makes n own m seen bytes after → after.stop ≢ Some AccessFault
+    → HartMakes n own m seen bytes after → after.stop ≢ Some AccessFault
 
 -- each hart has bytes of its own, no two the same, and reaches for no others
 pub record AreApart (own : ℕ → ByteMap) (s : System) : Type 0 where
@@ -34,7 +34,7 @@ pub record IsAsAlone (k steps : ℕ) (own : ByteMap) (m : Member) (list : List H
   pub seen : List Observation
   pub bytes : ByteMap
   pub member : Member
-  pub makes : Makes steps own m seen bytes member
+  pub makes : HartMakes steps own m seen bytes member
   pub there : slice_get end.members k ≡ Some member
   pub bytes_there : Covers bytes end.bytes
   pub extent : (a : ℕ) → is_some (bytes a) ≡ is_some (own a)
@@ -43,4 +43,4 @@ pub record IsAsAlone (k steps : ℕ) (own : ByteMap) (m : Member) (list : List H
 -- alone both show the same, however many steps they make
 abbrev pub ShowTheSame : ByteMap → Member → ByteMap → Member → Type 0
 ShowTheSame own m own' m' = (n : ℕ) (seen seen' : List Observation) (bytes bytes' : ByteMap) (after after' : Member)
-    → Makes n own m seen bytes after → Makes n own' m' seen' bytes' after' → seen ≡ seen'
+    → HartMakes n own m seen bytes after → HartMakes n own' m' seen' bytes' after' → seen ≡ seen'

@@ -5,7 +5,7 @@ ghost use Rattle.rv_machine.specs.Entries.{entries_of, IsFirstDifference, Compar
 ghost use Rattle.rv_machine.specs.Harts.{state_of};
 ghost use Rattle.rv_machine.specs.Leakage.{IsShown};
 ghost use Rattle.rv_machine.specs.PairingText.{pairing_text};
-ghost use Rattle.rv_machine.specs.Progress.{Makes, EndTogether, Part};
+ghost use Rattle.rv_machine.specs.Progress.{MakesProgress, EndTogether, Part};
 ghost use Rattle.rv_machine.specs.Regions.{code_of};
 ghost use Rattle.rv_machine.specs.declared.observation.Observation.{Observation};
 
@@ -78,7 +78,7 @@ fn last_step<M: Memory>(
     code: &CodeRegion,
     run: &mut Running<M>,
 ) -> Option<Observation>
-    ensures made { Makes (code_of code.now)
+    ensures made { MakesProgress (code_of code.now)
         run.old.steps_left (state_of run.old.hart (M.bytes run.old.memory)) result
         run.new.steps_left (state_of run.new.hart (M.bytes run.new.memory)) }
     ensures ended { result ≡ None → run.new.steps_left ≡ 0 }

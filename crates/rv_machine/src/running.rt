@@ -3,7 +3,7 @@
 ghost use Rattle.std.specs.Prelude.{◌≡◌, ◌<◌, List, None, IsSome};
 ghost use Rattle.rv_machine.specs.Harts.{state_of};
 ghost use Rattle.rv_machine.specs.Leakage.{IsShown, followed_by};
-ghost use Rattle.rv_machine.specs.Progress.{Makes};
+ghost use Rattle.rv_machine.specs.Progress.{MakesProgress};
 ghost use Rattle.rv_machine.specs.Regions.{code_of};
 ghost use Rattle.rv_machine.specs.declared.observation.Observation.{Observation};
 
@@ -29,7 +29,7 @@ impl<M: Memory> Running<M> {
     /// the run has ended, or ends by a step that shows nothing. It takes no memory.
     #[inline(always)]
     pub fn step(&mut self, alloc: Global, code: &CodeRegion) -> Option<Observation>
-        ensures made { Makes (code_of code.now)
+        ensures made { MakesProgress (code_of code.now)
             self.old.steps_left (state_of self.old.hart (M.bytes self.old.memory)) result
             self.new.steps_left (state_of self.new.hart (M.bytes self.new.memory)) }
         ensures shown { (rest : List Observation)

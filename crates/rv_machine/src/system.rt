@@ -4,7 +4,7 @@ ghost use Rattle.std.specs.Prelude.{◌≡◌, ℕ, ◌<◌, length, ◌∷◌, 
 ghost use Rattle.rv_machine.specs.Leakage.{followed_by};
 ghost use Rattle.rv_machine.specs.Recording.{HasRefused};
 ghost use Rattle.rv_machine.specs.RunningHarts.{member_now, system_now, Followed, CutShort};
-ghost use Rattle.rv_machine.specs.System.{MemberStep, Follows, shown_by};
+ghost use Rattle.rv_machine.specs.System.{MemberStep, FollowsSchedule, shown_by};
 
 use crate::code::CodeRegion;
 use crate::hart::Hart;
@@ -51,7 +51,7 @@ impl<M: Memory> RunningHarts<M> {
     /// Makes the next step of the hart with this number, and answers what it shows.
     fn step(&mut self, alloc: Global, number: u8) -> Option<Observation>
         requires { number < length self.now.harts.items }
-        ensures step { Follows (number ∷ [])
+        ensures step { FollowsSchedule (number ∷ [])
             (system_now self.old.harts.items (M.bytes self.old.memory)) (shown_by number (followed_by result []))
             (system_now self.new.harts.items (M.bytes self.new.memory)) }
         ensures count { length self.new.harts.items ≡ length self.old.harts.items }

@@ -13,12 +13,12 @@ use Rattle.source_eval.specs.Below.{run, run_all, Runnables, SingleWord, State, 
 use Rattle.source_eval.specs.Below.{values, word_arguments}
 use Rattle.language.specs.State.{array}
 use Rattle.language.specs.State as state
-use Rattle.source_eval.specs.Metering.{Ended, Stopped}
+use Rattle.source_eval.specs.Metering.{EndedWithin, Stopped}
 use Rattle.source_eval.specs.Views.{word_of}
 use Rattle.source_eval.specs.declared.fault.EvalFault.{EvalFault}
 use Rattle.source_eval.specs.declared.fault.EvalFault.TheVariants.{Budget}
 use Rattle.source_eval.specs.declared.values.Word.{Word}
-use Rattle.source_eval.proofs.RunLemmas.{Leads, values_more, values_stop, passed_more, passed_stop, passed_lacks}
+use Rattle.source_eval.proofs.RunLemmas.{GoesOnTo, values_more, values_stop, passed_more, passed_stop, passed_lacks}
 use Rattle.source_eval.proofs.RunLemmas.{all_found, block_more, block_stop}
 
 -- what a `?` hands on
@@ -41,9 +41,9 @@ pushed words new v is = sym (map-append word_of words (v ∷ [])) ∙ ap (map wo
 module _ (s : State) (whole : Run (List state.Word)) (es : List Expr) (start : ℕ) where
   pub each_value : (i : ℕ) (e : Expr) (now middle : ℕ) (words new : List Word) (v : Word) → i < length es
       → e ≡ get_or es i e → new ≡ words ++ v ∷ []
-      → Leads whole start 0 (values s (map expr_tree (drop i es))) now (λ vs. map word_of words ++ vs)
-      → Ended (value s (expr_tree e)) now 0 (word_of v) middle
-      → Leads whole start 0 (values s (map expr_tree (drop (i + 1) es))) middle (λ vs. map word_of new ++ vs)
+      → GoesOnTo whole start 0 (values s (map expr_tree (drop i es))) now (λ vs. map word_of words ++ vs)
+      → EndedWithin (value s (expr_tree e)) now 0 (word_of v) middle
+      → GoesOnTo whole start 0 (values s (map expr_tree (drop (i + 1) es))) middle (λ vs. map word_of new ++ vs)
   each_value i e now middle words new v less is more leads h =
       rw (← pushed words new v more)
       (values_more s whole (expr_tree e) (map expr_tree (drop (i + 1) es)) start now middle (map word_of words)
@@ -51,15 +51,15 @@ module _ (s : State) (whole : Run (List state.Word)) (es : List Expr) (start : �
 
   pub value_halts : (i : ℕ) (e : Expr) (now : ℕ) (words : List Word) (fault : EvalFault) → i < length es
       → e ≡ get_or es i e
-      → Leads whole start 0 (values s (map expr_tree (drop i es))) now (λ vs. map word_of words ++ vs)
+      → GoesOnTo whole start 0 (values s (map expr_tree (drop i es))) now (λ vs. map word_of words ++ vs)
       → Stopped (value s (expr_tree e)) now 0 fault → Stopped whole start 0 fault
   value_halts i e now words fault less is leads h =
       values_stop s whole (expr_tree e) (map expr_tree (drop (i + 1) es)) start now
       (λ vs. map word_of words ++ vs) fault (rw (next_of es i e less is) at leads) h
 
   pub all_values : (i now : ℕ) (words : List Word) → length es ≤ i
-      → Leads whole start 0 (values s (map expr_tree (drop i es))) now (λ vs. map word_of words ++ vs)
-      → Ended whole start 0 (map word_of words) now
+      → GoesOnTo whole start 0 (values s (map expr_tree (drop i es))) now (λ vs. map word_of words ++ vs)
+      → EndedWithin whole start 0 (map word_of words) now
   all_values i now words most leads =
       all_found whole start now (map word_of words) (rw (drop_all i es most) at leads)
 
@@ -67,16 +67,16 @@ module _ (s : State) (whole : Run (List state.Word)) (es : List Expr) (start : �
 module _ (whole : Run State) (known : Runnables) (start room : ℕ) (ss : List Statement) where
   pub each_statement : (s t : State) (i : ℕ) (statement : Statement) (now middle : ℕ) → i < length ss
       → statement ≡ get_or ss i statement
-      → Leads whole start room (run_all known s (block_tree (drop i ss))) now (λ u. u)
-      → Ended (run known s (statement_tree statement)) now room t middle
-      → Leads whole start room (run_all known t (block_tree (drop (i + 1) ss))) middle (λ u. u)
+      → GoesOnTo whole start room (run_all known s (block_tree (drop i ss))) now (λ u. u)
+      → EndedWithin (run known s (statement_tree statement)) now room t middle
+      → GoesOnTo whole start room (run_all known t (block_tree (drop (i + 1) ss))) middle (λ u. u)
   each_statement s t i statement now middle less is leads h =
       block_more whole known start room s t (statement_tree statement) (block_tree (drop (i + 1) ss)) now middle
       (rw (next_of ss i statement less is) at leads) h
 
   pub statement_halts : (s : State) (i : ℕ) (statement : Statement) (now : ℕ) (fault : EvalFault) → i < length ss
       → statement ≡ get_or ss i statement
-      → Leads whole start room (run_all known s (block_tree (drop i ss))) now (λ u. u)
+      → GoesOnTo whole start room (run_all known s (block_tree (drop i ss))) now (λ u. u)
       → Stopped (run known s (statement_tree statement)) now room fault
       → Stopped whole start room fault
   statement_halts s i statement now fault less is leads h =
@@ -84,7 +84,8 @@ module _ (whole : Run State) (known : Runnables) (start room : ℕ) (ss : List S
       (rw (next_of ss i statement less is) at leads) h
 
   pub all_statements : (s : State) (i now : ℕ) → length ss ≤ i
-      → Leads whole start room (run_all known s (block_tree (drop i ss))) now (λ u. u) → Ended whole start room s now
+      → GoesOnTo whole start room (run_all known s (block_tree (drop i ss))) now (λ u. u)
+      → EndedWithin whole start room s now
   all_statements s i now most leads =
       let l = rw (drop_all i ss most) at leads in
       l.ends s now (record { gives_it = refl; spends = omega arith; opens = omega arith })
@@ -126,7 +127,7 @@ module _ (s : State) (whole : Run (List state.Word)) (ps : List Parameter) (es :
   words_from i = word_arguments (map parameter_tree (drop i ps)) (map expr_tree (drop i es))
 
   abbrev LeadsFrom : ℕ → ℕ → List Word → Type 0
-  LeadsFrom i now words = Leads whole start 0 (passed s (words_from i)) now (λ vs. map word_of words ++ vs)
+  LeadsFrom i now words = GoesOnTo whole start 0 (passed s (words_from i)) now (λ vs. map word_of words ++ vs)
 
   module _ (i : ℕ) (p : Parameter) (e : Expr) (inside_ps : i < length ps) (inside_es : i < length es)
       (is_p : p ≡ get_or ps i p) (is_e : e ≡ get_or es i e) where
@@ -140,7 +141,7 @@ module _ (s : State) (whole : Run (List state.Word)) (ps : List Parameter) (es :
 
     pub pass_more : (before now middle : ℕ) (words new : List Word) (v : Word) → p.form ≡ SingleWord
         → new ≡ words ++ v ∷ [] → LeadsFrom i before words → before ≡ now + 1
-        → Ended (value s (expr_tree e)) now 0 (word_of v) middle → LeadsFrom (i + 1) middle new
+        → EndedWithin (value s (expr_tree e)) now 0 (word_of v) middle → LeadsFrom (i + 1) middle new
     pass_more before now middle words new v is more leads one h =
         rw (← pushed words new v more)
         (passed_more s whole (expr_tree e) (words_from (i + 1)) start before now middle (map word_of words)
@@ -165,7 +166,7 @@ module _ (s : State) (whole : Run (List state.Word)) (ps : List Parameter) (es :
         rw (both_next, no_word p.form is) at leads
 
   pub pass_ends : (i now : ℕ) (words : List Word) → words_from i ≡ [] → LeadsFrom i now words
-      → Ended whole start 0 (map word_of words) now
+      → EndedWithin whole start 0 (map word_of words) now
   pass_ends i now words none leads =
       all_found whole start now (map word_of words) (rw none at leads)
 

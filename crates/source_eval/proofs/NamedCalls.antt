@@ -13,7 +13,7 @@ use Rattle.language.specs.declared.typing.Declared.TheVariants.{Procedure, Varia
 use Rattle.language.specs.declared.typing.ValueType.{ValueType}
 use Rattle.language.specs.declared.typing.VariableType.{VariableType}
 use Rattle.language.specs.Types.{Scope, found, declared, callee}
-use Rattle.language.specs.WellTyped.{IsCall, of_procedure, Gives, of_call, of_value, IsWellTyped, declares}
+use Rattle.language.specs.WellTyped.{IsCall, of_procedure, RightHasType, of_call, of_value, IsWellTyped, declares}
 use Rattle.language.specs.WellTyped.{declares_array, assigns, assigns_element, calls, chooses, repeats, AreWellTyped}
 use Rattle.language.specs.WellTyped.{no_statement, one_more, AreProcedures, no_procedure, one_procedure}
 use Rattle.language.specs.WellTyped.{IsTypedProgram}
@@ -93,7 +93,7 @@ module _ (earlier : List ProcedureTree) where
   call-named are (of_procedure {c = c} {callee = callee} {p = p} is there passed may) = are c.name callee p is there
 
   right-named : {scope : Scope} {control : Label} {right : RightTree} {type : ValueType} → AreCallable earlier scope
-      → Gives earlier scope control right type → RightKnown earlier right
+      → RightHasType earlier scope control right type → RightKnown earlier right
   right-named are (of_call is) = call-named are is
   right-named are (of_value has) = tt
 

@@ -12,15 +12,15 @@ use Rattle.source_eval.specs.Below.{results, Returned, Run, run, run_all, Runnab
 use Rattle.source_eval.specs.Below.{Statement, statement_tree, iterations, value, Word, word_arguments}
 use Rattle.language.specs.declared.tree.Call.{Call}
 use Rattle.language.specs.declared.tree.Counter.{Counter}
-use Rattle.source_eval.specs.Metering.{Ended, Stopped, known_of}
+use Rattle.source_eval.specs.Metering.{EndedWithin, Stopped, known_of}
 use Rattle.source_eval.proofs.Below.{conditional_tree, loop_tree, known-named}
 use Rattle.source_eval.specs.declared.fault.EvalFault.{EvalFault}
 use Rattle.source_eval.specs.declared.fault.EvalFault.TheVariants.{Argument, NoMeaning, Budget, Memory}
-use Rattle.source_eval.proofs.RunLemmas.{Leads, then_ends, then_stops, stops_then, tick_ends, tick_stops, roomy_ends}
+use Rattle.source_eval.proofs.RunLemmas.{GoesOnTo, then_ends, then_stops, stops_then, tick_ends, tick_stops, roomy_ends}
 use Rattle.source_eval.proofs.RunLemmas.{roomy_stops, passed_open, value_opens, iterations_more, iterations_stop}
 
 inside_ends : {A : Type 0} {r : Run A} {left room more : ℕ} {a : A} {after : ℕ} → more ≡ room + 1
-    → Ended r left room a after → Ended (inside r) left more a after
+    → EndedWithin r left room a after → EndedWithin (inside r) left more a after
 unfolding inside
 inside_ends one h = record { gives_it = h.gives_it; spends = h.spends; opens = omega arith }
 
@@ -37,12 +37,12 @@ inside_lacks : {A : Type 0} (r : Run A) (left room : ℕ) → room ≡ 0 → Sto
 unfolding inside
 inside_lacks r left room none = inr (omega arith)
 
-given_ends : {A : Type 0} {a : A} {left room : ℕ} → Ended (given a) left room a left
+given_ends : {A : Type 0} {a : A} {left room : ℕ} → EndedWithin (given a) left room a left
 given_ends = record { gives_it = refl; spends = omega arith; opens = omega arith }
 
 -- calls
 pub call_none : (o : Option Runnable) (s : State) (c : CallTree) (before left room : ℕ) → o ≡ None → before ≡ left + 1
-    → Ended (call_run o s c) before room (record { word = None; state = s }) left
+    → EndedWithin (call_run o s c) before room (record { word = None; state = s }) left
 call_none o s c before left room is one =
     rw is (tick_ends one given_ends)
 
@@ -54,7 +54,7 @@ module _ (s : State) (low high : ExprTree) (iteration : ℕ → State
   low_stops fault h = tick_stops _ start one room fault counts
       (stops_then _ _ one room fault (roomy_stops _ one room fault (value_opens s low) h))
 
-  pub high_stops : (a : Word) (two : ℕ) (fault : EvalFault) → Ended (value s low) one 0 a two
+  pub high_stops : (a : Word) (two : ℕ) (fault : EvalFault) → EndedWithin (value s low) one 0 a two
       → Stopped (value s high) two 0 fault → Stopped (loop_run s low high iteration) start room fault
   high_stops a two fault h k =
       tick_stops _ start one room fault counts
@@ -67,15 +67,15 @@ module _ (whole : Run State) (known : Runnables) (text : List ℕ) (body : Block
   iteration i t = run_all known (counting t text i) body
 
   pub each_iteration : (s counted t : State) (i n before now middle : ℕ) → i < n
-      → Leads whole start room (iterations (n - i) i iteration s) before (λ u. u) → before ≡ now + 1
+      → GoesOnTo whole start room (iterations (n - i) i iteration s) before (λ u. u) → before ≡ now + 1
       → counted ≡ counting s text i
-      → Ended (run_all known counted body) now room t middle
-      → Leads whole start room (iterations (n - (i + 1)) (i + 1) iteration t) middle (λ u. u)
+      → EndedWithin (run_all known counted body) now room t middle
+      → GoesOnTo whole start room (iterations (n - (i + 1)) (i + 1) iteration t) middle (λ u. u)
   each_iteration s counted t i n before now middle less leads one is h =
       iterations_more whole iteration start room s t i n before now middle less leads one (rw is at h)
 
   pub iteration_stops : (s counted : State) (i n before now : ℕ) (fault : EvalFault) → i < n
-      → Leads whole start room (iterations (n - i) i iteration s) before (λ u. u) → before ≡ now + 1
+      → GoesOnTo whole start room (iterations (n - i) i iteration s) before (λ u. u) → before ≡ now + 1
       → counted ≡ counting s text i
       → Stopped (run_all known counted body) now room fault → Stopped whole start room fault
   iteration_stops s counted i n before now fault less leads one is h =
@@ -117,8 +117,8 @@ module _ (earlier front : List Procedure) (callee : Procedure) (s : State) (c : 
       (roomy_stops _ left room fault (passed_open s (words_of callee.parameters.items c.arguments.items))
       (rw same_words at h)))
 
-  module _ (vs : List Word) (middle : ℕ) (ended_words : Ended (passed s (words_of ps es)) left 0 vs middle) where
-    abbrev ended_so : Ended (passed s (words_of callee.parameters.items c.arguments.items)) left room vs middle
+  module _ (vs : List Word) (middle : ℕ) (ended_words : EndedWithin (passed s (words_of ps es)) left 0 vs middle) where
+    abbrev ended_so : EndedWithin (passed s (words_of callee.parameters.items c.arguments.items)) left room vs middle
     ended_so = roomy_ends (rw same_words at ended_words)
 
     pub room_lacks : room ≡ 0 → Stopped (call_run o s (call_tree c)) before room Budget
@@ -139,10 +139,10 @@ module _ (earlier front : List Procedure) (callee : Procedure) (s : State) (c : 
           (stops_then _ _ middle room fault (inside_stops _ middle inner room fault more (rw begins_so at h))))
 
       pub whole_ends : (word : Option Word) (t caller : State) (after : ℕ)
-          → Ended (body_run known (procedure_tree callee) state) middle inner
+          → EndedWithin (body_run known (procedure_tree callee) state) middle inner
           (record { word = word; state = t }) after
           → caller ≡ copied_out s t (map parameter_tree ps) (map expr_tree es)
-          → Ended (call_run o s (call_tree c)) before room (record { word = word; state = caller }) after
+          → EndedWithin (call_run o s (call_tree c)) before room (record { word = word; state = caller }) after
       whole_ends word t caller after h out =
           rw (out, parameters, arguments, is)
           (tick_ends one (then_ends _ ended_so (then_ends _ (inside_ends more (rw begins_so at h)) given_ends)))
@@ -169,8 +169,9 @@ for_run known s statement place counter low high body b is one =
     (λ i t. run_all known (counting t counter.name i) (block_tree xs))) one
     ∙ sym (ap (run known s) (ap statement_tree is ∙ loop_tree place counter low high body))
 
-pub ends_along : {A : Type 0} (r q : Run A) (left room : ℕ) (a : A) (after : ℕ) → r ≡ q → Ended r left room a after
-    → Ended q left room a after
+pub ends_along : {A : Type 0} (r q : Run A) (left room : ℕ) (a : A) (after : ℕ) → r ≡ q
+    → EndedWithin r left room a after
+    → EndedWithin q left room a after
 ends_along r q left room a after is h = rw is at h
 
 pub stops_along : {A : Type 0} (r q : Run A) (left room : ℕ) (fault : EvalFault) → r ≡ q → Stopped r left room fault
@@ -178,7 +179,7 @@ pub stops_along : {A : Type 0} (r q : Run A) (left room : ℕ) (fault : EvalFaul
 stops_along r q left room fault is h = rw is at h
 
 pub ok_along : {T : Type 0} (result : Result T EvalFault) (r q : Run State) (left room : ℕ) (t : State) (after : ℕ)
-    → r ≡ q → OnOk result (Ended r left room t after) → OnOk result (Ended q left room t after)
+    → r ≡ q → OnOk result (EndedWithin r left room t after) → OnOk result (EndedWithin q left room t after)
 ok_along result r q left room t after is h = on_ok_weaker result (λ k. ends_along r q left room t after is k) h
 
 -- an export
@@ -196,11 +197,11 @@ module _ (before : List Procedure) (export : Procedure) (args : List Arg) (left 
       (inside_stops _ left 63 64 fault (omega arith) (rw holds_so at h))
 
   pub export_ends : (word : Option Word) (t : State) (after : ℕ) (outcome : Results)
-      → Ended (body_run (known_of before) (procedure_tree export) state) left 63
+      → EndedWithin (body_run (known_of before) (procedure_tree export) state) left 63
       (record { word = word; state = t }) after
       → outcome.returned ≡ option_map (λ (v : Word). v.value) word
       → outcome.arrays ≡ final_arrays t (map parameter_tree ps)
-      → Ended (export_run (map procedure_tree before) (procedure_tree export) args) left most_bodies outcome after
+      → EndedWithin (export_run (map procedure_tree before) (procedure_tree export) args) left most_bodies outcome after
   export_ends word t after outcome h one other =
       let r : Returned = record { word = word; state = t } in
       let out : Results = results (procedure_tree export) r in

@@ -9,7 +9,7 @@ use Rattle.source_eval.specs.declared.fault.EvalFault.TheVariants.{Argument, NoM
 use Rattle.source_eval.specs.declared.values.Word.{Word}
 
 -- with `left` nodes left to evaluate and `room` bodies to open, a run gives a, and leaves so many nodes
-pub record Ended {A : Type 0} (r : Run A) (left room : ℕ) (a : A) (after : ℕ) : Type 0 where
+pub record EndedWithin {A : Type 0} (r : Run A) (left room : ℕ) (a : A) (after : ℕ) : Type 0 where
   pub gives_it : r.ends ≡ gives a
   pub spends : left ≡ r.nodes + after
   pub opens : r.bodies ≤ room

@@ -5,12 +5,12 @@ ghost use Rattle.std.specs.Option.{option_map};
 ghost use Rattle.source_eval.specs.Below.{argument_value, empty, export_run, fault_of, final_arrays, holding};
 ghost use Rattle.source_eval.specs.Below.{most_bodies, param_of, parameter_tree, procedure_tree, program_tree};
 ghost use Rattle.source_eval.specs.Answer.{answer, judged_answer, params_of};
-ghost use Rattle.source_eval.specs.Metering.{Ended, Stopped};
+ghost use Rattle.source_eval.specs.Metering.{EndedWithin, Stopped};
 ghost use Rattle.source_eval.specs.Views.{held, value_of, word_of};
 ghost use Rattle.source_eval.specs.declared.fault.EvalFault.TheVariants.{Memory};
 
 use crate::EvalFault;
-use crate::running::Running;
+use crate::running::RunningBody;
 use crate::statements::body;
 use crate::values::{Value, Word};
 use crate::variables::Variables;
@@ -106,7 +106,7 @@ fn run_export(
     export: &Procedure,
     args: &[Arg],
 ) -> Result<Outcome, EvalFault>
-    ensures ok { IfOk result (λ outcome. Ended
+    ensures ok { IfOk result (λ outcome. EndedWithin
         (export_run (map procedure_tree earlier.now) (procedure_tree export.now) args.now)
         left.old most_bodies outcome left.new) }
     ensures err { IfErr result (λ fault. Stopped
@@ -115,7 +115,7 @@ fn run_export(
 {
     let parameters = export.parameters.as_slice();
     let variables = holding(alloc, parameters, args)?;
-    let mut running = Running {
+    let mut running = RunningBody {
         alloc,
         left: *left,
         variables,

@@ -2,7 +2,7 @@
 
 ghost use Rattle.std.specs.Prelude.{map, IfOk, IfErr};
 ghost use Rattle.source_eval.specs.Below.{expr_tree, parameter_tree, passed, value, values, word_arguments};
-ghost use Rattle.source_eval.specs.Metering.{Ended, Stopped};
+ghost use Rattle.source_eval.specs.Metering.{EndedWithin, Stopped};
 ghost use Rattle.source_eval.specs.Views.{held, word_of};
 
 use crate::EvalFault;
@@ -17,7 +17,7 @@ use std::alloc::Global;
 #[tactic(auto, unfolding(language::specs::Evaluation::tick, language::specs::Evaluation::andthen))]
 pub fn value(variables: &Variables<'_>, left: &mut u64, expr: &Expr) -> Result<Word, EvalFault>
     ensures ok { IfOk result (λ w.
-        Ended (value (held variables.now) (expr_tree expr.now)) left.old 0 (word_of w) left.new) }
+        EndedWithin (value (held variables.now) (expr_tree expr.now)) left.old 0 (word_of w) left.new) }
     ensures err { IfErr result (λ fault. Stopped (value (held variables.now) (expr_tree expr.now)) left.old 0 fault) }
 {
     spend(left)?;
@@ -68,7 +68,7 @@ pub fn values(
     left: &mut u64,
     exprs: &[Expr],
 ) -> Result<Vec<Word>, EvalFault>
-    ensures ok { IfOk result (λ words. Ended (values (held variables.now) (map expr_tree exprs.now)) left.old 0
+    ensures ok { IfOk result (λ words. EndedWithin (values (held variables.now) (map expr_tree exprs.now)) left.old 0
         (map word_of words.items) left.new) }
     ensures err { IfErr result (λ fault.
         Stopped (values (held variables.now) (map expr_tree exprs.now)) left.old 0 fault) }
@@ -88,7 +88,7 @@ pub fn passed(
     parameters: &[Parameter],
     arguments: &[Expr],
 ) -> Result<Vec<Word>, EvalFault>
-    ensures ok { IfOk result (λ words. Ended (passed (held variables.now)
+    ensures ok { IfOk result (λ words. EndedWithin (passed (held variables.now)
         (word_arguments (map parameter_tree parameters.now) (map expr_tree arguments.now))) left.old 0
         (map word_of words.items) left.new) }
     ensures err { IfErr result (λ fault. Stopped (passed (held variables.now)

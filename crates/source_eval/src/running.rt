@@ -5,7 +5,7 @@ use std::alloc::Global;
 
 /// A running body.
 #[derive(Drop)]
-pub struct Running<'a> {
+pub struct RunningBody<'a> {
     pub alloc: Global,
     /// How many more nodes may be evaluated.
     pub left: u64,

@@ -7,14 +7,14 @@ ghost use Rattle.source_eval.specs.Below.{array_run, block_tree, body_run, branc
 ghost use Rattle.source_eval.specs.Below.{element_run, expr_tree, loop_run, made_array, procedure_tree, return_run};
 ghost use Rattle.source_eval.specs.Below.{return_tree, right_run, right_tree, run, run_all, set_run, statement_tree};
 ghost use Rattle.source_eval.specs.Below.{word_given};
-ghost use Rattle.source_eval.specs.Metering.{Ended, Stopped, known_of, returned};
+ghost use Rattle.source_eval.specs.Metering.{EndedWithin, Stopped, known_of, returned};
 ghost use Rattle.source_eval.specs.Views.{held, value_of, word_of};
 ghost use Rattle.source_eval.specs.declared.fault.EvalFault.TheVariants.{Memory};
 
 use crate::EvalFault;
 use crate::calls::{begun, copy_out};
 use crate::expressions::{passed, value, values};
-use crate::running::Running;
+use crate::running::RunningBody;
 use crate::spending::spend;
 use crate::values::{Value, Word};
 use crate::variables::Variables;
@@ -40,10 +40,10 @@ fn array_of(alloc: Global, kind: Kind, length: u16, words: &[Word]) -> Result<Va
 /// A declaration of an array.
 #[tactic(auto, using(crate::proofs::RunLemmas::value_opens, crate::proofs::RunLemmas::values_open, crate::proofs::RunLemmas::passed_open), unfolding(language::specs::Evaluation::tick, language::specs::Evaluation::andthen, language::specs::Evaluation::inside))]
 fn declare_array<'a>(
-    running: &mut Running<'a>,
+    running: &mut RunningBody<'a>,
     declaration: &'a ArrayDeclaration,
 ) -> Result<(), EvalFault>
-    ensures ok { OnOk result (Ended
+    ensures ok { OnOk result (EndedWithin
         (array_run (held running.old.variables) declaration.now.name declaration.now.kind declaration.now.length
         (option_map (λ values. map expr_tree values.items) declaration.now.values))
         running.old.left 0 (held running.new.variables) running.new.left) }
@@ -66,10 +66,10 @@ fn declare_array<'a>(
 fn call<'a>(
     earlier: &'a [Procedure],
     room: u32,
-    running: &mut Running<'a>,
+    running: &mut RunningBody<'a>,
     call: &'a Call,
 ) -> Result<Option<Word>, EvalFault>
-    ensures ok { IfOk result (λ w. Ended
+    ensures ok { IfOk result (λ w. EndedWithin
         (call_run (known_of earlier.now call.now.name) (held running.old.variables) (call_tree call.now))
         running.old.left room (returned w (held running.new.variables)) running.new.left) }
     ensures err { IfErr result (λ fault. Stopped
@@ -89,7 +89,7 @@ fn call<'a>(
         return Err(EvalFault::Budget);
     };
     let variables = begun(alloc, caller, parameters, arguments, words.as_slice())?;
-    let mut inner = Running {
+    let mut inner = RunningBody {
         alloc,
         left: running.left,
         variables,
@@ -108,7 +108,7 @@ fn end(
     left: &mut u64,
     end: &Option<Return>,
 ) -> Result<Option<Word>, EvalFault>
-    ensures ok { IfOk result (λ w. Ended
+    ensures ok { IfOk result (λ w. EndedWithin
         (return_run (held variables.now) (option_map return_tree end.now))
         left.old 0 (returned w (held variables.now)) left.new) }
     ensures err { IfErr result (λ fault. Stopped
@@ -131,10 +131,10 @@ fn end(
 pub fn body<'a>(
     earlier: &'a [Procedure],
     room: u32,
-    running: &mut Running<'a>,
+    running: &mut RunningBody<'a>,
     procedure: &'a Procedure,
 ) -> Result<Option<Word>, EvalFault>
-    ensures ok { IfOk result (λ w. Ended
+    ensures ok { IfOk result (λ w. EndedWithin
         (body_run (known_of earlier.now) (procedure_tree procedure.now) (held running.old.variables))
         running.old.left room (returned w (held running.new.variables)) running.new.left) }
     ensures err { IfErr result (λ fault. Stopped
@@ -151,10 +151,10 @@ pub fn body<'a>(
 fn right<'a>(
     earlier: &'a [Procedure],
     room: u32,
-    running: &mut Running<'a>,
+    running: &mut RunningBody<'a>,
     right: &'a RightSide,
 ) -> Result<Option<Word>, EvalFault>
-    ensures ok { IfOk result (λ w. Ended
+    ensures ok { IfOk result (λ w. EndedWithin
         (right_run (known_of earlier.now) (held running.old.variables) (right_tree right.now))
         running.old.left room (returned w (held running.new.variables)) running.new.left) }
     ensures err { IfErr result (λ fault. Stopped
@@ -189,11 +189,11 @@ fn given(word: Option<Word>) -> Word
 fn set<'a>(
     earlier: &'a [Procedure],
     room: u32,
-    running: &mut Running<'a>,
+    running: &mut RunningBody<'a>,
     name: &'a Name,
     source: &'a RightSide,
 ) -> Result<(), EvalFault>
-    ensures ok { OnOk result (Ended
+    ensures ok { OnOk result (EndedWithin
         (set_run (known_of earlier.now) (held running.old.variables) name.now (right_tree source.now))
         running.old.left room (held running.new.variables) running.new.left) }
     ensures err { IfErr result (λ fault. Stopped
@@ -211,10 +211,10 @@ fn set<'a>(
 fn set_element<'a>(
     earlier: &'a [Procedure],
     room: u32,
-    running: &mut Running<'a>,
+    running: &mut RunningBody<'a>,
     assignment: &'a ElementAssignment,
 ) -> Result<(), EvalFault>
-    ensures ok { OnOk result (Ended
+    ensures ok { OnOk result (EndedWithin
         (element_run (known_of earlier.now) (held running.old.variables) assignment.now.bracket
         assignment.now.name (expr_tree assignment.now.index) (right_tree assignment.now.value))
         running.old.left room (held running.new.variables) running.new.left) }
@@ -242,12 +242,12 @@ fn set_element<'a>(
 fn branch<'a>(
     earlier: &'a [Procedure],
     room: u32,
-    running: &mut Running<'a>,
+    running: &mut RunningBody<'a>,
     condition: &Expr,
     accepted: &'a [Statement],
     otherwise: &'a [Statement],
 ) -> Result<(), EvalFault>
-    ensures ok { OnOk result (Ended
+    ensures ok { OnOk result (EndedWithin
         (branch_run (held running.old.variables) (expr_tree condition.now)
         (run_all (known_of earlier.now) (held running.old.variables) (block_tree accepted.now))
         (run_all (known_of earlier.now) (held running.old.variables) (block_tree otherwise.now)))
@@ -272,13 +272,13 @@ fn branch<'a>(
 fn repeat<'a>(
     earlier: &'a [Procedure],
     room: u32,
-    running: &mut Running<'a>,
+    running: &mut RunningBody<'a>,
     counter: &'a Counter,
     low: &Expr,
     high: &Expr,
     body: &'a [Statement],
 ) -> Result<(), EvalFault>
-    ensures ok { OnOk result (Ended
+    ensures ok { OnOk result (EndedWithin
         (loop_run (held running.old.variables) (expr_tree low.now) (expr_tree high.now)
         (λ i t. run_all (known_of earlier.now) (counting t counter.now.name i) (block_tree body.now)))
         running.old.left room (held running.new.variables) running.new.left) }
@@ -310,10 +310,10 @@ fn repeat<'a>(
 fn statement<'a>(
     earlier: &'a [Procedure],
     room: u32,
-    running: &mut Running<'a>,
+    running: &mut RunningBody<'a>,
     statement: &'a Statement,
 ) -> Result<(), EvalFault>
-    ensures ok { OnOk result (Ended
+    ensures ok { OnOk result (EndedWithin
         (run (known_of earlier.now) (held running.old.variables) (statement_tree statement.now))
         running.old.left room (held running.new.variables) running.new.left) }
     ensures err { IfErr result (λ fault. Stopped
@@ -343,10 +343,10 @@ fn statement<'a>(
 fn block<'a>(
     earlier: &'a [Procedure],
     room: u32,
-    running: &mut Running<'a>,
+    running: &mut RunningBody<'a>,
     block: &'a [Statement],
 ) -> Result<(), EvalFault>
-    ensures ok { OnOk result (Ended
+    ensures ok { OnOk result (EndedWithin
         (run_all (known_of earlier.now) (held running.old.variables) (block_tree block.now))
         running.old.left room (held running.new.variables) running.new.left) }
     ensures err { IfErr result (λ fault. Stopped

@@ -4,9 +4,9 @@ use Rattle.std.proofs.Common.{false}
 use Rattle.std.specs.Prelude.{nat_lt}
 use Rattle.syntax.specs.Below.{IsWantOfMemory, origin, Plain, Refusal, TextTooLong}
 use Rattle.syntax.specs.Lexeme.{Lexeme}
-use Rattle.syntax.specs.Reading.{refused, Answers, Reads, too_long, by_tokens, OneAnswer, IsRefusedAs}
-use Rattle.syntax.specs.Limits.{text_limit}
-use Rattle.syntax.specs.Tokens.{Ending, Lexes}
+use Rattle.syntax.specs.Reading.{refused, IsParseAnswer, Reads, too_long, by_tokens, OneAnswer, IsRefusedAs}
+use Rattle.syntax.specs.Limits.{source_limit}
+use Rattle.syntax.specs.Tokens.{TokensEnding, Lexes}
 use Rattle.syntax.proofs.MachineAnswers.{one_answer_for_tokens, lt-true, lt-false}
 use Rattle.syntax.proofs.TokenLaws.{one_list}
 
@@ -19,35 +19,36 @@ one_answer text one two (by_tokens {ending = ending} short lexes h)
     (by_tokens {tokens = ts} {ending = ending'} short' lexes' h') =
     let same = one_list text _ ts _ ending' lexes lexes' in
     one_answer_for_tokens ts ending' one two
-    (subst (λ e. Answers ts e one) same.1 (subst (λ ts. Answers ts ending one) same.0 h)) h'
+    (subst (λ e. IsParseAnswer ts e one) same.1 (subst (λ ts. IsParseAnswer ts ending one) same.0 h)) h'
 
 -- what refuses the tokens of a text refuses the text
-pub text-refused : (text : List ℕ) (tokens : List Lexeme) (ending : Ending) (r : Refusal) → length text ≤ text_limit
-    → Lexes text tokens ending → IsRefusedAs (Answers tokens ending) r → IsRefusedAs (Reads text) r
+pub text-refused : (text : List ℕ) (tokens : List Lexeme) (ending : TokensEnding) (r : Refusal)
+    → length text ≤ source_limit
+    → Lexes text tokens ending → IsRefusedAs (IsParseAnswer tokens ending) r → IsRefusedAs (Reads text) r
 text-refused text tokens ending r short lexes (inl memory) = inl memory
 text-refused text tokens ending r short lexes (inr w) =
     inr (w.0, w.1, by_tokens short lexes w.2, w.3)
 
-pub not-long : (n : ℕ) → (text_limit < n → ⊥) → n ≤ text_limit
-not-long n h = go (nat_lt text_limit n) refl
+pub not-long : (n : ℕ) → (source_limit < n → ⊥) → n ≤ source_limit
+not-long n h = go (nat_lt source_limit n) refl
   where
-    go : (b : Bool) → nat_lt text_limit n ≡ b → n ≤ text_limit
-    go true e = absurd (h (lt-true text_limit n e))
-    go false e = lt-false text_limit n e
+    go : (b : Bool) → nat_lt source_limit n ≡ b → n ≤ source_limit
+    go true e = absurd (h (lt-true source_limit n e))
+    go false e = lt-false source_limit n e
 
 -- what the lexer refuses
 pub lexer-refused : (text : List ℕ) (r : Refusal)
-    → (text_limit < length text → (r.rule ≡ TextTooLong) × (r.place ≡ Some origin) × (r.why ≡ Plain))
-    → (length text ≤ text_limit → IsWantOfMemory r.rule r.place) → IsRefusedAs (Reads text) r
-lexer-refused text r long memory = go (nat_lt text_limit (length text)) refl
+    → (source_limit < length text → (r.rule ≡ TextTooLong) × (r.place ≡ Some origin) × (r.why ≡ Plain))
+    → (length text ≤ source_limit → IsWantOfMemory r.rule r.place) → IsRefusedAs (Reads text) r
+lexer-refused text r long memory = go (nat_lt source_limit (length text)) refl
   where
-    go : (b : Bool) → nat_lt text_limit (length text) ≡ b → IsRefusedAs (Reads text) r
-    go true e = let w = long (lt-true text_limit (length text) e) in
+    go : (b : Bool) → nat_lt source_limit (length text) ≡ b → IsRefusedAs (Reads text) r
+    go true e = let w = long (lt-true source_limit (length text) e) in
         inr (
           origin,
           w.1,
           subst (λ rule. Reads text (refused rule origin)) (sym w.0)
-              (too_long (lt-true text_limit (length text) e)),
+              (too_long (lt-true source_limit (length text) e)),
           w.2,
         )
-    go false e = inl (memory (lt-false text_limit (length text) e))
+    go false e = inl (memory (lt-false source_limit (length text) e))

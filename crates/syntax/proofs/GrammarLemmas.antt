@@ -19,23 +19,25 @@ use Rattle.syntax.specs.declared.token.Keyword.TheVariants.{Uint8 as Uint8Word, 
 use Rattle.syntax.specs.declared.token.Keyword.TheVariants.{Uint32 as Uint32Word}
 use Rattle.syntax.specs.declared.token.Suffix.{Suffix}
 use Rattle.syntax.specs.declared.token.Suffix.TheVariants.{U8}
-use Rattle.syntax.specs.Grammar.{conversion_of, suffix_kind, amount_of, is_length, length_of, ExprAt, a_number}
+use Rattle.syntax.specs.Grammar.{conversion_of, suffix_kind, amount_of, is_length, length_of, ParsesExprAt, a_number}
 use Rattle.syntax.specs.Grammar.{an_element, in_brackets, a_conversion, a_select, a_prefix, a_rotation, a_binary}
-use Rattle.syntax.specs.Grammar.{MoreExprs, no_more, one_more, SomeExprs, some_exprs, Arguments, no_arguments}
-use Rattle.syntax.specs.Grammar.{some_arguments, Call, a_call, RightSide, a_call_value, a_value, Mutable, no_mut, a_mut}
-use Rattle.syntax.specs.Grammar.{ArrayType, an_array_type, FirstValues, no_values, some_values, Statement}
-use Rattle.syntax.specs.Grammar.{a_declaration, an_array, an_assignment, an_element_assignment, a_call_statement}
-use Rattle.syntax.specs.Grammar.{a_conditional_statement, a_loop, Conditional, a_conditional, Statements, no_statement}
-use Rattle.syntax.specs.Grammar.{one_statement, Block, a_block, Otherwise, no_else, an_else, an_else_if, Parameter}
-use Rattle.syntax.specs.Grammar.{a_word, a_fixed_array, a_mutable_array, MoreParameters, no_more_parameters}
-use Rattle.syntax.specs.Grammar.{one_more_parameter, Parameters, no_parameters, some_parameters, ResultType, a_void}
-use Rattle.syntax.specs.Grammar.{a_type, BodyEnd, no_return, a_return, Exported, not_exported, an_export, Procedure}
-use Rattle.syntax.specs.Grammar.{a_procedure, Procedures, no_procedure, one_procedure, a_program as a_program_rule}
+use Rattle.syntax.specs.Grammar.{ParsesMoreExprs, no_more, one_more, ParsesSomeExprs, some_exprs, ParsesArguments}
+use Rattle.syntax.specs.Grammar.{no_arguments, some_arguments, ParsesCall, a_call, ParsesRightSide, a_call_value}
+use Rattle.syntax.specs.Grammar.{a_value, ParsesMutable, no_mut, a_mut, ParsesArrayType, an_array_type}
+use Rattle.syntax.specs.Grammar.{ParsesFirstValues, no_values, some_values, ParsesStatement, a_declaration, an_array}
+use Rattle.syntax.specs.Grammar.{an_assignment, an_element_assignment, a_call_statement, a_conditional_statement}
+use Rattle.syntax.specs.Grammar.{a_loop, ParsesConditional, a_conditional, ParsesStatements, no_statement}
+use Rattle.syntax.specs.Grammar.{one_statement, ParsesBlock, a_block, ParsesOtherwise, no_else, an_else, an_else_if}
+use Rattle.syntax.specs.Grammar.{ParsesParameter, a_word, a_fixed_array, a_mutable_array, ParsesMoreParameters}
+use Rattle.syntax.specs.Grammar.{no_more_parameters, one_more_parameter, ParsesParameters, no_parameters}
+use Rattle.syntax.specs.Grammar.{some_parameters, ParsesResultType, a_void, a_type, ParsesBodyEnd, no_return, a_return}
+use Rattle.syntax.specs.Grammar.{ParsesExported, not_exported, an_export, ParsesProcedure, a_procedure}
+use Rattle.syntax.specs.Grammar.{ParsesProcedures, no_procedure, one_procedure, a_program as a_program_rule}
 use Rattle.syntax.specs.Lexeme.{Lexeme}
-use Rattle.syntax.specs.Reading.{Reads, by_tokens, Answers, a_program, accepted}
+use Rattle.syntax.specs.Reading.{Reads, by_tokens, IsParseAnswer, a_program, accepted}
 use Rattle.syntax.specs.Spelling as spelling
 use Rattle.syntax.specs.Spelling.{Spells}
-use Rattle.syntax.specs.Tokens.{Ending, LexesFrom, past_space, past_token}
+use Rattle.syntax.specs.Tokens.{TokensEnding, LexesFrom, past_space, past_token}
 
 -- a number that a token writes is a word
 abbrev IsSmallToken : TokenKind → Type 0
@@ -53,7 +55,8 @@ small_piece : (what : Piece) (bytes : List ℕ) → Spells what bytes → IsSmal
 small_piece _ _ (spelling.number b n suffix h is) = is.small
 small_piece _ _ _ = tt
 
-small_tokens : {place : Place} {text : List ℕ} {tokens : List Lexeme} {end : Ending} → LexesFrom place text tokens end
+small_tokens : {place : Place} {text : List ℕ} {tokens : List Lexeme} {end : TokensEnding}
+    → LexesFrom place text tokens end
     → SmallTokens tokens
 small_tokens (past_space begins more) = small_tokens more
 small_tokens (past_token {spelling = front} {kind = kind} begins more) =
@@ -87,7 +90,7 @@ length_bounds (token.Number m None) n h = elim (cases_Bool (is_length m)) [
 length_bounds (token.Number m (Some _)) n h = absurd (none-some _ h)
 length_bounds _ n h = absurd (none-some _ h)
 
-small_expr : {level : ℕ} {tokens rest : List Lexeme} {tree : ExprTree} → ExprAt level tokens tree rest
+small_expr : {level : ℕ} {tokens rest : List Lexeme} {tree : ExprTree} → ParsesExprAt level tokens tree rest
     → SmallTokens tokens → AreSmall tree × SmallTokens rest
 small_expr (a_number {suffix = suffix} is) small = ((rw is at small.0, suffix_number suffix), small.1)
 small_expr (an_element is opens in_index closes) small = let a = small_expr in_index small.1.1 in (a.0, a.1.1)
@@ -108,7 +111,8 @@ small_expr (a_binary is below one two) small =
     ((a.0, b.0), b.1)
 small_expr _ small = (tt, small.1)
 
-small_more : {end : TokenKind} {tokens rest : List Lexeme} {trees : List ExprTree} → MoreExprs end tokens trees rest
+small_more : {end : TokenKind} {tokens rest : List Lexeme} {trees : List ExprTree}
+    → ParsesMoreExprs end tokens trees rest
     → SmallTokens tokens → AreAllSmall trees × SmallTokens rest
 small_more (no_more is) small = (tt, small.1)
 small_more (one_more is one more) small =
@@ -116,44 +120,46 @@ small_more (one_more is one more) small =
     let b = small_more more a.1 in
     ((a.0, b.0), b.1)
 
-small_some : {end : TokenKind} {tokens rest : List Lexeme} {trees : List ExprTree} → SomeExprs end tokens trees rest
+small_some : {end : TokenKind} {tokens rest : List Lexeme} {trees : List ExprTree}
+    → ParsesSomeExprs end tokens trees rest
     → SmallTokens tokens → AreAllSmall trees × SmallTokens rest
 small_some (some_exprs one more) small =
     let a = small_expr one small in
     let b = small_more more a.1 in
     ((a.0, b.0), b.1)
 
-small_arguments : {tokens rest : List Lexeme} {trees : List ExprTree} → Arguments tokens trees rest
+small_arguments : {tokens rest : List Lexeme} {trees : List ExprTree} → ParsesArguments tokens trees rest
     → SmallTokens tokens → AreAllSmall trees × SmallTokens rest
 small_arguments (no_arguments is) small = (tt, small.1)
 small_arguments (some_arguments h) small = small_some h small
 
-small_call : {tokens rest : List Lexeme} {tree : CallTree} → Call tokens tree rest → SmallTokens tokens
+small_call : {tokens rest : List Lexeme} {tree : CallTree} → ParsesCall tokens tree rest → SmallTokens tokens
     → AreAllSmall tree.arguments × SmallTokens rest
 small_call (a_call is opens h) small = small_arguments h small.1.1
 
-small_right : {tokens rest : List Lexeme} {tree : RightTree} → RightSide tokens tree rest → SmallTokens tokens
+small_right : {tokens rest : List Lexeme} {tree : RightTree} → ParsesRightSide tokens tree rest → SmallTokens tokens
     → IsSmallRight tree × SmallTokens rest
 small_right (a_call_value h) small = small_call h small
 small_right (a_value h) small = small_expr h small
 
-small_values : {tokens rest : List Lexeme} {trees : Option (List ExprTree)} → FirstValues tokens trees rest
+small_values : {tokens rest : List Lexeme} {trees : Option (List ExprTree)} → ParsesFirstValues tokens trees rest
     → SmallTokens tokens → AreSmallValues trees × SmallTokens rest
 small_values no_values small = (tt, small)
 small_values (some_values is opens h) small = small_some h small.1.1
 
-small_mutable : {tokens rest : List Lexeme} {is : Bool} → Mutable tokens is rest → SmallTokens tokens
+small_mutable : {tokens rest : List Lexeme} {is : Bool} → ParsesMutable tokens is rest → SmallTokens tokens
     → SmallTokens rest
 small_mutable no_mut small = small
 small_mutable (a_mut is) small = small.1
 
-small_array : {tokens rest : List Lexeme} {kind : Kind} {n : ℕ} → ArrayType tokens kind n rest → SmallTokens tokens
+small_array : {tokens rest : List Lexeme} {kind : Kind} {n : ℕ} → ParsesArrayType tokens kind n rest
+    → SmallTokens tokens
     → IsArrayLength n × SmallTokens rest
 small_array (an_array_type {number = number} is opens is_length closes) small =
     (length_bounds number.kind _ is_length, small.1.1.1.1)
 
 mutual
-  plain_statement : {tokens rest : List Lexeme} {tree : StatementTree} → Statement tokens tree rest
+  plain_statement : {tokens rest : List Lexeme} {tree : StatementTree} → ParsesStatement tokens tree rest
       → SmallTokens tokens → IsPlain tree × SmallTokens rest
   plain_statement (a_declaration is_label is_mutable is_kind is_name is_equals in_right ends) small =
       let a = small_right in_right (small_mutable is_mutable small.1).1.1.1 in
@@ -176,7 +182,7 @@ mutual
       let d = plain_body in_body b.1.1 in
       ((a.0, b.0, d.0), d.1)
 
-  plain_conditional : {tokens rest : List Lexeme} {tree : StatementTree} → Conditional tokens tree rest
+  plain_conditional : {tokens rest : List Lexeme} {tree : StatementTree} → ParsesConditional tokens tree rest
       → SmallTokens tokens → IsPlain tree × SmallTokens rest
   plain_conditional (a_conditional is_if opens in_condition closes in_arm in_others) small =
       let a = small_expr in_condition small.1.1 in
@@ -184,7 +190,8 @@ mutual
       let d = plain_otherwise in_others b.1 in
       ((a.0, b.0, d.0), d.1)
 
-  plain_block : {tokens rest : List Lexeme} {trees : BlockTree} → Statements tokens trees rest → SmallTokens tokens
+  plain_block : {tokens rest : List Lexeme} {trees : BlockTree} → ParsesStatements tokens trees rest
+      → SmallTokens tokens
       → ArePlain trees × SmallTokens rest
   plain_block no_statement small = (tt, small)
   plain_block (one_statement in_one in_more) small =
@@ -192,13 +199,14 @@ mutual
       let b = plain_block in_more a.1 in
       ((a.0, b.0), b.1)
 
-  plain_body : {tokens rest : List Lexeme} {trees : BlockTree} → Block tokens trees rest → SmallTokens tokens
+  plain_body : {tokens rest : List Lexeme} {trees : BlockTree} → ParsesBlock tokens trees rest → SmallTokens tokens
       → ArePlain trees × SmallTokens rest
   plain_body (a_block opens in_list closes) small =
       let a = plain_block in_list small.1 in
       (a.0, a.1.1)
 
-  plain_otherwise : {tokens rest : List Lexeme} {trees : BlockTree} → Otherwise tokens trees rest → SmallTokens tokens
+  plain_otherwise : {tokens rest : List Lexeme} {trees : BlockTree} → ParsesOtherwise tokens trees rest
+      → SmallTokens tokens
       → ArePlain trees × SmallTokens rest
   plain_otherwise no_else small = (tt, small)
   plain_otherwise (an_else is_else in_arm) small = plain_body in_arm small.1
@@ -209,7 +217,8 @@ mutual
 abbrev HaveForms : List ParameterTree → Type 0
 HaveForms trees = AllByRecursion HasForm trees
 
-one_parameter : {tokens rest : List Lexeme} {tree : ParameterTree} → Parameter tokens tree rest → SmallTokens tokens
+one_parameter : {tokens rest : List Lexeme} {tree : ParameterTree} → ParsesParameter tokens tree rest
+    → SmallTokens tokens
     → HasForm tree × SmallTokens rest
 one_parameter (a_word is_label is_kind is_name) small = (refl, small.1.1.1)
 one_parameter (a_fixed_array is_label in_type is_name) small =
@@ -219,7 +228,7 @@ one_parameter (a_mutable_array is_label is_mut in_type is_name) small =
     let a = small_array in_type small.1.1 in
     (a.0, a.1.1)
 
-more_parameters : {tokens rest : List Lexeme} {trees : List ParameterTree} → MoreParameters tokens trees rest
+more_parameters : {tokens rest : List Lexeme} {trees : List ParameterTree} → ParsesMoreParameters tokens trees rest
     → SmallTokens tokens → HaveForms trees × SmallTokens rest
 more_parameters (no_more_parameters is) small = (tt, small.1)
 more_parameters (one_more_parameter is one more) small =
@@ -227,7 +236,7 @@ more_parameters (one_more_parameter is one more) small =
     let b = more_parameters more a.1 in
     ((a.0, b.0), b.1)
 
-all_parameters : {tokens rest : List Lexeme} {trees : List ParameterTree} → Parameters tokens trees rest
+all_parameters : {tokens rest : List Lexeme} {trees : List ParameterTree} → ParsesParameters tokens trees rest
     → SmallTokens tokens → HaveForms trees × SmallTokens rest
 all_parameters (no_parameters is) small = (tt, small.1)
 all_parameters (some_parameters one more) small =
@@ -235,24 +244,26 @@ all_parameters (some_parameters one more) small =
     let b = more_parameters more a.1 in
     ((a.0, b.0), b.1)
 
-small_export : {tokens rest : List Lexeme} {export : Option Place} → Exported tokens export rest → SmallTokens tokens
+small_export : {tokens rest : List Lexeme} {export : Option Place} → ParsesExported tokens export rest
+    → SmallTokens tokens
     → SmallTokens rest
 small_export not_exported small = small
 small_export (an_export is) small = small.1
 
-small_result : {tokens rest : List Lexeme} {result : _} → ResultType tokens result rest → SmallTokens tokens
+small_result : {tokens rest : List Lexeme} {result : _} → ParsesResultType tokens result rest → SmallTokens tokens
     → SmallTokens rest
 small_result (a_void is) small = small.1
 small_result (a_type is is_kind) small = small.1.1
 
-small_return : {tokens rest : List Lexeme} {returned : Option ReturnTree} → BodyEnd tokens returned rest
+small_return : {tokens rest : List Lexeme} {returned : Option ReturnTree} → ParsesBodyEnd tokens returned rest
     → SmallTokens tokens → IsSmallReturn returned × SmallTokens rest
 small_return (no_return is) small = (tt, small.1)
 small_return (a_return is h ends closes) small =
     let a = small_expr h small.1 in
     (a.0, a.1.1.1)
 
-a_grammatical : {tokens rest : List Lexeme} {tree : ProcedureTree} → Procedure tokens tree rest → SmallTokens tokens
+a_grammatical : {tokens rest : List Lexeme} {tree : ProcedureTree} → ParsesProcedure tokens tree rest
+    → SmallTokens tokens
     → IsGrammatical tree × SmallTokens rest
 a_grammatical (a_procedure is_export is_result is_name opens ps opens' ss in_end) small =
     let s = small_result is_result (small_export is_export small) in
@@ -264,14 +275,16 @@ a_grammatical (a_procedure is_export is_result is_name opens ps opens' ss in_end
 abbrev AreGrammatical : List ProcedureTree → Type 0
 AreGrammatical trees = AllByRecursion IsGrammatical trees
 
-all_grammatical : {tokens : List Lexeme} {trees : List ProcedureTree} → Procedures tokens trees → SmallTokens tokens
+all_grammatical : {tokens : List Lexeme} {trees : List ProcedureTree} → ParsesProcedures tokens trees
+    → SmallTokens tokens
     → AreGrammatical trees
 all_grammatical no_procedure small = tt
 all_grammatical (one_procedure one more) small =
     let a = a_grammatical one small in
     (a.0, all_grammatical more a.1)
 
-answered : {tokens : List Lexeme} {end : Ending} {program : ProgramTree} → Answers tokens end (accepted program)
+answered : {tokens : List Lexeme} {end : TokensEnding} {program : ProgramTree} → IsParseAnswer tokens end
+    (accepted program)
     → SmallTokens tokens → AreGrammatical program.procedures
 answered (a_program _ _ _ (a_program_rule h) within) small = all_grammatical h small
 

@@ -10,24 +10,25 @@ use Rattle.syntax.specs.Grammar.{IsProgram, IsBeginning}
 use Rattle.syntax.specs.Lexeme.{Lexeme}
 use Rattle.syntax.specs.Nesting.{Nest, outside, after, after_all, AreWithin, AreWithinFrom}
 use Rattle.syntax.specs.Limits.{nesting_limit}
-use Rattle.syntax.specs.Reading.{Answer, refused, Answers, a_program, unexpected, unexpected_end, too_deep, bad_token}
-use Rattle.syntax.specs.Reading.{OneAnswerForTokens, OneProgram}
-use Rattle.syntax.specs.Tokens.{Ending, ends_at, stops}
-use Rattle.syntax.specs.private.Machine.{State, step, at_end, program, run, verdict, token_answer, ending_answer}
+use Rattle.syntax.specs.Reading.{ParseAnswer, refused, IsParseAnswer, a_program, unexpected, unexpected_end, too_deep}
+use Rattle.syntax.specs.Reading.{bad_token, OneAnswerForTokens, OneProgram}
+use Rattle.syntax.specs.Tokens.{TokensEnding, ends_at, stops}
+use Rattle.syntax.specs.private.Machine.{ParserState, step, at_end, program, run, verdict, token_answer, ending_answer}
 use Rattle.syntax.proofs.MachineSound.{and_then_some}
 use Rattle.syntax.proofs.MachineSound.{begins_by_run, program_by_run}
 use Rattle.syntax.proofs.MachineComplete.{run_program, run_beginning, run_front}
 
-run-append : (front ts : List Lexeme) (s next : State) → run s front ≡ Some next → run s (front ++ ts) ≡ run next ts
+run-append : (front ts : List Lexeme) (s next : ParserState) → run s front ≡ Some next → run s
+    (front ++ ts) ≡ run next ts
 run-append [] ts s next e = let is : s ≡ next = cc in ap (λ x. run x ts) is
 run-append (t ∷ front) ts s next e =
     let w = and_then_some (λ x. run x front) (step s t) next e in
     ap (option_and_then (λ x. run x (front ++ ts))) w.1 ∙ run-append front ts w.0 next w.2
 
-run-one : (s next : State) (t : Lexeme) → step s t ≡ Some next → run s (t ∷ []) ≡ Some next
+run-one : (s next : ParserState) (t : Lexeme) → step s t ≡ Some next → run s (t ∷ []) ≡ Some next
 run-one s next t e = ap (option_and_then (λ x. run x [])) e
 
-run-none : (s : State) (t : Lexeme) → step s t ≡ None → run s (t ∷ []) ≡ None
+run-none : (s : ParserState) (t : Lexeme) → step s t ≡ None → run s (t ∷ []) ≡ None
 run-none s t e = ap (option_and_then (λ x. run x [])) e
 
 after_all-append : (front ts : List Lexeme) (nest : Nest)
@@ -52,35 +53,36 @@ true-lt n m e = grind (arith, nat_tests)
 false-lt : (n m : ℕ) → m ≤ n → nat_lt n m ≡ false
 false-lt n m e = grind (arith, nat_tests)
 
-no_step : (front : List Lexeme) (s : State) (t : Lexeme) → run program front ≡ Some s → step s t ≡ None
+no_step : (front : List Lexeme) (s : ParserState) (t : Lexeme) → run program front ≡ Some s → step s t ≡ None
     → ¬ IsBeginning (front ++ t ∷ [])
 no_step front s t e none begins =
     let w = run_beginning (front ++ t ∷ []) begins in
     let same : run program (front ++ t ∷ []) ≡ None = run-append front (t ∷ []) program s e ∙ run-none s t none in
     let absurdity : Some w.0 ≡ None = sym w.1 ∙ same in cc
 
-no_program : (ts : List Lexeme) (s : State) → run program ts ≡ Some s → at_end s ≡ None → (p : ProgramTree)
+no_program : (ts : List Lexeme) (s : ParserState) → run program ts ≡ Some s → at_end s ≡ None → (p : ProgramTree)
     → ¬ IsProgram ts p
 no_program ts s e none p h =
     let w = run_program ts p h in
     let same : w.0 ≡ s = cc in
     let last : Some p ≡ None = sym w.2 ∙ ap at_end same ∙ none in cc
 
-end_answer : (front : List Lexeme) (s : State) → run program front ≡ Some s → AreWithin front
-    → (ending : Ending) (last : Option ProgramTree) → at_end s ≡ last
-    → Answers front ending (ending_answer ending last)
+end_answer : (front : List Lexeme) (s : ParserState) → run program front ≡ Some s → AreWithin front
+    → (ending : TokensEnding) (last : Option ProgramTree) → at_end s ≡ last
+    → IsParseAnswer front ending (ending_answer ending last)
 end_answer front s e within (ends_at place) (Some p) last =
     a_program front place p (program_by_run front s p e last) within
 end_answer front s e within (ends_at place) None last =
     unexpected_end front place (begins_by_run front s e) (no_program front s e last) within
 end_answer front s e within (stops rule place) last is = bad_token front rule place (begins_by_run front s e) within
 
-deep_answer : (front ts : List Lexeme) (s next : State) (t : Lexeme) (ending : Ending) → run program front ≡ Some s
+deep_answer : (front ts : List Lexeme) (s next : ParserState) (t : Lexeme) (ending : TokensEnding)
+    → run program front ≡ Some s
     → AreWithin front → step s t ≡ Some next → (deep : Bool)
     → nat_lt nesting_limit (after t.kind (after_all front outside)).count ≡ deep
     → (AreWithin (front ++ t ∷ [])
-    → Answers (front ++ t ∷ ts) ending (verdict next (after t.kind (after_all front outside)) ts ending))
-    → Answers (front ++ t ∷ ts) ending (if deep then refused Nesting t.place
+    → IsParseAnswer (front ++ t ∷ ts) ending (verdict next (after t.kind (after_all front outside)) ts ending))
+    → IsParseAnswer (front ++ t ∷ ts) ending (if deep then refused Nesting t.place
     else verdict next (after t.kind (after_all front outside)) ts ending)
 deep_answer front ts s next t ending e within is true deep k =
     too_deep front ts t ending (begins_by_run (front ++ t ∷ []) next (run-append front (t ∷ []) program s e
@@ -88,11 +90,12 @@ deep_answer front ts s next t ending e within is true deep k =
 deep_answer front ts s next t ending e within is false deep k =
     k (AreWithin-append front (t ∷ []) outside within (lt-false _ _ deep, tt))
 
-step_answer : (front ts : List Lexeme) (s : State) (t : Lexeme) (ending : Ending) → run program front ≡ Some s
-    → AreWithin front → (o : Option State) → step s t ≡ o
-    → ((next : State) → step s t ≡ Some next → AreWithin (front ++ t ∷ [])
-    → Answers (front ++ t ∷ ts) ending (verdict next (after t.kind (after_all front outside)) ts ending))
-    → Answers (front ++ t ∷ ts) ending
+step_answer : (front ts : List Lexeme) (s : ParserState) (t : Lexeme) (ending : TokensEnding)
+    → run program front ≡ Some s
+    → AreWithin front → (o : Option ParserState) → step s t ≡ o
+    → ((next : ParserState) → step s t ≡ Some next → AreWithin (front ++ t ∷ [])
+    → IsParseAnswer (front ++ t ∷ ts) ending (verdict next (after t.kind (after_all front outside)) ts ending))
+    → IsParseAnswer (front ++ t ∷ ts) ending
     (token_answer o t (after t.kind (after_all front outside))
     (λ next. verdict next (after t.kind (after_all front outside)) ts ending))
 step_answer front ts s t ending e within None is k =
@@ -102,27 +105,27 @@ step_answer front ts s t ending e within (Some next) is k =
     (nat_lt nesting_limit (after t.kind (after_all front outside)).count) refl (k next is)
 
 -- after a front that the machine took
-answer_from : (front : List Lexeme) (s : State) → run program front ≡ Some s → AreWithin front
-    → (ts : List Lexeme) (ending : Ending)
-    → Answers (front ++ ts) ending (verdict s (after_all front outside) ts ending)
+answer_from : (front : List Lexeme) (s : ParserState) → run program front ≡ Some s → AreWithin front
+    → (ts : List Lexeme) (ending : TokensEnding)
+    → IsParseAnswer (front ++ ts) ending (verdict s (after_all front outside) ts ending)
 answer_from front s e within [] ending =
-    subst (λ ts. Answers ts ending (verdict s (after_all front outside) [] ending)) (sym (append-nil front))
+    subst (λ ts. IsParseAnswer ts ending (verdict s (after_all front outside) [] ending)) (sym (append-nil front))
     (end_answer front s e within ending (at_end s) refl)
 answer_from front s e within (t ∷ ts) ending =
     step_answer front ts s t ending e within (step s t) refl
     (λ next is shallow.
     let g = answer_from (front ++ t ∷ []) next (run-append front (t ∷ []) program s e ∙ run-one s next t is) shallow
     ts ending in
-    subst (λ nest. Answers (front ++ t ∷ ts) ending (verdict next nest ts ending))
+    subst (λ nest. IsParseAnswer (front ++ t ∷ ts) ending (verdict next nest ts ending))
     (after_all-append front (t ∷ []) outside)
-    (subst (λ xs. Answers xs ending (verdict next (after_all (front ++ t ∷ []) outside) ts ending))
+    (subst (λ xs. IsParseAnswer xs ending (verdict next (after_all (front ++ t ∷ []) outside) ts ending))
     (append_assoc front (t ∷ []) ts) g))
 
 -- the machine's answer is an answer
-pub answers : (ts : List Lexeme) (ending : Ending) → Answers ts ending (verdict program outside ts ending)
+pub answers : (ts : List Lexeme) (ending : TokensEnding) → IsParseAnswer ts ending (verdict program outside ts ending)
 answers ts ending = answer_from [] program refl tt ts ending
 
-passes : (front ts : List Lexeme) (s next : State) (nest : Nest) (ending : Ending) → run s front ≡ Some next
+passes : (front ts : List Lexeme) (s next : ParserState) (nest : Nest) (ending : TokensEnding) → run s front ≡ Some next
     → AreWithinFrom nest front → verdict s nest (front ++ ts) ending ≡ verdict next (after_all front nest) ts ending
 passes [] ts s next nest ending e within = let is : s ≡ next = cc in ap (λ x. verdict x nest ts ending) is
 passes (t ∷ front) ts s next nest ending e within =
@@ -133,7 +136,7 @@ passes (t ∷ front) ts s next nest ending e within =
     (false-lt nesting_limit n.count within.0)
     ∙ passes front ts w.0 next n ending w.2 within.1
 
-passes-all : (ts : List Lexeme) (s next : State) (nest : Nest) (ending : Ending) → run s ts ≡ Some next
+passes-all : (ts : List Lexeme) (s next : ParserState) (nest : Nest) (ending : TokensEnding) → run s ts ≡ Some next
     → AreWithinFrom nest ts → verdict s nest ts ending ≡ ending_answer ending (at_end next)
 passes-all ts s next nest ending e within = ap (λ xs. verdict s nest xs ending) (sym (append-nil ts))
     ∙ passes ts [] s next nest ending e within
@@ -143,7 +146,7 @@ none_from None h = refl
 none_from (Some x) h = absurd (h x refl)
 
 -- each answer is the machine's
-pub answered : (ts : List Lexeme) (ending : Ending) (a : Answer) → Answers ts ending a
+pub answered : (ts : List Lexeme) (ending : TokensEnding) (a : ParseAnswer) → IsParseAnswer ts ending a
     → a ≡ verdict program outside ts ending
 answered _ _ _ (a_program tokens end tree h within) =
     let w = run_program tokens tree h in

@@ -12,18 +12,18 @@ use Rattle.syntax.specs.declared.token.TokenKind.{TokenKind}
 use Rattle.syntax.specs.declared.token.TokenKind.TheVariants as token
 use Rattle.syntax.specs.declared.token.Sign.TheVariants.{RotateLeft}
 use Rattle.syntax.specs.Grammar.{operator_of, prefix_of, conversion_of, level_of, left_level_of, label_of, word_of}
-use Rattle.syntax.specs.Grammar.{length_of, amount_of, ExprAt, a_number, a_true, a_false, a_name, an_element}
-use Rattle.syntax.specs.Grammar.{in_brackets, a_conversion, a_select, a_prefix, a_rotation, a_binary, MoreExprs}
-use Rattle.syntax.specs.Grammar.{no_more, one_more, SomeExprs, some_exprs as some_exprs_rule, Arguments, no_arguments}
-use Rattle.syntax.specs.Grammar.{some_arguments, a_call, RightSide, a_call_value, a_value, FirstValues, no_values}
-use Rattle.syntax.specs.Grammar.{some_values}
+use Rattle.syntax.specs.Grammar.{length_of, amount_of, ParsesExprAt, a_number, a_true, a_false, a_name, an_element}
+use Rattle.syntax.specs.Grammar.{in_brackets, a_conversion, a_select, a_prefix, a_rotation, a_binary, ParsesMoreExprs}
+use Rattle.syntax.specs.Grammar.{no_more, one_more, ParsesSomeExprs, some_exprs as some_exprs_rule, ParsesArguments}
+use Rattle.syntax.specs.Grammar.{no_arguments, some_arguments, a_call, ParsesRightSide, a_call_value, a_value}
+use Rattle.syntax.specs.Grammar.{ParsesFirstValues, no_values, some_values}
 use Rattle.syntax.specs.Lexeme.{Lexeme}
 use Rattle.language.specs.Tree as tree
-use Rattle.syntax.specs.declared.parser.operator.Begins.{Begins}
-use Rattle.syntax.specs.declared.parser.operator.Begins.TheVariants.{Name as by_name}
+use Rattle.syntax.specs.declared.parser.operator.OperandStart.{OperandStart}
+use Rattle.syntax.specs.declared.parser.operator.OperandStart.TheVariants.{Name as by_name}
 use Rattle.syntax.specs.declared.parser.operator.Link.{Link}
 use Rattle.syntax.specs.declared.parser.operator.Link.TheVariants.{Operator as by_operator, Rotation as by_rotation}
-use Rattle.syntax.specs.private.Machine.{State, one, either, a_label, a_kind, a_length, an_amount, expr, more}
+use Rattle.syntax.specs.private.Machine.{ParserState, one, either, a_label, a_kind, a_length, an_amount, expr, more}
 use Rattle.syntax.specs.private.Machine.{more_exprs, fits, begins_of, link_of, link_level, link_left_level}
 use Rattle.syntax.specs.private.Machine.{some_exprs, arguments, operand, linked, right, right_end, first_values}
 use Rattle.syntax.specs.private.Machine.{within, joined, step, run}
@@ -34,14 +34,14 @@ use Rattle.syntax.proofs.MachineSteps.{sign-step, operand-step, after_exprs}
 use Rattle.syntax.specs.declared.token.Sign.TheVariants as sign
 
 -- from a state, before some tokens, the machine comes to another one, before the rest
-pub record Moves (s : State) (ts : List Lexeme) (last : State) (rest : List Lexeme) : Type 0 where
+pub record ParserMoves (s : ParserState) (ts : List Lexeme) (last : ParserState) (rest : List Lexeme) : Type 0 where
   pub same : run s ts ≡ run last rest
 
-pub stays : {s : State} {ts : List Lexeme} → Moves s ts s ts
+pub stays : {s : ParserState} {ts : List Lexeme} → ParserMoves s ts s ts
 stays = record { same = refl }
 
-pub step-moves : {s next last : State} {t : Lexeme} {ts rest : List Lexeme} → step s t ≡ Some next
-    → Moves next ts last rest → Moves s (t ∷ ts) last rest
+pub step-moves : {s next last : ParserState} {t : Lexeme} {ts rest : List Lexeme} → step s t ≡ Some next
+    → ParserMoves next ts last rest → ParserMoves s (t ∷ ts) last rest
 step-moves {ts = ts} e h = record { same = ap (option_and_then (λ n. run n ts)) e ∙ h.same }
 
 -- some token stands next
@@ -50,8 +50,8 @@ IsSome [] = ⊥
 IsSome (t ∷ ts) = Unit {0}
 
 -- a state may be taken for one that steps as it does
-pub alike-moves : {s last : State} {rest : List Lexeme} (other : State) (ts : List Lexeme) → IsSome ts
-    → ((t : Lexeme) → step s t ≡ step other t) → Moves other ts last rest → Moves s ts last rest
+pub alike-moves : {s last : ParserState} {rest : List Lexeme} (other : ParserState) (ts : List Lexeme) → IsSome ts
+    → ((t : Lexeme) → step s t ≡ step other t) → ParserMoves other ts last rest → ParserMoves s ts last rest
 alike-moves other [] some e h = absurd some
 alike-moves other (t ∷ ts) some e h = record { same = ap (option_and_then (λ n. run n ts)) (e t) ∙ h.same }
 
@@ -64,48 +64,49 @@ pub lacks-some : (what : TokenKind) (ts : List Lexeme) → Lacks what ts → IsS
 lacks-some what [] lacks = lacks
 lacks-some what (t ∷ ts) lacks = tt
 
-pub one-moves : {what : TokenKind} {k : Lexeme → State} {last : State} {t : Lexeme} {ts rest : List Lexeme}
-    → t.kind ≡ what → Moves (k t) ts last rest → Moves (one what k) (t ∷ ts) last rest
+pub one-moves : {what : TokenKind} {k : Lexeme → ParserState} {last : ParserState} {t : Lexeme} {ts rest : List Lexeme}
+    → t.kind ≡ what → ParserMoves (k t) ts last rest → ParserMoves (one what k) (t ∷ ts) last rest
 one-moves {what} {k} {t = t} is h = step-moves (one-step what k t (fits-kind what t.kind is)) h
 
-pub either-moves : {what : TokenKind} {next : Lexeme → State} {other last : State} {t : Lexeme}
-    {ts rest : List Lexeme} → t.kind ≡ what → Moves (next t) ts last rest
-    → Moves (either what next other) (t ∷ ts) last rest
+pub either-moves : {what : TokenKind} {next : Lexeme → ParserState} {other last : ParserState} {t : Lexeme}
+    {ts rest : List Lexeme} → t.kind ≡ what → ParserMoves (next t) ts last rest
+    → ParserMoves (either what next other) (t ∷ ts) last rest
 either-moves {what} {next} {other} {t = t} is h =
     step-moves (either-step what next other t (fits-kind what t.kind is)) h
 
-pub other-moves : {what : TokenKind} {next : Lexeme → State} {other last : State} {ts rest : List Lexeme}
-    → Lacks what ts → Moves other ts last rest → Moves (either what next other) ts last rest
+pub other-moves : {what : TokenKind} {next : Lexeme → ParserState} {other last : ParserState} {ts rest : List Lexeme}
+    → Lacks what ts → ParserMoves other ts last rest → ParserMoves (either what next other) ts last rest
 other-moves {ts = []} lacks h = absurd lacks
 other-moves {next = next} {other} {ts = t ∷ ts} lacks h = record {
   same = ap (λ b. option_and_then (λ n. run n ts) (if b then Some (next t) else step other t)) lacks ∙ h.same;
 }
 
-pub label-moves : {k : Label → State} {last : State} {t : Lexeme} {ts rest : List Lexeme} {label : Label}
-    → label_of t.kind ≡ Some label → Moves (k label) ts last rest → Moves (a_label k) (t ∷ ts) last rest
+pub label-moves : {k : Label → ParserState} {last : ParserState} {t : Lexeme} {ts rest : List Lexeme} {label : Label}
+    → label_of t.kind ≡ Some label → ParserMoves (k label) ts last rest → ParserMoves (a_label k) (t ∷ ts) last rest
 label-moves {k} {t = t} {label = label} is h = step-moves (label-step k t label is) h
 
-pub kind-moves : {k : Kind → State} {last : State} {t : Lexeme} {ts rest : List Lexeme} {kind : Kind}
-    → word_of t.kind ≡ Some kind → Moves (k kind) ts last rest → Moves (a_kind k) (t ∷ ts) last rest
+pub kind-moves : {k : Kind → ParserState} {last : ParserState} {t : Lexeme} {ts rest : List Lexeme} {kind : Kind}
+    → word_of t.kind ≡ Some kind → ParserMoves (k kind) ts last rest → ParserMoves (a_kind k) (t ∷ ts) last rest
 kind-moves {k} {t = t} {kind = kind} is h = step-moves (kind-step k t kind is) h
 
-pub length-moves : {k : ℕ → State} {last : State} {t : Lexeme} {ts rest : List Lexeme} {n : ℕ}
-    → length_of t.kind ≡ Some n → Moves (k n) ts last rest → Moves (a_length k) (t ∷ ts) last rest
+pub length-moves : {k : ℕ → ParserState} {last : ParserState} {t : Lexeme} {ts rest : List Lexeme} {n : ℕ}
+    → length_of t.kind ≡ Some n → ParserMoves (k n) ts last rest → ParserMoves (a_length k) (t ∷ ts) last rest
 length-moves {k} {t = t} {n = n} is h = step-moves (length-step k t n is) h
 
-amount-moves : {k : ℕ → State} {last : State} {t : Lexeme} {ts rest : List Lexeme} {n : ℕ}
-    → amount_of t.kind ≡ Some n → Moves (k n) ts last rest → Moves (an_amount k) (t ∷ ts) last rest
+amount-moves : {k : ℕ → ParserState} {last : ParserState} {t : Lexeme} {ts rest : List Lexeme} {n : ℕ}
+    → amount_of t.kind ≡ Some n → ParserMoves (k n) ts last rest → ParserMoves (an_amount k) (t ∷ ts) last rest
 amount-moves {k} {t = t} {n = n} is h = step-moves (amount-step k t n is) h
 
-begins-moves : {level : ℕ} {k : ExprTree → State} {last : State} {t : Lexeme} {ts rest : List Lexeme} {b : Begins}
-    → begins_of t.kind ≡ Some b → Moves (operand b t (λ e. more level 11 e k)) ts last rest
-    → Moves (expr level k) (t ∷ ts) last rest
+begins-moves : {level : ℕ} {k : ExprTree → ParserState} {last : ParserState} {t : Lexeme} {ts rest : List Lexeme}
+    {b : OperandStart}
+    → begins_of t.kind ≡ Some b → ParserMoves (operand b t (λ e. more level 11 e k)) ts last rest
+    → ParserMoves (expr level k) (t ∷ ts) last rest
 begins-moves {level} {k} {t = t} {b = b} is h = step-moves (operand-step level k t b is) h
 
-link-moves : {level top : ℕ} {left : ExprTree} {k : ExprTree → State} {last : State} {t : Lexeme}
+link-moves : {level top : ℕ} {left : ExprTree} {k : ExprTree → ParserState} {last : ParserState} {t : Lexeme}
     {ts rest : List Lexeme} (link : Link) → link_of t.kind ≡ Some link → level ≤ link_level link
-    → link_left_level link ≤ top → Moves (linked link t.place level left k) ts last rest
-    → Moves (more level top left k) (t ∷ ts) last rest
+    → link_left_level link ≤ top → ParserMoves (linked link t.place level left k) ts last rest
+    → ParserMoves (more level top left k) (t ∷ ts) last rest
 link-moves {level} {top} {left} {k} {t = t} link is low high h =
     step-moves (sign-step level top left k t link is low high) h
 
@@ -152,8 +153,9 @@ within_none level top None h = refl
 within_none level top (Some link) h = let e = not_le level (link_level link) (h link refl) in rw e
 
 -- an expression that is complete makes way for what may stand after it
-stops-moves : {level top : ℕ} {left : ExprTree} {k : ExprTree → State} {last : State} (ts : List Lexeme)
-    {rest : List Lexeme} → Stops level ts → Moves (k left) ts last rest → Moves (more level top left k) ts last rest
+stops-moves : {level top : ℕ} {left : ExprTree} {k : ExprTree → ParserState} {last : ParserState} (ts : List Lexeme)
+    {rest : List Lexeme} → Stops level ts → ParserMoves (k left) ts last rest → ParserMoves
+    (more level top left k) ts last rest
 stops-moves [] stops h = absurd stops
 stops-moves {level} {top} {left} {k} (t ∷ ts) stops h = record {
   same = ap (λ o. option_and_then (λ n. run n ts) (joined o t.place level left k (step (k left) t)))
@@ -175,15 +177,15 @@ rotation-stops kind level is lt = (
 )
 
 -- after an expression, the token that ends it
-closed : {what : TokenKind} {top : ℕ} {e : ExprTree} {k : ExprTree → State} {last : State} {t : Lexeme}
-    {ts rest : List Lexeme} → Closes what → t.kind ≡ what → Moves (k e) ts last rest
-    → Moves (more 1 top e (λ x. one what (λ _. k x))) (t ∷ ts) last rest
+closed : {what : TokenKind} {top : ℕ} {e : ExprTree} {k : ExprTree → ParserState} {last : ParserState} {t : Lexeme}
+    {ts rest : List Lexeme} → Closes what → t.kind ≡ what → ParserMoves (k e) ts last rest
+    → ParserMoves (more 1 top e (λ x. one what (λ _. k x))) (t ∷ ts) last rest
 closed closes is h = stops-moves _ (closes-stops {level = 1} closes is) (one-moves is h)
 
 -- the machine reads an expression, and may go on with signs that bind less strongly
-reads-expr : {level low : ℕ} {ts tail : List Lexeme} {e : ExprTree} {k : ExprTree → State} {last : State}
-    {rest : List Lexeme} → ExprAt level ts e tail → level ≤ 10 → Stops (level + 1) tail → low ≤ level
-    → ((top : ℕ) → level ≤ top → Moves (more low top e k) tail last rest) → Moves (expr low k) ts last rest
+reads-expr : {level low : ℕ} {ts tail : List Lexeme} {e : ExprTree} {k : ExprTree → ParserState} {last : ParserState}
+    {rest : List Lexeme} → ParsesExprAt level ts e tail → level ≤ 10 → Stops (level + 1) tail → low ≤ level
+    → ((top : ℕ) → level ≤ top → ParserMoves (more low top e k) tail last rest) → ParserMoves (expr low k) ts last rest
 reads-expr (a_number is) small stops le h = begins-moves (ap begins_of is) (h 11 (omega arith))
 reads-expr (a_true is) small stops le h = begins-moves (ap begins_of is) (h 11 (omega arith))
 reads-expr (a_false is) small stops le h = begins-moves (ap begins_of is) (h 11 (omega arith))
@@ -229,27 +231,30 @@ reads-expr (a_binary {level} {t} {operator = o} {rest = rest} is at in_left in_r
     (λ top' _.
     stops-moves rest (stops-more (level + 1) (level_of o + 1) rest (omega arith) stops) (h (level_of o) at))))
 
-expr-moves : {ts tail rest : List Lexeme} {e : ExprTree} {k : ExprTree → State} {last : State} → ExprAt 1 ts e tail
-    → Stops 1 tail → Moves (k e) tail last rest → Moves (expr 1 k) ts last rest
+expr-moves : {ts tail rest : List Lexeme} {e : ExprTree} {k : ExprTree → ParserState} {last : ParserState}
+    → ParsesExprAt 1 ts e tail
+    → Stops 1 tail → ParserMoves (k e) tail last rest → ParserMoves (expr 1 k) ts last rest
 expr-moves {tail = tail} is stops h =
     reads-expr is (omega arith) (stops-more 1 2 tail (omega arith) stops) (omega arith)
     (λ top _. stops-moves tail stops h)
 
 -- an expression, and a token that ends it
 pub expr-one-moves : {what : TokenKind} {ts tail rest : List Lexeme} {t : Lexeme} {e : ExprTree}
-    {k : ExprTree → State} {last : State} → Closes what → ExprAt 1 ts e (t ∷ tail) → t.kind ≡ what
-    → Moves (k e) tail last rest → Moves (expr 1 (λ x. one what (λ _. k x))) ts last rest
+    {k : ExprTree → ParserState} {last : ParserState} → Closes what → ParsesExprAt 1 ts e (t ∷ tail) → t.kind ≡ what
+    → ParserMoves (k e) tail last rest → ParserMoves (expr 1 (λ x. one what (λ _. k x))) ts last rest
 expr-one-moves closes in_e is h = expr-moves in_e (closes-stops closes is) (one-moves is h)
 
 -- a list of expressions, and what ends it
-more-stops : {end : TokenKind} {ts rest : List Lexeme} {es : List ExprTree} → Closes end → MoreExprs end ts es rest
+more-stops : {end : TokenKind} {ts rest : List Lexeme} {es : List ExprTree} → Closes end
+    → ParsesMoreExprs end ts es rest
     → Stops 1 ts
 more-stops closes (no_more is) = closes-stops closes is
 more-stops closes (one_more is in_e in_more) = closes-stops ((refl, refl), refl) is
 
-more-moves : {end : TokenKind} {ts tail rest : List Lexeme} {fs : List ExprTree} {last : State}
-    (es : List ExprTree) (k : List ExprTree → State) → Closes end → fits (token.Sign sign.Comma) end ≡ false
-    → MoreExprs end ts fs tail → Moves (k (es ++ fs)) tail last rest → Moves (more_exprs end es k) ts last rest
+more-moves : {end : TokenKind} {ts tail rest : List Lexeme} {fs : List ExprTree} {last : ParserState}
+    (es : List ExprTree) (k : List ExprTree → ParserState) → Closes end → fits (token.Sign sign.Comma) end ≡ false
+    → ParsesMoreExprs end ts fs tail → ParserMoves (k (es ++ fs)) tail last rest → ParserMoves
+    (more_exprs end es k) ts last rest
 more-moves {end} es k closes other (no_more is) h =
     alike-moves (after_exprs end es k) _ tt (λ t. refl)
     (other-moves (ap (fits (token.Sign sign.Comma)) is ∙ other) (one-moves is (rw append-nil at h)))
@@ -259,19 +264,20 @@ more-moves {end} es k closes other (one_more {tree = e} is in_e in_more) h =
     (expr-moves in_e (more-stops closes in_more)
     (more-moves (es ++ e ∷ []) k closes other in_more (rw append_assoc h))))
 
-some-moves : {end : TokenKind} {ts tail rest : List Lexeme} {es : List ExprTree} {last : State}
-    (k : List ExprTree → State) → Closes end → fits (token.Sign sign.Comma) end ≡ false → SomeExprs end ts es tail
-    → Moves (k es) tail last rest → Moves (some_exprs end k) ts last rest
+some-moves : {end : TokenKind} {ts tail rest : List Lexeme} {es : List ExprTree} {last : ParserState}
+    (k : List ExprTree → ParserState) → Closes end → fits (token.Sign sign.Comma) end ≡ false
+    → ParsesSomeExprs end ts es tail
+    → ParserMoves (k es) tail last rest → ParserMoves (some_exprs end k) ts last rest
 some-moves k closes other (some_exprs_rule {tree = e} in_e in_more) h =
     expr-moves in_e (more-stops closes in_more) (more-moves (e ∷ []) k closes other in_more h)
 
 -- the first token begins an operand, and no opening bracket follows a name that stands first
 abbrev Front : List Lexeme → Type 0
 Front [] = ⊥
-Front (t ∷ ts) = (b : Begins) × (begins_of t.kind ≡ Some b)
+Front (t ∷ ts) = (b : OperandStart) × (begins_of t.kind ≡ Some b)
     × (t.kind ≡ token.Name → Lacks (token.Sign sign.OpenRound) ts)
 
-front : {level : ℕ} {ts rest : List Lexeme} {e : ExprTree} → ExprAt level ts e rest
+front : {level : ℕ} {ts rest : List Lexeme} {e : ExprTree} → ParsesExprAt level ts e rest
     → Lacks (token.Sign sign.OpenRound) rest → Front ts
 front (a_number is) h = (_, ap begins_of is, λ e. let f = sym is ∙ e in cc)
 front (a_true is) h = (_, ap begins_of is, λ e. cc)
@@ -290,20 +296,21 @@ front-lacks [] h = absurd h
 front-lacks (t ∷ ts) h = unlike begins_of (token.Sign sign.CloseRound) refl h.1
 
 some-lacks : {end : TokenKind} {rest : List Lexeme} {es : List ExprTree} (ts : List Lexeme) → Closes end
-    → SomeExprs end ts es rest → Lacks (token.Sign sign.CloseRound) ts
+    → ParsesSomeExprs end ts es rest → Lacks (token.Sign sign.CloseRound) ts
 some-lacks ts closes (some_exprs_rule {second = second} in_e in_more) =
     front-lacks ts (front in_e (stops-lacks-round 1 second (more-stops closes in_more)))
 
 -- arguments, after their opening bracket
-pub arguments-moves : {ts tail rest : List Lexeme} {es : List ExprTree} {last : State} (k : List ExprTree → State)
-    → Arguments ts es tail → Moves (k es) tail last rest → Moves (arguments k) ts last rest
+pub arguments-moves : {ts tail rest : List Lexeme} {es : List ExprTree} {last : ParserState}
+    (k : List ExprTree → ParserState)
+    → ParsesArguments ts es tail → ParserMoves (k es) tail last rest → ParserMoves (arguments k) ts last rest
 arguments-moves k (no_arguments is) h = either-moves is h
 arguments-moves k (some_arguments {list} is) h =
     other-moves (some-lacks list ((refl, refl), refl) is) (some-moves k ((refl, refl), refl) refl is h)
 
 -- a right side that is an expression
-right-expr : {last : State} {rest : List Lexeme} (ts : List Lexeme) (k : RightTree → State) → Front ts
-    → Moves (expr 1 (λ e. k (tree.computed e))) ts last rest → Moves (right k) ts last rest
+right-expr : {last : ParserState} {rest : List Lexeme} (ts : List Lexeme) (k : RightTree → ParserState) → Front ts
+    → ParserMoves (expr 1 (λ e. k (tree.computed e))) ts last rest → ParserMoves (right k) ts last rest
 right-expr [] k front h = absurd front
 right-expr (t ∷ ts) k front h = elim (cases_Bool (fits token.Name t.kind)) [
   | inl e ↦
@@ -315,8 +322,8 @@ right-expr (t ∷ ts) k front h = elim (cases_Bool (fits token.Name t.kind)) [
   | inr e ↦ other-moves e h
 ]
 
-right-moves : {ts tail rest : List Lexeme} {r : RightTree} {last : State} (k : RightTree → State)
-    → RightSide ts r tail → Stops 1 tail → Moves (k r) tail last rest → Moves (right k) ts last rest
+right-moves : {ts tail rest : List Lexeme} {r : RightTree} {last : ParserState} (k : RightTree → ParserState)
+    → ParsesRightSide ts r tail → Stops 1 tail → ParserMoves (k r) tail last rest → ParserMoves (right k) ts last rest
 right-moves k (a_call_value (a_call {t} is opens in_list)) stops h =
     either-moves is (either-moves opens (arguments-moves (λ es. k (tree.called (record {
       place = t.place;
@@ -326,17 +333,17 @@ right-moves k (a_call_value (a_call {t} is opens in_list)) stops h =
 right-moves k (a_value {list} {rest} in_e) stops h =
     right-expr list k (front in_e (stops-lacks-round 1 rest stops)) (expr-moves in_e stops h)
 
-pub right-end-moves : {ts tail rest : List Lexeme} {r : RightTree} {semicolon : Lexeme} {last : State}
-    (k : RightTree → State) → RightSide ts r (semicolon ∷ tail) → semicolon.kind ≡ token.Sign sign.Semicolon
-    → Moves (k r) tail last rest → Moves (right_end k) ts last rest
+pub right-end-moves : {ts tail rest : List Lexeme} {r : RightTree} {semicolon : Lexeme} {last : ParserState}
+    (k : RightTree → ParserState) → ParsesRightSide ts r (semicolon ∷ tail) → semicolon.kind ≡ token.Sign sign.Semicolon
+    → ParserMoves (k r) tail last rest → ParserMoves (right_end k) ts last rest
 right-end-moves k in_right ends h =
     right-moves (λ r. one (token.Sign sign.Semicolon) (λ _. k r)) in_right
     (closes-stops ((refl, refl), refl) ends) (one-moves ends h)
 
-pub values-moves : {ts tail rest : List Lexeme} {vs : Option (List ExprTree)} {semicolon : Lexeme} {last : State}
-    (k : Option (List ExprTree) → State) → FirstValues ts vs (semicolon ∷ tail)
-    → semicolon.kind ≡ token.Sign sign.Semicolon → Moves (k vs) tail last rest
-    → Moves (first_values (λ vs. one (token.Sign sign.Semicolon) (λ _. k vs))) ts last rest
+pub values-moves : {ts tail rest : List Lexeme} {vs : Option (List ExprTree)} {semicolon : Lexeme} {last : ParserState}
+    (k : Option (List ExprTree) → ParserState) → ParsesFirstValues ts vs (semicolon ∷ tail)
+    → semicolon.kind ≡ token.Sign sign.Semicolon → ParserMoves (k vs) tail last rest
+    → ParserMoves (first_values (λ vs. one (token.Sign sign.Semicolon) (λ _. k vs))) ts last rest
 values-moves k no_values ends h = other-moves (ap (fits (token.Sign sign.Assign)) ends) (one-moves ends h)
 values-moves k (some_values is opens in_list) ends h =
     either-moves is

@@ -9,11 +9,12 @@ use Rattle.syntax.proofs.TokenLaws.{keyword_unique, sign_unique}
 use Rattle.syntax.proofs.TokenNumbers.{suffix_unique}
 use Rattle.syntax.proofs.TokenRuns.{and_true}
 use Rattle.std.specs.Option.{option_map}
-use Rattle.syntax.specs.declared.parser.operator.Begins.{Begins}
-use Rattle.syntax.specs.declared.parser.operator.Begins.TheVariants.{Number as by_number, Truth as by_truth}
-use Rattle.syntax.specs.declared.parser.operator.Begins.TheVariants.{Name as by_name, Bracket as by_bracket}
-use Rattle.syntax.specs.declared.parser.operator.Begins.TheVariants.{Prefix as by_prefix, Conversion as by_conversion}
-use Rattle.syntax.specs.declared.parser.operator.Begins.TheVariants.{Select as by_select}
+use Rattle.syntax.specs.declared.parser.operator.OperandStart.{OperandStart}
+use Rattle.syntax.specs.declared.parser.operator.OperandStart.TheVariants.{Number as by_number, Truth as by_truth}
+use Rattle.syntax.specs.declared.parser.operator.OperandStart.TheVariants.{Name as by_name, Bracket as by_bracket}
+use Rattle.syntax.specs.declared.parser.operator.OperandStart.TheVariants.{Prefix as by_prefix}
+use Rattle.syntax.specs.declared.parser.operator.OperandStart.TheVariants.{Conversion as by_conversion}
+use Rattle.syntax.specs.declared.parser.operator.OperandStart.TheVariants.{Select as by_select}
 use Rattle.syntax.specs.declared.parser.operator.Link.{Link}
 use Rattle.syntax.specs.declared.parser.operator.Link.TheVariants.{Operator as by_operator, Rotation as by_rotation}
 use Rattle.syntax.specs.declared.parser.statement.Start.{Start}
@@ -73,7 +74,7 @@ holds-mapped f P None h = tt
 holds-mapped f P (Some x) h = h x refl
 
 -- the kind of a token that begins an operand so
-abbrev pub BeginsBy : TokenKind → Begins → Type 0
+abbrev pub BeginsBy : TokenKind → OperandStart → Type 0
 BeginsBy kind (by_number n suffix) = kind ≡ token.Number n suffix
 BeginsBy kind (by_truth true) = kind ≡ token.Keyword True
 BeginsBy kind (by_truth false) = kind ≡ token.Keyword False
@@ -95,7 +96,7 @@ begins-holds (token.Sign OpenRound) = refl
 begins-holds (token.Sign sign) =
     holds-mapped by_prefix (BeginsBy (token.Sign sign)) (prefix_of (token.Sign sign)) (λ x e. e)
 
-pub begins-by : (kind : TokenKind) (b : Begins) → begins_of kind ≡ Some b → BeginsBy kind b
+pub begins-by : (kind : TokenKind) (b : OperandStart) → begins_of kind ≡ Some b → BeginsBy kind b
 begins-by kind b e = subst (λ o. Holds (BeginsBy kind) o) e (begins-holds kind)
 
 pub prefix-begins : (kind : TokenKind) (operator : PrefixOperator) → prefix_of kind ≡ Some operator
@@ -154,13 +155,13 @@ label-starts kind label e = ap (option_map by_label) e
 
 -- operators bind less strongly than signs before an operand
 pub weak_level : (link : Link) → link_level link < 10
-weak_level (by_operator operator.Either) = omega arith
+weak_level (by_operator operator.LogicalOr) = omega arith
 weak_level (by_operator o) = omega arith
 weak_level by_rotation = omega arith
 
 -- a left operand binds as strongly as the operator, or one level more
 pub left_levels : (o : BinaryOperator) → (level_of o ≤ left_level_of o) × (left_level_of o < 10)
-left_levels operator.Either = (omega arith, omega arith)
+left_levels operator.LogicalOr = (omega arith, omega arith)
 left_levels o = (omega arith, omega arith)
 
 -- no opening bracket, such as stands after a name

@@ -13,19 +13,20 @@ use Rattle.syntax.specs.declared.token.TokenKind.{TokenKind}
 use Rattle.syntax.specs.declared.token.TokenKind.TheVariants as token
 use Rattle.syntax.specs.declared.token.Keyword.TheVariants.{Public, Bool as BoolWord}
 use Rattle.syntax.specs.declared.token.Sign.TheVariants.{CloseRound}
-use Rattle.syntax.specs.Grammar.{label_of, word_of, length_of, amount_of, ExprAt, a_number, a_true, a_false, a_name}
-use Rattle.syntax.specs.Grammar.{an_element, in_brackets, a_conversion, a_select, a_prefix, a_rotation, a_binary}
-use Rattle.syntax.specs.Grammar.{no_more, one_more, an_array_type, no_statement, one_statement, no_else, Statement}
-use Rattle.syntax.specs.Grammar.{MoreParameters, Parameter, a_word, a_fixed_array, a_mutable_array, no_more_parameters}
-use Rattle.syntax.specs.Grammar.{one_more_parameter, Parameters, no_parameters, some_parameters, ResultType, a_void}
-use Rattle.syntax.specs.Grammar.{a_type, BodyEnd, no_return, a_return, Exported, not_exported, an_export, Procedure}
+use Rattle.syntax.specs.Grammar.{label_of, word_of, length_of, amount_of, ParsesExprAt, a_number, a_true, a_false}
+use Rattle.syntax.specs.Grammar.{a_name, an_element, in_brackets, a_conversion, a_select, a_prefix, a_rotation}
+use Rattle.syntax.specs.Grammar.{a_binary, no_more, one_more, an_array_type, no_statement, one_statement, no_else}
+use Rattle.syntax.specs.Grammar.{ParsesStatement, ParsesMoreParameters, ParsesParameter, a_word, a_fixed_array}
+use Rattle.syntax.specs.Grammar.{a_mutable_array, no_more_parameters, one_more_parameter, ParsesParameters}
+use Rattle.syntax.specs.Grammar.{no_parameters, some_parameters, ParsesResultType, a_void, a_type, ParsesBodyEnd}
+use Rattle.syntax.specs.Grammar.{no_return, a_return, ParsesExported, not_exported, an_export, ParsesProcedure}
 use Rattle.syntax.specs.Grammar.{a_procedure, no_procedure, one_procedure, IsProgram, a_program, IsBeginning}
 use Rattle.syntax.specs.Lexeme.{Lexeme}
 use Rattle.language.specs.Tree as tree
 use Rattle.syntax.specs.declared.parser.operator.Link.{Link}
 use Rattle.syntax.specs.declared.parser.operator.Link.TheVariants.{Operator as by_operator, Rotation as by_rotation}
 use Rattle.syntax.specs.declared.parser.statement.Start.{Start}
-use Rattle.syntax.specs.private.Machine.{State, procedures, one, either, a_label, a_kind, a_length, an_amount}
+use Rattle.syntax.specs.private.Machine.{ParserState, procedures, one, either, a_label, a_kind, a_length, an_amount}
 use Rattle.syntax.specs.private.Machine.{more_parameters, expr, more, more_exprs, statements, otherwise, fits}
 use Rattle.syntax.specs.private.Machine.{begins_of, link_of, link_level, link_left_level, starts_with, operand}
 use Rattle.syntax.specs.private.Machine.{linked, after_else, statement, labelled, parameter, parameters}
@@ -41,9 +42,10 @@ use Rattle.syntax.specs.declared.token.Keyword.TheVariants as keyword
 use Rattle.syntax.specs.declared.token.Sign.TheVariants as sign
 
 -- a parameter, read after its label
-labelled-finishes : {p : ProgramTree} {start : Lexeme} {ts : List Lexeme} {label : Label} (k : ParameterTree → State)
+labelled-finishes : {p : ProgramTree} {start : Lexeme} {ts : List Lexeme} {label : Label}
+    (k : ParameterTree → ParserState)
     → label_of start.kind ≡ Some label → Finishes p (labelled label k) ts
-    → ReadsThen p (λ ts. Parameter (start ∷ ts)) k ts
+    → ReadsThen p (λ ts. ParsesParameter (start ∷ ts)) k ts
 labelled-finishes k is (with_other (with_kind is_kind (with_other (with_token is_name done)))) =
     (_, _, a_word is is_kind is_name, done)
 labelled-finishes k is (with_other (with_kind is_kind
@@ -53,18 +55,19 @@ labelled-finishes k is (with_either is_mut (with_kind is_kind
     (with_token opens (with_length is_length (with_token closes (with_token is_name done)))))) =
     (_, _, a_mutable_array is is_mut (an_array_type is_kind opens is_length closes) is_name, done)
 
-parameter-finishes : {p : ProgramTree} {ts : List Lexeme} (k : ParameterTree → State) → Finishes p (parameter k) ts
-    → ReadsThen p Parameter k ts
+parameter-finishes : {p : ProgramTree} {ts : List Lexeme} (k : ParameterTree → ParserState) → Finishes p
+    (parameter k) ts
+    → ReadsThen p ParsesParameter k ts
 parameter-finishes k (with_label is h) = labelled-finishes k is h
 
 -- parameters, and what they are behind a comma
 abbrev ParametersAfter : List Lexeme → List ParameterTree → List Lexeme → Type 0
-ParametersAfter ts qs rest = Parameters ts qs rest
-    × ((comma : Lexeme) → comma.kind ≡ token.Sign sign.Comma → MoreParameters (comma ∷ ts) qs rest)
+ParametersAfter ts qs rest = ParsesParameters ts qs rest
+    × ((comma : Lexeme) → comma.kind ≡ token.Sign sign.Comma → ParsesMoreParameters (comma ∷ ts) qs rest)
 
 -- a parameter and further ones, after some
-parameter-then : {p : ProgramTree} {ts : List Lexeme} (ps : List ParameterTree) (k : List ParameterTree → State)
-    → ReadsThen p Parameter (λ q. more_parameters (ps ++ q ∷ []) k) ts
+parameter-then : {p : ProgramTree} {ts : List Lexeme} (ps : List ParameterTree) (k : List ParameterTree → ParserState)
+    → ReadsThen p ParsesParameter (λ q. more_parameters (ps ++ q ∷ []) k) ts
     → ReadsThen p ParametersAfter (λ qs. k (ps ++ qs)) ts
 parameter-then ps k (q, _, in_one, with_parameters {qs = qs} in_more done) = (
   q ∷ qs,
@@ -73,35 +76,38 @@ parameter-then ps k (q, _, in_one, with_parameters {qs = qs} in_more done) = (
   rw append_assoc at done,
 )
 
-parameters-finishes : {p : ProgramTree} {ts : List Lexeme} (k : List ParameterTree → State)
-    → Finishes p (parameters k) ts → ReadsThen p Parameters k ts
+parameters-finishes : {p : ProgramTree} {ts : List Lexeme} (k : List ParameterTree → ParserState)
+    → Finishes p (parameters k) ts → ReadsThen p ParsesParameters k ts
 parameters-finishes k (with_either closes done) = (_, _, no_parameters closes, done)
 parameters-finishes k (with_other h) =
     let w = parameter-then [] k (parameter-finishes (λ q. more_parameters (q ∷ []) k) h) in
     (_, _, w.2.0, w.3)
 
 -- the end of a body
-returned-finishes : {p : ProgramTree} {ts : List Lexeme} (k : Option ReturnTree → State) → Finishes p (returned k) ts
-    → ReadsThen p BodyEnd k ts
+returned-finishes : {p : ProgramTree} {ts : List Lexeme} (k : Option ReturnTree → ParserState) → Finishes p
+    (returned k) ts
+    → ReadsThen p ParsesBodyEnd k ts
 returned-finishes k (with_other (with_token closes done)) = (_, _, no_return closes, done)
 returned-finishes k (with_either is (with_expr in_e (with_token ends (with_token closes done)))) =
     (_, _, a_return is in_e ends closes, done)
 
-result-finishes : {p : ProgramTree} {ts : List Lexeme} (k : Option WordType → State) → Finishes p (result_type k) ts
-    → ReadsThen p ResultType k ts
+result-finishes : {p : ProgramTree} {ts : List Lexeme} (k : Option WordType → ParserState) → Finishes p
+    (result_type k) ts
+    → ReadsThen p ParsesResultType k ts
 result-finishes k (with_other (with_label is (with_kind is_kind done))) = (_, _, a_type is is_kind, done)
 result-finishes k (with_either is done) = (_, _, a_void is, done)
 
 -- what follows a procedure's parameters
-abbrev body_then : (List ParameterTree → BlockTree → Option ReturnTree → State) → List ParameterTree → State
+abbrev body_then : (List ParameterTree → BlockTree → Option ReturnTree → ParserState) → List ParameterTree → ParserState
 body_then k ps = one (token.Sign sign.OpenCurly) (λ _. statements (λ b. returned (k ps b)))
 
 -- a procedure, read after its parameters
 body-finishes : {p : ProgramTree} {t opening : Lexeme} {list signature ts : List Lexeme} (export : Option Place)
-    (result : Option WordType) (k : ProcedureTree → State) → Exported list export signature
-    → ResultType signature result (t ∷ opening ∷ ts) → t.kind ≡ token.Name → opening.kind ≡ token.Sign sign.OpenRound
-    → ReadsThen p Parameters (body_then (λ ps b r. k (procedure_of export result t ps b r))) ts
-    → ReadsThen p (λ _. Procedure list) k ts
+    (result : Option WordType) (k : ProcedureTree → ParserState) → ParsesExported list export signature
+    → ParsesResultType signature result (t ∷ opening ∷ ts) → t.kind ≡ token.Name
+    → opening.kind ≡ token.Sign sign.OpenRound
+    → ReadsThen p ParsesParameters (body_then (λ ps b r. k (procedure_of export result t ps b r))) ts
+    → ReadsThen p (λ _. ParsesProcedure list) k ts
 body-finishes {t = t} export result k is_export is_result is_name opens
     (ps, _, in_list, with_token opens' (with_statements {b = b} in_body h)) =
     let w = returned-finishes (λ r. k (procedure_of export result t ps b r)) h in
@@ -109,29 +115,31 @@ body-finishes {t = t} export result k is_export is_result is_name opens
 
 -- a procedure, read after the type of its result
 procedure-from-finishes : {p : ProgramTree} {list signature ts : List Lexeme} (export : Option Place)
-    (result : Option WordType) (k : ProcedureTree → State) → Exported list export signature
-    → ResultType signature result ts → Finishes p (procedure_from export result k) ts
-    → ReadsThen p (λ _. Procedure list) k ts
+    (result : Option WordType) (k : ProcedureTree → ParserState) → ParsesExported list export signature
+    → ParsesResultType signature result ts → Finishes p (procedure_from export result k) ts
+    → ReadsThen p (λ _. ParsesProcedure list) k ts
 procedure-from-finishes export result k is_export is_result (with_token {t = t} is_name (with_token opens h)) =
     body-finishes export result k is_export is_result is_name opens
     (parameters-finishes (body_then (λ ps b r. k (procedure_of export result t ps b r))) h)
 
 -- a state that a test of the token, or a table at its kind, led to
-after-token : {G : Type 0} {p : ProgramTree} {next : State} {ts : List Lexeme} (what : TokenKind) (t : Lexeme)
-    (x : State) (o : Option State) → (if fits what t.kind then Some x else o) ≡ Some next → Finishes p next ts
+after-token : {G : Type 0} {p : ProgramTree} {next : ParserState} {ts : List Lexeme} (what : TokenKind) (t : Lexeme)
+    (x : ParserState) (o : Option ParserState) → (if fits what t.kind then Some x else o) ≡ Some next
+    → Finishes p next ts
     → (t.kind ≡ what → Finishes p x ts → G) → (o ≡ Some next → G) → G
 after-token what t x o e h taken other = elim (cases_Bool (fits what t.kind)) [
   | inl is ↦ taken (kind-fits what t.kind is) (rw (same_Some _ _ (rw is at e)) h)
   | inr is ↦ other (rw is at e)
 ]
 
-after-map : {A G : Type 0} {p : ProgramTree} {next : State} {ts : List Lexeme} (f : A → State) (o : Option A)
+after-map : {A G : Type 0} {p : ProgramTree} {next : ParserState} {ts : List Lexeme} (f : A → ParserState)
+    (o : Option A)
     → option_map f o ≡ Some next → Finishes p next ts → ((x : A) → o ≡ Some x → Finishes p (f x) ts → G) → G
 after-map f None e h k = cc
 after-map f (Some x) e h k = k x refl (rw (same_Some _ _ e) h)
 
 -- the first token of a result's type
-result-step : {p : ProgramTree} {ts : List Lexeme} (k : Option WordType → State) (t : Lexeme) (next : State)
+result-step : {p : ProgramTree} {ts : List Lexeme} (k : Option WordType → ParserState) (t : Lexeme) (next : ParserState)
     → step_result t.kind k ≡ Some next → Finishes p next ts → Finishes p (result_type k) (t ∷ ts)
 result-step k t next e h =
     let f = λ (label : Label). a_kind (λ kind. k (Some (record { kind = kind; label = label }))) in
@@ -140,8 +148,9 @@ result-step k t next e h =
     (λ n. after-map f (label_of t.kind) n h (λ _ is d. with_other (with_label is d)))
 
 -- the first token of a procedure
-procedure-step : {p : ProgramTree} {ts : List Lexeme} (k : ProcedureTree → State) (t : Lexeme) (next : State)
-    → step (procedure k) t ≡ Some next → Finishes p next ts → ReadsThen p (λ ts. Procedure (t ∷ ts)) k ts
+procedure-step : {p : ProgramTree} {ts : List Lexeme} (k : ProcedureTree → ParserState) (t : Lexeme)
+    (next : ParserState)
+    → step (procedure k) t ≡ Some next → Finishes p next ts → ReadsThen p (λ ts. ParsesProcedure (t ∷ ts)) k ts
 procedure-step k t next e h =
     let k' = λ (export : Option Place) (result : Option WordType). procedure_from export result k in
     after-token (token.Keyword keyword.Export) t (result_type (k' (Some t.place))) (step_result t.kind (k' None)) e h
@@ -152,14 +161,15 @@ procedure-step k t next e h =
     let r = result-finishes (k' None) (result-step (k' None) t next n h) in
     procedure-from-finishes None r.0 k not_exported r.2 r.3)
 
-after-start : {G : Type 0} {p : ProgramTree} {next : State} {ts : List Lexeme} (o : Option Start) (t : Lexeme)
-    (k : StatementTree → State) (other : Option State) → started o t k other ≡ Some next → Finishes p next ts
+after-start : {G : Type 0} {p : ProgramTree} {next : ParserState} {ts : List Lexeme} (o : Option Start) (t : Lexeme)
+    (k : StatementTree → ParserState) (other : Option ParserState) → started o t k other ≡ Some next
+    → Finishes p next ts
     → ((start : Start) → o ≡ Some start → Finishes p (statement start t k) ts → G) → (other ≡ Some next → G) → G
 after-start None t k other e h taken left = left e
 after-start (Some start) t k other e h taken left = taken start refl (rw (same_Some _ _ e) h)
 
-after-joint : {G : Type 0} {p : ProgramTree} {next : State} {ts : List Lexeme} (o : Option Link) (place : Place)
-    (level : ℕ) (left : ExprTree) (k : ExprTree → State) (other : Option State)
+after-joint : {G : Type 0} {p : ProgramTree} {next : ParserState} {ts : List Lexeme} (o : Option Link) (place : Place)
+    (level : ℕ) (left : ExprTree) (k : ExprTree → ParserState) (other : Option ParserState)
     → joined o place level left k other ≡ Some next → Finishes p next ts
     → ((link : Link) → o ≡ Some link → Finishes p (linked link place level left k) ts → G)
     → (other ≡ Some next → G) → G
@@ -181,8 +191,8 @@ within_some level top (Some found) link e = by (nat_le level (link_level found) 
     by false is e = cc
 
 -- an expression at a level is one at each weaker level
-pub weaken : {strong level : ℕ} {ts rest : List Lexeme} {e : ExprTree} → level ≤ strong → ExprAt strong ts e rest
-    → ExprAt level ts e rest
+pub weaken : {strong level : ℕ} {ts rest : List Lexeme} {e : ExprTree} → level ≤ strong → ParsesExprAt strong ts e rest
+    → ParsesExprAt level ts e rest
 weaken le (a_number is) = a_number is
 weaken le (a_true is) = a_true is
 weaken le (a_false is) = a_false is
@@ -198,7 +208,7 @@ weaken le (a_binary is at in_left in_right) = a_binary is (omega arith) in_left 
 
 -- a sign, its right side, and what follows
 link-finishes : {p : ProgramTree} {t : Lexeme} {ts : List Lexeme} {level top : ℕ} (link : Link) (left : ExprTree)
-    (k : ExprTree → State) → LinksBy t.kind link → level ≤ link_level link → link_left_level link ≤ top
+    (k : ExprTree → ParserState) → LinksBy t.kind link → level ≤ link_level link → link_left_level link ≤ top
     → Finishes p (linked link t.place level left k) ts → ReadsThen p (λ ts. Grows level top left (t ∷ ts)) k ts
 link-finishes (by_operator o) left k is low high (with_expr in_right (with_more grows done)) = (
   _,
@@ -217,24 +227,25 @@ link-finishes by_rotation left k is low high (with_amount is_amount (with_more g
 
 -- one more of a list, and the rest of it
 another : {p : ProgramTree} {t : Lexeme} {ts : List Lexeme} (ps : List ProcedureTree)
-    → ReadsThen p (λ ts. Procedure (t ∷ ts)) (λ q. procedures (ps ++ q ∷ [])) ts
+    → ReadsThen p (λ ts. ParsesProcedure (t ∷ ts)) (λ q. procedures (ps ++ q ∷ [])) ts
     → Finishes p (procedures ps) (t ∷ ts)
 another ps (q, _, in_one, with_procedures {qs = qs} in_more is) =
     with_procedures (one_procedure in_one in_more) (is ∙ append_assoc ps (q ∷ []) qs)
 
-comma-then : {p : ProgramTree} {ts : List Lexeme} (end : TokenKind) (es : List ExprTree) (k : List ExprTree → State)
+comma-then : {p : ProgramTree} {ts : List Lexeme} (end : TokenKind) (es : List ExprTree)
+    (k : List ExprTree → ParserState)
     (t : Lexeme) → t.kind ≡ token.Sign sign.Comma → Finishes p (expr 1 (λ x. more_exprs end (es ++ x ∷ []) k)) ts
     → Finishes p (more_exprs end es k) (t ∷ ts)
 comma-then end es k t is (with_expr in_e (with_exprs in_more done)) =
     with_exprs (one_more is in_e in_more) (rw append_assoc at done)
 
-statement-then : {p : ProgramTree} {t : Lexeme} {ts : List Lexeme} (k : BlockTree → State)
-    → ReadsThen p (λ ts. Statement (t ∷ ts)) (λ s. statements (λ b. k (first s b))) ts
+statement-then : {p : ProgramTree} {t : Lexeme} {ts : List Lexeme} (k : BlockTree → ParserState)
+    → ReadsThen p (λ ts. ParsesStatement (t ∷ ts)) (λ s. statements (λ b. k (first s b))) ts
     → Finishes p (statements k) (t ∷ ts)
 statement-then k (_, _, in_one, with_statements in_more done) = with_statements (one_statement in_one in_more) done
 
 -- a state and a token that leads on from it
-pub step-finishes : {p : ProgramTree} {ts : List Lexeme} (s : State) (t : Lexeme) (next : State)
+pub step-finishes : {p : ProgramTree} {ts : List Lexeme} (s : ParserState) (t : Lexeme) (next : ParserState)
     → step s t ≡ Some next → Finishes p next ts → Finishes p s (t ∷ ts)
 step-finishes (procedures ps) t next e h = another ps (procedure-step (λ q. procedures (ps ++ q ∷ [])) t next e h)
 step-finishes (one what k) t next e h =
@@ -290,7 +301,7 @@ abbrev made : TokenKind → Lexeme
 made kind = record { kind = kind; place = origin; text = [] }
 
 -- each state can be finished
-pub finish : (s : State) → (ts : List Lexeme) × (p : ProgramTree) × Finishes p s ts
+pub finish : (s : ParserState) → (ts : List Lexeme) × (p : ProgramTree) × Finishes p s ts
 finish (procedures ps) = ([], record { procedures = ps ++ [] }, with_procedures no_procedure refl)
 finish (one what k) = let f = finish (k (made what)) in (_, _, with_token {t = made what} refl f.2)
 finish (either what next other) = let f = finish other in (_, _, with_other f.2)
@@ -309,7 +320,7 @@ finish (more_exprs end es k) = let f = finish (k (es ++ [])) in
 finish (statements k) = let f = finish (k nothing) in (_, _, with_statements no_statement f.2)
 finish (otherwise k) = let f = finish (k nothing) in (_, _, with_otherwise no_else f.2)
 
-at_end-finishes : (s : State) (p : ProgramTree) → at_end s ≡ Some p → Finishes p s []
+at_end-finishes : (s : ParserState) (p : ProgramTree) → at_end s ≡ Some p → Finishes p s []
 at_end-finishes (procedures ps) p e =
     with_procedures no_procedure (ap (λ q. q.procedures) (sym (same_Some _ _ e)) ∙ sym (append-nil ps))
 at_end-finishes (either what next other) p e = with_other (at_end-finishes other p e)
@@ -324,7 +335,8 @@ pub and_then_some : {A B : Type 0} (f : A → Option B) (o : Option A) (y : B) �
 and_then_some f None y e = cc
 and_then_some f (Some x) y e = (x, refl, e)
 
-run-finishes : {p : ProgramTree} {ts : List Lexeme} (front : List Lexeme) (s next : State) → run s front ≡ Some next
+run-finishes : {p : ProgramTree} {ts : List Lexeme} (front : List Lexeme) (s next : ParserState)
+    → run s front ≡ Some next
     → Finishes p next ts → Finishes p s (front ++ ts)
 run-finishes [] s next e h = rw (same_Some _ _ e) h
 run-finishes (t ∷ front) s next e h =
@@ -332,12 +344,13 @@ run-finishes (t ∷ front) s next e h =
     step-finishes s t w.0 w.1 (run-finishes front w.0 next w.2 h)
 
 -- tokens that the machine takes begin a program
-pub begins_by_run : (front : List Lexeme) (s : State) → run program front ≡ Some s → IsBeginning front
+pub begins_by_run : (front : List Lexeme) (s : ParserState) → run program front ≡ Some s → IsBeginning front
 begins_by_run front s e = let f = finish s in
     (f.0, f.1, program-finishes (run-finishes front program s e f.2))
 
 -- tokens that the machine takes to an end are a program
-pub program_by_run : (ts : List Lexeme) (s : State) (p : ProgramTree) → run program ts ≡ Some s → at_end s ≡ Some p
+pub program_by_run : (ts : List Lexeme) (s : ParserState) (p : ProgramTree) → run program ts ≡ Some s
+    → at_end s ≡ Some p
     → IsProgram ts p
 program_by_run ts s p e last =
     rw append-nil at (program-finishes (run-finishes ts program s e (at_end-finishes s p last)))

@@ -3,7 +3,7 @@ use Rattle.std.proofs.Common.{◌≡◌, List, [], ◌∷◌, ◌++◌, refl, ap
 use Rattle.std.proofs.Math.Path.{fun_ext}
 use Rattle.syntax.specs.declared.parser.Parser.{Parser}
 use Rattle.language.specs.declared.tree.Statement.{Statement}
-use Rattle.syntax.specs.private.Machine.{State, statements}
+use Rattle.syntax.specs.private.Machine.{ParserState, statements}
 use Rattle.syntax.specs.private.ParserViews.{ahead}
 use Rattle.syntax.specs.Below.{block_tree, BlockTree, first, nothing, statement_tree}
 
@@ -22,7 +22,7 @@ followed-nothing [] = refl
 followed-nothing (x ∷ ss) = ap (first (statement_tree x)) (followed-nothing ss)
 
 -- the machine after one statement more
-pub ahead-push : (k : BlockTree → State) (ss : List Statement) (s : Statement) (p : Parser)
+pub ahead-push : (k : BlockTree → ParserState) (ss : List Statement) (s : Statement) (p : Parser)
     → ahead (statements (λ b. k (followed_by ss (first (statement_tree s) b)))) p
     ≡ ahead (statements (λ b. k (followed_by (ss ++ s ∷ []) b))) p
 ahead-push k ss s p = ap (λ (f : BlockTree → BlockTree). ahead (statements (λ b. k (f b))) p)

@@ -21,7 +21,7 @@ use Rattle.syntax.specs.declared.lexer.sign.TheConstants.{SIGNS}
 use Rattle.syntax.specs.Lexeme.{Lexeme}
 use Rattle.syntax.specs.Spelling.{Spells, blank, comment, keyword, name, number, bad_number, sign, keyword_text}
 use Rattle.syntax.specs.Spelling.{sign_text, is_blank, is_word_byte, is_name_or_keyword, is_number_or_bad, IsNumber}
-use Rattle.syntax.specs.Tokens.{BeginsWith, BeginsWithNone, Ending, LexesFrom, at_end, past_space, past_token}
+use Rattle.syntax.specs.Tokens.{BeginsWith, BeginsWithNone, TokensEnding, LexesFrom, at_end, past_space, past_token}
 use Rattle.syntax.specs.Tokens.{at_bad_number, at_unknown_character, place_after, OneList}
 use Rattle.syntax.proofs.TokenBytes.{blank_is_no_word_byte}
 use Rattle.syntax.proofs.TokenRuns.{and_true}
@@ -163,7 +163,8 @@ clash a b unlike = absurd (unlike (begins_unique _ _ _ _ _ _ _ a b).0)
 none_begins : {A : Type 0} {text s r : List ℕ} {p : Piece} → BeginsWith text p s r → BeginsWithNone text → A
 none_begins a none = absurd (none _ _ _ a.spelled a.parts)
 
-pub lexes_unique : {place : Place} {text : List ℕ} {xs ys : List Lexeme} {e f : Ending} → LexesFrom place text xs e
+pub lexes_unique : {place : Place} {text : List ℕ} {xs ys : List Lexeme} {e f : TokensEnding}
+    → LexesFrom place text xs e
     → LexesFrom place text ys f → (xs ≡ ys) × (e ≡ f)
 lexes_unique at_end at_end = (refl, refl)
 lexes_unique at_end (past_space a h) = absurd (nothing_begins a)

@@ -10,13 +10,13 @@ use Rattle.syntax.specs.declared.lexer.piece.Piece.TheVariants.{Space, Token as 
 use Rattle.syntax.specs.declared.lexer.piece.Piece.{Piece}
 use Rattle.syntax.proofs.TokenLaws.{spelled_some}
 use Rattle.syntax.specs.Lexeme.{Lexeme, lexeme, lexemes}
-use Rattle.syntax.specs.Tokens.{BeginsWith, BeginsWithNone, Ending, ends_at, stops, LexesFrom, at_end, past_space}
+use Rattle.syntax.specs.Tokens.{BeginsWith, BeginsWithNone, TokensEnding, ends_at, stops, LexesFrom, at_end, past_space}
 use Rattle.syntax.specs.Tokens.{past_token, at_bad_number, at_unknown_character, place_after, next_place, Lexes}
 use Rattle.syntax.specs.Tokens.{IsSliceOf}
 
 -- what is left goes on from the tokens so far
 abbrev pub GoesOn : List ℕ → List Token → Place → List ℕ → Type 0
-GoesOn text tokens place rest = (more : List Lexeme) (end : Ending) → LexesFrom place rest more end
+GoesOn text tokens place rest = (more : List Lexeme) (end : TokensEnding) → LexesFrom place rest more end
     → Lexes text (lexemes tokens ++ more) end
 
 pub goes_on_past_space : (text : List ℕ) (tokens : List Token) (place : Place) (rest spelling others : List ℕ)
@@ -41,7 +41,7 @@ goes_on_past_token text tokens place rest others token same begins goes = λ mor
     subst (λ l. Lexes text l end) (placed ∙ pushed) one
 
 -- the list ends there
-pub goes_on_end : (text : List ℕ) (tokens : List Token) (place : Place) (rest : List ℕ) (end : Ending)
+pub goes_on_end : (text : List ℕ) (tokens : List Token) (place : Place) (rest : List ℕ) (end : TokensEnding)
     → GoesOn text tokens place rest → LexesFrom place rest [] end → Lexes text (lexemes tokens) end
 goes_on_end text tokens place rest end goes h =
     subst (λ l. Lexes text l end) (append-nil (lexemes tokens)) (goes [] end h)
@@ -84,7 +84,8 @@ rest_at text rest spelling others place at parts =
     ∙ ap (drop (length spelling)) (at ∙ parts)
     ∙ drop_at spelling others (length spelling) refl
 
-slices_from : {place : Place} {rest : List ℕ} {tokens : List Lexeme} {end : Ending} → LexesFrom place rest tokens end
+slices_from : {place : Place} {rest : List ℕ} {tokens : List Lexeme} {end : TokensEnding}
+    → LexesFrom place rest tokens end
     → (text : List ℕ) → drop place.offset text ≡ rest → AllByRecursion (IsSliceOf text) tokens
 slices_from at_end text at = tt
 slices_from (past_space {place} {text = rest} {spelling} {rest = others} begins h) text at =
@@ -96,6 +97,6 @@ slices_from (past_token {place} {text = rest} {spelling} {rest = others} begins 
 slices_from (at_bad_number begins) text at = tt
 slices_from (at_unknown_character none) text at = tt
 
-pub slices : (text : List ℕ) (tokens : List Lexeme) (end : Ending) → Lexes text tokens end
+pub slices : (text : List ℕ) (tokens : List Lexeme) (end : TokensEnding) → Lexes text tokens end
     → All (IsSliceOf text) tokens
 slices text tokens end h = All-from_recursion (IsSliceOf text) tokens (slices_from h text refl)

@@ -65,21 +65,21 @@ pub data Phrase : Type 0 where
   procedures : Phrase
 
 -- a part of a case
-pub data Part : Type 0 where
-  one : Single → Part
-  all : Phrase → Part
+pub data CasePart : Type 0 where
+  one : Single → CasePart
+  all : Phrase → CasePart
 
-abbrev pub sign : Sign → Part
+abbrev pub sign : Sign → CasePart
 sign mark = one (of_kind (token.Sign mark))
 
-abbrev pub keyword : Keyword → Part
+abbrev pub keyword : Keyword → CasePart
 keyword word = one (of_kind (token.Keyword word))
 
-abbrev pub name : Part
+abbrev pub name : CasePart
 name = one (of_kind token.Name)
 
 -- a phrase may be these parts, one after another
-pub data Case : Phrase → List Part → Type 0 where
+pub data Case : Phrase → List CasePart → Type 0 where
   -- an expression, in which no sign between operands, outside all brackets, binds below the level
   a_number : {level : ℕ} → Case (expr level) (one any_number ∷ [])
   a_true : {level : ℕ} → Case (expr level) (keyword True ∷ [])

@@ -24,7 +24,7 @@ use Rattle.syntax.specs.declared.token.Sign.TheVariants.{Assign, Plus, Minus, St
 use Rattle.syntax.specs.declared.token.Sign.TheVariants.{Caret, Tilde, Bang, Below, Above}
 use Rattle.syntax.specs.declared.token.Suffix.{Suffix}
 use Rattle.syntax.specs.declared.token.Suffix.TheVariants.{U8, U16, U32}
-use Rattle.language.specs.declared.operators.BinaryOperator.TheVariants.{Either, Both, Equal, Unequal, Less}
+use Rattle.language.specs.declared.operators.BinaryOperator.TheVariants.{LogicalOr, LogicalAnd, Equal, Unequal, Less}
 use Rattle.language.specs.declared.operators.BinaryOperator.TheVariants.{LessOrEqual}
 use Rattle.language.specs.declared.operators.BinaryOperator.TheVariants.{Greater, GreaterOrEqual, BitOr, BitXor, BitAnd}
 use Rattle.language.specs.declared.operators.BinaryOperator.TheVariants.{ShiftLeft as ShiftedLeft}
@@ -50,8 +50,8 @@ prefix_of _ = None
 
 -- the operator that a sign between two operands is
 abbrev pub operator_of : TokenKind → Option BinaryOperator
-operator_of (token.Sign OrElse) = Some Either
-operator_of (token.Sign AndAlso) = Some Both
+operator_of (token.Sign OrElse) = Some LogicalOr
+operator_of (token.Sign AndAlso) = Some LogicalAnd
 operator_of (token.Sign Equals) = Some Equal
 operator_of (token.Sign Differs) = Some Unequal
 operator_of (token.Sign Below) = Some Less
@@ -72,8 +72,8 @@ operator_of _ = None
 
 -- how strongly an operator binds, from 1 to 9; signs before an operand bind at 10
 abbrev pub level_of : BinaryOperator → ℕ
-level_of Either = 1
-level_of Both = 2
+level_of LogicalOr = 1
+level_of LogicalAnd = 2
 level_of Equal = 3
 level_of Unequal = 3
 level_of Less = 3
@@ -151,163 +151,171 @@ length_of (token.Number value None) = if is_length value then Some value else No
 length_of _ = None
 
 -- an expression in which no sign between operands, outside all brackets, binds below the level
-pub data ExprAt : ℕ → List Lexeme → ExprTree → List Lexeme → Type 0 where
+pub data ParsesExprAt : ℕ → List Lexeme → ExprTree → List Lexeme → Type 0 where
   a_number : {level : ℕ} {t : Lexeme} {value : ℕ} {suffix : Option Suffix} {rest : List Lexeme}
-      → Is (token.Number value suffix) t → ExprAt level (t ∷ rest) (number t.place value (suffix_kind suffix)) rest
+      → Is (token.Number value suffix) t → ParsesExprAt level (t ∷ rest)
+      (number t.place value (suffix_kind suffix)) rest
   a_true : {level : ℕ} {t : Lexeme} {rest : List Lexeme} → Is (token.Keyword True) t
-      → ExprAt level (t ∷ rest) (truth t.place true) rest
+      → ParsesExprAt level (t ∷ rest) (truth t.place true) rest
   a_false : {level : ℕ} {t : Lexeme} {rest : List Lexeme} → Is (token.Keyword False) t
-      → ExprAt level (t ∷ rest) (truth t.place false) rest
+      → ParsesExprAt level (t ∷ rest) (truth t.place false) rest
   a_name : {level : ℕ} {t : Lexeme} {rest : List Lexeme} → Is token.Name t
-      → ExprAt level (t ∷ rest) (name t.place t.text) rest
+      → ParsesExprAt level (t ∷ rest) (name t.place t.text) rest
   an_element : {level : ℕ} {t opening closing : Lexeme} {inner rest : List Lexeme} {index : ExprTree}
-      → Is token.Name t → IsSign OpenSquare opening → ExprAt 1 inner index (closing ∷ rest)
+      → Is token.Name t → IsSign OpenSquare opening → ParsesExprAt 1 inner index (closing ∷ rest)
       → IsSign CloseSquare closing
-      → ExprAt level (t ∷ opening ∷ inner) (element opening.place t.place t.text index) rest
+      → ParsesExprAt level (t ∷ opening ∷ inner) (element opening.place t.place t.text index) rest
   in_brackets : {level : ℕ} {opening closing : Lexeme} {inner rest : List Lexeme} {tree : ExprTree}
-      → IsSign OpenRound opening → ExprAt 1 inner tree (closing ∷ rest) → IsSign CloseRound closing
-      → ExprAt level (opening ∷ inner) tree rest
+      → IsSign OpenRound opening → ParsesExprAt 1 inner tree (closing ∷ rest) → IsSign CloseRound closing
+      → ParsesExprAt level (opening ∷ inner) tree rest
   a_conversion : {level : ℕ} {t opening closing : Lexeme} {inner rest : List Lexeme} {kind : Kind} {tree : ExprTree}
-      → conversion_of t.kind ≡ Some kind → IsSign OpenRound opening → ExprAt 1 inner tree (closing ∷ rest)
-      → IsSign CloseRound closing → ExprAt level (t ∷ opening ∷ inner) (convert t.place kind tree) rest
+      → conversion_of t.kind ≡ Some kind → IsSign OpenRound opening → ParsesExprAt 1 inner tree (closing ∷ rest)
+      → IsSign CloseRound closing → ParsesExprAt level (t ∷ opening ∷ inner) (convert t.place kind tree) rest
   a_select : {level : ℕ} {t opening comma comma' closing : Lexeme} {start second third rest : List Lexeme}
       {condition accepted otherwise : ExprTree} → Is (token.Keyword Select) t → IsSign OpenRound opening
-      → ExprAt 1 start condition (comma ∷ second) → IsSign Comma comma → ExprAt 1 second accepted (comma' ∷ third)
-      → IsSign Comma comma' → ExprAt 1 third otherwise (closing ∷ rest) → IsSign CloseRound closing
-      → ExprAt level (t ∷ opening ∷ start) (select t.place condition accepted otherwise) rest
+      → ParsesExprAt 1 start condition (comma ∷ second) → IsSign Comma comma → ParsesExprAt 1 second accepted
+      (comma' ∷ third)
+      → IsSign Comma comma' → ParsesExprAt 1 third otherwise (closing ∷ rest) → IsSign CloseRound closing
+      → ParsesExprAt level (t ∷ opening ∷ start) (select t.place condition accepted otherwise) rest
   a_prefix : {level : ℕ} {t : Lexeme} {operator : PrefixOperator} {inner rest : List Lexeme} {operand : ExprTree}
-      → prefix_of t.kind ≡ Some operator → ExprAt prefix_level inner operand rest
-      → ExprAt level (t ∷ inner) (prefix t.place operator operand) rest
+      → prefix_of t.kind ≡ Some operator → ParsesExprAt prefix_level inner operand rest
+      → ParsesExprAt level (t ∷ inner) (prefix t.place operator operand) rest
   a_rotation : {level : ℕ} {t number : Lexeme} {amount : ℕ} {start rest : List Lexeme} {operand : ExprTree}
-      → IsSign RotateLeft t → level ≤ rotation_level → ExprAt rotation_level start operand (t ∷ number ∷ rest)
-      → amount_of number.kind ≡ Some amount → ExprAt level start (rotate t.place operand amount) rest
+      → IsSign RotateLeft t → level ≤ rotation_level → ParsesExprAt rotation_level start operand (t ∷ number ∷ rest)
+      → amount_of number.kind ≡ Some amount → ParsesExprAt level start (rotate t.place operand amount) rest
   a_binary : {level : ℕ} {t : Lexeme} {operator : BinaryOperator} {start second rest : List Lexeme}
       {left right : ExprTree} → operator_of t.kind ≡ Some operator → level ≤ level_of operator
-      → ExprAt (left_level_of operator) start left (t ∷ second) → ExprAt (level_of operator + 1) second right rest
-      → ExprAt level start (binary t.place operator left right) rest
+      → ParsesExprAt (left_level_of operator) start left (t ∷ second) → ParsesExprAt
+      (level_of operator + 1) second right rest
+      → ParsesExprAt level start (binary t.place operator left right) rest
 
 -- an expression
-abbrev pub Expr : List Lexeme → ExprTree → List Lexeme → Type 0
-Expr = ExprAt 1
+abbrev pub ParsesExpr : List Lexeme → ExprTree → List Lexeme → Type 0
+ParsesExpr = ParsesExprAt 1
 
 -- what stands after an expression of a list: further ones, each after a comma, and the token that ends the list
-pub data MoreExprs (end : TokenKind) : List Lexeme → List ExprTree → List Lexeme → Type 0 where
-  no_more : {closing : Lexeme} {rest : List Lexeme} → Is end closing → MoreExprs end (closing ∷ rest) [] rest
+pub data ParsesMoreExprs (end : TokenKind) : List Lexeme → List ExprTree → List Lexeme → Type 0 where
+  no_more : {closing : Lexeme} {rest : List Lexeme} → Is end closing → ParsesMoreExprs end (closing ∷ rest) [] rest
   one_more : {comma : Lexeme} {list second rest : List Lexeme} {tree : ExprTree} {trees : List ExprTree}
-      → IsSign Comma comma → Expr list tree second → MoreExprs end second trees rest
-      → MoreExprs end (comma ∷ list) (tree ∷ trees) rest
+      → IsSign Comma comma → ParsesExpr list tree second → ParsesMoreExprs end second trees rest
+      → ParsesMoreExprs end (comma ∷ list) (tree ∷ trees) rest
 
 -- expressions and the token that ends them
-pub data SomeExprs (end : TokenKind) : List Lexeme → List ExprTree → List Lexeme → Type 0 where
-  some_exprs : {list second rest : List Lexeme} {tree : ExprTree} {trees : List ExprTree} → Expr list tree second
-      → MoreExprs end second trees rest → SomeExprs end list (tree ∷ trees) rest
+pub data ParsesSomeExprs (end : TokenKind) : List Lexeme → List ExprTree → List Lexeme → Type 0 where
+  some_exprs : {list second rest : List Lexeme} {tree : ExprTree} {trees : List ExprTree} → ParsesExpr list tree second
+      → ParsesMoreExprs end second trees rest → ParsesSomeExprs end list (tree ∷ trees) rest
 
 -- arguments and the closing bracket
-pub data Arguments : List Lexeme → List ExprTree → List Lexeme → Type 0 where
+pub data ParsesArguments : List Lexeme → List ExprTree → List Lexeme → Type 0 where
   no_arguments : {closing : Lexeme} {rest : List Lexeme} → IsSign CloseRound closing
-      → Arguments (closing ∷ rest) [] rest
+      → ParsesArguments (closing ∷ rest) [] rest
   some_arguments : {list rest : List Lexeme} {trees : List ExprTree}
-      → SomeExprs (token.Sign CloseRound) list trees rest → Arguments list trees rest
+      → ParsesSomeExprs (token.Sign CloseRound) list trees rest → ParsesArguments list trees rest
 
 -- a call
-pub data Call : List Lexeme → CallTree → List Lexeme → Type 0 where
+pub data ParsesCall : List Lexeme → CallTree → List Lexeme → Type 0 where
   a_call : {t opening : Lexeme} {list rest : List Lexeme} {trees : List ExprTree} → Is token.Name t
-      → IsSign OpenRound opening → Arguments list trees rest
-      → Call (t ∷ opening ∷ list) (record { place = t.place; name = t.text; arguments = trees }) rest
+      → IsSign OpenRound opening → ParsesArguments list trees rest
+      → ParsesCall (t ∷ opening ∷ list) (record { place = t.place; name = t.text; arguments = trees }) rest
 
 -- a right side
-pub data RightSide : List Lexeme → RightTree → List Lexeme → Type 0 where
-  a_call_value : {list rest : List Lexeme} {tree : CallTree} → Call list tree rest → RightSide list (called tree) rest
-  a_value : {list rest : List Lexeme} {tree : ExprTree} → Expr list tree rest → RightSide list (computed tree) rest
+pub data ParsesRightSide : List Lexeme → RightTree → List Lexeme → Type 0 where
+  a_call_value : {list rest : List Lexeme} {tree : CallTree} → ParsesCall list tree rest → ParsesRightSide list
+      (called tree) rest
+  a_value : {list rest : List Lexeme} {tree : ExprTree} → ParsesExpr list tree rest → ParsesRightSide list
+      (computed tree) rest
 
 -- `mut`, where it stands
-pub data Mutable : List Lexeme → Bool → List Lexeme → Type 0 where
-  no_mut : {rest : List Lexeme} → Mutable rest false rest
-  a_mut : {t : Lexeme} {rest : List Lexeme} → Is (token.Keyword Mut) t → Mutable (t ∷ rest) true rest
+pub data ParsesMutable : List Lexeme → Bool → List Lexeme → Type 0 where
+  no_mut : {rest : List Lexeme} → ParsesMutable rest false rest
+  a_mut : {t : Lexeme} {rest : List Lexeme} → Is (token.Keyword Mut) t → ParsesMutable (t ∷ rest) true rest
 
 -- an array's kind and length, as `uint32[8]`
-pub data ArrayType : List Lexeme → Kind → ℕ → List Lexeme → Type 0 where
+pub data ParsesArrayType : List Lexeme → Kind → ℕ → List Lexeme → Type 0 where
   an_array_type : {word opening number closing : Lexeme} {rest : List Lexeme} {kind : Kind} {length : ℕ}
       → word_of word.kind ≡ Some kind → IsSign OpenSquare opening → length_of number.kind ≡ Some length
-      → IsSign CloseSquare closing → ArrayType (word ∷ opening ∷ number ∷ closing ∷ rest) kind length rest
+      → IsSign CloseSquare closing → ParsesArrayType (word ∷ opening ∷ number ∷ closing ∷ rest) kind length rest
 
 -- an array's first values, where they are written
-pub data FirstValues : List Lexeme → Option (List ExprTree) → List Lexeme → Type 0 where
-  no_values : {rest : List Lexeme} → FirstValues rest None rest
+pub data ParsesFirstValues : List Lexeme → Option (List ExprTree) → List Lexeme → Type 0 where
+  no_values : {rest : List Lexeme} → ParsesFirstValues rest None rest
   some_values : {equals opening : Lexeme} {list rest : List Lexeme} {trees : List ExprTree} → IsSign Assign equals
-      → IsSign OpenCurly opening → SomeExprs (token.Sign CloseCurly) list trees rest
-      → FirstValues (equals ∷ opening ∷ list) (Some trees) rest
+      → IsSign OpenCurly opening → ParsesSomeExprs (token.Sign CloseCurly) list trees rest
+      → ParsesFirstValues (equals ∷ opening ∷ list) (Some trees) rest
 
 mutual
   -- a statement
-  pub data Statement : List Lexeme → StatementTree → List Lexeme → Type 0 where
+  pub data ParsesStatement : List Lexeme → StatementTree → List Lexeme → Type 0 where
     a_declaration : {start second t equals semicolon : Lexeme} {list right rest : List Lexeme} {label : Label}
         {mutable : Bool} {kind : Kind} {tree : RightTree} → label_of start.kind ≡ Some label
-        → Mutable list mutable (second ∷ t ∷ equals ∷ right) → word_of second.kind ≡ Some kind → Is token.Name t
-        → IsSign Assign equals → RightSide right tree (semicolon ∷ rest) → IsSign Semicolon semicolon
-        → Statement (start ∷ list) (declaration t.place label mutable kind t.text tree) rest
+        → ParsesMutable list mutable (second ∷ t ∷ equals ∷ right) → word_of second.kind ≡ Some kind → Is token.Name t
+        → IsSign Assign equals → ParsesRightSide right tree (semicolon ∷ rest) → IsSign Semicolon semicolon
+        → ParsesStatement (start ∷ list) (declaration t.place label mutable kind t.text tree) rest
     an_array : {start t semicolon : Lexeme} {list second values rest : List Lexeme} {label : Label} {mutable : Bool}
         {kind : Kind} {length : ℕ} {trees : Option (List ExprTree)} → label_of start.kind ≡ Some label
-        → Mutable list mutable second → ArrayType second kind length (t ∷ values) → Is token.Name t
-        → FirstValues values trees (semicolon ∷ rest) → IsSign Semicolon semicolon
-        → Statement (start ∷ list) (array t.place label mutable kind length t.text trees) rest
+        → ParsesMutable list mutable second → ParsesArrayType second kind length (t ∷ values) → Is token.Name t
+        → ParsesFirstValues values trees (semicolon ∷ rest) → IsSign Semicolon semicolon
+        → ParsesStatement (start ∷ list) (array t.place label mutable kind length t.text trees) rest
     an_assignment : {t equals semicolon : Lexeme} {right rest : List Lexeme} {tree : RightTree} → Is token.Name t
-        → IsSign Assign equals → RightSide right tree (semicolon ∷ rest) → IsSign Semicolon semicolon
-        → Statement (t ∷ equals ∷ right) (assignment equals.place t.place t.text tree) rest
+        → IsSign Assign equals → ParsesRightSide right tree (semicolon ∷ rest) → IsSign Semicolon semicolon
+        → ParsesStatement (t ∷ equals ∷ right) (assignment equals.place t.place t.text tree) rest
     an_element_assignment : {t opening closing equals semicolon : Lexeme} {inner right rest : List Lexeme}
         {index : ExprTree} {tree : RightTree} → Is token.Name t → IsSign OpenSquare opening
-        → Expr inner index (closing ∷ equals ∷ right) → IsSign CloseSquare closing → IsSign Assign equals
-        → RightSide right tree (semicolon ∷ rest) → IsSign Semicolon semicolon
-        → Statement (t ∷ opening ∷ inner) (element_assignment equals.place opening.place t.place t.text index tree)
+        → ParsesExpr inner index (closing ∷ equals ∷ right) → IsSign CloseSquare closing → IsSign Assign equals
+        → ParsesRightSide right tree (semicolon ∷ rest) → IsSign Semicolon semicolon
+        → ParsesStatement (t ∷ opening ∷ inner)
+        (element_assignment equals.place opening.place t.place t.text index tree)
         rest
     a_call_statement : {semicolon : Lexeme} {list rest : List Lexeme} {tree : CallTree}
-        → Call list tree (semicolon ∷ rest) → IsSign Semicolon semicolon → Statement list (call tree) rest
-    a_conditional_statement : {list rest : List Lexeme} {tree : StatementTree} → Conditional list tree rest
-        → Statement list tree rest
+        → ParsesCall list tree (semicolon ∷ rest) → IsSign Semicolon semicolon → ParsesStatement list (call tree) rest
+    a_conditional_statement : {list rest : List Lexeme} {tree : StatementTree} → ParsesConditional list tree rest
+        → ParsesStatement list tree rest
     a_loop : {t opening word counter from to closing : Lexeme} {low high body rest : List Lexeme}
         {start end : ExprTree} {trees : BlockTree} → Is (token.Keyword For) t → IsSign OpenRound opening
         → Is (token.Keyword Uint32) word → Is token.Name counter → Is (token.Keyword From) from
-        → Expr low start (to ∷ high) → Is (token.Keyword To) to → Expr high end (closing ∷ body)
-        → IsSign CloseRound closing → Block body trees rest
-        → Statement (t ∷ opening ∷ word ∷ counter ∷ from ∷ low)
+        → ParsesExpr low start (to ∷ high) → Is (token.Keyword To) to → ParsesExpr high end (closing ∷ body)
+        → IsSign CloseRound closing → ParsesBlock body trees rest
+        → ParsesStatement (t ∷ opening ∷ word ∷ counter ∷ from ∷ low)
         (loop t.place counter.place counter.text start end trees) rest
 
   -- a conditional
-  pub data Conditional : List Lexeme → StatementTree → List Lexeme → Type 0 where
+  pub data ParsesConditional : List Lexeme → StatementTree → List Lexeme → Type 0 where
     a_conditional : {t opening closing : Lexeme} {list arm others rest : List Lexeme} {condition : ExprTree}
         {accepted otherwise : BlockTree} → Is (token.Keyword If) t → IsSign OpenRound opening
-        → Expr list condition (closing ∷ arm) → IsSign CloseRound closing → Block arm accepted others
-        → Otherwise others otherwise rest
-        → Conditional (t ∷ opening ∷ list) (conditional t.place condition accepted otherwise) rest
+        → ParsesExpr list condition (closing ∷ arm) → IsSign CloseRound closing → ParsesBlock arm accepted others
+        → ParsesOtherwise others otherwise rest
+        → ParsesConditional (t ∷ opening ∷ list) (conditional t.place condition accepted otherwise) rest
 
   -- statements in their order
-  pub data Statements : List Lexeme → BlockTree → List Lexeme → Type 0 where
-    no_statement : {rest : List Lexeme} → Statements rest nothing rest
+  pub data ParsesStatements : List Lexeme → BlockTree → List Lexeme → Type 0 where
+    no_statement : {rest : List Lexeme} → ParsesStatements rest nothing rest
     one_statement : {list others rest : List Lexeme} {tree : StatementTree} {trees : BlockTree}
-        → Statement list tree others → Statements others trees rest → Statements list (first tree trees) rest
+        → ParsesStatement list tree others → ParsesStatements others trees rest → ParsesStatements list
+        (first tree trees) rest
 
   -- statements in curly brackets
-  pub data Block : List Lexeme → BlockTree → List Lexeme → Type 0 where
+  pub data ParsesBlock : List Lexeme → BlockTree → List Lexeme → Type 0 where
     a_block : {opening closing : Lexeme} {list rest : List Lexeme} {trees : BlockTree} → IsSign OpenCurly opening
-        → Statements list trees (closing ∷ rest) → IsSign CloseCurly closing → Block (opening ∷ list) trees rest
+        → ParsesStatements list trees (closing ∷ rest) → IsSign CloseCurly closing → ParsesBlock
+        (opening ∷ list) trees rest
 
   -- the second arm, where there is one: a block, or one more conditional
-  pub data Otherwise : List Lexeme → BlockTree → List Lexeme → Type 0 where
-    no_else : {rest : List Lexeme} → Otherwise rest nothing rest
+  pub data ParsesOtherwise : List Lexeme → BlockTree → List Lexeme → Type 0 where
+    no_else : {rest : List Lexeme} → ParsesOtherwise rest nothing rest
     an_else : {t : Lexeme} {arm rest : List Lexeme} {trees : BlockTree} → Is (token.Keyword Else) t
-        → Block arm trees rest → Otherwise (t ∷ arm) trees rest
+        → ParsesBlock arm trees rest → ParsesOtherwise (t ∷ arm) trees rest
     an_else_if : {t : Lexeme} {list rest : List Lexeme} {tree : StatementTree} → Is (token.Keyword Else) t
-        → Conditional list tree rest → Otherwise (t ∷ list) (first tree nothing) rest
+        → ParsesConditional list tree rest → ParsesOtherwise (t ∷ list) (first tree nothing) rest
 
 -- a parameter
-pub data Parameter : List Lexeme → ParameterTree → List Lexeme → Type 0 where
+pub data ParsesParameter : List Lexeme → ParameterTree → List Lexeme → Type 0 where
   a_word : {start second t : Lexeme} {rest : List Lexeme} {label : Label} {kind : Kind}
       → label_of start.kind ≡ Some label → word_of second.kind ≡ Some kind → Is token.Name t
-      → Parameter (start ∷ second ∷ t ∷ rest)
+      → ParsesParameter (start ∷ second ∷ t ∷ rest)
       (record { label = label; kind = kind; form = SingleWord; length = 1; place = t.place; name = t.text }) rest
   a_fixed_array : {start t : Lexeme} {list rest : List Lexeme} {label : Label} {kind : Kind} {length : ℕ}
-      → label_of start.kind ≡ Some label → ArrayType list kind length (t ∷ rest) → Is token.Name t
-      → Parameter (start ∷ list) (record {
+      → label_of start.kind ≡ Some label → ParsesArrayType list kind length (t ∷ rest) → Is token.Name t
+      → ParsesParameter (start ∷ list) (record {
         label = label;
         kind = kind;
         form = FixedArray;
@@ -316,9 +324,9 @@ pub data Parameter : List Lexeme → ParameterTree → List Lexeme → Type 0 wh
         name = t.text;
       }) rest
   a_mutable_array : {start word t : Lexeme} {list rest : List Lexeme} {label : Label} {kind : Kind} {length : ℕ}
-      → label_of start.kind ≡ Some label → Is (token.Keyword Mut) word → ArrayType list kind length (t ∷ rest)
+      → label_of start.kind ≡ Some label → Is (token.Keyword Mut) word → ParsesArrayType list kind length (t ∷ rest)
       → Is token.Name t
-      → Parameter (start ∷ word ∷ list) (record {
+      → ParsesParameter (start ∷ word ∷ list) (record {
         label = label;
         kind = kind;
         form = MutableArray;
@@ -328,49 +336,51 @@ pub data Parameter : List Lexeme → ParameterTree → List Lexeme → Type 0 wh
       }) rest
 
 -- what stands after a parameter: further ones, each after a comma, and the closing bracket
-pub data MoreParameters : List Lexeme → List ParameterTree → List Lexeme → Type 0 where
+pub data ParsesMoreParameters : List Lexeme → List ParameterTree → List Lexeme → Type 0 where
   no_more_parameters : {closing : Lexeme} {rest : List Lexeme} → IsSign CloseRound closing
-      → MoreParameters (closing ∷ rest) [] rest
+      → ParsesMoreParameters (closing ∷ rest) [] rest
   one_more_parameter : {comma : Lexeme} {list second rest : List Lexeme} {tree : ParameterTree}
-      {trees : List ParameterTree} → IsSign Comma comma → Parameter list tree second
-      → MoreParameters second trees rest → MoreParameters (comma ∷ list) (tree ∷ trees) rest
+      {trees : List ParameterTree} → IsSign Comma comma → ParsesParameter list tree second
+      → ParsesMoreParameters second trees rest → ParsesMoreParameters (comma ∷ list) (tree ∷ trees) rest
 
 -- parameters and the closing bracket
-pub data Parameters : List Lexeme → List ParameterTree → List Lexeme → Type 0 where
+pub data ParsesParameters : List Lexeme → List ParameterTree → List Lexeme → Type 0 where
   no_parameters : {closing : Lexeme} {rest : List Lexeme} → IsSign CloseRound closing
-      → Parameters (closing ∷ rest) [] rest
+      → ParsesParameters (closing ∷ rest) [] rest
   some_parameters : {list second rest : List Lexeme} {tree : ParameterTree} {trees : List ParameterTree}
-      → Parameter list tree second → MoreParameters second trees rest → Parameters list (tree ∷ trees) rest
+      → ParsesParameter list tree second → ParsesMoreParameters second trees rest → ParsesParameters list
+      (tree ∷ trees) rest
 
 -- the type of a result, where there is one
-pub data ResultType : List Lexeme → Option WordType → List Lexeme → Type 0 where
-  a_void : {t : Lexeme} {rest : List Lexeme} → Is (token.Keyword Void) t → ResultType (t ∷ rest) None rest
+pub data ParsesResultType : List Lexeme → Option WordType → List Lexeme → Type 0 where
+  a_void : {t : Lexeme} {rest : List Lexeme} → Is (token.Keyword Void) t → ParsesResultType (t ∷ rest) None rest
   a_type : {start second : Lexeme} {rest : List Lexeme} {label : Label} {kind : Kind}
       → label_of start.kind ≡ Some label → word_of second.kind ≡ Some kind
-      → ResultType (start ∷ second ∷ rest) (Some (record { kind = kind; label = label })) rest
+      → ParsesResultType (start ∷ second ∷ rest) (Some (record { kind = kind; label = label })) rest
 
 -- `return` and the closing bracket of a body
-pub data BodyEnd : List Lexeme → Option ReturnTree → List Lexeme → Type 0 where
-  no_return : {closing : Lexeme} {rest : List Lexeme} → IsSign CloseCurly closing → BodyEnd (closing ∷ rest) None rest
+pub data ParsesBodyEnd : List Lexeme → Option ReturnTree → List Lexeme → Type 0 where
+  no_return : {closing : Lexeme} {rest : List Lexeme} → IsSign CloseCurly closing → ParsesBodyEnd
+      (closing ∷ rest) None rest
   a_return : {t semicolon closing : Lexeme} {list rest : List Lexeme} {tree : ExprTree} → Is (token.Keyword Return) t
-      → Expr list tree (semicolon ∷ closing ∷ rest) → IsSign Semicolon semicolon → IsSign CloseCurly closing
-      → BodyEnd (t ∷ list) (Some (record { place = t.place; value = tree })) rest
+      → ParsesExpr list tree (semicolon ∷ closing ∷ rest) → IsSign Semicolon semicolon → IsSign CloseCurly closing
+      → ParsesBodyEnd (t ∷ list) (Some (record { place = t.place; value = tree })) rest
 
 -- `export`, where it stands
-pub data Exported : List Lexeme → Option Place → List Lexeme → Type 0 where
-  not_exported : {rest : List Lexeme} → Exported rest None rest
+pub data ParsesExported : List Lexeme → Option Place → List Lexeme → Type 0 where
+  not_exported : {rest : List Lexeme} → ParsesExported rest None rest
   an_export : {t : Lexeme} {rest : List Lexeme} → Is (token.Keyword Export) t
-      → Exported (t ∷ rest) (Some t.place) rest
+      → ParsesExported (t ∷ rest) (Some t.place) rest
 
 -- a procedure
-pub data Procedure : List Lexeme → ProcedureTree → List Lexeme → Type 0 where
+pub data ParsesProcedure : List Lexeme → ProcedureTree → List Lexeme → Type 0 where
   a_procedure : {t opening opening' : Lexeme} {list signature parameters body end rest : List Lexeme}
       {export : Option Place} {result : Option WordType} {own : List ParameterTree} {trees : BlockTree}
-      {returned : Option ReturnTree} → Exported list export signature
-      → ResultType signature result (t ∷ opening ∷ parameters) → Is token.Name t → IsSign OpenRound opening
-      → Parameters parameters own (opening' ∷ body) → IsSign OpenCurly opening' → Statements body trees end
-      → BodyEnd end returned rest
-      → Procedure list (record {
+      {returned : Option ReturnTree} → ParsesExported list export signature
+      → ParsesResultType signature result (t ∷ opening ∷ parameters) → Is token.Name t → IsSign OpenRound opening
+      → ParsesParameters parameters own (opening' ∷ body) → IsSign OpenCurly opening' → ParsesStatements body trees end
+      → ParsesBodyEnd end returned rest
+      → ParsesProcedure list (record {
         export = export;
         result = result;
         place = t.place;
@@ -381,14 +391,14 @@ pub data Procedure : List Lexeme → ProcedureTree → List Lexeme → Type 0 wh
       }) rest
 
 -- procedures in their order
-pub data Procedures : List Lexeme → List ProcedureTree → Type 0 where
-  no_procedure : Procedures [] []
+pub data ParsesProcedures : List Lexeme → List ProcedureTree → Type 0 where
+  no_procedure : ParsesProcedures [] []
   one_procedure : {list others : List Lexeme} {tree : ProcedureTree} {trees : List ProcedureTree}
-      → Procedure list tree others → Procedures others trees → Procedures list (tree ∷ trees)
+      → ParsesProcedure list tree others → ParsesProcedures others trees → ParsesProcedures list (tree ∷ trees)
 
 -- the tokens are a program
 pub data IsProgram : List Lexeme → ProgramTree → Type 0 where
-  a_program : {list : List Lexeme} {trees : List ProcedureTree} → Procedures list trees
+  a_program : {list : List Lexeme} {trees : List ProcedureTree} → ParsesProcedures list trees
       → IsProgram list (record { procedures = trees })
 
 -- some program begins with the tokens

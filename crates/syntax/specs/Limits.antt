@@ -2,8 +2,8 @@
 use Rattle.std.specs.Prelude.{ℕ}
 
 -- its bytes
-abbrev pub text_limit : ℕ
-text_limit = 262144
+abbrev pub source_limit : ℕ
+source_limit = 262144
 
 -- how deeply a token is nested
 abbrev pub nesting_limit : ℕ

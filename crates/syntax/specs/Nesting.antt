@@ -2,8 +2,8 @@
 use Rattle.std.specs.Prelude.{ℕ, ◌+◌, ◌-◌, ◌≤◌, Bool, true, false, List, [], ◌∷◌, ◌++◌, length, take, slice_index}
 use Rattle.std.specs.Prelude.{if◌then◌else◌}
 use Rattle.syntax.specs.Limits.{nesting_limit}
-use Rattle.syntax.specs.declared.nesting.Effect.{Effect}
-use Rattle.syntax.specs.declared.nesting.Effect.TheVariants.{Opens, Closes, Raises, SetsBack, Stays}
+use Rattle.syntax.specs.declared.nesting.NestingEffect.{NestingEffect}
+use Rattle.syntax.specs.declared.nesting.NestingEffect.TheVariants.{Opens, Closes, Raises, SetsBack, Stays}
 use Rattle.syntax.specs.declared.token.TokenKind.{TokenKind}
 use Rattle.syntax.specs.declared.token.TokenKind.TheVariants as token
 use Rattle.syntax.specs.declared.token.Keyword.TheVariants.{Else, From, To, Return}
@@ -12,7 +12,7 @@ use Rattle.syntax.specs.declared.token.Sign.TheVariants.{CloseSquare, Comma, Sem
 use Rattle.syntax.specs.Lexeme.{Lexeme}
 
 -- brackets open and close, operator signs and `else` raise, and what ends a part or begins `return` sets back
-abbrev pub effect_of : TokenKind → Effect
+abbrev pub effect_of : TokenKind → NestingEffect
 effect_of (token.Sign OpenRound) = Opens
 effect_of (token.Sign OpenCurly) = Opens
 effect_of (token.Sign OpenSquare) = Opens
@@ -58,14 +58,14 @@ count_before kind nest = if nest.after_block then (if is_else kind then nest.cou
     else nest.count
 
 -- the count of a token, from the count that it finds
-abbrev pub changed_count : Effect → ℕ → List ℕ → ℕ
+abbrev pub changed_count : NestingEffect → ℕ → List ℕ → ℕ
 changed_count Opens count bases = count + 1
 changed_count Closes count bases = base_of bases - 1
 changed_count Raises count bases = count + 1
 changed_count SetsBack count bases = base_of bases
 changed_count Stays count bases = count
 
-abbrev pub changed_bases : Effect → ℕ → List ℕ → List ℕ
+abbrev pub changed_bases : NestingEffect → ℕ → List ℕ → List ℕ
 changed_bases Opens count bases = bases ++ (count + 1) ∷ []
 changed_bases Closes count bases = take (length bases - 1) bases
 changed_bases Raises count bases = bases

@@ -10,12 +10,12 @@ use Rattle.syntax.specs.Lexeme.{Lexeme}
 use Rattle.syntax.specs.Spelling.{Spells}
 
 -- how a list of tokens ends: at the end of the text, or at the first bad character or number
-pub data Ending : Type 0 where
-  ends_at : (place : Place) → Ending
-  stops : (rule : Rule) (place : Place) → Ending
+pub data TokensEnding : Type 0 where
+  ends_at : (place : Place) → TokensEnding
+  stops : (rule : Rule) (place : Place) → TokensEnding
 
 -- the same of the list's end in code
-abbrev pub ending : ListEnd → Ending
+abbrev pub ending : ListEnd → TokensEnding
 ending (TextEnd place) = ends_at place
 ending (Fault rule place) = stops rule place
 
@@ -44,12 +44,13 @@ abbrev pub BeginsWithNone : List ℕ → Type 0
 BeginsWithNone text = (piece : Piece) (front others : List ℕ) → Spells piece front → text ≡ front ++ others → ⊥
 
 -- what stands from a place on spells these tokens
-pub data LexesFrom : Place → List ℕ → List Lexeme → Ending → Type 0 where
+pub data LexesFrom : Place → List ℕ → List Lexeme → TokensEnding → Type 0 where
   at_end : {place : Place} → LexesFrom place [] [] (ends_at place)
-  past_space : {place : Place} {text spelling rest : List ℕ} {tokens : List Lexeme} {end : Ending}
+  past_space : {place : Place} {text spelling rest : List ℕ} {tokens : List Lexeme} {end : TokensEnding}
       → BeginsWith text Space spelling rest → LexesFrom (place_after place spelling) rest tokens end
       → LexesFrom place text tokens end
-  past_token : {place : Place} {text spelling rest : List ℕ} {kind : TokenKind} {tokens : List Lexeme} {end : Ending}
+  past_token : {place : Place} {text spelling rest : List ℕ} {kind : TokenKind} {tokens : List Lexeme}
+      {end : TokensEnding}
       → BeginsWith text (Token kind) spelling rest → LexesFrom (place_after place spelling) rest tokens end
       → LexesFrom place text (record { kind = kind; place = place; text = spelling } ∷ tokens) end
   at_bad_number : {place : Place} {text spelling rest : List ℕ} → BeginsWith text BadNumber spelling rest
@@ -58,12 +59,12 @@ pub data LexesFrom : Place → List ℕ → List Lexeme → Ending → Type 0 wh
       → LexesFrom place (b ∷ text) [] (stops UnknownCharacter place)
 
 -- the text spells these tokens, with their places, and the list of them ends so
-abbrev pub Lexes : List ℕ → List Lexeme → Ending → Type 0
+abbrev pub Lexes : List ℕ → List Lexeme → TokensEnding → Type 0
 Lexes text tokens end = LexesFrom origin text tokens end
 
 -- a text has one list of tokens
 abbrev pub OneList : Type 0
-OneList = (text : List ℕ) (xs ys : List Lexeme) (e f : Ending) → Lexes text xs e → Lexes text ys f
+OneList = (text : List ℕ) (xs ys : List Lexeme) (e f : TokensEnding) → Lexes text xs e → Lexes text ys f
     → (xs ≡ ys) × (e ≡ f)
 
 -- the token's text is what stands in the text at its offset

@@ -12,7 +12,9 @@ pub use language::{
     ElementAssignment, Expr, Form, Kind, Label, Name, Outcome, Param, Parameter, Place,
     PrefixOperator, Procedure, Program, Refusal, Return, RightSide, Rule, Statement, WordType,
 };
-pub use lexer::{Lexed, ListEnd, TEXT_LIMIT, lex, one_list_for_a_text, text_limit_is_as_stated};
+pub use lexer::{
+    Lexed, ListEnd, SOURCE_LIMIT, lex, one_list_for_a_source, source_limit_is_as_stated,
+};
 pub use nesting::{NESTING_LIMIT, nesting_limit_is_as_stated};
-pub use parser::{one_answer_for_a_text, one_program_for_tokens, parse, texts_are_grammatical};
+pub use parser::{one_answer_for_a_source, one_program_for_tokens, parse, sources_are_grammatical};
 pub use token::{Keyword, Sign, Suffix, Token, TokenKind};

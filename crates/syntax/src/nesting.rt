@@ -9,7 +9,7 @@ use std::alloc::{AllocError, Global};
 pub const NESTING_LIMIT: u32 = 64;
 
 /// What a token does to the count.
-enum Effect {
+enum NestingEffect {
     Opens,
     Closes,
     Raises,
@@ -69,10 +69,10 @@ impl Nesting {
         ensures { result ≡ (after kind (nest self.now)).count }
     {
         match effect_of(kind) {
-            Effect::Opens | Effect::Raises => self.count_before(kind) + 1,
-            Effect::Closes => self.base().saturating_sub(1),
-            Effect::SetsBack => self.base(),
-            Effect::Stays => self.count_before(kind),
+            NestingEffect::Opens | NestingEffect::Raises => self.count_before(kind) + 1,
+            NestingEffect::Closes => self.base().saturating_sub(1),
+            NestingEffect::SetsBack => self.base(),
+            NestingEffect::Stays => self.count_before(kind),
         }
     }
 
@@ -83,11 +83,11 @@ impl Nesting {
     {
         let count = self.count_after(kind);
         match effect_of(kind) {
-            Effect::Opens => self.bases.push(count as u8)?,
-            Effect::Closes => {
+            NestingEffect::Opens => self.bases.push(count as u8)?,
+            NestingEffect::Closes => {
                 let _ = self.bases.pop();
             }
-            Effect::Raises | Effect::SetsBack | Effect::Stays => {}
+            NestingEffect::Raises | NestingEffect::SetsBack | NestingEffect::Stays => {}
         }
         self.count = count;
         self.after_block = kind == TokenKind::Sign(Sign::CloseCurly);
@@ -97,16 +97,19 @@ impl Nesting {
 
 /// Brackets open and close, operator signs and `else` raise, and what ends a part or begins
 /// `return` sets back.
-fn effect_of(kind: TokenKind) -> Effect
+fn effect_of(kind: TokenKind) -> NestingEffect
     ensures { result ≡ effect_that kind }
 {
     match kind {
-        TokenKind::Sign(Sign::OpenRound | Sign::OpenCurly | Sign::OpenSquare) => Effect::Opens,
-        TokenKind::Sign(Sign::CloseRound | Sign::CloseCurly | Sign::CloseSquare) => Effect::Closes,
-        TokenKind::Sign(Sign::Comma | Sign::Semicolon | Sign::Assign) => Effect::SetsBack,
-        TokenKind::Keyword(Keyword::From | Keyword::To | Keyword::Return) => Effect::SetsBack,
-        TokenKind::Sign(_) | TokenKind::Keyword(Keyword::Else) => Effect::Raises,
-        TokenKind::Keyword(_) | TokenKind::Name | TokenKind::Number(_, _) => Effect::Stays,
+        TokenKind::Sign(Sign::OpenRound | Sign::OpenCurly | Sign::OpenSquare) =>
+            NestingEffect::Opens,
+        TokenKind::Sign(Sign::CloseRound | Sign::CloseCurly | Sign::CloseSquare) =>
+            NestingEffect::Closes,
+        TokenKind::Sign(Sign::Comma | Sign::Semicolon | Sign::Assign) => NestingEffect::SetsBack,
+        TokenKind::Keyword(Keyword::From | Keyword::To | Keyword::Return) =>
+            NestingEffect::SetsBack,
+        TokenKind::Sign(_) | TokenKind::Keyword(Keyword::Else) => NestingEffect::Raises,
+        TokenKind::Keyword(_) | TokenKind::Name | TokenKind::Number(_, _) => NestingEffect::Stays,
     }
 }
 

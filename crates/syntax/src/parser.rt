@@ -1,10 +1,10 @@
 ghost use Rattle.std.specs.Prelude.{◌≡◌, ℕ, ◌<◌, List, length, Contains, IfOk, IfErr, IsErrAnd, MatchResult};
 ghost use Rattle.syntax.specs.Below.{IsGrammatical, origin, Plain, ProcedureTree, program_tree, ProgramTree};
-ghost use Rattle.syntax.specs.Limits.{text_limit};
+ghost use Rattle.syntax.specs.Limits.{source_limit};
 ghost use Rattle.syntax.specs.Lexeme.{lexemes};
 ghost use Rattle.syntax.specs.private.Machine.{program as program_state};
 ghost use Rattle.syntax.specs.private.ParserViews.{ahead, FaultIs};
-ghost use Rattle.syntax.specs.Reading.{Answers, Reads, IsRefusedAs, OneProgram, OneAnswer, accepted, refused};
+ghost use Rattle.syntax.specs.Reading.{IsParseAnswer, Reads, IsRefusedAs, OneProgram, OneAnswer, accepted, refused};
 ghost use Rattle.syntax.specs.Tokens.{ending};
 
 mod declaration;
@@ -22,28 +22,28 @@ use std::alloc::{AllocError, AllocFailed, Global};
 
 /// Why the parser stops.
 #[derive(Clone, Copy)]
-enum Fault {
+enum ParseFault {
     Refused(Rule, Place),
     Memory,
 }
 
-impl From<AllocError> for Fault {
-    ghost use Rattle.syntax.specs.declared.parser.Fault.TheVariants.{Memory};
+impl From<AllocError> for ParseFault {
+    ghost use Rattle.syntax.specs.declared.parser.ParseFault.TheVariants.{Memory};
 
     ghost from_gives = { λ _ fault. fault ≡ Memory };
 
     fn from(_: AllocError) -> Self {
-        Fault::Memory
+        ParseFault::Memory
     }
 }
 
-impl<T: Drop> From<AllocFailed<T>> for Fault {
-    ghost use Rattle.syntax.specs.declared.parser.Fault.TheVariants.{Memory};
+impl<T: Drop> From<AllocFailed<T>> for ParseFault {
+    ghost use Rattle.syntax.specs.declared.parser.ParseFault.TheVariants.{Memory};
 
     ghost from_gives = { λ _ fault. fault ≡ Memory };
 
     fn from(_: AllocFailed<T>) -> Self {
-        Fault::Memory
+        ParseFault::Memory
     }
 }
 
@@ -57,7 +57,7 @@ struct Parser<'t> {
 }
 
 impl<'t> Parser<'t> {
-    fn procedures(&mut self) -> Result<Vec<Procedure>, Fault>
+    fn procedures(&mut self) -> Result<Vec<Procedure>, ParseFault>
         ensures leads { MatchResult result
             (λ procedures. ahead program_state self.old ≡ accepted (program_tree procedures.items))
             (λ f. FaultIs f (ahead program_state self.old)) }
@@ -69,7 +69,7 @@ impl<'t> Parser<'t> {
         }
         match self.end {
             ListEnd::TextEnd(_) => Ok(procedures),
-            ListEnd::Fault(rule, place) => Err(Fault::Refused(rule, place)),
+            ListEnd::Fault(rule, place) => Err(ParseFault::Refused(rule, place)),
         }
     }
 }
@@ -81,8 +81,8 @@ fn parse_tokens<'t>(
     end: ListEnd,
 ) -> Result<Vec<Procedure>, Refusal>
     ensures accepted { IfOk result (λ procedures.
-        Answers (lexemes tokens.entry.now) (ending end) (accepted (program_tree procedures.items))) }
-    ensures refused { IfErr result (IsRefusedAs (Answers (lexemes tokens.entry.now) (ending end))) }
+        IsParseAnswer (lexemes tokens.entry.now) (ending end) (accepted (program_tree procedures.items))) }
+    ensures refused { IfErr result (IsRefusedAs (IsParseAnswer (lexemes tokens.entry.now) (ending end))) }
 {
     let mut parser = Parser {
         alloc,
@@ -92,20 +92,20 @@ fn parse_tokens<'t>(
     };
     match parser.procedures() {
         Ok(procedures) => Ok(procedures),
-        Err(Fault::Refused(rule, place)) => Err(Refusal::at(rule, place)),
-        Err(Fault::Memory) => Err(Refusal::memory()),
+        Err(ParseFault::Refused(rule, place)) => Err(Refusal::at(rule, place)),
+        Err(ParseFault::Memory) => Err(Refusal::memory()),
     }
 }
 
-/// The program of a text, or the first refusal. A place is named for all refusals but running out of
-/// memory. A text that is too long is refused as that whatever memory there is.
-pub fn parse(alloc: Global, text: &str) -> Result<Program, Refusal>
-    ensures too_long { text_limit < length text.now
+/// The program of a source, or the first refusal. A place is named for all refusals but running out of
+/// memory. A source that is too long is refused as that whatever memory there is.
+pub fn parse(alloc: Global, source: &str) -> Result<Program, Refusal>
+    ensures too_long { source_limit < length source.now
         → IsErrAnd result (λ r. (r.rule ≡ Rule.TextTooLong) × (r.place ≡ Some origin) × (r.why ≡ Plain)) }
-    ensures accepted { IfOk result (λ p. Reads text.now (accepted (program_tree p))) }
-    ensures refused { IfErr result (IsRefusedAs (Reads text.now)) }
+    ensures accepted { IfOk result (λ p. Reads source.now (accepted (program_tree p))) }
+    ensures refused { IfErr result (IsRefusedAs (Reads source.now)) }
 {
-    let lexed = lex(alloc, text)?;
+    let lexed = lex(alloc, source)?;
     let procedures = parse_tokens(alloc, lexed.tokens.as_slice(), lexed.end)?;
     Ok(Program::new(procedures))
 }
@@ -115,14 +115,14 @@ pub fn one_program_for_tokens()
     ensures { OneProgram }
 {}
 
-/// A text has one answer at most: it is not both accepted and refused, and not accepted with two
+/// A source has one answer at most: it is not both accepted and refused, and not accepted with two
 /// trees.
-pub fn one_answer_for_a_text()
+pub fn one_answer_for_a_source()
     ensures { OneAnswer }
 {}
 
-/// Whatever their types, the procedures of a text are as the grammar has them.
-pub fn texts_are_grammatical()
-    ensures { (text : List ℕ) (program : ProgramTree) (p : ProcedureTree) → Reads text (accepted program)
+/// Whatever their types, the procedures of a source are as the grammar has them.
+pub fn sources_are_grammatical()
+    ensures { (source : List ℕ) (program : ProgramTree) (p : ProcedureTree) → Reads source (accepted program)
         → Contains program.procedures p → IsGrammatical p }
 {}

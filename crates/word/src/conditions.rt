@@ -4,14 +4,14 @@ ghost use Rattle.std.specs.Prelude.{◌≡◌, not, ◌&&◌, ◌||◌};
 ghost use Rattle.word.specs.Operators.{word_of};
 
 /// `a && b`.
-pub fn both(a: bool, b: bool) -> bool
+pub fn and(a: bool, b: bool) -> bool
     ensures { result ≡ (a && b) }
 {
     a & b
 }
 
 /// `a || b`.
-pub fn either(a: bool, b: bool) -> bool
+pub fn or(a: bool, b: bool) -> bool
     ensures { result ≡ (a || b) }
 {
     a | b

@@ -60,6 +60,6 @@ pub fn masks_select()
 {}
 
 /// Where texts begin is the constant that code takes for it.
-pub fn texts_begin_at_the_origin()
+pub fn sources_begin_at_the_origin()
     ensures { ORIGIN ≡ origin }
 {}

@@ -20,7 +20,7 @@ pub mod width;
 pub use arithmetic::{add, convert, divide, multiply, negate, remainder, subtract, wrap};
 pub use bitwise::{bit_and, bit_or, bit_xor, complement, rotate_left, shift_left, shift_right};
 pub use comparisons::{at_least, at_most, equal, greater, less, unequal};
-pub use conditions::{both, either, from_bool, not};
+pub use conditions::{and, from_bool, not, or};
 pub use masks::{mask_of, select};
 pub use place::Place;
 pub use profile::Profile;

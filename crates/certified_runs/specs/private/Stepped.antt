@@ -1,8 +1,8 @@
 -- What one step of the engine comes to.
 use Rattle.std.specs.Prelude.{◌≡◌, ℕ, List, [], ◌∷◌, is_some, length}
-use Rattle.certified_runs.specs.Below.{ByteMap, Code, entries_of, Observation}
+use Rattle.certified_runs.specs.Below.{ByteMap, MachineCode, entries_of, Observation}
 use Rattle.certified_runs.specs.Certified.{KnownStep, leads_on, ends, depends}
-use Rattle.certified_runs.specs.Known.{Known}
+use Rattle.certified_runs.specs.Known.{KnownState}
 use Rattle.certified_runs.specs.declared.steps.StepEnd.{StepEnd}
 use Rattle.certified_runs.specs.declared.steps.StepEnd.TheVariants.{LeadsOn, Ends, Depends}
 
@@ -11,7 +11,7 @@ abbrev pub HaveOneExtent : ByteMap → ByteMap → Type 0
 HaveOneExtent one other = (a : ℕ) → is_some (one a) ≡ is_some (other a)
 
 -- the step was made, showed so many entries and led on to what is known now, or stopped so; or it depends
-abbrev pub HasStepped : Code → Known → StepEnd → Known → Type 0
+abbrev pub HasStepped : MachineCode → KnownState → StepEnd → KnownState → Type 0
 HasStepped code k (LeadsOn entries) next = (o : Observation) × KnownStep code k (leads_on o next)
     × (length (entries_of (o ∷ [])) ≡ entries)
 HasStepped code k (Ends entries stop) next = (seen : List Observation) × KnownStep code k (ends seen stop)

@@ -20,8 +20,8 @@ pub use Rattle.codegen.specs.expression_code.TermCode.{expr_code, fetch_code, fi
 pub use Rattle.codegen.specs.expression_code.TermCode.{home_of_term, is_at_home, keep_code, keeps_words, load_by}
 pub use Rattle.codegen.specs.expression_code.TermCode.{load_code, narrow_code, narrowed_in, near_code, near_element}
 pub use Rattle.codegen.specs.expression_code.TermCode.{near_offset, number_code, of_truths, operand, operator_code}
-pub use Rattle.codegen.specs.expression_code.TermCode.{prefix_code, raise_code, rotate_code, row_of, scale_code, Step}
-pub use Rattle.codegen.specs.expression_code.TermCode.{lower_part, move_code, step_code, store_code, swapped}
+pub use Rattle.codegen.specs.expression_code.TermCode.{prefix_code, raise_code, rotate_code, row_of, scale_code}
+pub use Rattle.codegen.specs.expression_code.TermCode.{RowStep, lower_part, move_code, step_code, store_code, swapped}
 pub use Rattle.codegen.specs.expression_code.TermCode.{upper_part, choice_or_zero_code, emitted_operator, kind_at}
 pub use Rattle.codegen.specs.expression_code.TermCode.{number_step_code, of_bits}
 pub use Rattle.branch_removal.specs.Heights.{height_of}
@@ -33,7 +33,7 @@ pub use Rattle.inline.specs.Flat.{array_as, binary, convert, declaration_of, ele
 pub use Rattle.inline.specs.Flat.{rotate, select, TermTree, variable, word_as}
 pub use Rattle.inline.specs.FlatMeaning.{marks_of, path_in, value_in, Values}
 pub use Rattle.inline.specs.FlatSize.{declared_words, term_nodes, words_by, words_of}
-pub use Rattle.inline.specs.FlatTyping.{HasType, of_binary, of_conversion, of_element, of_number, of_prefix}
+pub use Rattle.inline.specs.FlatTyping.{TermHasType, of_binary, of_conversion, of_element, of_number, of_prefix}
 pub use Rattle.inline.specs.FlatTyping.{of_rotation, of_selection, of_truth, of_variable, Types, types_of}
 pub use Rattle.inline.specs.Path.{AreFine, bounded, decided, divided, indexed, Mark, multiplied, Path}
 pub use Rattle.inline.specs.declared.flat.FlatVariable.{FlatVariable}
@@ -52,9 +52,9 @@ pub use Rattle.codegen.proofs.program_logic_lemmas.Computing.{plain_append, regi
 pub use Rattle.codegen.proofs.program_logic_lemmas.Computing.{registers_of}
 pub use Rattle.codegen.proofs.program_logic_lemmas.Face.{All-one, along, along_fit, always, as_code, beside, both_left}
 pub use Rattle.codegen.proofs.program_logic_lemmas.Face.{both_right, branching_at, by_mark, cheaper, Contents}
-pub use Rattle.codegen.proofs.program_logic_lemmas.Face.{contents_of, ends_on, by_test, gives, idle, Known, looping}
+pub use Rattle.codegen.proofs.program_logic_lemmas.Face.{contents_of, ends_on, by_test, gives, idle, MarkKnown, looping}
 pub use Rattle.codegen.proofs.program_logic_lemmas.Face.{never, none, number_or_zero, Placed, Placed-left, Placed-right}
-pub use Rattle.codegen.proofs.program_logic_lemmas.Face.{quiet, quietly, seq, stands, Still, Straight, Then, step_ends}
+pub use Rattle.codegen.proofs.program_logic_lemmas.Face.{quiet, quietly, seq, stands, Still, RunsAt, Then, step_ends}
 pub use Rattle.codegen.proofs.program_logic_lemmas.Face.{weaken, with_result}
 pub use Rattle.rv_code.specs.Words.{IsInstr}
 pub use Rattle.rv_code.specs.declared.instructions.Instr.{Instr}
@@ -71,7 +71,7 @@ pub use Rattle.rv_machine.specs.Effects.{address_of, divide_value, immediate_val
 pub use Rattle.rv_machine.specs.Effects.{multiply_value, register_value, shift_value, sign_extended, store_size, sum_of}
 pub use Rattle.rv_machine.specs.Effects.{difference_of}
 pub use Rattle.rv_machine.specs.Leakage.{Leads}
-pub use Rattle.rv_machine.specs.Machine.{Code, IsAt, product_shown, State, with_value}
+pub use Rattle.rv_machine.specs.Machine.{MachineCode, IsAt, product_shown, State, with_value}
 pub use Rattle.rv_machine.specs.Registers.{register, with_register}
 pub use Rattle.rv_machine.specs.Sizes.{byte_count}
 pub use Rattle.rv_machine.specs.declared.memory.Size.{Size}

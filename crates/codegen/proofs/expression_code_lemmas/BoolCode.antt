@@ -4,7 +4,7 @@ use Rattle.std.proofs.Common.{◌≡◌, ℕ, zero, suc, ◌<◌, ◌&&◌, ◌|
 use Rattle.codegen.proofs.expression_code_lemmas.Below.{Allocation, BinaryOperator, emitted_operator, IsWithinKind}
 use Rattle.codegen.proofs.expression_code_lemmas.Below.{marks_of, of_bits, operated, Place, Profile, Width, word_of}
 use Rattle.codegen.proofs.expression_code_lemmas.Below.{WordType}
-use Rattle.codegen.specs.Below.{Both, Either, logic, Makes, operation_of, truth_of}
+use Rattle.codegen.specs.Below.{LogicalAnd, LogicalOr, logic, Makes, operation_of, truth_of}
 use Rattle.std.proofs.lemmas.Bool.{cond_both}
 
 -- functions of two bools are the same where they are at 0 and at 1
@@ -21,9 +21,9 @@ module _ (w : Width) (a b : ℕ) where
   bits_same : {profile : Profile} {one other whole : WordType} → IsWithinKind one.kind a → IsWithinKind other.kind b
       → (operator : BinaryOperator) → Makes profile (operation_of operator) one other whole
       → operated (of_bits operator) w a b ≡ operated operator w a b
-  bits_same low high Either logic =
+  bits_same low high LogicalOr logic =
       of_two bit_or (λ x y. word_of (truth_of x || truth_of y)) refl refl refl refl a b (omega arith) (omega arith)
-  bits_same low high Both logic =
+  bits_same low high LogicalAnd logic =
       of_two bit_and (λ x y. word_of (truth_of x && truth_of y)) refl refl refl refl a b (omega arith) (omega arith)
   bits_same low high operator makes = refl
 
@@ -38,8 +38,8 @@ module _ (w : Width) (a b : ℕ) where
 
 module _ (place : Place) (a b : ℕ) where
   bits_marks : (operator : BinaryOperator) → marks_of place operator a b ≡ marks_of place (of_bits operator) a b
-  bits_marks Either = refl
-  bits_marks Both = refl
+  bits_marks LogicalOr = refl
+  bits_marks LogicalAnd = refl
   bits_marks operator = refl
 
   pub emitted_marks : (allocation : Allocation) (operator : BinaryOperator)

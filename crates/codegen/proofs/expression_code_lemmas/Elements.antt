@@ -10,7 +10,7 @@ use Rattle.codegen.proofs.expression_code_lemmas.Below.{lower_part, lt-ltb, nat_
 use Rattle.codegen.proofs.expression_code_lemmas.Below.{plain_append, registers_after, scale_code, sign_extended, State}
 use Rattle.codegen.proofs.expression_code_lemmas.Below.{StraightState, sum_of, upper_part, weaken, along, array_as}
 use Rattle.codegen.proofs.expression_code_lemmas.Below.{as_code, ByteMap, element, element_code, gives, indexed}
-use Rattle.codegen.proofs.expression_code_lemmas.Below.{kind_at, Known, near_code, near_element, number_at}
+use Rattle.codegen.proofs.expression_code_lemmas.Below.{kind_at, MarkKnown, near_code, near_element, number_at}
 use Rattle.codegen.proofs.expression_code_lemmas.Below.{number_or_zero, Path, Place, quiet, TermTree, value_in}
 use Rattle.codegen.proofs.expression_code_lemmas.Below.{variable_offset, WordType}
 use Rattle.codegen.proofs.expression_code_lemmas.Arithmetic.{upper_fits, lower_fits, near_address}
@@ -23,7 +23,7 @@ use Rattle.codegen.proofs.expression_code_lemmas.WorkRegisters.{target_works, sp
 use Rattle.codegen.proofs.expression_code_lemmas.Moves.{register-at, computing_within, is_written, is_left, loading}
 use Rattle.codegen.proofs.expression_code_lemmas.Events.{by_known_index}
 use Rattle.codegen.proofs.expression_code_lemmas.NumberCode.{known, near_known}
-use Rattle.codegen.proofs.expression_code_lemmas.Operands.{Outcome}
+use Rattle.codegen.proofs.expression_code_lemmas.Operands.{RegisterOutcome}
 use Rattle.codegen.proofs.expression_code_lemmas.Places.{place_of, place_even, kind_known}
 use Rattle.codegen.proofs.expression_code_lemmas.Values.{Leaves, Ready, ValuedIn, place_ends}
 use Rattle.codegen.proofs.expression_code_lemmas.OperandRuns.{made, none_yet, Slots, still_ready, steps_of}
@@ -136,7 +136,7 @@ module _ (slots : Slots) (place d : ℕ) (target : IsTarget slots.z.allocation.c
       × (number_at s.bytes (element_bytes word.kind)
       (z.frame + place_of z.declared x (array_as word mutable size) i) ≡ Some (slice_index (env.variables x) i))
       × (value_in env.variables index ≡ i))
-      (λ env s t. Outcome z works d (value_in env.variables (element source x size index)) s t)
+      (λ env s t. RegisterOutcome z works d (value_in env.variables (element source x size index)) s t)
   loaded source x size word mutable i index known below rs offset small short =
       let array = array_as word mutable size in
       let a = place_of z.declared x array i in
@@ -161,9 +161,9 @@ module _ (slots : Slots) (place d : ℕ) (target : IsTarget slots.z.allocation.c
       → (source : Place) (x size : ℕ) (word : WordType) (mutable : Bool) (i : ℕ) (index : TermTree)
       → slice_get z.declared x ≡ Some (array_as word mutable size) → i < size
       → Runs z 5 none (element_code d r word.kind (variable_offset z.declared x))
-      (Known (setting z) ℕ (λ j. j < size) (λ env s. Ready z env s × (s.regs r ≡ value_in env.variables index))
+      (MarkKnown (setting z) ℕ (λ j. j < size) (λ env s. Ready z env s × (s.regs r ≡ value_in env.variables index))
       (λ env. value_in env.variables index) i)
-      (λ env s t. Outcome z works d (value_in env.variables (element source x size index)) s t)
+      (λ env s t. RegisterOutcome z works d (value_in env.variables (element source x size index)) s t)
   picked r at source x size word mutable i index known below =
       let o = variable_offset z.declared x in
       let array = array_as word mutable size in

@@ -5,7 +5,7 @@ use Rattle.std.proofs.Common.{sym, ap, ap₂, ◌∙◌, arith, inl, inr}
 use Rattle.std.proofs.lemmas.Bool.{cases_eq, cases_lt}
 use Rattle.codegen.proofs.expression_code_lemmas.Below.{always, bounded, by_mark, ByteMap, decided, divide_leads}
 use Rattle.codegen.proofs.expression_code_lemmas.Below.{divide_value, divided, DivideOperation, Event, indexed, Instr}
-use Rattle.codegen.proofs.expression_code_lemmas.Below.{IsAt, IsInside, IsInstr, Known, Leads, Mark, multiplied}
+use Rattle.codegen.proofs.expression_code_lemmas.Below.{IsAt, IsInside, IsInstr, MarkKnown, Leads, Mark, multiplied}
 use Rattle.codegen.proofs.expression_code_lemmas.Below.{multiply_leads, multiply_value, MultiplyOperation, never}
 use Rattle.codegen.proofs.expression_code_lemmas.Below.{Observation, Path, Place, product_shown, Profile, register}
 use Rattle.codegen.proofs.expression_code_lemmas.Below.{stands, State, StraightState, step_ends, weaken, with_value}
@@ -14,7 +14,7 @@ use Rattle.codegen.proofs.expression_code_lemmas.Frame.{Setting, Before, After, 
 use Rattle.codegen.proofs.expression_code_lemmas.Moves.{register-at, is_written, is_left}
 use Rattle.codegen.proofs.expression_code_lemmas.WorkRegisters.{IsFree}
 use Rattle.codegen.specs.Below.{seen as seen_of}
-use Rattle.codegen.proofs.program_logic_lemmas.Face.{Kind}
+use Rattle.codegen.proofs.program_logic_lemmas.Face.{MarkKind}
 use Rattle.rv_code.specs.declared.instructions.Instr.TheVariants as instr
 use Rattle.rv_machine.specs.declared.observation.Event.TheVariants as event
 use Rattle.word.specs.declared.profile.Profile.TheVariants.{P1, P2}
@@ -38,7 +38,7 @@ read_operands (divided place a b) = Some (a, b)
 read_operands other = None
 
 module _ (z : Setting) where
-  abbrev index_kind : Place → (size : ℕ) → Kind (setting z) ℕ (λ i. i < size)
+  abbrev index_kind : Place → (size : ℕ) → MarkKind (setting z) ℕ (λ i. i < size)
   index_kind place size = record {
     mark = λ i. indexed place size i;
     read = read_index;
@@ -47,7 +47,7 @@ module _ (z : Setting) where
     good = λ i path fine. fine.0;
   }
 
-  abbrev pub condition_kind : Kind (setting z) ℕ (λ v. Unit {0})
+  abbrev pub condition_kind : MarkKind (setting z) ℕ (λ v. Unit {0})
   condition_kind = record {
     mark = λ v. decided v;
     read = read_condition;
@@ -57,7 +57,7 @@ module _ (z : Setting) where
   }
 
   -- the bounds of a loop: no more steps than are counted for its counter
-  abbrev bounds_kind : (x : ℕ) → Kind (setting z) (ℕ × ℕ) (λ b. b.1 - b.0 ≤ slice_index z.counts x)
+  abbrev bounds_kind : (x : ℕ) → MarkKind (setting z) (ℕ × ℕ) (λ b. b.1 - b.0 ≤ slice_index z.counts x)
   bounds_kind x = record {
     mark = λ b. bounded x b.0 b.1;
     read = read_bounds;
@@ -66,7 +66,7 @@ module _ (z : Setting) where
     good = λ b path fine. fine.0;
   }
 
-  abbrev operands_kind : Place → Kind (setting z) (ℕ × ℕ) (λ o. 0 < o.1)
+  abbrev operands_kind : Place → MarkKind (setting z) (ℕ × ℕ) (λ o. 0 < o.1)
   operands_kind place = record {
     mark = λ o. divided place o.0 o.1;
     read = read_operands;
@@ -78,7 +78,7 @@ module _ (z : Setting) where
   -- code behind an index below the size
   pub by_index : {n : ℕ} {steps : Steps} {is : List Instr} {P : Before} {Q : After} (place : Place) (size : ℕ)
       (index : StraightState → ℕ)
-      → ((i : ℕ) → i < size → Runs z n steps is (Known (setting z) ℕ (λ j. j < size) P index i) Q)
+      → ((i : ℕ) → i < size → Runs z n steps is (MarkKnown (setting z) ℕ (λ j. j < size) P index i) Q)
       → Runs z n (λ env. indexed place size (index env) ∷ steps env) is P Q
   by_index place size index one =
       by_mark (index_kind place size) index
@@ -103,7 +103,7 @@ module _ (z : Setting) where
   pub by_bounds : {n : ℕ} {steps : Steps} {is : List Instr} {P : Before} {Q : After} (x : ℕ)
       (bounds : StraightState → ℕ × ℕ)
       → ((b : ℕ × ℕ) → b.1 - b.0 ≤ slice_index z.counts x
-      → Runs z n steps is (Known (setting z) (ℕ × ℕ) (λ c. c.1 - c.0 ≤ slice_index z.counts x) P bounds b) Q)
+      → Runs z n steps is (MarkKnown (setting z) (ℕ × ℕ) (λ c. c.1 - c.0 ≤ slice_index z.counts x) P bounds b) Q)
       → Runs z n (λ env. bounded x (bounds env).0 (bounds env).1 ∷ steps env) is P Q
   by_bounds x bounds one =
       by_mark (bounds_kind x) bounds

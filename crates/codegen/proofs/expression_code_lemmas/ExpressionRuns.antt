@@ -6,7 +6,7 @@ use Rattle.codegen.proofs.expression_code_lemmas.Below.{along, at_home, array_as
 use Rattle.codegen.proofs.expression_code_lemmas.Below.{by_test, near_element, Profile, State, StraightState, cheaper}
 use Rattle.codegen.proofs.expression_code_lemmas.Below.{Boolean, choice_code, choice_or_zero_code, chooses_zero, Label}
 use Rattle.codegen.proofs.expression_code_lemmas.Below.{constant_code, copy_code, keeps_words, Kind, element_code}
-use Rattle.codegen.proofs.expression_code_lemmas.Below.{expr_code, fetch_code, gives, HasType, height_of, home_of}
+use Rattle.codegen.proofs.expression_code_lemmas.Below.{expr_code, fetch_code, gives, TermHasType, height_of, home_of}
 use Rattle.codegen.proofs.expression_code_lemmas.Below.{InSlot, Instr, into_code, left_row, lt-ltb, move_code, none}
 use Rattle.codegen.proofs.expression_code_lemmas.Below.{number_at, number_code, number_row, NumberRow, of_binary}
 use Rattle.codegen.proofs.expression_code_lemmas.Below.{of_conversion, of_element, of_number, of_prefix, of_rotation}
@@ -25,7 +25,7 @@ use Rattle.codegen.proofs.expression_code_lemmas.Arithmetic.{chosen, chosen_or_z
 use Rattle.codegen.proofs.expression_code_lemmas.Moves.{is_written, take, move_runs}
 use Rattle.codegen.proofs.expression_code_lemmas.NumberCode.{known, known_word, left_known, number_means, right_known}
 use Rattle.codegen.proofs.expression_code_lemmas.NumberCode.{row_quiet, swapped_quiet, swapped_same, zero_known}
-use Rattle.codegen.proofs.expression_code_lemmas.Operands.{Outcome, took, worked, emitted_runs}
+use Rattle.codegen.proofs.expression_code_lemmas.Operands.{RegisterOutcome, took, worked, emitted_runs}
 use Rattle.codegen.proofs.expression_code_lemmas.OperatorCode.{Applies, constant_plain, constant_after, move_applies}
 use Rattle.codegen.proofs.expression_code_lemmas.OperatorCode.{convert_applies, prefix_applies, rotate_applies}
 use Rattle.codegen.proofs.expression_code_lemmas.OperatorCode.{choice_made, choice_or_zero_made, truth_fits}
@@ -37,8 +37,8 @@ use Rattle.codegen.proofs.expression_code_lemmas.Values.{Leaves, Ready, Valued, 
 use Rattle.codegen.proofs.expression_code_lemmas.Values.{value_word}
 use Rattle.codegen.proofs.expression_code_lemmas.Elements.{near_runs, picked}
 use Rattle.codegen.proofs.expression_code_lemmas.OperandRuns.{found, found_apart, found_free, found_is, HasSlot, Lies}
-use Rattle.codegen.proofs.expression_code_lemmas.OperandRuns.{made, Operands, none_yet, one_fetched, one_more, operands}
-use Rattle.codegen.proofs.expression_code_lemmas.OperandRuns.{placed, Slots, steps_of, still_ready, Typed}
+use Rattle.codegen.proofs.expression_code_lemmas.OperandRuns.{made, OperandsFetched, none_yet, one_fetched, one_more}
+use Rattle.codegen.proofs.expression_code_lemmas.OperandRuns.{operands, placed, Slots, steps_of, still_ready, Typed}
 use Rattle.codegen.specs.Below.{Makes, operation_of}
 
 module _ (z : Setting) (free : ℕ) (aligned : free % 4 ≡ 0) (above : base_of z ≤ free) where
@@ -101,8 +101,8 @@ module _ (z : Setting) (free : ℕ) (aligned : free % 4 ≡ 0) (above : base_of 
 
     -- Operands, and then code that computes a value from their registers.
     computed : (e : ℕ → TermTree) {whole : TermTree} {k n m : ℕ} {a : Steps} {xs : List Instr} (is : List Instr)
-        → only_computes works is ≡ true → Runs z m a xs (Ready z) (Operands slots place e k n)
-        → ((env : StraightState) (s u : State) → Ready z env s → Operands slots place e k n env s u
+        → only_computes works is ≡ true → Runs z m a xs (Ready z) (OperandsFetched slots place e k n)
+        → ((env : StraightState) (s u : State) → Ready z env s → OperandsFetched slots place e k n env s u
         → registers_after is u.regs d ≡ value_in env.variables whole)
         → Runs z (m + length is) a (xs ++ is) (Ready z) (ValuedIn z whole free d place)
     computed e {whole = whole} {a = a} is plain runs value =
@@ -128,7 +128,7 @@ module _ (z : Setting) (free : ℕ) (aligned : free % 4 ≡ 0) (above : base_of 
     copied : {x : ℕ} {word : WordType} {mutable : Bool} → slice_get z.declared x ≡ Some (word_as word mutable)
         → (h : Option ℕ) → home_of z.allocation.homes x ≡ h
         → Runs z 3 none (copy_code d (at_home h (InSlot (variable_offset z.declared x)))) (Ready z)
-        (λ env s t. Outcome z works d (value_in env.variables (variable x)) s t)
+        (λ env s t. RegisterOutcome z works d (value_in env.variables (variable x)) s t)
     copied {x = x} {word = word} {mutable = mutable} is None at =
         let v = word_as word mutable in
         let o = variable_offset z.declared x in
@@ -314,7 +314,7 @@ module _ (z : Setting) (free : ℕ) (aligned : free % 4 ≡ 0) (above : base_of 
   lies has place room into = placed slots has place room (into _ (own_target count place few) room)
 
   -- Each well-typed expression, into any register that its value may come into.
-  pub into_runs : {e : TermTree} {word : WordType} → HasType (types_of z.code.profile z.declared) e word
+  pub into_runs : {e : TermTree} {word : WordType} → TermHasType (types_of z.code.profile z.declared) e word
       → (place d : ℕ) → IsTarget count place d → free + 4 * slots_to count (height_of e + place) ≤ z.size
       → Runs z (16 * term_nodes e - 3) (steps_of e) (into_code z.declared z.allocation free d place e) (Ready z)
       (ValuedIn z e free d place)
@@ -394,7 +394,8 @@ module _ (z : Setting) (free : ℕ) (aligned : free % 4 ≡ 0) (above : base_of 
       )))))
 
   -- and into any place
-  pub expr_runs : {e : TermTree} {word : WordType} → HasType (types_of z.code.profile z.declared) e word → (place : ℕ)
+  pub expr_runs : {e : TermTree} {word : WordType} → TermHasType (types_of z.code.profile z.declared) e word →
+      (place : ℕ)
       → free + 4 * slots_to count (height_of e + place) ≤ z.size
       → Runs z (16 * term_nodes e) (steps_of e) (expr_code z.declared z.allocation free place e) (Ready z)
       (Valued z e free place)

@@ -2,11 +2,11 @@
 -- marks of a path are those of the inlined program, and all accesses stay inside the frame.
 use Rattle.std.proofs.Common.{◌≡◌, ◌⊎◌, inl, inr, ℕ, zero, suc, ◌+◌, ◌%◌, ◌^◌, ◌<◌, ◌≤◌, Bool, true, false, ◌&&◌, List}
 use Rattle.std.proofs.Common.{[], ◌∷◌, ◌++◌, length, Option, Some, None, is_some, refl, ap, ◌∙◌, arith}
-use Rattle.codegen.proofs.expression_code_lemmas.Below.{Allocation, AreFine, byte_count, ByteMap, Code, FlatVariable}
-use Rattle.codegen.proofs.expression_code_lemmas.Below.{Instr, code_by, IsAllocation, IsInside, joined, Mark, number_at}
-use Rattle.codegen.proofs.expression_code_lemmas.Below.{number_at-suc, number_at-zero, Path, seen-append, Size, State}
-use Rattle.codegen.proofs.expression_code_lemmas.Below.{StraightState, temporaries_offset, with_number}
-use Rattle.codegen.proofs.expression_code_lemmas.Below.{with_number_above, with_number_below}
+use Rattle.codegen.proofs.expression_code_lemmas.Below.{Allocation, AreFine, byte_count, ByteMap, MachineCode}
+use Rattle.codegen.proofs.expression_code_lemmas.Below.{FlatVariable, Instr, code_by, IsAllocation, IsInside, joined}
+use Rattle.codegen.proofs.expression_code_lemmas.Below.{Mark, number_at, number_at-suc, number_at-zero, Path}
+use Rattle.codegen.proofs.expression_code_lemmas.Below.{seen-append, Size, State, StraightState, temporaries_offset}
+use Rattle.codegen.proofs.expression_code_lemmas.Below.{with_number, with_number_above, with_number_below}
 use Rattle.codegen.specs.Below.{seen as seen_of}
 use Rattle.codegen.specs.expression_code.Layout.{Frame}
 use Rattle.codegen.proofs.program_logic_lemmas.Face as logic
@@ -15,7 +15,7 @@ use Rattle.rv_machine.specs.declared.observation.Event.TheVariants as event
 -- where code and frame lie, how the frame is laid out, how registers are given out, and how many iterations are counted
 -- for each counter
 pub record Setting : Type 0 where
-  pub code : Code
+  pub code : MachineCode
   pub frame : ℕ
   pub size : ℕ
   pub counts : List ℕ
@@ -60,7 +60,7 @@ pub record Keeps (z : Setting) (s t : State) : Type 0 where
   pub regs : (r : ℕ) → r < 5 → t.regs r ≡ s.regs r
   pub beside : (a : ℕ) → (a < z.frame) ⊎ (z.frame + z.size ≤ a) → t.bytes a ≡ s.bytes a
 
-abbrev pub setting : Setting → logic.Setting
+abbrev pub setting : Setting → logic.PieceSetting
 setting z = record {
   code = z.code;
   Allows = λ e. IsInside z.frame z.size e;

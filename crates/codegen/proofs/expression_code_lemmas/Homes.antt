@@ -1,10 +1,10 @@
 -- Expressions that have a home: its register has their value, and nothing is shown for it.
 use Rattle.std.proofs.Common.{◌≡◌, ℕ, ◌^◌, ◌<◌, true, [], length, Some, refl, sym, ◌∙◌, arith}
 use Rattle.std.proofs.lemmas.Option.{none-some, slice_get_within}
-use Rattle.codegen.proofs.expression_code_lemmas.Below.{Allocation, convert, converted, HasType, home_of, home_of_term}
-use Rattle.codegen.proofs.expression_code_lemmas.Below.{keeps_words, Kind, of_conversion, of_variable, path_in, State}
-use Rattle.codegen.proofs.expression_code_lemmas.Below.{StraightState, TermTree, types_of, value_in, Values, width_of}
-use Rattle.codegen.proofs.expression_code_lemmas.Below.{word_as, WordType}
+use Rattle.codegen.proofs.expression_code_lemmas.Below.{Allocation, convert, converted, TermHasType, home_of}
+use Rattle.codegen.proofs.expression_code_lemmas.Below.{home_of_term, keeps_words, Kind, of_conversion, of_variable}
+use Rattle.codegen.proofs.expression_code_lemmas.Below.{path_in, State, StraightState, TermTree, types_of, value_in}
+use Rattle.codegen.proofs.expression_code_lemmas.Below.{Values, width_of, word_as, WordType}
 use Rattle.codegen.proofs.expression_code_lemmas.Frame.{Setting}
 use Rattle.codegen.proofs.expression_code_lemmas.Values.{Ready, value_word}
 use Rattle.codegen.proofs.expression_code_lemmas.WorkRegisters.{when_some}
@@ -18,7 +18,7 @@ word_kept a kind keeps v below = grind (arith, keeps, below)
 
 -- such a conversion of a well-typed expression has its value
 pub conversion_kept : (z : Setting) {operand : TermTree} {word : WordType} (kind : Kind)
-    → keeps_words z.allocation kind ≡ true → HasType (types_of z.code.profile z.declared) operand word
+    → keeps_words z.allocation kind ≡ true → TermHasType (types_of z.code.profile z.declared) operand word
     → (env : StraightState) (s : State) → Ready z env s
     → value_in env.variables operand ≡ value_in env.variables (convert kind operand)
 conversion_kept z {operand = operand} {word = word} kind keeps has env s ready =
@@ -34,7 +34,7 @@ pub record IsAtHome (z : Setting) (e : TermTree) (home : ℕ) : Type 0 where
   pub there : (env : StraightState) (s : State) → Ready z env s → s.regs home ≡ value_in env.variables e
 
 pub home_there : (z : Setting) {e : TermTree} {word : WordType}
-    → HasType (types_of z.code.profile z.declared) e word
+    → TermHasType (types_of z.code.profile z.declared) e word
     → (home : ℕ) → home_of_term z.allocation e ≡ Some home → IsAtHome z e home
 home_there z (of_variable {x = x} {word = word} {mutable = mutable} is) home at = record {
   x = x;

@@ -9,7 +9,7 @@ use Rattle.std.proofs.lemmas.Bool.{cond_both}
 use Rattle.std.proofs.lemmas.Option.{cond_some, none-some, same_Some}
 use Rattle.codegen.proofs.expression_code_lemmas.Arithmetic.{lower_fits}
 use Rattle.codegen.proofs.expression_code_lemmas.Below.{Allocation, BinaryOperator, bits, element_bytes, eqb-true}
-use Rattle.codegen.proofs.expression_code_lemmas.Below.{Finish, finish_code, FlatVariable, held, HasType, is_short}
+use Rattle.codegen.proofs.expression_code_lemmas.Below.{Finish, finish_code, FlatVariable, held, TermHasType, is_short}
 use Rattle.codegen.proofs.expression_code_lemmas.Below.{kind_at, known_row, left_row, lt-ltb, ltb-true, marks_of}
 use Rattle.codegen.proofs.expression_code_lemmas.Below.{nat_tests, near_element, near_offset, number_code, number_of}
 use Rattle.codegen.proofs.expression_code_lemmas.Below.{number_row, NumberRow, of_number, of_truth, and_mask}
@@ -91,7 +91,7 @@ known (number value kind) n is m = (same_Some value n is, refl)
 known (truth value) n is m = (same_Some (word_of value) n is, refl)
 known e n is m = absurd (none-some n is)
 
-pub known_word : {types : Types} {e : TermTree} {word : _} → HasType types e word → (n : ℕ) → number_of e ≡ Some n
+pub known_word : {types : Types} {e : TermTree} {word : _} → TermHasType types e word → (n : ℕ) → number_of e ≡ Some n
     → n < 2 ^ 32
 known_word (of_number {value = value} {kind = kind} below) n is = let fits = kind_fits kind value below in
     omega (arith, fits, same_Some value n is)
@@ -100,7 +100,7 @@ known_word (of_truth {value = value}) n is = let fits = truth_fits value in
 known_word has n is = absurd (none-some n is)
 
 -- the number that an expression is, and the row of an operator and it
-pub record Numbered (operator : BinaryOperator) (e : TermTree) (row : NumberRow) : Type 0 where
+pub record HasNumberRow (operator : BinaryOperator) (e : TermTree) (row : NumberRow) : Type 0 where
   pub n : ℕ
   pub is : number_of e ≡ Some n
   pub row_is : number_row operator n ≡ Some row
@@ -109,15 +109,15 @@ pub record Numbered (operator : BinaryOperator) (e : TermTree) (row : NumberRow)
 pub record Swapped (operator : BinaryOperator) (e : TermTree) (row : NumberRow) : Type 0 where
   pub other : BinaryOperator
   pub is : swapped_of operator ≡ Some other
-  pub numbered : Numbered other e row
+  pub numbered : HasNumberRow other e row
 
 numbered_by : (operator : BinaryOperator) (e : TermTree) (row : NumberRow) (m : Option ℕ) → number_of e ≡ m
-    → known_row (Some operator) m ≡ Some row → Numbered operator e row
+    → known_row (Some operator) m ≡ Some row → HasNumberRow operator e row
 numbered_by operator e row None f is = absurd (none-some row is)
 numbered_by operator e row (Some n) f is = record { n = n; is = f; row_is = is }
 
 pub right_known : (a : Allocation) (operator : BinaryOperator) (e : TermTree) (row : NumberRow)
-    → right_row a operator e ≡ Some row → Numbered operator e row
+    → right_row a operator e ≡ Some row → HasNumberRow operator e row
 right_known a operator e row is =
     numbered_by operator e row (number_of e) refl (when_some a.immediates _ row is).1
 

@@ -3,7 +3,7 @@
 use Rattle.std.proofs.Common.{◌≡◌, ◌≢◌, ℕ, zero, suc, ◌+◌, ◌-◌, ◌*◌, ◌%◌, ◌<◌, ◌≤◌, List, [], ◌++◌, inl, inr}
 use Rattle.std.proofs.Common.{below_more, refl, ◌∙◌, arith}
 use Rattle.codegen.proofs.expression_code_lemmas.Below.{along, cheaper, home_of_term, expr_code, fetch_code, gives}
-use Rattle.codegen.proofs.expression_code_lemmas.Below.{HasType, height_of, idle, Instr, into_code, Location, none}
+use Rattle.codegen.proofs.expression_code_lemmas.Below.{TermHasType, height_of, idle, Instr, into_code, Location, none}
 use Rattle.codegen.proofs.expression_code_lemmas.Below.{operand, path_in, quiet, register_of, seq, slot_of, slots_to}
 use Rattle.codegen.proofs.expression_code_lemmas.Below.{State, StraightState, term_nodes, TermTree, types_of, value_in}
 use Rattle.codegen.proofs.expression_code_lemmas.Below.{WordType, working_register}
@@ -11,7 +11,7 @@ use Rattle.codegen.proofs.expression_code_lemmas.Frame.{Setting, base_of, Steps,
 use Rattle.codegen.proofs.expression_code_lemmas.WorkRegisters.{IsFree, IsOperand, operand_apart, operand_free}
 use Rattle.codegen.proofs.expression_code_lemmas.WorkRegisters.{operand_not, cases_Option, is_operand, works_in}
 use Rattle.codegen.proofs.expression_code_lemmas.WorkRegisters.{works_at, higher_stays, beside_stays, own_stays}
-use Rattle.codegen.proofs.expression_code_lemmas.Operands.{Outcome, fetch_runs, operand_room, keep_runs}
+use Rattle.codegen.proofs.expression_code_lemmas.Operands.{RegisterOutcome, fetch_runs, operand_room, keep_runs}
 use Rattle.codegen.proofs.expression_code_lemmas.Homes.{home_there}
 use Rattle.codegen.proofs.expression_code_lemmas.TermLengths.{height}
 use Rattle.codegen.proofs.expression_code_lemmas.Values.{Ready, Valued, ValuedIn, Kept, Leaves, Holds, value_word}
@@ -62,7 +62,7 @@ module _ (slots : Slots) where
   HasSlot place = free + 4 * slots_to count place ≤ z.size
 
   abbrev pub Typed : TermTree → WordType → Type 0
-  Typed e word = HasType (types_of z.code.profile z.declared) e word
+  Typed e word = TermHasType (types_of z.code.profile z.declared) e word
 
   -- the register of an operand
   abbrev pub found : ℕ → TermTree → ℕ → ℕ
@@ -104,14 +104,14 @@ module _ (slots : Slots) where
     location j = operand z.allocation free (place_by place j) (e j)
 
     -- of n operands the first k are in their registers, and the others where they are found
-    pub record Operands (k n : ℕ) (env : StraightState) (s t : State) : Type 0 where
+    pub record OperandsFetched (k n : ℕ) (env : StraightState) (s t : State) : Type 0 where
       pub held : HeldAt z t
       pub fetched : (j : ℕ) → j < k → t.regs (register_of (location j) (29 + j)) ≡ value_in env.variables (e j)
       pub waiting : (j : ℕ) → k ≤ j → j < n → Holds z (location j) t (value_in env.variables (e j))
       pub kept : Kept z (slot place) s t
       pub lower : Leaves (works_in count place) s t
 
-    pub none_yet : Runs z 0 none [] (Ready z) (Operands 0 0)
+    pub none_yet : Runs z 0 none [] (Ready z) (OperandsFetched 0 0)
     none_yet =
         idle (λ env s ready. record {
           held = ready.held;
@@ -121,9 +121,9 @@ module _ (slots : Slots) where
           lower = λ q h. refl;
         })
 
-    pub one_more : (n : ℕ) {m l : ℕ} {a b : Steps} {xs ys : List Instr} → Runs z m a xs (Ready z) (Operands 0 n)
+    pub one_more : (n : ℕ) {m l : ℕ} {a b : Steps} {xs ys : List Instr} → Runs z m a xs (Ready z) (OperandsFetched 0 n)
         → Runs z l b ys (Ready z) (Valued z (e n) free (place_by place n))
-        → Runs z (m + l) (λ env. a env ++ b env) (xs ++ ys) (Ready z) (Operands 0 (n + 1))
+        → Runs z (m + l) (λ env. a env ++ b env) (xs ++ ys) (Ready z) (OperandsFetched 0 (n + 1))
     one_more n runs next =
         let k = slot place in
         let p = place_by place n in
@@ -148,8 +148,8 @@ module _ (slots : Slots) where
         (seq runs next (λ env s t ready done. still_ready place env s t ready done.held done.kept done.lower))
 
     pub one_fetched : (k : ℕ) {n m : ℕ} {a : Steps} {xs : List Instr} → k < n → k < 3 → HasSlot (place_by place k)
-        → Runs z m a xs (Ready z) (Operands k n)
-        → Runs z (m + 3) a (xs ++ fetch_code (location k) (29 + k)) (Ready z) (Operands (k + 1) n)
+        → Runs z m a xs (Ready z) (OperandsFetched k n)
+        → Runs z (m + 3) a (xs ++ fetch_code (location k) (29 + k)) (Ready z) (OperandsFetched (k + 1) n)
     one_fetched k less small room runs =
         gives
         (λ env s t fine ready done.
@@ -177,9 +177,9 @@ module _ (slots : Slots) where
 
     -- what is made of them comes into a register
     pub made : (d : ℕ) {k n m l : ℕ} {whole : TermTree} {a b : Steps} {xs ys : List Instr} {P : Before}
-        → Runs z m a xs (Ready z) (Operands k n)
-        → Runs z l b ys P (λ env s t. Outcome z (works_at count place d) d (value_in env.variables whole) s t)
-        → ((env : StraightState) (s t : State) → Ready z env s → Operands k n env s t → P env t)
+        → Runs z m a xs (Ready z) (OperandsFetched k n)
+        → Runs z l b ys P (λ env s t. RegisterOutcome z (works_at count place d) d (value_in env.variables whole) s t)
+        → ((env : StraightState) (s t : State) → Ready z env s → OperandsFetched k n env s t → P env t)
         → Runs z (m + l) (λ env. a env ++ b env) (xs ++ ys) (Ready z) (ValuedIn z whole free d place)
     made d runs piece link =
         let k = slot place in

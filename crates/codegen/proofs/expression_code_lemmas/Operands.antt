@@ -48,7 +48,7 @@ put_wrote z operation r o v env s t is moved = record {
 }
 
 -- a register has this value, and neither the registers that do not work nor any byte has changed
-pub record Outcome (z : Setting) (works : ℕ → Bool) (d v : ℕ) (s t : State) : Type 0 where
+pub record RegisterOutcome (z : Setting) (works : ℕ → Bool) (d v : ℕ) (s t : State) : Type 0 where
   pub held : HeldAt z t
   pub there : t.regs d ≡ v
   pub others : Leaves works s t
@@ -113,7 +113,7 @@ module _ (z : Setting) (works : ℕ → Bool) (none_low : (q : ℕ) → q < 5 �
   -- code that only computes
   pub worked : {P : Before} (d : ℕ) (is : List Instr) → only_computes works is ≡ true → (v : StraightState → ℕ)
       → ((env : StraightState) (s : State) → P env s → HeldAt z s × (registers_after is s.regs d ≡ v env))
-      → Runs z (length is) none is P (λ env s t. Outcome z works d (v env) s t)
+      → Runs z (length is) none is P (λ env s t. RegisterOutcome z works d (v env) s t)
   worked d is plain v value =
       weaken
       (λ env s fine given. (value env s given).0)
@@ -126,7 +126,7 @@ module _ (z : Setting) (works : ℕ → Bool) (none_low : (q : ℕ) → q < 5 �
   -- An operator between two operands, in l and r, into d, which may write t.
   module _ {d t l r : ℕ} (pair : ArePair d t) (first : IsFree l) (second : IsFree r) (apart : l ≢ t)
       (wd : works d ≡ true) (wt : works t ≡ true) where
-    pub record Operands (a b : StraightState → ℕ) (env : StraightState) (s : State) : Type 0 where
+    pub record OperandsHeld (a b : StraightState → ℕ) (env : StraightState) (s : State) : Type 0 where
       pub held : HeldAt z s
       pub left : s.regs l ≡ a env
       pub right : s.regs r ≡ b env
@@ -135,10 +135,10 @@ module _ (z : Setting) (works : ℕ → Bool) (none_low : (q : ℕ) → q < 5 �
 
     module _ (source : Place) (width : Width) (a b : StraightState → ℕ) where
       abbrev Operated : BinaryOperator → StraightState → State → State → Type 0
-      Operated operator env s u = Outcome z works d (operated operator width (a env) (b env)) s u
+      Operated operator env s u = RegisterOutcome z works d (operated operator width (a env) (b env)) s u
 
       plainly : (operator : BinaryOperator) → is_plain (row_of operator).step ≡ true
-          → Runs z 4 none (operator_code d t l r operator width) (Operands a b) (Operated operator)
+          → Runs z 4 none (operator_code d t l r operator width) (OperandsHeld a b) (Operated operator)
       plainly operator alone =
           cheaper (operator_length d t l r operator width)
           (worked d (operator_code d t l r operator width)
@@ -157,7 +157,8 @@ module _ (z : Setting) (works : ℕ → Bool) (none_low : (q : ℕ) → q < 5 �
           (λ env s u. Moves z d (v env) s u)
           → ((env : StraightState) (regs : ℕ → ℕ) → a env < 2 ^ 32 → b env < 2 ^ 32 → regs d ≡ v env
           → registers_after rest regs d ≡ w env)
-          → Runs z (1 + length rest) steps (i ∷ rest) (Operands a b) (λ env s u. Outcome z works d (w env) s u)
+          → Runs z (1 + length rest) steps (i ∷ rest) (OperandsHeld a b)
+          (λ env s u. RegisterOutcome z works d (w env) s u)
       shown v w rest plain one value =
           gives
           (λ env s u fine given done.
@@ -177,17 +178,17 @@ module _ (z : Setting) (works : ℕ → Bool) (none_low : (q : ℕ) → q < 5 �
       quotient : (operator : BinaryOperator) (operation : DivideOperation)
           → ((env : StraightState) → 0 < b env
           → divide_value operation (a env) (b env) ≡ operated operator width (a env) (b env))
-          → Runs z 4 (λ env. divided source (a env) (b env) ∷ []) (instr.Divide operation d l r ∷ []) (Operands a b)
+          → Runs z 4 (λ env. divided source (a env) (b env) ∷ []) (instr.Divide operation d l r ∷ []) (OperandsHeld a b)
           (Operated operator)
       quotient operator operation same =
           let v = λ (env : StraightState). divide_value operation (a env) (b env) in
           cheaper (omega arith)
-          (gives (λ env s u fine given done. subst (λ w. Outcome z works d w s u) (same env fine.0) done)
+          (gives (λ env s u fine given done. subst (λ w. RegisterOutcome z works d w s u) (same env fine.0) done)
           (shown v v [] refl (dividing z pair.one first second source a b operation) (λ env regs left right is. is)))
 
       pub operator_runs : (operator : BinaryOperator)
           → Runs z 4 (λ env. marks_of source operator (a env) (b env)) (operator_code d t l r operator width)
-          (Operands a b) (Operated operator)
+          (OperandsHeld a b) (Operated operator)
       operator_runs Divide =
           quotient Divide Divu (λ env some. rw (ne_eqb (b env) 0 (omega arith)))
       operator_runs Remainder =
@@ -205,12 +206,12 @@ module _ (z : Setting) (works : ℕ → Bool) (none_low : (q : ℕ) → q < 5 �
           (operator : BinaryOperator) → Makes profile (operation_of operator) one other whole
           → Runs z 4 (λ env. marks_of source operator (a env) (b env))
           (operator_code d t l r (emitted_operator allocation operator) width)
-          (λ env s. Operands a b env s × IsWithinKind one.kind (a env) × IsWithinKind other.kind (b env))
+          (λ env s. OperandsHeld a b env s × IsWithinKind one.kind (a env) × IsWithinKind other.kind (b env))
           (Operated operator)
       emitted_runs allocation operator makes =
           along (λ env. emitted_marks source (a env) (b env) allocation operator)
           (weaken
           (λ env s fine given. given.0)
-          (λ env s u fine given done. subst (λ v. Outcome z works d v s u)
+          (λ env s u fine given done. subst (λ v. RegisterOutcome z works d v s u)
           (emitted_same width (a env) (b env) given.1 given.2 allocation operator makes) done)
           (operator_runs (emitted_operator allocation operator)))

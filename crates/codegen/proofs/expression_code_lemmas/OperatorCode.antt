@@ -11,11 +11,11 @@ use Rattle.codegen.proofs.expression_code_lemmas.Below.{lt-ltb, move_code, multi
 use Rattle.codegen.proofs.expression_code_lemmas.Below.{nat_tests, of_truths, only_computes, operated, operator_code}
 use Rattle.codegen.proofs.expression_code_lemmas.Below.{plain_append, prefix_code, prefix_value, PrefixOperator}
 use Rattle.codegen.proofs.expression_code_lemmas.Below.{register_left, register_value, registers_after, rotated_left}
-use Rattle.codegen.proofs.expression_code_lemmas.Below.{row_of, shift_value, sign_extended, Step, swapped, Width}
+use Rattle.codegen.proofs.expression_code_lemmas.Below.{row_of, shift_value, sign_extended, RowStep, swapped, Width}
 use Rattle.codegen.proofs.expression_code_lemmas.Below.{with_register, word_of}
 use Rattle.rv_code.specs.declared.instructions.Instr.TheVariants as instr
-use Rattle.codegen.specs.Below.{Addi, Andi, Both, Divide, Either, Mul, Multiply, Remainder, ShiftLeft, ShiftRight, Slli}
-use Rattle.codegen.specs.Below.{Srli, Subtract, W16, W32, W8}
+use Rattle.codegen.specs.Below.{Addi, Andi, LogicalAnd, Divide, LogicalOr, Mul, Multiply, Remainder, ShiftLeft}
+use Rattle.codegen.specs.Below.{ShiftRight, Slli, Srli, Subtract, W16, W32, W8}
 use Rattle.rv_code.specs.declared.operations.RegisterOperation.TheVariants as register
 use Rattle.language.specs.declared.operators.BinaryOperator.TheVariants.{Add}
 use Rattle.language.specs.declared.operators.PrefixOperator.TheVariants.{Not, Complement, Negate}
@@ -91,7 +91,7 @@ truth_fits c = grind (arith, nat_tests)
 -- Code.
 
 -- a step that only computes
-abbrev pub is_plain : Step → Bool
+abbrev pub is_plain : RowStep → Bool
 is_plain (between operation) = true
 is_plain (swapped operation) = true
 is_plain (of_truths operation) = true
@@ -305,9 +305,9 @@ module _ {d t : ℕ} (pair : ArePair d t) where
       pub operator_made : l ≢ t → (operator : BinaryOperator) (w : Width) → is_plain (row_of operator).step ≡ true
           → (regs : ℕ → ℕ) → regs l < 2 ^ 32 → regs r < 2 ^ 32
           → registers_after (operator_code d t l r operator w) regs d ≡ operated operator w (regs l) (regs r)
-      operator_made apart Either w plain regs left right =
+      operator_made apart LogicalOr w plain regs left right =
           simp (dd, tt', td, d0, t0, q0 first, q0 source, ne_eqb l t apart) (grind (arith, nat_tests))
-      operator_made apart Both w plain regs left right =
+      operator_made apart LogicalAnd w plain regs left right =
           simp (dd, tt', td, d0, t0, q0 first, q0 source, ne_eqb l t apart) (grind (arith, nat_tests))
       operator_made apart ShiftLeft w plain regs left right = cut_composed w _
           ∙ simp (dd, d0, q0 first, q0 source) (cut_whole w (regs l * 2 ^ (regs r % 32)))

@@ -1,6 +1,6 @@
 -- The law of expressions: the code of one, at a site.
 use Rattle.std.proofs.Common.{◌≡◌, ℕ, ◌+◌, ◌<◌, List, [], Some, sym, ap, arith, append-nil, false, nat_lt}
-use Rattle.codegen.proofs.expression_code_lemmas.Below.{HasType, InRegister, InSlot, IsComputed, IsSiteOf, Location}
+use Rattle.codegen.proofs.expression_code_lemmas.Below.{TermHasType, InRegister, InSlot, IsComputed, IsSiteOf, Location}
 use Rattle.codegen.proofs.expression_code_lemmas.Below.{ltb-false, ltb-true, Observation, operand, Path, path_in, Site}
 use Rattle.codegen.proofs.expression_code_lemmas.Below.{slot_of, State, StraightState, TermTree, types_of, value_in}
 use Rattle.codegen.proofs.expression_code_lemmas.Below.{Values, word_in, WordType, ends_on}
@@ -54,7 +54,7 @@ module _ (e : TermTree) (site : Site) (fit : IsSiteOf e site) where
       (omega (arith, less, ltb-false place site.allocation.count h)))
 
 pub expressions_are_computed : (e : TermTree) (word : WordType) (site : Site)
-    → HasType (types_of site.code.profile site.declared) e word → IsSiteOf e site → IsComputed e site
+    → TermHasType (types_of site.code.profile site.declared) e word → IsSiteOf e site → IsComputed e site
 expressions_are_computed e word site has fit =
     let z = setting_of e site fit in
     let piece = (expr_runs z site.free fit.aligned (omega arith) has site.place fit.room).placed_at

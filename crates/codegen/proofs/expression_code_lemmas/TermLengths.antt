@@ -6,7 +6,7 @@ use Rattle.std.proofs.lemmas.Option.{slice_get_within}
 use Rattle.codegen.proofs.expression_code_lemmas.Below.{expr_code, address_code, Allocation, around_code, binary}
 use Rattle.codegen.proofs.expression_code_lemmas.Below.{BinaryOperator, bits, code_by, chooses_zero, constant_code}
 use Rattle.codegen.proofs.expression_code_lemmas.Below.{convert, convert_code, copy_code, element, fetch_code, Finish}
-use Rattle.codegen.proofs.expression_code_lemmas.Below.{finish_code, FlatVariable, HasType, height_of, InRegister}
+use Rattle.codegen.proofs.expression_code_lemmas.Below.{finish_code, FlatVariable, TermHasType, height_of, InRegister}
 use Rattle.codegen.proofs.expression_code_lemmas.Below.{InSlot, Instr, into_code, IsAmong, is_at_home, keep_code}
 use Rattle.codegen.proofs.expression_code_lemmas.Below.{keeps_words, Kind, left_row, load_code, Location, move_code}
 use Rattle.codegen.proofs.expression_code_lemmas.Below.{narrow_code, narrowed_in, near_element, number_code, NumberRow}
@@ -18,7 +18,7 @@ use Rattle.codegen.proofs.expression_code_lemmas.Below.{right_row, rotate, rotat
 use Rattle.codegen.proofs.expression_code_lemmas.Below.{step_code, store_code, temporary, term_nodes, TermTree, Types}
 use Rattle.codegen.proofs.expression_code_lemmas.Below.{types_of, variable, variable_location, Width, WordType}
 use Rattle.codegen.proofs.expression_code_lemmas.Below.{working_register}
-use Rattle.codegen.specs.Below.{Boolean, Both, Either, Multiply, W8}
+use Rattle.codegen.specs.Below.{Boolean, LogicalAnd, LogicalOr, Multiply, W8}
 use Rattle.codegen.specs.declared.expression_code.numbers.Finish.TheVariants.{Narrowed}
 use Rattle.codegen.specs.declared.expression_code.numbers.NumberStep.TheVariants.{KeepsLow}
 use Rattle.language.specs.declared.operators.PrefixOperator.TheVariants as prefixes
@@ -27,7 +27,7 @@ use Rattle.language.specs.declared.operators.PrefixOperator.TheVariants as prefi
 
 -- all that a well-typed expression names are known, where the variables that are known are
 pub typed_within : (count : ℕ) (types : Types) → ((x : ℕ) (d : FlatVariable) → types.at x ≡ Some d → x < count)
-    → {e : TermTree} {word : WordType} → HasType types e word → IsAmong count e
+    → {e : TermTree} {word : WordType} → TermHasType types e word → IsAmong count e
 typed_within count types known (of_number below) = tt
 typed_within count types known of_truth = tt
 typed_within count types known (of_variable {x = x} is) = known x _ is
@@ -41,7 +41,7 @@ typed_within count types known (of_selection has chooses more) =
 typed_within count types known (of_element {x = x} is has) = (known x _ is, typed_within count types known has)
 
 pub typed_among : (profile : Profile) (declared : List FlatVariable) {e : TermTree} {word : WordType}
-    → HasType (types_of profile declared) e word → IsAmong (length declared) e
+    → TermHasType (types_of profile declared) e word → IsAmong (length declared) e
 typed_among profile declared has =
     typed_within (length declared) (types_of profile declared) (λ x d is. slice_get_within declared x d is) has
 
@@ -106,8 +106,8 @@ finish_length d w finish = omega arith
 -- of the rows there are, the longest
 row_length : (d t l r : ℕ) (w : Width) (o : BinaryOperator)
     → length (step_code d t l r (row_of o).step) + length (finish_code d w (row_of o).finish) ≤ 4
-row_length d t l r w Either = omega arith
-row_length d t l r w Both = omega arith
+row_length d t l r w LogicalOr = omega arith
+row_length d t l r w LogicalAnd = omega arith
 row_length d t l r w Multiply = omega (arith, narrow_length d d w)
 row_length d t l r w o = omega (arith, finish_length d w (row_of o).finish)
 

@@ -2,7 +2,7 @@
 use Rattle.std.proofs.Common.{◌≡◌, ◌≢◌, ℕ, ◌+◌, ◌-◌, ◌%◌, ◌^◌, ◌<◌, ◌≤◌, Bool, false, nat_lt, List, None, Some, inl}
 use Rattle.std.proofs.Common.{inr, length, slice_get, slice_index, ap, ◌∙◌, arith, sym}
 use Rattle.codegen.proofs.expression_code_lemmas.Below.{ByteMap, control_location, control_offset, is_unread, Fits}
-use Rattle.codegen.proofs.expression_code_lemmas.Below.{FlatVariable, HasType, home_of, InRegister, InSlot}
+use Rattle.codegen.proofs.expression_code_lemmas.Below.{FlatVariable, TermHasType, home_of, InRegister, InSlot}
 use Rattle.codegen.proofs.expression_code_lemmas.Below.{IsWithinKind, Kind, Location, ltb-false, ltb-true, next_offset}
 use Rattle.codegen.proofs.expression_code_lemmas.Below.{number_at, number_at-with_number, number_at_same, numbers_in}
 use Rattle.codegen.proofs.expression_code_lemmas.Below.{operand, Profile, result_offset, slot_of, State, StraightState}
@@ -197,7 +197,7 @@ kind_fits kind v h = omega arith
 
 -- a well-typed expression's value is a word
 pub value_word : (profile : Profile) (declared : List FlatVariable) (e : TermTree) (word : WordType) (m : Values)
-    → Fits (types_of profile declared) m → HasType (types_of profile declared) e word → value_in m e < 2 ^ 32
+    → Fits (types_of profile declared) m → TermHasType (types_of profile declared) e word → value_in m e < 2 ^ 32
 value_word profile declared e word m fits has =
     kind_fits word.kind (value_in m e) (value_fits (types_of profile declared) m fits has)
 

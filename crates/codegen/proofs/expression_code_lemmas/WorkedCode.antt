@@ -6,7 +6,7 @@ use Rattle.codegen.proofs.expression_code_lemmas.Below.{Allocation, binary, conv
 use Rattle.codegen.proofs.expression_code_lemmas.Below.{Instr, into_code, Place, rotate, select, TermTree, variable}
 use Rattle.codegen.proofs.expression_code_lemmas.Below.{word_as, WordType}
 use Rattle.codegen.specs.expression_code.Allocation.{plain}
-use Rattle.codegen.specs.Below.{Addi, Andi, array_as, BitAnd, Both, LessOrEqual, Lui, Lw, Mul, Multiply, number}
+use Rattle.codegen.specs.Below.{Addi, Andi, array_as, BitAnd, LogicalAnd, LessOrEqual, Lui, Lw, Mul, Multiply, number}
 use Rattle.codegen.specs.Below.{ShiftLeft, Slli, Sltiu, Srli, Subtract, Uint32, Uint8, Unequal, W32}
 use Rattle.language.specs.declared.signature.Label.TheVariants.{Public}
 use Rattle.language.specs.declared.operators.BinaryOperator.TheVariants.{Add}
@@ -65,7 +65,7 @@ module _ (place : Place) where
 
   -- what is overwritten are temporaries
 
-  conjunction : code both_home (binary place Both W32 a b) ≡ instr.Register register.Sltu 6 0 14
+  conjunction : code both_home (binary place LogicalAnd W32 a b) ≡ instr.Register register.Sltu 6 0 14
       ∷ instr.Register register.Sltu 5 0 13 ∷ instr.Register register.And 5 5 6 ∷ []
   conjunction = refl
 
@@ -162,7 +162,7 @@ module _ (place : Place) where
   high_bits = refl
 
   -- bools are 0 or 1, so both are true where their AND is 1
-  bits_taken : code with_numbers (binary place Both W32 a b) ≡ instr.Register register.And 5 13 14 ∷ []
+  bits_taken : code with_numbers (binary place LogicalAnd W32 a b) ≡ instr.Register register.And 5 13 14 ∷ []
   bits_taken = refl
 
   -- a product shows its factors, which stay in registers

@@ -1,7 +1,7 @@
 -- The laws of pieces of code, in one place for the proofs above.
 pub use Rattle.codegen.proofs.program_logic_lemmas.Jumps.{branching_at}
 pub use Rattle.codegen.proofs.program_logic_lemmas.Loops.{looping}
-pub use Rattle.codegen.proofs.program_logic_lemmas.Marks.{Kind, Known, by_mark}
+pub use Rattle.codegen.proofs.program_logic_lemmas.Marks.{MarkKind, MarkKnown, by_mark}
 pub use Rattle.codegen.proofs.program_logic_lemmas.Pieces.{All-one, along, along_fit, as_code, beside, by_test, cheaper}
 pub use Rattle.codegen.proofs.program_logic_lemmas.Pieces.{ends_on, gives, idle, never, quiet, quietly, seq, step_ends}
 pub use Rattle.codegen.proofs.program_logic_lemmas.Pieces.{weaken}
@@ -14,7 +14,7 @@ pub use Rattle.codegen.proofs.program_logic_lemmas.Symbols.{register_after, regi
 pub use Rattle.codegen.proofs.program_logic_lemmas.StepLaws.{LeadsKeeping-append, LeadsKeeping-weaken, leads_kept}
 pub use Rattle.codegen.proofs.program_logic_lemmas.StepLaws.{still_there, LeadsWithin-append, LeadsWithin-weaken}
 pub use Rattle.codegen.proofs.program_logic_lemmas.StepLaws.{one_within, both_within}
-pub use Rattle.codegen.specs.program_logic.Pieces.{Became, Runs, Setting, Still, Straight, Then, always, none}
+pub use Rattle.codegen.specs.program_logic.Pieces.{Became, Runs, PieceSetting, Still, RunsAt, Then, always, none}
 pub use Rattle.codegen.specs.program_logic.Placed.{Placed}
 pub use Rattle.codegen.specs.program_logic.StraightCode.{AreFit, AreMet, Contents, IsFit, IsMet, after, after_all}
 pub use Rattle.codegen.specs.program_logic.StraightCode.{are_straight, contents_of, number_or_zero, shown_by}

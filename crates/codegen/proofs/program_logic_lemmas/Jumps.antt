@@ -8,7 +8,8 @@ use Rattle.std.proofs.lemmas.Bool.Decides.{nat_tests}
 use Rattle.codegen.proofs.program_logic_lemmas.Pieces.{cheaper, step_ends, then_ends, ends_to, along_fit, stop_here}
 use Rattle.codegen.proofs.program_logic_lemmas.PlacedLaws.{Placed-left, Placed-right, Placed-below, stands}
 use Rattle.codegen.specs.program_logic.Jumps.{skip, over, back, branch_code}
-use Rattle.codegen.specs.program_logic.Pieces.{Setting, Before, After, Steps, Leak, always, both, Ends, Runs, Still}
+use Rattle.codegen.specs.program_logic.Pieces.{PieceSetting, Before, After, Steps, Leak, always, both, Ends, Runs}
+use Rattle.codegen.specs.program_logic.Pieces.{Still}
 use Rattle.codegen.specs.program_logic.Placed.{Placed}
 use Rattle.codegen.specs.Below.{Bne, branch_target, BranchTest, holds, Instr, IsInstr, jump_target, moved_to, next}
 use Rattle.codegen.specs.Below.{Observation, register, State, with_link, with_register}
@@ -42,7 +43,7 @@ pub moved_still : (s : State) (target : ℕ) → Still s (moved_to s target)
 moved_still s target = record { regs = moved_to-regs s target; bytes = moved_to-bytes s target }
 
 -- an arm of a choice: steps to a piece, and steps from behind it to the end
-pub record Way (z : Setting) (p k l : ℕ) (goes : State → Type 0) (code xs : List Instr) (Back : State → State
+pub record Way (z : PieceSetting) (p k l : ℕ) (goes : State → Type 0) (code xs : List Instr) (Back : State → State
     → Type 0) : Type 0 where
   pub start : ℕ
   pub stands_there : Placed z.code start xs
@@ -53,7 +54,7 @@ pub record Way (z : Setting) (p k l : ℕ) (goes : State → Type 0) (code xs : 
   pub leaves : (u : State) (rest : List z.Mark) → u.pc ≡ start + 4 * length xs
       → Ends z l (p + 4 * length code) out rest rest (Back u) u
 
-module _ {z : Setting} where
+module _ {z : PieceSetting} where
   jump_ends : (p halves target : ℕ) (rest : List z.Mark) → Placed z.code p (instr.Jump 0 halves ∷ [])
       → halves < 2 ^ 20 → jump_target p halves ≡ target → target % 4 ≡ 0
       → (s : State) → s.pc ≡ p → Ends z 1 target (always (shown_at p)) rest rest (λ t. Still s t) s

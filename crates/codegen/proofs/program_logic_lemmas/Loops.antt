@@ -8,15 +8,15 @@ use Rattle.codegen.proofs.program_logic_lemmas.Jumps.{untaken_ends}
 use Rattle.codegen.proofs.program_logic_lemmas.Pieces.{seen_then, seen_nothing, then_ends, ends_as, ends_to, ends_on}
 use Rattle.codegen.proofs.program_logic_lemmas.PlacedLaws.{Placed-left, Placed-right}
 use Rattle.codegen.specs.program_logic.Jumps.{skip, over, back, loop_code, again_code}
-use Rattle.codegen.specs.program_logic.Pieces.{Setting, Before, After, Steps, none, Leak, always, both, Ends, Straight}
-use Rattle.codegen.specs.program_logic.Pieces.{Runs, Still, iterations_after, iterations_path}
+use Rattle.codegen.specs.program_logic.Pieces.{PieceSetting, Before, After, Steps, none, Leak, always, both, Ends}
+use Rattle.codegen.specs.program_logic.Pieces.{RunsAt, Runs, Still, iterations_after, iterations_path}
 use Rattle.codegen.specs.program_logic.Placed.{Placed}
 use Rattle.codegen.specs.Below.{Bne, branch_target, Instr, IsInstr, register, State}
 use Rattle.rv_code.specs.declared.instructions.Instr.TheVariants as instr
 
 -- A loop that tests first, and goes on as long as a register is not 0.
 
-module _ {z : Setting} (r : ℕ) (small : r < 32) (nonzero : r ≢ 0) {m n : ℕ} {test body : List Instr} {A : ℕ → ℕ
+module _ {z : PieceSetting} (r : ℕ) (small : r < 32) (nonzero : r ≢ 0) {m n : ℕ} {test body : List Instr} {A : ℕ → ℕ
     → Before z} {B : ℕ → ℕ → After z} {C : ℕ → ℕ → Before z} {D : ℕ → ℕ → After z}
     (path : ℕ → Steps z) (iteration : ℕ → z.Beside → z.Beside)
     (Inv : ℕ → ℕ → z.Beside → State → State → Type 0)
@@ -58,10 +58,10 @@ module _ {z : Setting} (r : ℕ) (small : r < 32) (nonzero : r ≢ 0) {m n : ℕ
     ended : back_at + 4 ≡ p + 4 * length (loop_code r test body)
     ended = omega (arith, length-append test behind_test, length-append body jump)
 
-    test_at : (left i : ℕ) → Straight z p m none test (A left i) (B left i)
+    test_at : (left i : ℕ) → RunsAt z p m none test (A left i) (B left i)
     test_at left i = (tests left i).placed_at p (Placed-left z.code p test behind_test placed)
 
-    body_at : (left i : ℕ) → Straight z (tested_at + 4 + 4) n (path i) body (C left i) (D left i)
+    body_at : (left i : ℕ) → RunsAt z (tested_at + 4 + 4) n (path i) body (C left i) (D left i)
     body_at left i =
         (bodies left i).placed_at (tested_at + 4 + 4) (Placed-left z.code (tested_at + 4 + 4) body jump from_skip.3.3)
 
@@ -147,7 +147,7 @@ back_target : (p n : ℕ) → 0 < n → 2 * n ≤ 2 ^ 11 → 4 * n ≤ p → p <
     → branch_target p (2 ^ 12 - 2 * n) ≡ p - 4 * n
 back_target p n some near low below = grind (arith, nat_tests)
 
-module _ {z : Setting} (r q : ℕ) (small : r < 32) (small' : q < 32) {n : ℕ} {body : List Instr} {C : ℕ → ℕ
+module _ {z : PieceSetting} (r q : ℕ) (small : r < 32) (small' : q < 32) {n : ℕ} {body : List Instr} {C : ℕ → ℕ
     → Before z} {D : ℕ → ℕ → After z}
     (path : ℕ → Steps z) (iteration : ℕ → z.Beside → z.Beside)
     (Inv : ℕ → ℕ → z.Beside → State → State → Type 0)
@@ -177,7 +177,7 @@ module _ {z : Setting} (r q : ℕ) (small : r < 32) (small' : q < 32) {n : ℕ} 
     behind : branch_at + 4 ≡ p + 4 * length (again_code r q body)
     behind = omega (arith, length-append body (branch ∷ []))
 
-    round_at : (left i : ℕ) → Straight z p n (path i) body (C left i) (D left i)
+    round_at : (left i : ℕ) → RunsAt z p n (path i) body (C left i) (D left i)
     round_at left i = (bodies left i).placed_at p (Placed-left z.code p body (branch ∷ []) placed)
 
     fields : IsInstr branch

@@ -1,11 +1,11 @@
 -- Code behind a mark on the path knows beforehand what the mark carries.
 use Rattle.std.proofs.Common.{◌≡◌, ℕ, List, [], ◌∷◌, ◌++◌, Option, Some, None, refl, ap, ◌∙◌}
 use Rattle.codegen.proofs.program_logic_lemmas.Pieces.{ends_by}
-use Rattle.codegen.specs.program_logic.Pieces.{Setting, Steps, Before, After, Runs}
+use Rattle.codegen.specs.program_logic.Pieces.{PieceSetting, Steps, Before, After, Runs}
 use Rattle.codegen.specs.Below.{Instr, Observation, State}
 
 -- a kind of marks that the observer sees, with what they carry, and what is known of that where the path is fine
-pub record Kind (z : Setting) (A : Type 0) (Good : A → Type 0) : Type 0 where
+pub record MarkKind (z : PieceSetting) (A : Type 0) (Good : A → Type 0) : Type 0 where
   pub mark : A → z.Mark
   pub read : z.Mark → Option A
   pub told : (x : A) → read (mark x) ≡ Some x
@@ -13,7 +13,7 @@ pub record Kind (z : Setting) (A : Type 0) (Good : A → Type 0) : Type 0 where
   pub good : (x : A) (path : List z.Mark) → z.Fine (mark x ∷ path) → Good x
 
 -- what the mark carries is this
-pub record Known (z : Setting) (A : Type 0) (Good : A → Type 0) (P : Before z) (value : z.Beside
+pub record MarkKnown (z : PieceSetting) (A : Type 0) (Good : A → Type 0) (P : Before z) (value : z.Beside
     → A) (x : A) (env : z.Beside) (s : State) : Type 0 where
   pub given : P env s
   pub is : value env ≡ x
@@ -29,10 +29,10 @@ abbrev by_mark_leak : {A M : Type 0} → (M → Option A) → (A → List M → 
 by_mark_leak read leak [] = ([], [])
 by_mark_leak read leak (mark ∷ rest) = by_value leak rest (read mark)
 
-module _ {z : Setting} {A : Type 0} {Good : A → Type 0} (kind : Kind z A Good) where
+module _ {z : PieceSetting} {A : Type 0} {Good : A → Type 0} (kind : MarkKind z A Good) where
   -- code for each thing that the mark may carry
   pub by_mark : {n : ℕ} {steps : Steps z} {is : List Instr} {P : Before z} {Q : After z} (value : z.Beside → A)
-      → ((x : A) → Runs z n steps is (Known z A Good P value x) Q)
+      → ((x : A) → Runs z n steps is (MarkKnown z A Good P value x) Q)
       → Runs z n (λ env. kind.mark (value env) ∷ steps env) is P Q
   by_mark {steps = steps} value each = record {
     placed_at = λ p placed. record {

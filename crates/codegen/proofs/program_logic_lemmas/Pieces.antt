@@ -4,26 +4,26 @@ use Rattle.std.proofs.Common.{refl, sym, ap, ◌∙◌, subst, arith, length-app
 use Rattle.std.proofs.lemmas.Bool.{cond_both}
 use Rattle.std.proofs.lemmas.List.Elements.{All-append, All-cons, All-nil}
 use Rattle.codegen.proofs.program_logic_lemmas.PlacedLaws.{Placed-left, Placed-right}
-use Rattle.codegen.specs.program_logic.Pieces.{Setting, Before, After, Steps, none, Leak, always, both, Ends, Runs}
+use Rattle.codegen.specs.program_logic.Pieces.{PieceSetting, Before, After, Steps, none, Leak, always, both, Ends, Runs}
 use Rattle.codegen.specs.program_logic.Pieces.{Then}
 use Rattle.codegen.specs.Below.{Event, Instr, Leads, Observation, State}
 use Rattle.codegen.proofs.program_logic_lemmas.StepLaws.{LeadsKeeping-append, one_kept}
 use Rattle.codegen.specs.program_logic.MachineSteps.{stays_kept}
 
 -- what is seen of two parts, and then more
-pub seen_then : (z : Setting) (one other rest : List z.Mark)
+pub seen_then : (z : PieceSetting) (one other rest : List z.Mark)
     → z.seen (one ++ other) ++ rest ≡ z.seen one ++ (z.seen other ++ rest)
 seen_then z one other rest =
     ap (λ (front : List z.Mark). front ++ rest) (z.seen_append one other)
     ∙ append_assoc (z.seen one) (z.seen other) rest
 
-pub seen_nothing : (z : Setting) (rest : List z.Mark) → z.seen [] ++ rest ≡ rest
+pub seen_nothing : (z : PieceSetting) (rest : List z.Mark) → z.seen [] ++ rest ≡ rest
 seen_nothing z rest = ap (λ (front : List z.Mark). front ++ rest) z.seen_none
 
 pub All-one : (P : Observation → Type 0) (x : Observation) → P x → All P (x ∷ [])
 All-one P x h = All-cons P x [] h (All-nil P)
 
-module _ {z : Setting} where
+module _ {z : PieceSetting} where
   -- Steps from one state.
 
   -- none

@@ -10,9 +10,10 @@ use Rattle.codegen.specs.program_logic.Placed.{Placed}
 use Rattle.codegen.specs.program_logic.StraightCode.{Contents, state_at, is_straight, are_straight, next_of, left_by}
 use Rattle.codegen.specs.program_logic.StraightCode.{with_result, number_or_zero, after, after_all, event_of, shown_by}
 use Rattle.codegen.specs.program_logic.StraightCode.{fit_and, AreFit, IsMet, met_and, AreMet}
-use Rattle.codegen.specs.Below.{address_of, byte_count, Code, Event, Immediate, Instr, IsAt, IsInstr, Leads, Load}
-use Rattle.codegen.specs.Below.{load_size, loaded_value, LoadOperation, Lui, number_at, Observation, Register, register}
-use Rattle.codegen.specs.Below.{Shift, State, stays, Store, store_size, StoreOperation, Upper, with_number, with_stored}
+use Rattle.codegen.specs.Below.{address_of, byte_count, MachineCode, Event, Immediate, Instr, IsAt, IsInstr, Leads}
+use Rattle.codegen.specs.Below.{Load, load_size, loaded_value, LoadOperation, Lui, number_at, Observation, Register}
+use Rattle.codegen.specs.Below.{register, Shift, State, stays, Store, store_size, StoreOperation, Upper, with_number}
+use Rattle.codegen.specs.Below.{with_stored}
 use Rattle.codegen.proofs.program_logic_lemmas.Below.{Leads-append, upper_leads, immediate_leads, shift_leads}
 use Rattle.codegen.proofs.program_logic_lemmas.Below.{register_leads, load_leads, store_leads}
 use Rattle.rv_machine.specs.Machine.{with_value}
@@ -33,7 +34,7 @@ range : (works : ℕ → Bool) (i : Instr) → is_straight works i ≡ true → 
 range works (Upper Lui rd immediate) h = search (arith, nat_tests)
 range works i h = search (arith, nat_tests)
 
-module _ (code : Code) (p : ℕ) (below : p + 4 < 2 ^ 32) (c : Contents) where
+module _ (code : MachineCode) (p : ℕ) (below : p + 4 < 2 ^ 32) (c : Contents) where
   -- at the next instruction
   valued : (rd value : ℕ) → with_value (state_at p c) rd value ≡ state_at (p + 4) (with_result rd value c)
   unfolding with_value
@@ -134,7 +135,7 @@ rest_met i a c M met = met
 
 -- The machine on straight-line code.
 pub straight_code_leads : (works : ℕ → Bool) (Allows : Option Event
-    → Type 0) (code : Code) (p : ℕ) (is : List Instr) (places : List ℕ) (c : Contents)
+    → Type 0) (code : MachineCode) (p : ℕ) (is : List Instr) (places : List ℕ) (c : Contents)
     → are_straight works is ≡ true → Placed code p is → AreFit Allows is places → AreMet is places c
     → Leads code (length is) (state_at p c) (shown_by p is places)
     (state_at (p + 4 * length is) (after_all is places c))

@@ -1,14 +1,14 @@
 -- Straight-line code as a piece, and what it keeps.
 use Rattle.std.specs.Prelude.{is_some}
-use Rattle.std.proofs.Common.{◌≡◌, ℕ, suc, ◌+◌, ◌*◌, Bool, true, false, List, [], ◌∷◌, length, Option, Some, refl, sym, ◌∙◌}
-use Rattle.std.proofs.Common.{subst, arith}
+use Rattle.std.proofs.Common.{◌≡◌, ℕ, suc, ◌+◌, ◌*◌, Bool, true, false, List, [], ◌∷◌, length, Option, Some, refl, sym}
+use Rattle.std.proofs.Common.{◌∙◌, subst, arith}
 use Rattle.std.proofs.lemmas.Bool.Decides.{nat_tests}
 use Rattle.codegen.proofs.program_logic_lemmas.Pieces.{seen_nothing, ends_on}
 use Rattle.codegen.proofs.program_logic_lemmas.StraightRuns.{straight_code_leads, shown_allowed, rest_fit, rest_met}
 use Rattle.codegen.proofs.program_logic_lemmas.StraightRuns.{both_left, both_right, first_fit, first_met}
 use Rattle.codegen.proofs.program_logic_lemmas.StepLaws.{LeadsKeeping-append, one_kept}
 use Rattle.codegen.specs.program_logic.Placed.{Placed}
-use Rattle.codegen.specs.program_logic.Pieces.{Setting, Before, none, always, Runs, Became}
+use Rattle.codegen.specs.program_logic.Pieces.{PieceSetting, Before, none, always, Runs, Became}
 use Rattle.codegen.specs.program_logic.StraightCode.{Contents, contents_of, state_at, is_straight, are_straight}
 use Rattle.codegen.specs.program_logic.StraightCode.{next_of, left_by, after, after_all, shown_by, fit_and, AreFit}
 use Rattle.codegen.specs.program_logic.StraightCode.{met_and, AreMet}
@@ -19,13 +19,13 @@ use Rattle.rv_machine.specs.declared.memory.Size.{Size}
 use Rattle.rv_machine.specs.declared.observation.Event.TheVariants as event
 
 -- each instruction that writes such registers, with an allowed access, keeps what is to be kept
-abbrev pub EachKeeps : Setting → (ℕ → Bool) → Type 1
+abbrev pub EachKeeps : PieceSetting → (ℕ → Bool) → Type 1
 EachKeeps z works =
     (i : Instr) (a p : ℕ) (c : Contents) (F : Type 0) → is_straight works i ≡ true → fit_and z.Allows i a F
     → z.Keeps (state_at p c) (state_at (p + 4) (after i a c))
 
 -- so straight-line code leads on, step by step
-straight_keeps : (z : Setting) (works : ℕ → Bool) (p : ℕ) (is : List Instr) (places : List ℕ) (c : Contents)
+straight_keeps : (z : PieceSetting) (works : ℕ → Bool) (p : ℕ) (is : List Instr) (places : List ℕ) (c : Contents)
     → are_straight works is ≡ true → EachKeeps z works → Placed z.code p is → AreFit z.Allows is places
     → AreMet is places c
     → LeadsKeeping z.code z.Keeps (length is) (state_at p c) (shown_by p is places)
@@ -47,7 +47,7 @@ straight_keeps z works p (i ∷ is) places c plain each placed fit met =
     let count : 1 + length is ≡ suc (length is) = omega arith in
     rw (behind, count) at (LeadsKeeping-append one more)
 
-module _ {z : Setting} where
+module _ {z : PieceSetting} where
   -- straight-line code with accesses at these addresses
   pub by_symbols : {P : Before z} (works : ℕ → Bool) (is : List Instr) (places : List ℕ)
       → are_straight works is ≡ true → AreFit z.Allows is places

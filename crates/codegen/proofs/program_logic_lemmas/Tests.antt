@@ -7,7 +7,7 @@ use Rattle.codegen.proofs.program_logic_lemmas.Jumps.{untaken_ends}
 use Rattle.codegen.proofs.program_logic_lemmas.Pieces.{cheaper, ends_to, stop_here}
 use Rattle.codegen.proofs.program_logic_lemmas.PlacedLaws.{Placed-below, Placed-left, Placed-right}
 use Rattle.codegen.specs.program_logic.Tests.{leave, unless_code}
-use Rattle.codegen.specs.program_logic.Pieces.{After, Before, Ends, Runs, Setting, Steps, Still, always}
+use Rattle.codegen.specs.program_logic.Pieces.{After, Before, Ends, Runs, PieceSetting, Steps, Still, always}
 use Rattle.codegen.specs.program_logic.Placed.{Placed}
 use Rattle.codegen.specs.Below.{branch_target, BranchTest, holds, Instr, IsInstr, Observation, register, State}
 use Rattle.rv_code.specs.declared.instructions.Instr.TheVariants as instr
@@ -20,7 +20,7 @@ abbrev leave_leak : {M : Type 0} → ℕ → List Instr → List M → List Obse
 leave_leak q [] = always []
 leave_leak q (y ∷ ys) = always (shown_at q)
 
-module _ {z : Setting} where
+module _ {z : PieceSetting} where
   leave_ends : (ys : List Instr) (q : ℕ) (rest : List z.Mark) → Placed z.code q (leave ys ++ ys)
       → 2 * length ys + 2 < 2 ^ 19
       → (s : State) → s.pc ≡ q

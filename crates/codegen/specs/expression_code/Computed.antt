@@ -8,9 +8,9 @@ use Rattle.codegen.specs.expression_code.Inside.{IsInside}
 use Rattle.codegen.specs.expression_code.Layout.{bytes_of, place_of, result_offset}
 use Rattle.codegen.specs.expression_code.Registers.{frame_register}
 use Rattle.codegen.specs.expression_code.TermCode.{expr_code, operand}
-use Rattle.codegen.specs.Below.{AreFine, Code, Fits, FlatVariable, height_of, Instr, Leads, number_at, numbers_in}
-use Rattle.codegen.specs.Below.{Observation, Path, path_in, seen, State, term_nodes, TermTree, types_of, value_in}
-use Rattle.codegen.specs.Below.{Values}
+use Rattle.codegen.specs.Below.{AreFine, MachineCode, Fits, FlatVariable, height_of, Instr, Leads, number_at}
+use Rattle.codegen.specs.Below.{numbers_in, Observation, Path, path_in, seen, State, term_nodes, TermTree, types_of}
+use Rattle.codegen.specs.Below.{value_in, Values}
 use Rattle.codegen.specs.declared.expression_code.locations.Location.{Location}
 use Rattle.codegen.specs.declared.expression_code.locations.Location.TheVariants.{InRegister, InSlot}
 pub use Rattle.codegen.specs.program_logic.Placed.{Placed}
@@ -18,7 +18,7 @@ pub use Rattle.codegen.specs.program_logic.Placed.{Placed}
 -- where code begins, where the frame lies and how many bytes it has, the variables in it and how registers are given
 -- out, where the slots of temporaries begin, and the place that the value comes into
 pub record Site : Type 0 where
-  pub code : Code
+  pub code : MachineCode
   pub start : ℕ
   pub frame : ℕ
   pub size : ℕ

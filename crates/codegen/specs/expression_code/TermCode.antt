@@ -126,14 +126,14 @@ negation_code d r = Register Sub d zero_register r ∷ []
 
 -- into d: of both, of both swapped, of what they are as truths, the lower half of their product, or their
 -- quotient or remainder
-pub data Step : Type 0 where
-  between : (operation : RegisterOperation) → Step
-  swapped : (operation : RegisterOperation) → Step
-  of_truths : (operation : RegisterOperation) → Step
-  product : Step
-  division : (operation : DivideOperation) → Step
+pub data RowStep : Type 0 where
+  between : (operation : RegisterOperation) → RowStep
+  swapped : (operation : RegisterOperation) → RowStep
+  of_truths : (operation : RegisterOperation) → RowStep
+  product : RowStep
+  division : (operation : DivideOperation) → RowStep
 
-abbrev pub step_code : ℕ → ℕ → ℕ → ℕ → Step → List Instr
+abbrev pub step_code : ℕ → ℕ → ℕ → ℕ → RowStep → List Instr
 step_code d t l r (between operation) = Register operation d l r ∷ []
 step_code d t l r (swapped operation) = Register operation d r l ∷ []
 step_code d t l r (of_truths operation) = both_truths_code d t l r ++ Register operation d d t ∷ []
@@ -147,15 +147,15 @@ finish_code d w GivesZero = is_zero_code d d
 finish_code d w GivesMore = is_not_zero_code d
 finish_code d w Narrowed = cut_code d w
 
-pub record Row : Type 0 where
+pub record OperatorRow : Type 0 where
   pub finish : Finish
-  pub step : Step
+  pub step : RowStep
 
 -- Whether numbers are equal is read off their difference, and an order that takes equal numbers too is the other
 -- order, swapped.
-abbrev pub row_of : BinaryOperator → Row
-row_of operators.Either = record { finish = Alone; step = of_truths Or }
-row_of operators.Both = record { finish = Alone; step = of_truths And }
+abbrev pub row_of : BinaryOperator → OperatorRow
+row_of operators.LogicalOr = record { finish = Alone; step = of_truths Or }
+row_of operators.LogicalAnd = record { finish = Alone; step = of_truths And }
 row_of operators.Equal = record { finish = GivesZero; step = between Sub }
 row_of operators.Unequal = record { finish = GivesMore; step = between Sub }
 row_of operators.Less = record { finish = Alone; step = between Sltu }
@@ -180,8 +180,8 @@ operator_code d t l r operator w = step_code d t l r (row_of operator).step
 
 -- of words that are 0 or 1 the operator of their bits that makes the same
 abbrev pub of_bits : BinaryOperator → BinaryOperator
-of_bits operators.Either = operators.BitOr
-of_bits operators.Both = operators.BitAnd
+of_bits operators.LogicalOr = operators.BitOr
+of_bits operators.LogicalAnd = operators.BitAnd
 of_bits operator = operator
 
 -- the operator whose code is emitted: bools are 0 or 1, so better code takes their bits as they are

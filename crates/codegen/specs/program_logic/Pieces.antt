@@ -10,7 +10,7 @@ use Rattle.std.proofs.Common.{zero, suc}
 use Rattle.codegen.specs.program_logic.Placed.{Placed}
 use Rattle.codegen.specs.program_logic.StraightCode.{contents_of, after_all}
 use Rattle.codegen.specs.program_logic.MachineSteps.{LeadsKeeping}
-use Rattle.codegen.specs.Below.{Code, Event, Instr, Observation, State}
+use Rattle.codegen.specs.Below.{MachineCode, Event, Instr, Observation, State}
 
 -- only the program counter has changed
 pub record Still (s t : State) : Type 0 where
@@ -19,8 +19,8 @@ pub record Still (s t : State) : Type 0 where
 
 -- where pieces stand, which events they may show, what they all leave alone, what they are run beside, and the marks
 -- of paths: what the observer sees of a path, and when one is fine
-pub record Setting : Type 1 where
-  pub code : Code
+pub record PieceSetting : Type 1 where
+  pub code : MachineCode
   pub Allows : Option Event → Type 0
   pub silence : Allows None
   pub Keeps : State → State → Type 0
@@ -37,21 +37,21 @@ pub record Setting : Type 1 where
   pub fine_right : (one other : List Mark) → Fine (one ++ other) → Fine other
 
 -- what a piece of code asks of a state, and what it makes of it
-abbrev pub Before : Setting → Type 1
+abbrev pub Before : PieceSetting → Type 1
 Before z = z.Beside → State → Type 0
 
-abbrev pub After : Setting → Type 1
+abbrev pub After : PieceSetting → Type 1
 After z = z.Beside → State → State → Type 0
 
 -- what a piece of code puts on the path
-abbrev pub Steps : Setting → Type 0
+abbrev pub Steps : PieceSetting → Type 0
 Steps z = z.Beside → List z.Mark
 
 abbrev pub none : {B M : Type 0} → B → List M
 none env = []
 
 -- what is seen on a path, and what of it is left
-abbrev pub Leak : Setting → Type 0
+abbrev pub Leak : PieceSetting → Type 0
 Leak z = List z.Mark → List Observation × List z.Mark
 
 abbrev pub always : {M : Type 0} → List Observation → List M → List Observation × List M
@@ -62,7 +62,7 @@ abbrev pub both : {M : Type 0} → (List M → List Observation × List M) → (
 both one two path = ((one path).0 ++ (two (one path).1).0, (two (one path).1).1)
 
 -- at most so many steps to an address, on a path of which the rest is left, and the state after them
-pub record Ends (z : Setting) (cost q : ℕ) (leak : Leak z) (path rest : List z.Mark) (Q : State
+pub record Ends (z : PieceSetting) (cost q : ℕ) (leak : Leak z) (path rest : List z.Mark) (Q : State
     → Type 0) (s : State) : Type 0 where
   pub step_count : ℕ
   pub end : State
@@ -76,19 +76,19 @@ pub record Ends (z : Setting) (cost q : ℕ) (leak : Leak z) (path rest : List z
   pub done : Q end
 
 -- instructions at an address, run from any state that is fit for them
-pub record Straight (z : Setting) (p cost : ℕ) (steps : Steps z) (is : List Instr) (P : Before z) (Q : After z) :
+pub record RunsAt (z : PieceSetting) (p cost : ℕ) (steps : Steps z) (is : List Instr) (P : Before z) (Q : After z) :
     Type 0 where
   pub leak : Leak z
   pub runs : (env : z.Beside) (s : State) (rest : List z.Mark) → s.pc ≡ p → z.Fine (steps env) → P env s
       → Ends z cost (p + 4 * length is) leak (z.seen (steps env) ++ rest) rest (Q env s) s
 
 -- instructions run wherever they stand, at most so many steps
-pub record Runs (z : Setting) (cost : ℕ) (steps : Steps z) (is : List Instr) (P : Before z) (Q : After z) :
+pub record Runs (z : PieceSetting) (cost : ℕ) (steps : Steps z) (is : List Instr) (P : Before z) (Q : After z) :
     Type 0 where
-  pub placed_at : (p : ℕ) → Placed z.code p is → Straight z p cost steps is P Q
+  pub placed_at : (p : ℕ) → Placed z.code p is → RunsAt z p cost steps is P Q
 
 -- one change, and then another
-pub record Then (z : Setting) (Q R : After z) (env : z.Beside) (s u : State) : Type 0 where
+pub record Then (z : PieceSetting) (Q R : After z) (env : z.Beside) (s u : State) : Type 0 where
   pub middle : State
   pub first : Q env s middle
   pub second : R env middle u

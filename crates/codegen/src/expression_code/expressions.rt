@@ -13,7 +13,7 @@ use crate::expression_code::locations::{
     FIRST_SPARE, SECOND_SPARE, THIRD_SPARE, copy, fetch, keep,
 };
 use crate::expression_code::numbers::{chooses_zero, left_row, right_row};
-use crate::expression_code::operators::{ChoiceOperands, Operands};
+use crate::expression_code::operators::{ChoiceOperands, OperandRegisters};
 use crate::expression_code::truths::emitted;
 use crate::expression_code::{emit, operators};
 use inline::Term;
@@ -112,7 +112,7 @@ fn fetched_operands(
     place: u32,
     left: &Term,
     right: &Term,
-) -> Result<Operands, AllocError>
+) -> Result<OperandRegisters, AllocError>
     requires { temporaries_offset layout.now + 4 * slots_to layout.now.allocation.count (place + 1) ≤ 65536 }
     ensures code { let free = temporaries_offset layout.now in
         let a = layout.now.allocation in
@@ -131,7 +131,7 @@ fn fetched_operands(
     let left = fetched(layout, code, place, left, FIRST_SPARE)?;
     let right = fetched(layout, code, next, right, SECOND_SPARE)?;
     let scratch = layout.working_register(next, SECOND_SPARE);
-    Ok(Operands {
+    Ok(OperandRegisters {
         target,
         scratch,
         left,

@@ -23,14 +23,14 @@ use word::Width;
 /// The registers of an operator between two operands: where its outcome comes, one that may be written as well, and
 /// those of both operands.
 #[derive(Drop)]
-pub struct Operands {
+pub struct OperandRegisters {
     pub target: Reg,
     pub scratch: Reg,
     pub left: Reg,
     pub right: Reg,
 }
 
-impl Operands {
+impl OperandRegisters {
     /// An instruction between both operands.
     fn between(&self, operation: Operation) -> Instr
         ensures { result ∷ [] ≡ step_code self.now.target self.now.scratch self.now.left self.now.right
@@ -222,7 +222,7 @@ pub fn with_number(
 /// An operator between two operands, into its target.
 pub fn operator(
     code: &mut Vec<Instr>,
-    o: &Operands,
+    o: &OperandRegisters,
     operator: BinaryOperator,
     width: Width,
 ) -> Result<(), AllocError>
@@ -230,8 +230,8 @@ pub fn operator(
         ++ operator_code o.now.target o.now.scratch o.now.left o.now.right operator width) }
 {
     match operator {
-        BinaryOperator::Either => o.of_truths(code, Operation::Or),
-        BinaryOperator::Both => o.of_truths(code, Operation::And),
+        BinaryOperator::LogicalOr => o.of_truths(code, Operation::Or),
+        BinaryOperator::LogicalAnd => o.of_truths(code, Operation::And),
         BinaryOperator::Equal => gives_zero(code, o.target, o.between(Operation::Sub)),
         BinaryOperator::Unequal => gives_more(code, o.target, o.between(Operation::Sub)),
         BinaryOperator::Less => append(code, o.between(Operation::Sltu)),

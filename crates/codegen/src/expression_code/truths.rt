@@ -11,8 +11,8 @@ fn of_bits(operator: BinaryOperator) -> BinaryOperator
     ensures { result ≡ of_bits operator }
 {
     match operator {
-        BinaryOperator::Either => BinaryOperator::BitOr,
-        BinaryOperator::Both => BinaryOperator::BitAnd,
+        BinaryOperator::LogicalOr => BinaryOperator::BitOr,
+        BinaryOperator::LogicalAnd => BinaryOperator::BitAnd,
         _ => operator,
     }
 }

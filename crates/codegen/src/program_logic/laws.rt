@@ -4,13 +4,14 @@ ghost use Rattle.std.specs.Prelude.{◌≡◌, ◌+◌, ◌*◌, ℕ, Bool, List
 ghost use Rattle.codegen.specs.program_logic.Placed.{Placed};
 ghost use Rattle.codegen.specs.program_logic.StraightCode.{Contents, AreFit, AreMet, after_all, are_straight, shown_by};
 ghost use Rattle.codegen.specs.program_logic.StraightCode.{state_at};
-ghost use Rattle.codegen.specs.Below.{Code, Event, Instr, Leads};
+ghost use Rattle.codegen.specs.Below.{MachineCode, Event, Instr, Leads};
 
 /// The machine does what straight-line code is run to by symbols: wherever the code stands, and whatever state it begins
 /// in, if each access goes to its address, which is a multiple of its size, and data is there, then as many steps as
 /// there are instructions lead to that state, and show the list that is read off the code and the addresses alone.
 pub fn straight_code_is_run()
-    ensures { (works : ℕ → Bool) (code : Code) (p : ℕ) (instructions : List Instr) (places : List ℕ) (c : Contents)
+    ensures { (works : ℕ → Bool) (code : MachineCode) (p : ℕ) (instructions : List Instr) (places : List ℕ)
+        (c : Contents)
         → are_straight works instructions ≡ true → Placed code p instructions
         → AreFit (λ (e : Option Event). Unit {0}) instructions places → AreMet instructions places c
         → Leads code (length instructions) (state_at p c) (shown_by p instructions places)

@@ -1,7 +1,7 @@
 // The table of commands: each with its name, what it does, and the words that it takes.
 
 /// A word that a command takes, with its name where it has one, and its line in the help.
-pub(crate) enum Word {
+pub(crate) enum CommandWord {
     /// The path of a file, required, by its place.
     Path(&'static str, &'static str),
     /// The code of an error or the name of a stop, required, by its place.
@@ -22,7 +22,7 @@ pub(crate) enum Word {
 pub(crate) struct CommandRow {
     pub name: &'static str,
     pub about: &'static str,
-    pub words: &'static [Word],
+    pub words: &'static [CommandWord],
 }
 
 /// What arguments of a run are.
@@ -50,44 +50,44 @@ pub(crate) static COMMANDS: [CommandRow; 15] = [
         name: "check",
         about: "Says whether a source is accepted, or names the first rule that it violates",
         words: &[
-            Word::Path("FILE", "The source to check"),
-            Word::Profile,
-            Word::Flag("explain", EXPLAIN),
+            CommandWord::Path("FILE", "The source to check"),
+            CommandWord::Profile,
+            CommandWord::Flag("explain", EXPLAIN),
         ],
     },
     CommandRow {
         name: "build",
         about: "Compiles a source to an image, or names the first rule that it violates",
         words: &[
-            Word::Path("FILE", "The source to compile"),
-            Word::Path(
+            CommandWord::Path("FILE", "The source to compile"),
+            CommandWord::Path(
                 "IMAGE",
                 "Where to write the image; it stays as it was if FILE is refused",
             ),
-            Word::Profile,
-            Word::Optimisation,
-            Word::Flag("explain", EXPLAIN),
+            CommandWord::Profile,
+            CommandWord::Optimisation,
+            CommandWord::Flag("explain", EXPLAIN),
         ],
     },
     CommandRow {
         name: "function",
         about: "Compiles a source to a function that C can call: an assembly file and a C header",
         words: &[
-            Word::Path(
+            CommandWord::Path(
                 "FILE",
                 "The source to compile; the function has the name of its export",
             ),
-            Word::Path(
+            CommandWord::Path(
                 "ASM",
                 "Where to write the function, for a GNU or LLVM assembler; it stays as it was if FILE is refused",
             ),
-            Word::Path(
+            CommandWord::Path(
                 "HEADER",
                 "Where to write the C header, after ASM; it stays as it was if FILE is refused",
             ),
-            Word::Profile,
-            Word::Optimisation,
-            Word::Flag("explain", EXPLAIN),
+            CommandWord::Profile,
+            CommandWord::Optimisation,
+            CommandWord::Flag("explain", EXPLAIN),
         ],
     },
     CommandRow {
@@ -95,34 +95,34 @@ pub(crate) static COMMANDS: [CommandRow; 15] = [
         about: "Says what an accepted source or an image costs: the size of its code and of its frame, and how many \
                 instructions a run executes at most; for a source its nodes and its work too",
         words: &[
-            Word::Path("FILE", "The source, or the image"),
-            Word::Profile,
+            CommandWord::Path("FILE", "The source, or the image"),
+            CommandWord::Profile,
         ],
     },
     CommandRow {
         name: "eval",
         about: "Evaluates an accepted source on arguments, without an image",
         words: &[
-            Word::Path("FILE", "The source"),
-            Word::Flag("explain", EXPLAIN_FIRST),
-            Word::Arguments(ARGUMENTS),
+            CommandWord::Path("FILE", "The source"),
+            CommandWord::Flag("explain", EXPLAIN_FIRST),
+            CommandWord::Arguments(ARGUMENTS),
         ],
     },
     CommandRow {
         name: "run",
         about: "Runs an image on arguments and prints its outcome",
         words: &[
-            Word::Path("IMAGE", "An image that `build` or `wrap` wrote"),
-            Word::Flag("progress", PROGRESS),
-            Word::Arguments(ARGUMENTS),
+            CommandWord::Path("IMAGE", "An image that `build` or `wrap` wrote"),
+            CommandWord::Flag("progress", PROGRESS),
+            CommandWord::Arguments(ARGUMENTS),
         ],
     },
     CommandRow {
         name: "leak",
         about: "Runs an image on arguments and lists what an observer sees, and how the run stops",
         words: &[
-            Word::Path("IMAGE", "An image that `build` or `wrap` wrote"),
-            Word::Arguments(ARGUMENTS),
+            CommandWord::Path("IMAGE", "An image that `build` or `wrap` wrote"),
+            CommandWord::Arguments(ARGUMENTS),
         ],
     },
     CommandRow {
@@ -130,18 +130,18 @@ pub(crate) static COMMANDS: [CommandRow; 15] = [
         about: "Runs an image twice and says whether an observer sees the same in both runs, or where they begin to \
                 differ",
         words: &[
-            Word::Path("IMAGE", "An image that `build` or `wrap` wrote"),
-            Word::Flag(
+            CommandWord::Path("IMAGE", "An image that `build` or `wrap` wrote"),
+            CommandWord::Flag(
                 "explain",
                 "If the runs differ, shows the last instruction that both reach before that, the registers that it \
                  reads in each run, and what each run shows then; must come before IMAGE",
             ),
-            Word::Flag(
+            CommandWord::Flag(
                 "progress",
                 "Prints a line to standard error after each 134217728 steps of both runs, as long as both go on; must \
                  come before IMAGE",
             ),
-            Word::Arguments(
+            CommandWord::Arguments(
                 "Those of the first run, one for each parameter and as for `run`, then those of the second",
             ),
         ],
@@ -151,14 +151,14 @@ pub(crate) static COMMANDS: [CommandRow; 15] = [
         about: "Runs an image once for all values of its secrets, and says that an observer sees the same for all, or \
                 from where on that is not shown, which is no proof of a leak",
         words: &[
-            Word::Path("IMAGE", "An image that `build` or `wrap` wrote"),
-            Word::Flag(
+            CommandWord::Path("IMAGE", "An image that `build` or `wrap` wrote"),
+            CommandWord::Flag(
                 "shifts",
                 "Counts the amounts of shifts by a register as visible, for cores that shift bit by bit; must come \
                  before IMAGE",
             ),
-            Word::Flag("progress", PROGRESS),
-            Word::Arguments(
+            CommandWord::Flag("progress", PROGRESS),
+            CommandWord::Arguments(
                 "One for each parameter, as for `run`; for a secret one `?` stands for every value of its type",
             ),
         ],
@@ -168,8 +168,8 @@ pub(crate) static COMMANDS: [CommandRow; 15] = [
         about: "Prints an HTML page with a picture of what an observer sees of one run or of two: steps to the right, \
                 addresses upwards",
         words: &[
-            Word::Path("IMAGE", "An image that `build` or `wrap` wrote"),
-            Word::Arguments(
+            CommandWord::Path("IMAGE", "An image that `build` or `wrap` wrote"),
+            CommandWord::Arguments(
                 "As for `certify`, for a picture of one run, with 0 for each `?`; or as for `pair`, for a picture of \
                  two runs, one over the other",
             ),
@@ -178,36 +178,36 @@ pub(crate) static COMMANDS: [CommandRow; 15] = [
     CommandRow {
         name: "list",
         about: "Lists the code of an image: each word with its address and its instruction",
-        words: &[Word::Path("IMAGE", "An image that `build` or `wrap` wrote")],
+        words: &[CommandWord::Path("IMAGE", "An image that `build` or `wrap` wrote")],
     },
     CommandRow {
         name: "wrap",
         about: "Makes an image from code that another compiler made, to run, list and certify it",
         words: &[
-            Word::Path(
+            CommandWord::Path(
                 "FILE",
                 "A source whose export has the parameters and the result that the code has",
             ),
-            Word::Path(
+            CommandWord::Path(
                 "CODE",
                 "The code's words, little-endian, as `objcopy -O binary` writes them",
             ),
-            Word::Path(
+            CommandWord::Path(
                 "IMAGE",
                 "Where to write the image; it stays as it was if anything is refused",
             ),
-            Word::Number(
+            CommandWord::Number(
                 "frame",
                 "The size of the frame in bytes; parameters and result are at its start, laid out as `build` does it",
             ),
-            Word::Number("steps", "How many instructions a run executes at most"),
-            Word::Profile,
+            CommandWord::Number("steps", "How many instructions a run executes at most"),
+            CommandWord::Profile,
         ],
     },
     CommandRow {
         name: "harts",
         about: "Runs several images side by side on one memory, and lists what an observer sees of each",
-        words: &[Word::Path(
+        words: &[CommandWord::Path(
             "FILE",
             "Lines `hart IMAGE ARG..`, one for each image, then `turns K N` for N turns of hart K, counted from 0, \
              and `round N` for N times one turn of each",
@@ -218,20 +218,20 @@ pub(crate) static COMMANDS: [CommandRow; 15] = [
         about: "Tries test vectors on a source: whether it gives the outcome of each, and whether an observer sees the \
                 same for all secrets",
         words: &[
-            Word::Path("FILE", "The source"),
-            Word::Path(
+            CommandWord::Path("FILE", "The source"),
+            CommandWord::Path(
                 "VECTORS",
                 "Lines `NAME: ARG .. = OUTCOME ..`: the arguments as for `run`, and after `=` the result and then each \
                  `mut` array; bytes may be written `hex:00ff..`",
             ),
-            Word::Profile,
+            CommandWord::Profile,
         ],
     },
     CommandRow {
         name: "explain",
         about: "Explains the code of an error, or the name of a stop: the rule, a source that violates it, and the \
                 same source corrected",
-        words: &[Word::Code(
+        words: &[CommandWord::Code(
             "CODE",
             "The code that comes after `refused: `, or the name after `stop `",
         )],

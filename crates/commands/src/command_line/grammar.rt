@@ -1,6 +1,6 @@
 // The commands of `factc`, a row for each, and what `clap` makes of the rows.
 
-use crate::command_line::commands::{COMMANDS, CommandRow, Word};
+use crate::command_line::commands::{COMMANDS, CommandRow, CommandWord};
 use clap::{Arg, ArgAction, Command, value_parser};
 use explanations::codes;
 use std::alloc::{AllocError, Global};
@@ -30,15 +30,15 @@ fn command<'a>(alloc: Global, row: &CommandRow) -> Result<Command<'a>, AllocErro
 }
 
 /// What `clap` reads as this word.
-fn argument<'a>(alloc: Global, word: &Word) -> Arg<'a> {
+fn argument<'a>(alloc: Global, word: &CommandWord) -> Arg<'a> {
     match *word {
-        Word::Path(name, help) => path(alloc, name, help),
-        Word::Code(name, help) => path(alloc, name, help).value_parser(codes()),
-        Word::Number(name, help) => number(alloc, name, help),
-        Word::Profile => profile(alloc),
-        Word::Optimisation => optimisation(alloc),
-        Word::Flag(name, help) => flag(alloc, name, help),
-        Word::Arguments(help) => arguments(alloc, help),
+        CommandWord::Path(name, help) => path(alloc, name, help),
+        CommandWord::Code(name, help) => path(alloc, name, help).value_parser(codes()),
+        CommandWord::Number(name, help) => number(alloc, name, help),
+        CommandWord::Profile => profile(alloc),
+        CommandWord::Optimisation => optimisation(alloc),
+        CommandWord::Flag(name, help) => flag(alloc, name, help),
+        CommandWord::Arguments(help) => arguments(alloc, help),
     }
 }
 

@@ -1,12 +1,12 @@
 -- What an answer of the parser says; and what holds where a call succeeds.
 use Rattle.std.proofs.Common.{◌≡◌, ℕ, List, Option, None, Some, Result, Ok, Err, IfOk, sym, ◌∙◌, inl, inr}
 use Rattle.std.proofs.lemmas.Option.{none-some}
-use Rattle.explanations.specs.Below.{Answer, IsFirst, IsRefusedAs, IsRefusedFor, Place, Reads, Refusal, refused, Rule}
-use Rattle.explanations.specs.Below.{Violation}
+use Rattle.explanations.specs.Below.{ParseAnswer, IsFirst, IsRefusedAs, IsRefusedFor, Place, Reads, Refusal, refused}
+use Rattle.explanations.specs.Below.{Rule, Violation}
 use Rattle.explanations.specs.refusal_details.Details.{IsProgramOf, unread}
 
 -- a refusal with a place is an answer to the text
-pub placed : (P : Answer → Type 0) (r : Refusal) (p : Place) → r.place ≡ Some p → IsRefusedAs P r
+pub placed : (P : ParseAnswer → Type 0) (r : Refusal) (p : Place) → r.place ≡ Some p → IsRefusedAs P r
     → (place : Place) × P (refused r.rule place)
 placed P r p some (inl memory) = absurd (none-some p (sym memory.1 ∙ some))
 placed P r p some (inr answer) = (answer.0, answer.2)

@@ -2,7 +2,7 @@
 use Rattle.std.specs.Prelude.{◌≡◌, ℕ, List, [], ◌++◌, Option, None, Some}
 use Rattle.explanations.specs.Table.{text_of}
 use Rattle.explanations.specs.Below.{code_of, Place, Refusal}
-use Rattle.explanations.specs.refusal_details.Details.{Says}
+use Rattle.explanations.specs.refusal_details.Details.{SaysDetails}
 use Rattle.explanations.specs.source_excerpts.Excerpt.{excerpt_text}
 
 -- the line of a source at a place, marked
@@ -16,5 +16,5 @@ pub record Explains (source : List ℕ) (refusal : Refusal) (lines : List ℕ) :
   pub text : List ℕ
   pub details : List ℕ
   pub of_rule : text_of (code_of refusal.rule) ≡ Some text
-  pub said : Says source refusal details
+  pub said : SaysDetails source refusal details
   pub printed : lines ≡ place_lines source refusal.place ++ (details ++ text)

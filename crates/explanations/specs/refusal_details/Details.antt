@@ -74,10 +74,10 @@ FindsBeside source rule (why.Divisor divisor) at lines = SaysOfCalls source at l
 FindsBeside source rule evidence at lines = lines ≡ []
 
 -- what is said of a refusal of a source: what its evidence says, and what is found beside it
-pub data Says (source : List ℕ) (refusal : Refusal) : List ℕ → Type 0 where
-  nowhere : {lines : List ℕ} → refusal.place ≡ None → lines ≡ [] → Says source refusal lines
+pub data SaysDetails (source : List ℕ) (refusal : Refusal) : List ℕ → Type 0 where
+  nowhere : {lines : List ℕ} → refusal.place ≡ None → lines ≡ [] → SaysDetails source refusal lines
   somewhere : {place : Place} {lines : List ℕ} (found : List ℕ)
       → refusal.place ≡ Some place
       → FindsBeside source refusal.rule refusal.why place.offset found
       → lines ≡ why_lines source refusal.why ++ found
-      → Says source refusal lines
+      → SaysDetails source refusal lines

@@ -3,7 +3,7 @@
 ghost use Rattle.std.specs.Prelude.{◌≡◌, length, map, IfOk, IfErr};
 ghost use Rattle.explanations.specs.Below.{IsWantOfMemory};
 ghost use Rattle.explanations.specs.expected_tokens.Candidates.{candidates};
-ghost use Rattle.explanations.specs.expected_tokens.Expected.{MayStand, Expects, lacks_tokens};
+ghost use Rattle.explanations.specs.expected_tokens.Expected.{MayFollow, Expects, lacks_tokens};
 
 use crate::expected_tokens::candidates::candidates;
 use language::{Refusal, Rule};
@@ -27,7 +27,7 @@ pub fn expected(alloc: Global, front: &str) -> Result<Vec<&'static str>, Refusal
 
 /// Whether this token may stand behind the beginning of a source; of an empty one, whether the source may end there.
 fn may_stand(alloc: Global, front: &str, token: &str) -> Result<bool, Refusal>
-    ensures known { IfOk result (MayStand front.now token.now) }
+    ensures known { IfOk result (MayFollow front.now token.now) }
     ensures memory { IfErr result (λ fault. IsWantOfMemory fault.rule fault.place) }
 {
     let text = format!(in alloc; "{front}\n{token}")?;

@@ -10,7 +10,7 @@ const MOST_SHOWN: usize = 100;
 
 /// What is shown of a part of a line, and three dots where it is not all.
 #[derive(Clone, Copy, Debug)]
-pub struct Part<'a> {
+pub struct ExcerptPart<'a> {
     pub bytes: &'a [u8],
     pub dots: &'static [u8],
 }
@@ -62,24 +62,24 @@ fn beginning_of(part: &[u8]) -> &[u8]
 }
 
 /// The part of the line before a place.
-pub fn front(source: &[u8], offset: u32) -> Part<'_>
+pub fn front(source: &[u8], offset: u32) -> ExcerptPart<'_>
     ensures bytes { result.bytes.now ≡ end_of (last_line (take offset source.now)) }
     ensures dots { result.dots.now ≡ dots (last_line (take offset source.now)) }
 {
     let line = last_line(&source[..source.len().min(offset as usize)]);
-    Part {
+    ExcerptPart {
         bytes: &line[line.len().saturating_sub(MOST_SHOWN)..],
         dots: dots(line),
     }
 }
 
 /// The part of the line from a place on.
-pub fn back(source: &[u8], offset: u32) -> Part<'_>
+pub fn back(source: &[u8], offset: u32) -> ExcerptPart<'_>
     ensures bytes { result.bytes.now ≡ take most_shown (first_line (drop offset source.now)) }
     ensures dots { result.dots.now ≡ dots (first_line (drop offset source.now)) }
 {
     let line = first_line(&source[source.len().min(offset as usize)..]);
-    Part {
+    ExcerptPart {
         bytes: beginning_of(line),
         dots: dots(line),
     }

@@ -4,9 +4,9 @@ use Rattle.functions.specs.Below.{body_words, enter_sections, leave_sections}
 use Rattle.functions.specs.function_text.AssemblerText.{ListsWords, IsAssemblerText, head_lines, tail_lines}
 use Rattle.functions.specs.function_text.AssemblerText.{sections_lines}
 use Rattle.functions.specs.function_text.AssemblerText.{title_line}
-use Rattle.functions.specs.function_text.Functions.{Parts}
+use Rattle.functions.specs.function_text.Functions.{FunctionParts}
 
-pub assembled : (f : Parts) (start headed entered embodied left whole : List ℕ) → start ≡ []
+pub assembled : (f : FunctionParts) (start headed entered embodied left whole : List ℕ) → start ≡ []
     → headed ≡ start ++ head_lines f
     → entered ≡ headed ++ sections_lines f.image (enter_sections f.image)
     → (body : (lines : List ℕ) × ListsWords (body_words f.image.words) lines

@@ -3,12 +3,12 @@ use Rattle.std.proofs.Common.{◌≡◌, ℕ, List, [], map, true, false, Some, 
 use Rattle.std.proofs.lemmas.Option.{same_Some}
 use Rattle.functions.specs.Below.{accepts, exported, Fields, fine, IsCompilation, Judges, Optimisation, Place}
 use Rattle.functions.specs.Below.{ProcedureTree, Profile, ProgramTree, readable, Refusal}
-use Rattle.functions.specs.function_text.Functions.{Parts, IsFunctionOf, HasTakenName, IsFaultOf, IsUnlessMemory}
-use Rattle.functions.specs.function_text.Functions.{written_parameter}
+use Rattle.functions.specs.function_text.Functions.{FunctionParts, IsFunctionOf, HasTakenName, IsFaultOf}
+use Rattle.functions.specs.function_text.Functions.{IsUnlessMemory, written_parameter}
 use Rattle.functions.specs.function_text.Names.{is_taken_name}
 use Rattle.functions.specs.declared.function_text.fault.FunctionFault.{FunctionFault}
 use Rattle.functions.specs.declared.function_text.fault.FunctionFault.TheVariants.{Text, Name}
-use Rattle.functions.specs.function_text.private.OfExport.{IsOfExport, IsTaken}
+use Rattle.functions.specs.function_text.private.OfExport.{IsOfExport, NameIsTaken}
 
 module _ (optimisation : Optimisation) (profile : Profile) (text : List ℕ) (program : ProgramTree)
     (before : List ProcedureTree) (export : ProcedureTree) where
@@ -26,7 +26,7 @@ module _ (optimisation : Optimisation) (profile : Profile) (text : List ℕ) (pr
         (same_Some (before, export) (before', found) (sym (has_export is.judged) ∙ at))
 
     -- its name is taken
-    taken : (place : Place) → IsTaken found place → HasTakenName profile text place
+    taken : (place : Place) → NameIsTaken found place → HasTakenName profile text place
     taken place of = record {
       program = program;
       before = before;
@@ -37,7 +37,7 @@ module _ (optimisation : Optimisation) (profile : Profile) (text : List ℕ) (pr
     }
 
     -- its name is free
-    pub made : (parts : Parts) → IsOfExport found image parts → IsFunctionOf optimisation profile text parts
+    pub made : (parts : FunctionParts) → IsOfExport found image parts → IsFunctionOf optimisation profile text parts
     made parts of = record {
       program = program;
       before = before;
@@ -50,7 +50,7 @@ module _ (optimisation : Optimisation) (profile : Profile) (text : List ℕ) (pr
     }
 
     -- out of memory, or a name that is taken
-    pub fault_of : (fault : FunctionFault Refusal) → IsUnlessMemory fault (IsTaken found)
+    pub fault_of : (fault : FunctionFault Refusal) → IsUnlessMemory fault (NameIsTaken found)
         → IsFaultOf profile text fault
     fault_of (Text refusal) of = inl of
     fault_of (Name place) of = taken place of

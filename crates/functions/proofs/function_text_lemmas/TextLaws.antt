@@ -5,7 +5,7 @@ use Rattle.functions.specs.Below.{of_no_instruction, Optimisation, ProcedureTree
 use Rattle.functions.specs.function_text.AssemblerText.{ListsWords, nothing, line, IsAssemblerText, word_line}
 use Rattle.functions.specs.function_text.AssemblerText.{head_lines}
 use Rattle.functions.specs.function_text.AssemblerText.{tail_lines, sections_lines, title_line}
-use Rattle.functions.specs.function_text.Functions.{Named, Parts, IsFunctionOf, written_parameter}
+use Rattle.functions.specs.function_text.Functions.{Named, FunctionParts, IsFunctionOf, written_parameter}
 use Rattle.functions.specs.function_text.HeaderText.{header_text}
 use Rattle.functions.specs.function_text.Texts.{AreTextsOf}
 use Rattle.functions.proofs.function_text_lemmas.Below.{one_export, one_image}
@@ -13,11 +13,12 @@ use Rattle.syntax.specs.Reading.{OneAnswer}
 
 same_parts : (name name' : List ℕ) (parameters parameters' : List Named) (image image' : Fields) → name ≡ name'
     → parameters ≡ parameters' → image ≡ image'
-    → ◌≡◌ {A = Parts} (record { name = name; parameters = parameters; image = image })
+    → ◌≡◌ {A = FunctionParts} (record { name = name; parameters = parameters; image = image })
     (record { name = name'; parameters = parameters'; image = image' })
 same_parts name name' parameters parameters' image image' names params images = cc
 
-pub one_function : OneAnswer → (optimisation : Optimisation) (profile : Profile) (text : List ℕ) (one other : Parts)
+pub one_function : OneAnswer → (optimisation : Optimisation) (profile : Profile) (text : List ℕ)
+    (one other : FunctionParts)
     → IsFunctionOf optimisation profile text one → IsFunctionOf optimisation profile text other → one ≡ other
 one_function answer optimisation profile text one other a b =
     let same = one_export profile answer text a.program b.program a.before b.before a.export b.export
@@ -45,7 +46,7 @@ module _ (differ : (i j : Instr) → IsInstr i → IsInstr j → word_of i ≡ w
       ap (λ (text : List ℕ). word_line word text ++ rest) (same_comment of of')
       ∙ ap (λ (lines : List ℕ). word_line word other ++ lines) (same_lines listed listed')
 
-  one_text : (f : Parts) (one other : List ℕ) → IsAssemblerText f one → IsAssemblerText f other → one ≡ other
+  one_text : (f : FunctionParts) (one other : List ℕ) → IsAssemblerText f one → IsAssemblerText f other → one ≡ other
   one_text f one other a b =
       a.whole
       ∙ ap (λ (body : List ℕ). head_lines f ++ sections_lines f.image (enter_sections f.image)
@@ -59,7 +60,8 @@ module _ (differ : (i j : Instr) → IsInstr i → IsInstr j → word_of i ≡ w
       → AreTextsOf optimisation profile text assembler' header' → (assembler ≡ assembler') × (header ≡ header')
   one_pair answer optimisation profile text assembler header assembler' header' a b =
       let same = one_function answer optimisation profile text a.parts b.parts a.function b.function in (
-        one_text b.parts assembler assembler' (subst (λ (f : Parts). IsAssemblerText f assembler) same a.assembled)
+        one_text b.parts assembler assembler'
+            (subst (λ (f : FunctionParts). IsAssemblerText f assembler) same a.assembled)
             b.assembled,
         a.declared ∙ ap header_text same ∙ sym b.declared,
       )

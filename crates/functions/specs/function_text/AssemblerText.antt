@@ -12,7 +12,7 @@ use Rattle.linked_calls.specs.declared.section.Section.TheVariants.{RoomAboveFra
 use Rattle.linked_calls.specs.declared.section.Section.TheVariants.{FrameBase, ClearedFrame, ArgumentIn, ResultOut}
 use Rattle.linked_calls.specs.declared.section.Section.TheVariants.{ArrayOut, FrameTop, RestoredRegisters}
 use Rattle.linked_calls.specs.declared.section.Section.TheVariants.{CallersStack, WipedRoom, ClearedRegisters, Return}
-use Rattle.functions.specs.function_text.Functions.{Parts}
+use Rattle.functions.specs.function_text.Functions.{FunctionParts}
 
 -- Lines.
 
@@ -106,35 +106,35 @@ profile_text P1 = codes "1"
 profile_text P2 = codes "2"
 
 -- how large the function is, and for which observer
-abbrev pub sizes_text : Parts → List ℕ
+abbrev pub sizes_text : FunctionParts → List ℕ
 sizes_text f =
     decimal (length (function_words f.image)) ++ codes " words, " ++ decimal (room_of f.image)
     ++ codes " bytes of stack, profile " ++ profile_text f.image.profile
 
-abbrev pub first_line : Parts → List ℕ
+abbrev pub first_line : FunctionParts → List ℕ
 first_line f = codes "# " ++ f.name ++ codes ": made by factc function; " ++ sizes_text f ++ codes "\n"
 
 -- its words stand as they are, in a section of their own
-abbrev pub place_lines : Parts → List ℕ
+abbrev pub place_lines : FunctionParts → List ℕ
 place_lines f =
     codes
     "    .option push\n    .option norvc\n    .option norelax\n    .cfi_sections .debug_frame\n    .section .text."
     ++ f.name ++ codes ", \"ax\", @progbits\n    .p2align 2\n"
 
 -- under its name
-abbrev pub symbol_lines : Parts → List ℕ
+abbrev pub symbol_lines : FunctionParts → List ℕ
 symbol_lines f =
     codes "    .globl " ++ f.name ++ codes "\n    .type " ++ f.name ++ codes ", @function\n" ++ f.name
     ++ codes ":\n    .cfi_startproc\n"
 
-abbrev pub head_lines : Parts → List ℕ
+abbrev pub head_lines : FunctionParts → List ℕ
 head_lines f = first_line f ++ place_lines f ++ symbol_lines f
 
-abbrev pub tail_lines : Parts → List ℕ
+abbrev pub tail_lines : FunctionParts → List ℕ
 tail_lines f = codes "    .cfi_endproc\n    .size " ++ f.name ++ codes ", . - " ++ f.name
     ++ codes "\n    .option pop\n"
 
-pub record IsAssemblerText (f : Parts) (text : List ℕ) : Type 0 where
+pub record IsAssemblerText (f : FunctionParts) (text : List ℕ) : Type 0 where
   pub body : List ℕ
   pub listed : ListsWords (body_words f.image.words) body
   pub whole : text ≡ head_lines f ++ sections_lines f.image (enter_sections f.image)

@@ -17,7 +17,7 @@ pub record Named : Type 0 where
   pub param : Param
 
 -- what decides the texts of a function: its name, its parameters, and the image whose code it has
-pub record Parts : Type 0 where
+pub record FunctionParts : Type 0 where
   pub name : List ℕ
   pub parameters : List Named
   pub image : Fields
@@ -25,7 +25,7 @@ pub record Parts : Type 0 where
 abbrev pub named : NamedParam → Named
 named p = record { name = string_bytes p.name; param = p.param }
 
-abbrev pub parts_of : Function → Parts
+abbrev pub parts_of : Function → FunctionParts
 parts_of f = record { name = f.name; parameters = map named f.parameters.items; image = f.image }
 
 -- a parameter of the source, in a function of this name
@@ -34,7 +34,7 @@ written_parameter function p = record { name = written_name function p.name; par
 
 -- the function of a text that is accepted for an observer: the code of its plain or its optimised image, under the
 -- names of its export
-pub record IsFunctionOf (optimisation : Optimisation) (profile : Profile) (text : List ℕ) (parts : Parts) :
+pub record IsFunctionOf (optimisation : Optimisation) (profile : Profile) (text : List ℕ) (parts : FunctionParts) :
     Type 0 where
   pub program : ProgramTree
   pub before : List ProcedureTree

@@ -4,7 +4,7 @@ use Rattle.std.specs.Fmt.{decimal}
 use Rattle.std.specs.List.{flat_map}
 use Rattle.functions.specs.Below.{FixedArray, Form, MutableArray, P1, P2, Profile, room_of, SingleWord}
 use Rattle.functions.specs.function_text.AssemblerText.{profile_text}
-use Rattle.functions.specs.function_text.Functions.{Named, Parts}
+use Rattle.functions.specs.function_text.Functions.{Named, FunctionParts}
 use Rattle.functions.specs.function_text.Names.{guard_name, stack_name}
 use Rattle.codegen.specs.declared.image_fields.slot.ResultSlot.{ResultSlot}
 use Rattle.language.specs.declared.signature.Kind.{Kind}
@@ -72,7 +72,7 @@ promise_lines profile =
     ": neither the instructions that it executes, nor the addresses of its loads and stores,\n   nor the operands of its "
     ++ shown_operations profile ++ codes " depend on secret arguments. Nothing is proved of time. */\n"
 
-abbrev pub comment_lines : Parts → List ℕ
+abbrev pub comment_lines : FunctionParts → List ℕ
 comment_lines f = premise_lines f.name ++ promise_lines f.image.profile
 
 abbrev pub guard_lines : List ℕ → List ℕ
@@ -85,12 +85,12 @@ include_lines = codes "#include <stdbool.h>\n#include <stdint.h>\n"
 abbrev pub stack_line : List ℕ → ℕ → List ℕ
 stack_line name bytes = codes "#define " ++ stack_name name ++ codes " " ++ decimal bytes ++ codes "\n"
 
-abbrev pub prototype_lines : Parts → List ℕ
+abbrev pub prototype_lines : FunctionParts → List ℕ
 prototype_lines f =
     codes "#ifdef __cplusplus\nextern \"C\" {\n#endif\n" ++ result_text f.image.returned ++ codes " " ++ f.name
     ++ codes "(\n    "
     ++ parameters_text f.parameters ++ codes ");\n#ifdef __cplusplus\n}\n#endif\n#endif\n"
 
-abbrev pub header_text : Parts → List ℕ
+abbrev pub header_text : FunctionParts → List ℕ
 header_text f =
     comment_lines f ++ guard_lines f.name ++ include_lines ++ stack_line f.name (room_of f.image) ++ prototype_lines f

@@ -1,18 +1,18 @@
 -- The function of a text can be called, from wherever its words stand, and its header says how much stack that takes.
 use Rattle.std.specs.Prelude.{◌≡◌, ℕ, ◌-◌, ◌≤◌, List, ◌++◌}
 use Rattle.functions.specs.Below.{Fields, IsCallable, Optimisation, Profile}
-use Rattle.functions.specs.function_text.Functions.{Parts, IsFunctionOf}
+use Rattle.functions.specs.function_text.Functions.{FunctionParts, IsFunctionOf}
 use Rattle.functions.specs.function_text.HeaderText.{stack_line}
 use Rattle.functions.specs.function_text.Texts.{AreTextsOf}
-use Rattle.linked_calls.specs.Calls.{Site, IsSite, room_base}
-use Rattle.rv_machine.specs.Machine.{Code}
+use Rattle.linked_calls.specs.Calls.{CallSite, IsSite, room_base}
+use Rattle.rv_machine.specs.Machine.{MachineCode}
 
 -- and what it does is what the text's program means, for an observer of this profile
 abbrev pub FunctionsAreLinked : Type 0
 FunctionsAreLinked =
-    (optimisation : Optimisation) (profile : Profile) (text : List ℕ) (parts : Parts)
+    (optimisation : Optimisation) (profile : Profile) (text : List ℕ) (parts : FunctionParts)
     (of : IsFunctionOf optimisation profile text parts)
-    → (code : Code) (site : Site)
+    → (code : MachineCode) (site : CallSite)
     → IsSite parts.image code site
     → IsCallable of.program of.export parts.image code site
 
@@ -23,8 +23,8 @@ pub record StatesStack (image : Fields) (name header : List ℕ) : Type 0 where
   pub before : List ℕ
   pub behind : List ℕ
   pub stated : header ≡ before ++ stack_line name bytes ++ behind
-  pub room : (site : Site) → room_base image site ≡ site.stack - bytes
-  pub free : (code : Code) (site : Site) → IsSite image code site → bytes ≤ site.stack
+  pub room : (site : CallSite) → room_base image site ≡ site.stack - bytes
+  pub free : (code : MachineCode) (site : CallSite) → IsSite image code site → bytes ≤ site.stack
 
 abbrev pub HeadersStateStacks : Type 0
 HeadersStateStacks =

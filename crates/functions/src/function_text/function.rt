@@ -4,7 +4,7 @@ ghost use Rattle.std.specs.Prelude.{◌≡◌, false, List, [], Some, map, IfOk,
 ghost use Rattle.functions.specs.function_text.Functions.{IsFunctionOf, IsFaultOf, IsUnlessMemory, named, parts_of};
 ghost use Rattle.functions.specs.function_text.Functions.{written_parameter};
 ghost use Rattle.functions.specs.function_text.Names.{is_taken_name};
-ghost use Rattle.functions.specs.function_text.private.OfExport.{IsOfExport, IsTaken};
+ghost use Rattle.functions.specs.function_text.private.OfExport.{IsOfExport, NameIsTaken};
 ghost use Rattle.functions.specs.Below.{exported, IsWantOfMemory, parameter_tree, procedure_tree, ProcedureTree};
 ghost use Rattle.functions.specs.Below.{program_tree};
 
@@ -88,7 +88,7 @@ fn of_export(
     code: Code,
 ) -> Result<Function, FunctionFault<Refusal>>
     ensures made { IfOk result (λ function. IsOfExport (procedure_tree export.now) code (parts_of function)) }
-    ensures fault { IfErr result (λ fault. IsUnlessMemory fault (IsTaken (procedure_tree export.now))) }
+    ensures fault { IfErr result (λ fault. IsUnlessMemory fault (NameIsTaken (procedure_tree export.now))) }
 {
     if is_taken_name(export.name.as_str()) {
         return Err(FunctionFault::Name(export.place));

@@ -1,19 +1,19 @@
 // What two answers for one text are to each other, and what a call of its function does.
 
 ghost use Rattle.std.specs.Prelude.{ℕ, ◌≡◌, List};
-ghost use Rattle.functions.specs.function_text.Functions.{Parts, IsFunctionOf};
+ghost use Rattle.functions.specs.function_text.Functions.{FunctionParts, IsFunctionOf};
 ghost use Rattle.functions.specs.function_text.Linked.{FunctionsAreLinked, HeadersStateStacks};
 ghost use Rattle.functions.specs.function_text.Texts.{AreTextsOf};
 ghost use Rattle.functions.specs.Below.{Optimisation, Profile};
 
 use linked_calls::calls_are_linked;
 use rv_code::laws::words_differ;
-use syntax::one_answer_for_a_text;
+use syntax::one_answer_for_a_source;
 
 /// A text has one plain and one optimised function for an observer: two of a kind are one in their names, parameters
 /// and image, so in their words; and the texts of two are one.
 pub fn functions_agree()
-    ensures parts { (optimisation : Optimisation) (profile : Profile) (text : List ℕ) (one other : Parts)
+    ensures parts { (optimisation : Optimisation) (profile : Profile) (text : List ℕ) (one other : FunctionParts)
         → IsFunctionOf optimisation profile text one → IsFunctionOf optimisation profile text other → one ≡ other }
     ensures texts { (optimisation : Optimisation) (profile : Profile)
         (text assembler header assembler' header' : List ℕ)
@@ -22,7 +22,7 @@ pub fn functions_agree()
         → (assembler ≡ assembler') × (header ≡ header') }
 {
     words_differ();
-    one_answer_for_a_text();
+    one_answer_for_a_source();
 }
 
 /// The function of a text, plain or optimised, can be called from wherever its words stand in code, as C calls

@@ -9,7 +9,7 @@ use Rattle.syntax.specs.declared.token.Sign.TheVariants as sign
 use Rattle.hepurita.specs.Below.{a_phrase, a_token, all, any_amount, any_conversion, any_label, any_length}
 use Rattle.hepurita.specs.Below.{any_number, any_prefix, any_word, Begins, BeginsParts, by_case, Case, in_case}
 use Rattle.hepurita.specs.Below.{in_phrase, IsOne, Lexeme, no_part, no_token, of_kind, one, operator_of, origin}
-use Rattle.hepurita.specs.Below.{Part, past_phrase, Phrase, Single, the_operator, TokenKind, Whole, WholeParts}
+use Rattle.hepurita.specs.Below.{CasePart, past_phrase, Phrase, Single, the_operator, TokenKind, Whole, WholeParts}
 use Rattle.syntax.specs.declared.token.TokenKind.TheVariants as token
 use Rattle.language.specs.declared.operators.BinaryOperator.{BinaryOperator}
 use Rattle.language.specs.declared.operators.BinaryOperator.TheVariants as operator
@@ -32,8 +32,8 @@ zero' = of (token.Number 0 None)
 
 -- a sign of each operator
 spelled : (o : BinaryOperator) → (s : Sign) × (operator_of (token.Sign s) ≡ Some o)
-spelled operator.Either = (sign.OrElse, refl)
-spelled operator.Both = (sign.AndAlso, refl)
+spelled operator.LogicalOr = (sign.OrElse, refl)
+spelled operator.LogicalAnd = (sign.AndAlso, refl)
 spelled operator.Equal = (sign.Equals, refl)
 spelled operator.Unequal = (sign.Differs, refl)
 spelled operator.Less = (sign.Below, refl)
@@ -64,7 +64,7 @@ some_token any_prefix = (mark sign.Bang, (prefix.Not, refl))
 some_token (the_operator o) = let w = spelled o in (mark w.0, w.1)
 
 -- with these tokens behind some, they are whole parts
-abbrev Ends : List Part → List Lexeme → Type 0
+abbrev Ends : List CasePart → List Lexeme → Type 0
 Ends parts tokens = (others : List Lexeme)
     × ((rest : List Lexeme) → WholeParts parts (tokens ++ (others ++ rest)) rest)
 
@@ -74,7 +74,7 @@ EndsPhrase phrase tokens = (others : List Lexeme)
     × ((rest : List Lexeme) → Whole phrase (tokens ++ (others ++ rest)) rest)
 
 -- a phrase and then parts, of which the first tokens are there
-phrase_and_parts : (phrase : Phrase) (parts : List Part) (tokens : List Lexeme) → EndsPhrase phrase tokens
+phrase_and_parts : (phrase : Phrase) (parts : List CasePart) (tokens : List Lexeme) → EndsPhrase phrase tokens
     → Ends parts [] → Ends (all phrase ∷ parts) tokens
 phrase_and_parts phrase parts tokens (front, whole) (others, more) = (
   front ++ others,
@@ -86,19 +86,19 @@ phrase_and_parts phrase parts tokens (front, whole) (others, more) = (
 abbrev CanBe : Phrase → Type 0
 CanBe phrase = EndsPhrase phrase []
 
-abbrev CanAllBe : List Part → Type 0
+abbrev CanAllBe : List CasePart → Type 0
 CanAllBe parts = Ends parts []
 
 done : CanAllBe []
 done = ([], λ rest. no_part)
 
-token_then : {single : Single} {parts : List Part} → CanAllBe parts → CanAllBe (one single ∷ parts)
+token_then : {single : Single} {parts : List CasePart} → CanAllBe parts → CanAllBe (one single ∷ parts)
 token_then {single} more = let t = some_token single in (t.0 ∷ more.0, λ rest. a_token t.1 (more.1 rest))
 
-phrase_then : {phrase : Phrase} {parts : List Part} → CanBe phrase → CanAllBe parts → CanAllBe (all phrase ∷ parts)
+phrase_then : {phrase : Phrase} {parts : List CasePart} → CanBe phrase → CanAllBe parts → CanAllBe (all phrase ∷ parts)
 phrase_then {phrase} {parts} whole more = phrase_and_parts phrase parts [] whole more
 
-by : {phrase : Phrase} {parts : List Part} → Case phrase parts → CanAllBe parts → CanBe phrase
+by : {phrase : Phrase} {parts : List CasePart} → Case phrase parts → CanAllBe parts → CanBe phrase
 by c parts = (parts.0, λ rest. by_case c (parts.1 rest))
 
 an_expr : (level : ℕ) → CanBe (cases.expr level)
@@ -164,7 +164,7 @@ can_be cases.procedure =
     (token_then (phrase_then no_statement (phrase_then no_return done))))))))
 can_be cases.procedures = by cases.no_procedure done
 
-parts_can_be : (parts : List Part) → CanAllBe parts
+parts_can_be : (parts : List CasePart) → CanAllBe parts
 parts_can_be [] = done
 parts_can_be (one single ∷ parts) = token_then (parts_can_be parts)
 parts_can_be (all phrase ∷ parts) = phrase_then (can_be phrase) (parts_can_be parts)
@@ -173,7 +173,7 @@ mutual
   pub ends : {phrase : Phrase} {tokens : List Lexeme} → Begins phrase tokens → EndsPhrase phrase tokens
   ends (in_case c begins) = let w = ends_parts begins in (w.0, λ rest. by_case c (w.1 rest))
 
-  ends_parts : {parts : List Part} {tokens : List Lexeme} → BeginsParts parts tokens → Ends parts tokens
+  ends_parts : {parts : List CasePart} {tokens : List Lexeme} → BeginsParts parts tokens → Ends parts tokens
   ends_parts (no_token {parts}) = parts_can_be parts
   ends_parts (past_token is begins) = let w = ends_parts begins in (w.0, λ rest. a_token is (w.1 rest))
   ends_parts (past_phrase whole begins) = let w = ends_parts begins in

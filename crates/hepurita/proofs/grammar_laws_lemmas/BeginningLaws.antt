@@ -1,7 +1,7 @@
 -- A front of a whole phrase begins it.
 use Rattle.std.proofs.Common.{◌≡◌, ◌⊎◌, inl, inr, List, [], ◌∷◌, ◌++◌, refl, subst}
 use Rattle.hepurita.specs.Below.{a_phrase, a_token, all, Begins, BeginsParts, by_case, in_case, in_phrase, IsOne}
-use Rattle.hepurita.specs.Below.{Lexeme, no_part, no_token, Part, past_phrase, Phrase, Whole, WholeParts}
+use Rattle.hepurita.specs.Below.{Lexeme, no_part, no_token, CasePart, past_phrase, Phrase, Whole, WholeParts}
 use Rattle.syntax.specs.Beginning.{past_token}
 
 -- further tokens may stand behind the rest
@@ -10,7 +10,7 @@ mutual
       → Whole phrase (tokens ++ others) (rest ++ others)
   frame (by_case c whole) others = by_case c (frame_parts whole others)
 
-  frame_parts : {parts : List Part} {tokens rest : List Lexeme} → WholeParts parts tokens rest
+  frame_parts : {parts : List CasePart} {tokens rest : List Lexeme} → WholeParts parts tokens rest
       → (others : List Lexeme) → WholeParts parts (tokens ++ others) (rest ++ others)
   frame_parts no_part others = no_part
   frame_parts (a_token is more) others = a_token is (frame_parts more others)
@@ -21,7 +21,7 @@ abbrev Front : Phrase → List Lexeme → List Lexeme → List Lexeme → Type 0
 Front phrase front others rest = Begins phrase front
     ⊎ ((left : List Lexeme) × Whole phrase front left × (rest ≡ left ++ others))
 
-abbrev FrontOfParts : List Part → List Lexeme → List Lexeme → List Lexeme → Type 0
+abbrev FrontOfParts : List CasePart → List Lexeme → List Lexeme → List Lexeme → Type 0
 FrontOfParts parts front others rest = BeginsParts parts front
     ⊎ ((left : List Lexeme) × WholeParts parts front left × (rest ≡ left ++ others))
 
@@ -33,7 +33,7 @@ front_map f g (inl begins) = inl (f begins)
 front_map f g (inr (left, whole, is)) = inr (left, g left whole, is)
 
 -- a front that ends in a phrase, or past it
-front_by_phrase : {phrase : Phrase} {parts : List Part} {front others second rest : List Lexeme}
+front_by_phrase : {phrase : Phrase} {parts : List CasePart} {front others second rest : List Lexeme}
     → Front phrase front others second
     → ((left : List Lexeme) → second ≡ left ++ others → FrontOfParts parts left others rest)
     → FrontOfParts (all phrase ∷ parts) front others rest
@@ -47,7 +47,7 @@ mutual
   front_of (by_case c whole) front others is =
       front_map (λ begins. in_case c begins) (λ _ parts. by_case c parts) (front_of_parts whole front others is)
 
-  front_of_parts : {parts : List Part} {tokens rest : List Lexeme} → WholeParts parts tokens rest
+  front_of_parts : {parts : List CasePart} {tokens rest : List Lexeme} → WholeParts parts tokens rest
       → (front others : List Lexeme) → tokens ≡ front ++ others → FrontOfParts parts front others rest
   front_of_parts no_part front others is = inr (front, no_part, is)
   front_of_parts (a_token one_is more) [] others is = inl no_token
@@ -66,7 +66,7 @@ mutual
       → Begins phrase tokens
   whole_begins (by_case c whole) is = in_case c (parts_begin whole is)
 
-  parts_begin : {parts : List Part} {tokens rest : List Lexeme} → WholeParts parts tokens rest → rest ≡ []
+  parts_begin : {parts : List CasePart} {tokens rest : List Lexeme} → WholeParts parts tokens rest → rest ≡ []
       → BeginsParts parts tokens
   parts_begin no_part is = rw is no_token
   parts_begin (a_token one_is more) is = past_token one_is (parts_begin more is)

@@ -4,16 +4,16 @@ use Rattle.std.proofs.Common.{take, drop, refl, arith, nat_eq}
 use Rattle.std.proofs.lemmas.Bool.{cases_lt}
 use Rattle.std.specs.Prelude.{codes}
 use Rattle.std.specs.List.{position_or_len, starts_with}
-use Rattle.hepurita.specs.Below.{Answer, at_bad_number, at_end, at_unknown_character, BeginsWith}
+use Rattle.hepurita.specs.Below.{ParseAnswer, at_bad_number, at_end, at_unknown_character, BeginsWith}
 use Rattle.syntax.specs.declared.lexer.piece.Piece.TheVariants.{BadNumber}
 use Rattle.hepurita.specs.Below.{BeginsWithNone, by_tokens, ends_at, is_blank, is_line_feed, is_word_byte}
-use Rattle.syntax.specs.Tokens.{Ending}
+use Rattle.syntax.specs.Tokens.{TokensEnding}
 use Rattle.hepurita.specs.Below.{Lexeme, Lexes, LexesFrom, origin, past_space, past_token, Piece, Place, place_after}
 use Rattle.hepurita.specs.Below.{Reads, refused, Sign as SignToken, sign_text, Space, TextTooLong, Token}
 use Rattle.syntax.specs.Tokens.{stops}
 use Rattle.hepurita.specs.Below.{too_long, UnknownCharacter}
 use Rattle.language.specs.declared.rule.Rule.TheVariants.{BadNumber as BadNumberRule}
-use Rattle.syntax.specs.Limits.{text_limit}
+use Rattle.syntax.specs.Limits.{source_limit}
 use Rattle.syntax.specs.Nesting.{outside}
 use Rattle.syntax.specs.private.Splitting.{is_no_word_byte}
 use Rattle.syntax.specs.private.Machine.{program, verdict}
@@ -71,7 +71,7 @@ module _ (b : ℕ) (tail : List ℕ) where
 
 -- the tokens of what stands from a place on
 abbrev Lexing : Place → List ℕ → Type 0
-Lexing place text = (tokens : List Lexeme) × (end : Ending) × LexesFrom place text tokens end
+Lexing place text = (tokens : List Lexeme) × (end : TokensEnding) × LexesFrom place text tokens end
 
 -- after a piece, with the tokens of shorter texts
 stepped : (n : ℕ) → ((place : Place) (text : List ℕ) → length text ≤ n → Lexing place text)
@@ -100,14 +100,14 @@ within (suc n) place (b ∷ tail) less =
     (λ none. ([], stops UnknownCharacter place, at_unknown_character none))
     (by_blank b tail (is_blank b) refl)
 
-pub tokens_of : (text : List ℕ) → (tokens : List Lexeme) × (end : Ending) × Lexes text tokens end
+pub tokens_of : (text : List ℕ) → (tokens : List Lexeme) × (end : TokensEnding) × Lexes text tokens end
 tokens_of text = within (length text) origin text (omega arith)
 
-pub answer_to : (text : List ℕ) → (answer : Answer) × Reads text answer
+pub answer_to : (text : List ℕ) → (answer : ParseAnswer) × Reads text answer
 answer_to text =
     ⊎_elim
     (λ long. (refused TextTooLong origin, too_long long))
     (λ short.
     let h = tokens_of text in
     (verdict program outside h.0 h.1, by_tokens short h.2 (answers h.0 h.1)))
-    (cases_lt text_limit (length text))
+    (cases_lt source_limit (length text))

@@ -7,27 +7,28 @@ use Rattle.hepurita.proofs.grammar_laws_lemmas.TokenPlaces.{IsPlacedIn, placed_f
 use Rattle.hepurita.proofs.grammar_laws_lemmas.CasesOfTrees.{among}
 use Rattle.hepurita.proofs.grammar_laws_lemmas.TreeHeads.{heads_in_tokens}
 
-in_place : (text : List ℕ) (place : Place) → place ≡ place_after origin (take place.offset text)
-    → astray text place ≡ 0
-in_place text place is = omega (arith, ap (λ (p : Place). p.line) is, ap (λ (p : Place). p.column) is)
+in_place : (source : List ℕ) (place : Place) → place ≡ place_after origin (take place.offset source)
+    → astray source place ≡ 0
+in_place source place is = omega (arith, ap (λ (p : Place). p.line) is, ap (λ (p : Place). p.column) is)
 
-tokens_in_place : (text : List ℕ) (tokens : List Lexeme) → AllByRecursion (IsPlacedIn text) tokens
-    → among (astray text) tokens ≡ 0
-tokens_in_place text [] h = refl
-tokens_in_place text (t ∷ tokens) h = omega (arith, in_place text t.place h.0, tokens_in_place text tokens h.1)
+tokens_in_place : (source : List ℕ) (tokens : List Lexeme) → AllByRecursion (IsPlacedIn source) tokens
+    → among (astray source) tokens ≡ 0
+tokens_in_place source [] h = refl
+tokens_in_place source (t ∷ tokens) h = omega (arith, in_place source t.place h.0, tokens_in_place source tokens h.1)
 
-pub heads_in_place : (text : List ℕ) (tree : ProgramTree) → Reads text (accepted tree)
-    → in_program (astray text) tree ≡ 0
-heads_in_place text tree (by_tokens {tokens = tokens} short lexes answers) =
+pub heads_in_place : (source : List ℕ) (tree : ProgramTree) → Reads source (accepted tree)
+    → in_program (astray source) tree ≡ 0
+heads_in_place source tree (by_tokens {tokens = tokens} short lexes answers) =
     omega (
       arith,
-      heads_in_tokens answers (astray text),
-      tokens_in_place text tokens (placed_from lexes text [] refl refl),
+      heads_in_tokens answers (astray source),
+      tokens_in_place source tokens (placed_from lexes source [] refl refl),
     )
 
 -- two places at one offset are one
-pub one_place : (text : List ℕ) (p q : Place) → astray text p ≡ 0 → astray text q ≡ 0 → p.offset ≡ q.offset → p ≡ q
-one_place text p q h k same =
-    let line : p.line ≡ q.line = omega (arith, ap (λ n. (place_after origin (take n text)).line) same) in
-    let column : p.column ≡ q.column = omega (arith, ap (λ n. (place_after origin (take n text)).column) same) in
+pub one_place : (source : List ℕ) (p q : Place) → astray source p ≡ 0 → astray source q ≡ 0 → p.offset ≡ q.offset
+    → p ≡ q
+one_place source p q h k same =
+    let line : p.line ≡ q.line = omega (arith, ap (λ n. (place_after origin (take n source)).line) same) in
+    let column : p.column ≡ q.column = omega (arith, ap (λ n. (place_after origin (take n source)).column) same) in
     λ i. record { offset = same i; line = line i; column = column i }

@@ -1,8 +1,8 @@
 -- The heads of a tree are tokens of the text, and each token is at most one head.
 use Rattle.std.proofs.Common.{◌≡◌, ℕ, ◌+◌, ◌<◌, ◌≤◌, List, refl, arith}
 use Rattle.std.proofs.lemmas.Bool.Decides.{nat_tests}
-use Rattle.hepurita.specs.Below.{accepted, Answers, by_tokens, Lexeme, LexesFrom, past_space, past_token}
-use Rattle.syntax.specs.Tokens.{Ending}
+use Rattle.hepurita.specs.Below.{accepted, IsParseAnswer, by_tokens, Lexeme, LexesFrom, past_space, past_token}
+use Rattle.syntax.specs.Tokens.{TokensEnding}
 use Rattle.hepurita.specs.Below.{Place, ProgramTree, Reads}
 use Rattle.syntax.specs.Reading.{a_program}
 use Rattle.hepurita.proofs.grammar_laws_lemmas.Below.{spelled_some}
@@ -10,8 +10,8 @@ use Rattle.hepurita.proofs.grammar_laws_lemmas.CasesOfTrees.{among, program}
 use Rattle.hepurita.proofs.grammar_laws_lemmas.TokenPlaces.{offset_after}
 use Rattle.hepurita.specs.grammar_laws.Heads.{here, in_program}
 
-pub heads_in_tokens : {tokens : List Lexeme} {ending : Ending} {tree : ProgramTree}
-    → Answers tokens ending (accepted tree) → (w : Place → ℕ) → in_program w tree ≤ among w tokens
+pub heads_in_tokens : {tokens : List Lexeme} {ending : TokensEnding} {tree : ProgramTree}
+    → IsParseAnswer tokens ending (accepted tree) → (w : Place → ℕ) → in_program w tree ≤ among w tokens
 heads_in_tokens (a_program _ end _ is within) w = omega (arith, (program is).heads_in w)
 
 module _ (n : ℕ) where
@@ -21,7 +21,7 @@ module _ (n : ℕ) where
   one_more place next m later none few = (λ less. grind (arith, nat_tests), grind (arith, nat_tests))
 
   -- tokens stand one after another
-  apart : {place : Place} {text : List ℕ} {tokens : List Lexeme} {end : Ending} → LexesFrom place text tokens end
+  apart : {place : Place} {text : List ℕ} {tokens : List Lexeme} {end : TokensEnding} → LexesFrom place text tokens end
       → (n < place.offset → among (here n) tokens ≡ 0) × (among (here n) tokens ≤ 1)
   apart (past_space {place} {spelling = spelling} begins h) =
       let later = apart h in

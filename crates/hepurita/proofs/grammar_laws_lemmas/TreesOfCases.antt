@@ -1,11 +1,13 @@
 -- What the cases of the grammar make has a tree.
 use Rattle.std.proofs.Common.{◌≡◌, ℕ, Bool, List, [], ◌∷◌, Option}
-use Rattle.hepurita.specs.Below.{a_phrase, a_token, all, Arguments, ArrayType, Block, BlockTree, BodyEnd, by_case}
-use Rattle.hepurita.specs.Below.{Call, CallTree, Case, Conditional, Exported, ExprAt, ExprTree, FirstValues, IsOne}
-use Rattle.hepurita.specs.Below.{Kind, Lexeme, MoreExprs, MoreParameters, Mutable, no_part, one, Otherwise}
-use Rattle.hepurita.specs.Below.{Parameter, Parameters, ParameterTree, Part, Phrase, Place, Procedure, Procedures}
-use Rattle.hepurita.specs.Below.{ProcedureTree, ResultType, ReturnTree, RightSide, RightTree, Single, SomeExprs}
-use Rattle.hepurita.specs.Below.{Statement, Statements, StatementTree, Whole, WholeParts, WordType}
+use Rattle.hepurita.specs.Below.{a_phrase, a_token, all, ParsesArguments, ParsesArrayType, ParsesBlock, BlockTree}
+use Rattle.hepurita.specs.Below.{ParsesBodyEnd, by_case, ParsesCall, CallTree, Case, ParsesConditional, ParsesExported}
+use Rattle.hepurita.specs.Below.{ParsesExprAt, ExprTree, ParsesFirstValues, IsOne, Kind, Lexeme, ParsesMoreExprs}
+use Rattle.hepurita.specs.Below.{ParsesMoreParameters, ParsesMutable, no_part, one, ParsesOtherwise, ParsesParameter}
+use Rattle.hepurita.specs.Below.{ParsesParameters, ParameterTree, CasePart, Phrase, Place, ParsesProcedure}
+use Rattle.hepurita.specs.Below.{ParsesProcedures, ProcedureTree, ParsesResultType, ReturnTree, ParsesRightSide}
+use Rattle.hepurita.specs.Below.{RightTree, Single, ParsesSomeExprs, ParsesStatement, ParsesStatements, StatementTree}
+use Rattle.hepurita.specs.Below.{Whole, WholeParts, WordType}
 use Rattle.syntax.specs.Cases as cases
 use Rattle.syntax.specs.Grammar as grammar
 
@@ -13,38 +15,38 @@ infixr 50 ◌▸◌
 infixr 50 ◌▹◌
 -- the phrase that the tokens up to the rest are, with a tree
 abbrev pub HasTree : Phrase → List Lexeme → List Lexeme → Type 0
-HasTree (cases.expr level) tokens rest = (tree : ExprTree) × ExprAt level tokens tree rest
-HasTree (cases.more_exprs end) tokens rest = (trees : List ExprTree) × MoreExprs end tokens trees rest
-HasTree (cases.expr_list end) tokens rest = (trees : List ExprTree) × SomeExprs end tokens trees rest
-HasTree cases.arguments tokens rest = (trees : List ExprTree) × Arguments tokens trees rest
-HasTree cases.call tokens rest = (tree : CallTree) × Call tokens tree rest
-HasTree cases.right_side tokens rest = (tree : RightTree) × RightSide tokens tree rest
-HasTree cases.mutable tokens rest = (is : Bool) × Mutable tokens is rest
-HasTree cases.array_type tokens rest = (kind : Kind) × (length : ℕ) × ArrayType tokens kind length rest
-HasTree cases.first_values tokens rest = (trees : Option (List ExprTree)) × FirstValues tokens trees rest
-HasTree cases.statement tokens rest = (tree : StatementTree) × Statement tokens tree rest
-HasTree cases.conditional tokens rest = (tree : StatementTree) × Conditional tokens tree rest
-HasTree cases.statements tokens rest = (trees : BlockTree) × Statements tokens trees rest
-HasTree cases.block tokens rest = (trees : BlockTree) × Block tokens trees rest
-HasTree cases.otherwise tokens rest = (trees : BlockTree) × Otherwise tokens trees rest
-HasTree cases.parameter tokens rest = (tree : ParameterTree) × Parameter tokens tree rest
-HasTree cases.more_parameters tokens rest = (trees : List ParameterTree) × MoreParameters tokens trees rest
-HasTree cases.parameters tokens rest = (trees : List ParameterTree) × Parameters tokens trees rest
-HasTree cases.result_type tokens rest = (result : Option WordType) × ResultType tokens result rest
-HasTree cases.body_end tokens rest = (returned : Option ReturnTree) × BodyEnd tokens returned rest
-HasTree cases.exported tokens rest = (export : Option Place) × Exported tokens export rest
-HasTree cases.procedure tokens rest = (tree : ProcedureTree) × Procedure tokens tree rest
-HasTree cases.procedures tokens rest = rest ≡ [] → (trees : List ProcedureTree) × Procedures tokens trees
+HasTree (cases.expr level) tokens rest = (tree : ExprTree) × ParsesExprAt level tokens tree rest
+HasTree (cases.more_exprs end) tokens rest = (trees : List ExprTree) × ParsesMoreExprs end tokens trees rest
+HasTree (cases.expr_list end) tokens rest = (trees : List ExprTree) × ParsesSomeExprs end tokens trees rest
+HasTree cases.arguments tokens rest = (trees : List ExprTree) × ParsesArguments tokens trees rest
+HasTree cases.call tokens rest = (tree : CallTree) × ParsesCall tokens tree rest
+HasTree cases.right_side tokens rest = (tree : RightTree) × ParsesRightSide tokens tree rest
+HasTree cases.mutable tokens rest = (is : Bool) × ParsesMutable tokens is rest
+HasTree cases.array_type tokens rest = (kind : Kind) × (length : ℕ) × ParsesArrayType tokens kind length rest
+HasTree cases.first_values tokens rest = (trees : Option (List ExprTree)) × ParsesFirstValues tokens trees rest
+HasTree cases.statement tokens rest = (tree : StatementTree) × ParsesStatement tokens tree rest
+HasTree cases.conditional tokens rest = (tree : StatementTree) × ParsesConditional tokens tree rest
+HasTree cases.statements tokens rest = (trees : BlockTree) × ParsesStatements tokens trees rest
+HasTree cases.block tokens rest = (trees : BlockTree) × ParsesBlock tokens trees rest
+HasTree cases.otherwise tokens rest = (trees : BlockTree) × ParsesOtherwise tokens trees rest
+HasTree cases.parameter tokens rest = (tree : ParameterTree) × ParsesParameter tokens tree rest
+HasTree cases.more_parameters tokens rest = (trees : List ParameterTree) × ParsesMoreParameters tokens trees rest
+HasTree cases.parameters tokens rest = (trees : List ParameterTree) × ParsesParameters tokens trees rest
+HasTree cases.result_type tokens rest = (result : Option WordType) × ParsesResultType tokens result rest
+HasTree cases.body_end tokens rest = (returned : Option ReturnTree) × ParsesBodyEnd tokens returned rest
+HasTree cases.exported tokens rest = (export : Option Place) × ParsesExported tokens export rest
+HasTree cases.procedure tokens rest = (tree : ProcedureTree) × ParsesProcedure tokens tree rest
+HasTree cases.procedures tokens rest = rest ≡ [] → (trees : List ProcedureTree) × ParsesProcedures tokens trees
 
 -- the parts of a case, each phrase with its tree
-data HaveTrees : List Part → List Lexeme → List Lexeme → Type 0 where
+data HaveTrees : List CasePart → List Lexeme → List Lexeme → Type 0 where
   done : {rest : List Lexeme} → HaveTrees [] rest rest
-  ◌▸◌ : {single : Single} {parts : List Part} {t : Lexeme} {tokens rest : List Lexeme} → IsOne single t
+  ◌▸◌ : {single : Single} {parts : List CasePart} {t : Lexeme} {tokens rest : List Lexeme} → IsOne single t
       → HaveTrees parts tokens rest → HaveTrees (one single ∷ parts) (t ∷ tokens) rest
-  ◌▹◌ : {phrase : Phrase} {parts : List Part} {tokens second rest : List Lexeme}
+  ◌▹◌ : {phrase : Phrase} {parts : List CasePart} {tokens second rest : List Lexeme}
       → HasTree phrase tokens second → HaveTrees parts second rest → HaveTrees (all phrase ∷ parts) tokens rest
 
-case_tree : {phrase : Phrase} {parts : List Part} {tokens rest : List Lexeme} → Case phrase parts
+case_tree : {phrase : Phrase} {parts : List CasePart} {tokens rest : List Lexeme} → Case phrase parts
     → HaveTrees parts tokens rest → HasTree phrase tokens rest
 case_tree cases.a_number ((_, _, is) ▸ done) = (_, grammar.a_number is)
 case_tree cases.a_true (is ▸ done) = (_, grammar.a_true is)
@@ -125,7 +127,7 @@ mutual
   pub tree_of : {phrase : Phrase} {tokens rest : List Lexeme} → Whole phrase tokens rest → HasTree phrase tokens rest
   tree_of (by_case c whole) = case_tree c (trees_of whole)
 
-  trees_of : {parts : List Part} {tokens rest : List Lexeme} → WholeParts parts tokens rest
+  trees_of : {parts : List CasePart} {tokens rest : List Lexeme} → WholeParts parts tokens rest
       → HaveTrees parts tokens rest
   trees_of no_part = done
   trees_of (a_token is more) = is ▸ trees_of more

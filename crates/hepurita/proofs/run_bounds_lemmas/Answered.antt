@@ -4,7 +4,7 @@ use Rattle.std.proofs.Common.{subst, arith}
 use Rattle.std.proofs.lemmas.Bool.Decides.{nat_tests}
 use Rattle.std.specs.List.{AllByRecursion}
 use Rattle.hepurita.specs.Below.{AreWithin, Arg, bodies_of, exported, extents_of, flattened, Gives, gives}
-use Rattle.hepurita.specs.Below.{IsGrammatical, IsTypedProgram, most_bodies, most_work, outcome_of, param_of}
+use Rattle.hepurita.specs.Below.{IsGrammatical, IsTypedFlat, most_bodies, most_work, outcome_of, param_of}
 use Rattle.hepurita.specs.Below.{ProcedureTree, Profile, program_run, ProgramTree, range_violations, Run, run_answer}
 use Rattle.hepurita.specs.Below.{iterations_of, violations, work_of}
 use Rattle.hepurita.proofs.run_bounds_lemmas.Below.{flat_keeps_meaning, safe_runs_are_within_work, accepted_is_safe}
@@ -24,7 +24,7 @@ within_budget r budget outcome few shallow is =
 pub answered : (profile : Profile) (program : ProgramTree) (before : List ProcedureTree) (p : ProcedureTree)
     (args : List Arg) (budget : ℕ) → length (violations profile program) ≡ 0
     → exported [] program.procedures ≡ Some (before, p)
-    → AllByRecursion IsGrammatical before → IsGrammatical p → IsTypedProgram (flattened profile before p)
+    → AllByRecursion IsGrammatical before → IsGrammatical p → IsTypedFlat (flattened profile before p)
     → bodies_of (extents_of before) p ≤ most_bodies → length (range_violations (flattened profile before p)) ≡ 0
     → work_of (flattened profile before p) ≤ most_work
     → AreWithin (map param_of p.parameters) args → most_work ≤ budget

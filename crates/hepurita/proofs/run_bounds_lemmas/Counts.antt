@@ -17,27 +17,27 @@ use Rattle.language.specs.Meaning.{Ending}
 -- Parts.
 
 -- a run evaluates no more nodes than so many
-pub record IsWithin {A : Type 0} (r : Run A) (most : ℕ) : Type 0 where
+pub record RunIsWithin {A : Type 0} (r : Run A) (most : ℕ) : Type 0 where
   pub nodes : r.nodes ≤ most
 
-pub fits : {A : Type 0} {r : Run A} {few most : ℕ} → IsWithin r few → few ≤ most → IsWithin r most
+pub fits : {A : Type 0} {r : Run A} {few most : ℕ} → RunIsWithin r few → few ≤ most → RunIsWithin r most
 fits within less = record { nodes = omega arith }
 
-pub none : {A : Type 0} {ending : Ending A} → IsWithin (ended ending) 0
+pub none : {A : Type 0} {ending : Ending A} → RunIsWithin (ended ending) 0
 none = record { nodes = omega arith }
 
 -- one node more
-pub ticked : {A : Type 0} {r : Run A} {most : ℕ} → IsWithin r most → IsWithin (tick r) (most + 1)
+pub ticked : {A : Type 0} {r : Run A} {most : ℕ} → RunIsWithin r most → RunIsWithin (tick r) (most + 1)
 unfolding tick
 ticked within = record { nodes = omega arith }
 
-pub inside_within : {A : Type 0} {r : Run A} {most : ℕ} → IsWithin r most → IsWithin (inside r) most
+pub inside_within : {A : Type 0} {r : Run A} {most : ℕ} → RunIsWithin r most → RunIsWithin (inside r) most
 unfolding inside
 inside_within within = record { nodes = within.nodes }
 
 -- a part, and a next one where it gives something
-pub then_within : {A B : Type 0} {r : Run A} {next : A → Run B} {one more : ℕ} → IsWithin r one
-    → ((a : A) → r.ends ≡ gives a → IsWithin (next a) more) → IsWithin (andthen r next) (one + more)
+pub then_within : {A B : Type 0} {r : Run A} {next : A → Run B} {one more : ℕ} → RunIsWithin r one
+    → ((a : A) → r.ends ≡ gives a → RunIsWithin (next a) more) → RunIsWithin (andthen r next) (one + more)
 unfolding andthen
 then_within {A} {B} {r} {next} {one} {more} within later = record { nodes = by r.ends refl }
   where
@@ -57,7 +57,7 @@ reached (fails at is) ending worked a gave = absurd (mismatch a at (sym gave ∙
 
 -- Expressions.
 
-pub value_spends : (s : State) (e : ExprTree) → IsWithin (value s e) (nodes_in e)
+pub value_spends : (s : State) (e : ExprTree) → RunIsWithin (value s e) (nodes_in e)
 value_spends s (number place v kind) = fits (ticked none) (omega arith)
 value_spends s (truth place v) = fits (ticked none) (omega arith)
 value_spends s (name place text) = fits (ticked none) (omega arith)
@@ -78,12 +78,12 @@ value_spends s (select place a b c) =
 value_spends s (element place target text a) =
     fits (ticked (then_within (value_spends s a) (λ v is. none))) (omega arith)
 
-pub values_spend : (s : State) (es : List ExprTree) → IsWithin (values s es) (nodes_in_all es)
+pub values_spend : (s : State) (es : List ExprTree) → RunIsWithin (values s es) (nodes_in_all es)
 values_spend s [] = none
 values_spend s (e ∷ es) =
     fits (then_within (value_spends s e) (λ v is. then_within (values_spend s es) (λ vs is'. none))) (omega arith)
 
-pub passed_spends : (s : State) (es : List ExprTree) → IsWithin (passed s es) (nodes_passed es)
+pub passed_spends : (s : State) (es : List ExprTree) → RunIsWithin (passed s es) (nodes_passed es)
 passed_spends s [] = none
 passed_spends s (e ∷ es) =
     fits (ticked (then_within (value_spends s e) (λ v is. then_within (passed_spends s es) (λ vs is'. none))))
@@ -91,7 +91,7 @@ passed_spends s (e ∷ es) =
 
 -- the end of a body
 pub return_spends : (t : State) (o : Option ReturnTree) (names : Numbers)
-    → IsWithin (return_run t o) (value_nodes (value_of names o))
+    → RunIsWithin (return_run t o) (value_nodes (value_of names o))
 return_spends t None names = none
 return_spends t (Some r) names =
     fits (ticked (then_within (value_spends t r.value) (λ w is. none))) (omega (arith, same_nodes names r.value))

@@ -6,10 +6,10 @@ use Rattle.hepurita.specs.Below.{flattened, given, holding, IsGrammatical, names
 use Rattle.hepurita.specs.Below.{parameter_names, parameter_types, ProcedureTree, Profile, program_run, ProgramTree}
 use Rattle.hepurita.specs.Below.{Scope, violations, with_procedure}
 use Rattle.hepurita.proofs.run_bounds_lemmas.Below.{IsKept, begins, behaves, shows_arguments, all_own}
-use Rattle.hepurita.proofs.run_bounds_lemmas.Below.{linked_parameters, Stand, IsCallable, callable_parameters}
+use Rattle.hepurita.proofs.run_bounds_lemmas.Below.{linked_parameters, Stand, IsCallee, callable_parameters}
 use Rattle.hepurita.proofs.run_bounds_lemmas.Below.{callable_within, own_typing, variables_within}
 use Rattle.language.specs.WellTyped as rules
-use Rattle.hepurita.proofs.run_bounds_lemmas.Counts.{IsWithin, fits, none, then_within, inside_within, return_spends}
+use Rattle.hepurita.proofs.run_bounds_lemmas.Counts.{RunIsWithin, fits, none, then_within, inside_within, return_spends}
 use Rattle.hepurita.proofs.run_bounds_lemmas.Spending.{Spends, HasBound, block_spends}
 
 module _ (before : List ProcedureTree) (scope : Scope) (p : ProcedureTree) (stand : Stand HasBound before scope)
@@ -38,7 +38,7 @@ module _ (before : List ProcedureTree) (scope : Scope) (p : ProcedureTree) (stan
     spends = λ names types n s m linked shows.
         let ready = begins before scope p meant typed plain names types n linked in
         then_within (block_spends before typed.body names n ready
-        (callable_parameters before (IsCallable HasBound before) p.parameters
+        (callable_parameters before (IsCallee HasBound before) p.parameters
         (with_procedure scope (length before) p)
         (callable_within HasBound before scope stand p typed.is_new)) plain.body s m shows)
         (λ t is. return_spends t p.returned (names_after_all (callables before) names n p.body));
@@ -48,7 +48,7 @@ module _ (before : List ProcedureTree) (scope : Scope) (p : ProcedureTree) (stan
 export_spends : (profile : Profile) (program : ProgramTree) (before : List ProcedureTree) (p : ProcedureTree)
     (args : List Arg) → length (violations profile program) ≡ 0 → exported [] program.procedures ≡ Some (before, p)
     → AllByRecursion IsGrammatical before → IsGrammatical p → AreWithin (map param_of p.parameters) args
-    → IsWithin (export_run before p args) (evaluated_by (flattened profile before p) args)
+    → RunIsWithin (export_run before p args) (evaluated_by (flattened profile before p) args)
 export_spends profile program before p args h is grammatical plain within =
     let e = own_typing HasBound IsGrammatical body_spends profile program before p h is grammatical in
     let known = callables before in

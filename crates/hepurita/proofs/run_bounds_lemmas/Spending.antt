@@ -19,10 +19,10 @@ use Rattle.language.specs.declared.typing.ValueType.TheVariants.{Word as a_word}
 use Rattle.inline.specs.Flat as flat_tree
 use Rattle.inline.specs.FlatMeaning as flat
 use Rattle.inline.specs.Numbering as numbering
-use Rattle.hepurita.proofs.run_bounds_lemmas.Below.{Enters, enters, distinct_none, Ready, ready_later}
+use Rattle.hepurita.proofs.run_bounds_lemmas.Below.{EntersBody, enters, distinct_none, StatementReady, ready_later}
 use Rattle.hepurita.proofs.run_bounds_lemmas.Below.{ready_declared, ready_after, Behaves, call_means, no_names}
 use Rattle.hepurita.proofs.run_bounds_lemmas.Below.{same_nodes, same_all, same_end, same_ends, Linked, entry}
-use Rattle.hepurita.proofs.run_bounds_lemmas.Below.{found-kept, passed_comes, EachCallable, IsCallable}
+use Rattle.hepurita.proofs.run_bounds_lemmas.Below.{found-kept, passed_comes, EachCallable, IsCallee}
 use Rattle.hepurita.proofs.run_bounds_lemmas.Below.{callable_after, callable_declared, shows_declared, shows_before}
 use Rattle.hepurita.proofs.run_bounds_lemmas.Below.{shows_kept, with_value-other, Shows, word_at, means}
 use Rattle.hepurita.proofs.run_bounds_lemmas.Below.{value-worked, passed-worked, statement-worked, block-worked}
@@ -33,7 +33,7 @@ use Rattle.language.specs.State.{Word}
 use Rattle.language.specs.WellTyped as rules
 use Rattle.language.specs.names.Scope.{found}
 use Rattle.language.proofs.KnownLemmas.{known-named}
-use Rattle.hepurita.proofs.run_bounds_lemmas.Counts.{IsWithin, fits, none, then_within, ticked, inside_within}
+use Rattle.hepurita.proofs.run_bounds_lemmas.Counts.{RunIsWithin, fits, none, then_within, ticked, inside_within}
 use Rattle.hepurita.proofs.run_bounds_lemmas.Counts.{reached, value_spends, values_spend, passed_spends}
 use Rattle.hepurita.proofs.run_bounds_lemmas.Counts.{given_nodes, evaluated_chain, passed_evaluated}
 
@@ -42,7 +42,7 @@ use Rattle.hepurita.proofs.run_bounds_lemmas.Counts.{given_nodes, evaluated_chai
 -- a body evaluates no more nodes than are counted for what it becomes
 abbrev pub BodySpends : List ProcedureTree → ProcedureTree → Numbers → ℕ → State → Values → Type 0
 BodySpends before p names n s m =
-    IsWithin (body_run (runnables before) p s)
+    RunIsWithin (body_run (runnables before) p s)
     (evaluated_all m (block (callables before) names n p.body)
     + value_nodes (value_of (names_after_all (callables before) names n p.body) p.returned))
 
@@ -58,16 +58,16 @@ abbrev pub HasBound : List ProcedureTree → Scope → ProcedureTree → Type 0
 HasBound before scope p = Spends scope.profile before p
 
 abbrev pub CallsSpend : List ProcedureTree → Scope → Type 0
-CallsSpend earlier scope = EachCallable earlier (IsCallable HasBound earlier) scope
+CallsSpend earlier scope = EachCallable earlier (IsCallee HasBound earlier) scope
 
 -- Iterations, where each evaluates no more nodes than are counted for it.
 iterations_spend : (iteration : ℕ → State → Run State) (step : ℕ → Values → Values) (count : ℕ → Values → ℕ)
     (names : Numbers)
-    → ((i : ℕ) (s : State) (m : Values) → Shows names s m → IsWithin (iteration i s) (count i m))
+    → ((i : ℕ) (s : State) (m : Values) → Shows names s m → RunIsWithin (iteration i s) (count i m))
     → ((i : ℕ) (s : State) (m : Values) (t : State) → Shows names s m → (iteration i s).ends ≡ gives t
     → Shows names t (step i m))
     → (n i : ℕ) (s : State) (m : Values) → Shows names s m
-    → IsWithin (iterations n i iteration s) (evaluated_in_iterations n i step count m)
+    → RunIsWithin (iterations n i iteration s) (evaluated_in_iterations n i step count m)
 iterations_spend iteration step count names each keeps zero i s m shows = none
 iterations_spend iteration step count names each keeps (suc n) i s m shows =
     fits
@@ -76,8 +76,8 @@ iterations_spend iteration step count names each keeps (suc n) i s m shows =
     (omega arith)
 
 -- one of two arms
-arm_within : {accepted otherwise : Run State} {a o : ℕ} → IsWithin accepted a → IsWithin otherwise o → (b : Bool)
-    → IsWithin (if not b then accepted else otherwise) (if b then o else a)
+arm_within : {accepted otherwise : Run State} {a o : ℕ} → RunIsWithin accepted a → RunIsWithin otherwise o → (b : Bool)
+    → RunIsWithin (if not b then accepted else otherwise) (if b then o else a)
 arm_within h k true = k
 arm_within h k false = h
 
@@ -88,10 +88,10 @@ dropped_evaluated k None value m none = let e = ap value_nodes (none refl) in om
 dropped_evaluated k (Some word) value m none = omega (arith, given_nodes value)
 
 module _ (ps : List ProcedureTree) where
-  module _ (scope : Scope) (names : Numbers) (n : ℕ) (ready : Ready ps scope names n) where
+  module _ (scope : Scope) (names : Numbers) (n : ℕ) (ready : StatementReady ps scope names n) where
     -- a call
     module _ (c : CallTree) (callee : Callee) (p : ProcedureTree)
-        (counted : IsCallable HasBound ps scope.profile c.name callee p)
+        (counted : IsCallee HasBound ps scope.profile c.name callee p)
         (passed_are : rules.ArePassed scope p.parameters c.arguments) where
       abbrev own : Numbers
       own = begun_names names [] n p.parameters c.arguments
@@ -102,7 +102,7 @@ module _ (ps : List ProcedureTree) where
       abbrev own_types : Types
       own_types = types_after_all ready.types (passed_block names n p.parameters c.arguments)
 
-      entered : Enters counted.good.behaves.scope names p.parameters c.arguments own own_types start
+      entered : EntersBody counted.good.behaves.scope names p.parameters c.arguments own own_types start
       entered =
           enters passed_are counted.good.behaves.parameters ready.linked
           (no_names counted.good.behaves.procedures
@@ -111,7 +111,7 @@ module _ (ps : List ProcedureTree) where
 
       abbrev CallSpends : Option Runnable → Option Callable → State → Values → Type 0
       CallSpends known there s m =
-          IsWithin (call_run known s c)
+          RunIsWithin (call_run known s c)
           (1 + evaluated_all m (call_block there names n c.arguments)
           + value_nodes (call_value there names n c.arguments))
 
@@ -146,21 +146,21 @@ module _ (ps : List ProcedureTree) where
     module _ (calls : CallsSpend ps scope) where
       call_spends : {control : Label} {c : CallTree} {type : ValueType} → rules.IsCall ps scope control c type
           → (s : State) (m : Values) → Shows names s m → AreAllSmall c.arguments
-          → IsWithin (call_run (runnables ps c.name) s c)
+          → RunIsWithin (call_run (runnables ps c.name) s c)
           (1 + evaluated_all m (call_block (callables ps c.name) names n c.arguments)
           + value_nodes (call_value (callables ps c.name) names n c.arguments))
       call_spends (rules.of_procedure {c = c} {callee = callee} {p = p} is there are may) s m shows small =
           call_spends_here c callee p (calls c.name callee p is there) are s m shows small
 
       expression_spends : (s : State) (e : ExprTree)
-          → IsWithin (right_run (runnables ps) s (computed e)) (term_nodes (term names e))
+          → RunIsWithin (right_run (runnables ps) s (computed e)) (term_nodes (term names e))
       expression_spends s e =
           fits (then_within (value_spends s e) (λ v is. none)) (omega (arith, same_nodes names e))
 
       right_spends : {control : Label} {from : RightTree} {word : WordType}
-          → rules.Gives ps scope control from (a_word word) → (s : State) (m : Values) → Shows names s m
+          → rules.RightHasType ps scope control from (a_word word) → (s : State) (m : Values) → Shows names s m
           → IsSmallRight from
-          → IsWithin (right_run (runnables ps) s from)
+          → RunIsWithin (right_run (runnables ps) s from)
           (evaluated_all m (right_block (callables ps) names n from)
           + term_nodes (right (callables ps) names n from))
       right_spends (rules.of_value {e = e} has) s m shows small = fits (expression_spends s e) (omega arith)
@@ -170,10 +170,10 @@ module _ (ps : List ProcedureTree) where
 
   mutual
     pub statement_spends : {scope : Scope} {control : Label} {statement : StatementTree}
-        → rules.IsWellTyped ps scope control statement → (names : Numbers) (n : ℕ) → Ready ps scope names n
+        → rules.IsWellTyped ps scope control statement → (names : Numbers) (n : ℕ) → StatementReady ps scope names n
         → CallsSpend ps scope
         → IsPlain statement → (s : State) (m : Values) → Shows names s m
-        → IsWithin (run (runnables ps) s statement)
+        → RunIsWithin (run (runnables ps) s statement)
         (evaluated_all m (numbering.statement (callables ps) names n statement))
     statement_spends (rules.declares new has suit flow) names n ready calls plain s m shows =
         fits (ticked (then_within (right_spends _ names n ready calls has s m shows plain) (λ r is. none)))
@@ -228,7 +228,7 @@ module _ (ps : List ProcedureTree) where
         (ticked (then_within (value_spends s condition) (λ c is.
         let same = reached ((means ready.linked has plain.0).value s m shows)
         (value s condition).ends (λ e d. value-worked s condition e d) c is in
-        subst (λ (w : Word). IsWithin (if not (w.value == 0) then run_all (runnables ps) s accepted
+        subst (λ (w : Word). RunIsWithin (if not (w.value == 0) then run_all (runnables ps) s accepted
         else run_all (runnables ps) s otherwise) (if v == 0
         then evaluated_all m (block (callables ps) names k otherwise)
         else evaluated_all m (block (callables ps) names n accepted))) (sym same) arms)))
@@ -247,7 +247,7 @@ module _ (ps : List ProcedureTree) where
         shows_declared ready.linked s m shows text {own = own} {v = single (word_at Uint32 i)} {numbers = i ∷ []}
         (record { is = refl; count = refl }) new in
         let within = ready_declared ready counter text own new in
-        let calls_within = callable_declared ps (IsCallable HasBound ps) scope counter text _ calls in
+        let calls_within = callable_declared ps (IsCallee HasBound ps) scope counter text _ calls in
         let each = λ (i : ℕ) (s : State) (m : Values) (shows : Shows names s m).
         block_spends inner inside_names (n + 1) within calls_within plain.2 (counting s text i)
         (flat.with_value m n (i ∷ [])) (began i s m shows) in
@@ -268,14 +268,14 @@ module _ (ps : List ProcedureTree) where
         (value s low).ends (λ e d. value-worked s low e d) u is in
         let second = reached ((means ready.linked other plain.1).value s m shows)
         (value s high).ends (λ e d. value-worked s high e d) w is' in
-        subst (λ (y : Word). IsWithin (iterations (y.value - u.value) u.value iteration s) most) (sym second)
-        (subst (λ (x : Word). IsWithin (iterations (b - x.value) x.value iteration s) most) (sym first) all)))))
+        subst (λ (y : Word). RunIsWithin (iterations (y.value - u.value) u.value iteration s) most) (sym second)
+        (subst (λ (x : Word). RunIsWithin (iterations (b - x.value) x.value iteration s) most) (sym first) all)))))
         (omega (arith, same_nodes names low, same_nodes names high))
 
     pub block_spends : {scope : Scope} {control : Label} {b : BlockTree} → rules.AreWellTyped ps scope control b
-        → (names : Numbers) (n : ℕ) → Ready ps scope names n → CallsSpend ps scope
+        → (names : Numbers) (n : ℕ) → StatementReady ps scope names n → CallsSpend ps scope
         → ArePlain b → (s : State) (m : Values) → Shows names s m
-        → IsWithin (run_all (runnables ps) s b) (evaluated_all m (block (callables ps) names n b))
+        → RunIsWithin (run_all (runnables ps) s b) (evaluated_all m (block (callables ps) names n b))
     block_spends rules.no_statement names n ready calls plain s m shows = none
     block_spends (rules.one_more {statement = statement} {rest = rest} here there) names n ready calls plain
         s m shows =
@@ -287,5 +287,5 @@ module _ (ps : List ProcedureTree) where
         let good = reached (same_end here ready plain.0 s m shows) (run (runnables ps) s statement).ends
         (λ e d. statement-worked ps s statement e d) t is in
         block_spends there later_names _ (ready_after here ready)
-        (callable_after ps (IsCallable HasBound ps) here calls) plain.1 t (after_all m tree) good))
+        (callable_after ps (IsCallee HasBound ps) here calls) plain.1 t (after_all m tree) good))
         (omega (arith, evaluated_chain tree more m))

@@ -18,7 +18,7 @@ use Rattle.hepurita.proofs.source_work_lemmas.Below.{same_nodes, same_all, same_
 use Rattle.hepurita.proofs.source_work_lemmas.Below.{Stand, IsAt, IsWithin, earlier_within, callable_after}
 use Rattle.hepurita.proofs.source_work_lemmas.Below.{callable_declared, callable_parameters}
 use Rattle.language.proofs.KnownLemmas.{known-named}
-use Rattle.language.specs.WellTyped.{IsCall, of_procedure, Gives, of_call, of_value, IsWellTyped, declares}
+use Rattle.language.specs.WellTyped.{IsCall, of_procedure, RightHasType, of_call, of_value, IsWellTyped, declares}
 use Rattle.language.specs.WellTyped.{declares_array, assigns, assigns_element, calls, chooses, repeats, AreWellTyped}
 use Rattle.language.specs.WellTyped.{no_statement, one_more, IsProcedure, Returns, nothing_returned, value_returned}
 use Rattle.hepurita.specs.source_work.SourceWork.{Here, here, Worked, Works, numberings, entered, called_work}
@@ -130,7 +130,7 @@ module _ (declared : List FlatVariable) where
         (body_summed k.before k.at p k.good h c)
 
     right_summed : {scope : Scope} {control : Label} {r : RightTree} {given : WordType}
-        → Gives earlier scope control r (Word given) → IsWithin earlier at scope → (h : Here)
+        → RightHasType earlier scope control r (Word given) → IsWithin earlier at scope → (h : Here)
         → walked_all declared h.bounds (right_block known h.names h.next r)
         + term_nodes (right known h.names h.next r) ≡ right_work declared works h r
     right_summed (of_value {e = e} has) inside h = omega (arith, same_nodes h.names e)
@@ -141,7 +141,7 @@ module _ (declared : List FlatVariable) where
         (omega (arith, f.work, value_there (call_result (known c.name)) value given f.gives f.returns))
 
     element_summed : {scope : Scope} {control : Label} {r : RightTree} {given : WordType}
-        → Gives earlier scope control r (Word given) → IsWithin earlier at scope
+        → RightHasType earlier scope control r (Word given) → IsWithin earlier at scope
         → (place bracket target : Place) (text : List ℕ) (index : ExprTree) (h : Here)
         → walked_all declared h.bounds
         (statement known h.names h.next (element_assignment place bracket target text index r))

@@ -3,7 +3,7 @@
 ghost use Rattle.std.specs.Prelude.{◌≡◌, ℕ, ◌≤◌, List, [], Some, Ok, length, map};
 ghost use Rattle.std.specs.List.{AllByRecursion};
 ghost use Rattle.hepurita.specs.Below.{AreWithin, Arg, bodies_of, evaluated_by, exported, extents_of, flattened};
-ghost use Rattle.hepurita.specs.Below.{IsGrammatical, IsTypedProgram, most_bodies, most_work, outcome_of};
+ghost use Rattle.hepurita.specs.Below.{IsGrammatical, IsTypedFlat, most_bodies, most_work, outcome_of};
 ghost use Rattle.hepurita.specs.Below.{param_of, ProcedureTree, Profile, program_run, ProgramTree};
 ghost use Rattle.hepurita.specs.Below.{range_violations, run_answer, violations, work_of};
 
@@ -29,7 +29,7 @@ pub fn accepted_programs_are_answered()
         → exported [] program.procedures ≡ Some (before, p)
         → AllByRecursion IsGrammatical before
         → IsGrammatical p
-        → IsTypedProgram (flattened profile before p)
+        → IsTypedFlat (flattened profile before p)
         → bodies_of (extents_of before) p ≤ most_bodies
         → length (range_violations (flattened profile before p)) ≡ 0
         → work_of (flattened profile before p) ≤ most_work

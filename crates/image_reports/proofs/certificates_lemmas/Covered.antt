@@ -11,11 +11,12 @@ use Rattle.image_reports.specs.Below.{AreWithin, Arg, Array, ByteMap, Covers, el
 use Rattle.image_reports.specs.Below.{HasShape, HoldsSlot, IsImage, Kind, loaded_at, MutableArray, params_of, Shifts}
 use Rattle.image_reports.specs.Below.{SingleWord, Slot, with_argument, with_arguments, with_bytes_known, with_number}
 use Rattle.image_reports.specs.Below.{with_numbers, Word, zeros}
-use Rattle.image_reports.proofs.certificates_lemmas.Below.{HoldsSlot-same, is_some-with_argument, slots_hold, with_number-zero}
-use Rattle.image_reports.proofs.certificates_lemmas.Below.{with_number-suc, with_byte_same, with_byte_other, with_number_below}
-use Rattle.image_reports.proofs.certificates_lemmas.Below.{with_number_above}
-use Rattle.image_reports.specs.certificates.Given.{Fits, no_more, as_given, any_value, Completes}
-use Rattle.image_reports.specs.certificates.KnownImage.{argument_bytes, known_with_one, with_given, known_with_given, known_at}
+use Rattle.image_reports.proofs.certificates_lemmas.Below.{HoldsSlot-same, is_some-with_argument, slots_hold}
+use Rattle.image_reports.proofs.certificates_lemmas.Below.{with_number-zero, with_number-suc, with_byte_same}
+use Rattle.image_reports.proofs.certificates_lemmas.Below.{with_byte_other, with_number_below, with_number_above}
+use Rattle.image_reports.specs.certificates.Given.{AreAsGiven, no_more, as_given, any_value, Completes}
+use Rattle.image_reports.specs.certificates.KnownImage.{argument_bytes, known_with_one, with_given, known_with_given}
+use Rattle.image_reports.specs.certificates.KnownImage.{known_at}
 
 -- A byte after something was put.
 
@@ -124,7 +125,7 @@ module _ (frame : ℕ) where
 
   -- a known byte is what it is with any arguments that agree
   same_byte : {given : List (Option Arg)} {args : List Arg} (x : ℕ) (known : ℕ
-      → Bool) (old new : ByteMap) (slots : List Slot) → Fits given args
+      → Bool) (old new : ByteMap) (slots : List Slot) → AreAsGiven given args
       → AreWithin (map (λ (slot : Slot). slot.param) slots) args → new x ≡ old x
       → known_with_given frame known slots given x ≡ true
       → with_arguments frame new slots args x ≡ with_given frame old slots given x
@@ -148,7 +149,7 @@ module _ (frame : ℕ) where
 
   -- the same addresses are data
   same_extent : {given : List (Option Arg)} {args : List Arg} (old new : ByteMap) (slots : List Slot)
-      → Fits given args → AreWithin (map (λ (slot : Slot). slot.param) slots) args
+      → AreAsGiven given args → AreWithin (map (λ (slot : Slot). slot.param) slots) args
       → AllByRecursion (HoldsSlot frame old) slots → ((x : ℕ) → is_some (new x) ≡ is_some (old x)) → (x : ℕ)
       → is_some (with_arguments frame new slots args x) ≡ is_some (with_given frame old slots given x)
   same_extent old new [] fits within held same x = same x

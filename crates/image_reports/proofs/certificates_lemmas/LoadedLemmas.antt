@@ -9,10 +9,11 @@ use Rattle.std.proofs.lemmas.List.{length-map}
 use Rattle.std.proofs.Math.ListN.{get_or-map}
 use Rattle.image_reports.proofs.certificates_lemmas.Below.{fault_from-left, fault_by-None, IsWithin-from_rule_of}
 use Rattle.image_reports.proofs.certificates_lemmas.Below.{is_some-with_argument, no_slot}
-use Rattle.image_reports.specs.Below.{Arg, ByteMap, fault_from, HasShape, HoldsSlot, is_known_mark, Known, known_bytes}
-use Rattle.image_reports.specs.Below.{Param, Shifts, Slot, with_bytes_known, zeros}
+use Rattle.image_reports.specs.Below.{Arg, ByteMap, fault_from, HasShape, HoldsSlot, is_known_mark, KnownState}
+use Rattle.image_reports.specs.Below.{known_bytes, Param, Shifts, Slot, with_bytes_known, zeros}
 use Rattle.image_reports.specs.certificates.Given.{rule_of_given, fault_of_given}
-use Rattle.image_reports.specs.certificates.KnownImage.{argument_bytes, with_one, known_with_one, with_given, known_with_given}
+use Rattle.image_reports.specs.certificates.KnownImage.{argument_bytes, with_one, known_with_one, with_given}
+use Rattle.image_reports.specs.certificates.KnownImage.{known_with_given}
 
 -- Unknown bytes.
 
@@ -156,7 +157,7 @@ fresh_known frame n =
 
 pub same_known : (p p' : ℕ) (r r' : ℕ → ℕ) (b b' : ByteMap) (f f' k k' : ℕ → Bool) (w w' : Shifts) → p ≡ p' → r ≡ r'
     → b ≡ b' → f ≡ f' → k ≡ k' → w ≡ w'
-    → ◌≡◌ {A = Known} (record {
+    → ◌≡◌ {A = KnownState} (record {
       state = record { pc = p; regs = r; bytes = b };
       registers = f;
       bytes = k;

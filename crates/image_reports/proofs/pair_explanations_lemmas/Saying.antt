@@ -1,16 +1,16 @@
 -- What is said of a run, from what the calls of `run_places` say of it, and what is said of two.
 use Rattle.std.proofs.Common.{◌≡◌, ◌≢◌, ℕ, ◌+◌, ◌-◌, ◌<◌, List, ◌++◌, codes, length, Some, None, Ok, refl, sym, ap}
 use Rattle.std.proofs.Common.{◌∙◌, subst, arith}
-use Rattle.image_reports.specs.Below.{Arg, Code, code_at, code_base, compared, Differ, entries_of, Fields, frame_base}
-use Rattle.image_reports.specs.Below.{IsLastBefore, IsLineAt, loaded_at, Observation, Paired, SaysRegisters, Shown}
-use Rattle.image_reports.specs.Below.{ShowsAt, ShowsFewer, State, word_at}
+use Rattle.image_reports.specs.Below.{Arg, MachineCode, code_at, code_base, compared, Differ, entries_of, Fields}
+use Rattle.image_reports.specs.Below.{frame_base, IsLastBefore, IsLineAt, loaded_at, Observation, Paired, SaysRegisters}
+use Rattle.image_reports.specs.Below.{Shown, ShowsAt, ShowsFewer, State, word_at}
 use Rattle.run_reports.proofs.run_places_lemmas.Openings.{difference_reached, word_before}
 use Rattle.run_reports.proofs.run_places_lemmas.Parting.{one_last_step}
 use Rattle.run_reports.proofs.run_places_lemmas.Runs.{later_place}
-use Rattle.image_reports.specs.pair_explanations.Explained.{shown_line, SaysRun, SaysOf, Explains}
+use Rattle.image_reports.specs.pair_explanations.Explained.{shown_line, SaysRun, SaysOf, ExplainsDifference}
 
 -- the code, the steps and the state that a run was loaded with
-module _ (code code' : Code) (budget budget' : ℕ) (s s' : State) (same_code : code ≡ code')
+module _ (code code' : MachineCode) (budget budget' : ℕ) (s s' : State) (same_code : code ≡ code')
     (same_budget : budget ≡ budget') (same_state : s ≡ s') (place : ℕ) where
   pub fewer : ShowsFewer code budget s place → ShowsFewer code' budget' s' place
   fewer shows =
@@ -101,7 +101,8 @@ module _ (image : Fields) (one other : List Arg) (place : ℕ)
   pub explained : (seen seen' : List Observation) (pc pc' : ℕ) (first second word text : List ℕ)
       → SaysOf image one place seen pc first → SaysOf image other place seen' pc' second
       → IsLineAt (code_at code_base image) pc (Some word)
-      → text ≡ word ++ codes "first" ++ first ++ codes "second" ++ second → Explains image one other place text
+      → text ≡ word ++ codes "first" ++ first ++ codes "second" ++ second
+      → ExplainsDifference image one other place text
   explained seen seen' pc pc' first second word text of_first of_second line printed =
       let same = one_step seen seen' of_first.there of_second.there of_first.last of_second.last in
       let pcs : pc' ≡ pc = sym of_second.at ∙ (sym same.1 ∙ of_first.at) in

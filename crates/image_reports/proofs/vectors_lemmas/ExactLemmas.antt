@@ -8,8 +8,8 @@ use Rattle.language.specs.Meaning.{gives}
 use Rattle.image_reports.specs.vectors.Lines.{NamedVector}
 use Rattle.image_reports.specs.vectors.Texts.{plain, difference_text}
 use Rattle.image_reports.specs.vectors.Spelled.{lists_of, publics}
-use Rattle.image_reports.specs.vectors.Verdicts.{Asks, Gives, IsVerdict, no_arguments, another_outcome, right_outcome, wrong_in}
-use Rattle.image_reports.specs.vectors.Verdicts.{Tried, none, passed, failed}
+use Rattle.image_reports.specs.vectors.Verdicts.{Asks, VectorGives, IsVerdict, no_arguments, another_outcome}
+use Rattle.image_reports.specs.vectors.Verdicts.{right_outcome, wrong_in, Tried, none, passed, failed}
 use Rattle.image_reports.proofs.vectors_lemmas.SpellLemmas.{none_some, spelled_faultless}
 
 -- a source has one meaning on arguments
@@ -38,7 +38,7 @@ same_end one other e = cc
 module _ (read : OneReading) (certify : OneCertificate) (program : ProgramTree) (image : Fields)
     (vector : NamedVector) where
   abbrev GivesSo : List Arg → Results → Type 0
-  GivesSo args results = Gives program image vector args results
+  GivesSo args results = VectorGives program image vector args results
 
   not_both : (fault : ArgumentFault) (args : List Arg) (results : Results)
       → fault_of_texts (params_of image) (map plain vector.given) ≡ Some fault → GivesSo args results → ⊥

@@ -5,7 +5,7 @@ use Rattle.std.proofs.lemmas.List.{drop_more, length-map}
 use Rattle.image_reports.specs.Below.{AreWithin, Arg, ArgumentFault, ArgumentRule, Array, fault_at, fault_from}
 use Rattle.image_reports.specs.Below.{fault_of_texts, FixedArray, Form, HasShape, IsWithin, MutableArray, numbers_of}
 use Rattle.image_reports.specs.Below.{Param, rule_of, rule_of_numbers, rule_of_text, SingleWord, Uint32, Word, words_of}
-use Rattle.image_reports.specs.vectors.Spelled.{AreSpelled, Spell}
+use Rattle.image_reports.specs.vectors.Spelled.{TextsSpell, Spell}
 use Rattle.image_reports.proofs.vectors_lemmas.Below.{fault_by-same, length-AreWithin, rule_of-None}
 
 pub neither : (at : ℕ) (broken : Option ArgumentRule) (later : Option ArgumentFault) → broken ≡ None → later ≡ None
@@ -42,7 +42,7 @@ texts_from at (p ∷ params) (text ∷ texts) (arg ∷ args) within is =
     neither at (rule_of_text p text) (fault_from rule_of_text (at + 1) params texts)
     (text_faultless p arg text within.0 here) (texts_from (at + 1) params texts args within.1 later)
 
-pub spelled_faultless : (params : List Param) (texts : List (List ℕ)) (args : List Arg) → AreSpelled params texts args
+pub spelled_faultless : (params : List Param) (texts : List (List ℕ)) (args : List Arg) → TextsSpell params texts args
     → fault_of_texts params texts ≡ None
 spelled_faultless params texts args is =
     let same : length texts ≡ length args = sym (length-map texts numbers_of) ∙ ap length (sym is.numbers)

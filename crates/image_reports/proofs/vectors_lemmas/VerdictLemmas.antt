@@ -6,10 +6,10 @@ use Rattle.image_reports.specs.Below.{Arg, ArgumentFault, CertifiedEnd, fault_te
 use Rattle.image_reports.specs.Below.{params_of, ProgramTree, Results}
 use Rattle.image_reports.specs.certificates.Certified.{Certified}
 use Rattle.image_reports.specs.vectors.Lines.{NamedVector}
-use Rattle.image_reports.specs.vectors.Spelled.{AreSpelled, IsDifference, IsReading, Spell, lists_of, publics}
+use Rattle.image_reports.specs.vectors.Spelled.{TextsSpell, IsDifference, IsReading, Spell, lists_of, publics}
 use Rattle.image_reports.specs.vectors.Texts.{plain}
-use Rattle.image_reports.specs.vectors.Verdicts.{Gives, IsVerdict, no_arguments, another_outcome, right_outcome, wrong_in, Tried}
-use Rattle.image_reports.specs.vectors.Verdicts.{passed, failed}
+use Rattle.image_reports.specs.vectors.Verdicts.{VectorGives, IsVerdict, no_arguments, another_outcome, right_outcome}
+use Rattle.image_reports.specs.vectors.Verdicts.{wrong_in, Tried, passed, failed}
 
 module _ (program : ProgramTree) (image : Fields) (vector : NamedVector) where
   -- the fault of the arguments' texts
@@ -22,11 +22,11 @@ module _ (program : ProgramTree) (image : Fields) (vector : NamedVector) where
       (subst (λ (ps : List Param). IsReading ps texts (Err fault)) are_params is) in
       subst (λ (t : List ℕ). IsVerdict program image vector (Some t)) (sym said) (no_arguments broken)
 
-  module _ (args : List Arg) (spelled : AreSpelled (params_of image) (map plain vector.given) args)
+  module _ (args : List Arg) (spelled : TextsSpell (params_of image) (map plain vector.given) args)
       (results : Results) (means : Means program args results)
       (wanted lists : List (List ℕ)) (is_wanted : wanted ≡ vector.wanted) (listed : lists ≡ lists_of results)
       (found : Option (List ℕ)) (differs : IsDifference wanted lists found) where
-    gives : Gives program image vector args results
+    gives : VectorGives program image vector args results
     gives = record { spelled = spelled; means = means }
 
     compared : IsDifference vector.wanted (lists_of results) found

@@ -6,17 +6,17 @@ use Rattle.image_reports.specs.Below.{rule_of, Secret}
 use Rattle.language.specs.declared.arguments.fault.ArgumentRule.TheVariants.{Shape}
 
 -- arguments, one for each that is given or not, which have the given values
-pub data Fits : List (Option Arg) → List Arg → Type 0 where
-  no_more : Fits [] []
-  as_given : {arg : Arg} {given : List (Option Arg)} {args : List Arg} → Fits given args
-      → Fits (Some arg ∷ given) (arg ∷ args)
-  any_value : {arg : Arg} {given : List (Option Arg)} {args : List Arg} → Fits given args
-      → Fits (None ∷ given) (arg ∷ args)
+pub data AreAsGiven : List (Option Arg) → List Arg → Type 0 where
+  no_more : AreAsGiven [] []
+  as_given : {arg : Arg} {given : List (Option Arg)} {args : List Arg} → AreAsGiven given args
+      → AreAsGiven (Some arg ∷ given) (arg ∷ args)
+  any_value : {arg : Arg} {given : List (Option Arg)} {args : List Arg} → AreAsGiven given args
+      → AreAsGiven (None ∷ given) (arg ∷ args)
 
 -- arguments within the parameter types that have the given values
 pub record Completes (params : List Param) (given : List (Option Arg)) (args : List Arg) : Type 0 where
   pub within : AreWithin params args
-  pub fits : Fits given args
+  pub fits : AreAsGiven given args
 
 -- the rule that is broken where a parameter of this label has no value: what is public is to be given
 abbrev pub rule_of_unknown : Label → Option ArgumentRule

@@ -2,8 +2,8 @@
 -- arguments that are not given.
 use Rattle.std.specs.Prelude.{ℕ, ◌+◌, ◌*◌, Bool, true, false, List, [], ◌∷◌, Option, Some, None, is_some}
 use Rattle.image_reports.specs.Below.{Arg, ByteMap, element_bytes, Fields, FixedArray, Form, initial_registers, Kind}
-use Rattle.image_reports.specs.Below.{Known, MutableArray, Shifts, SingleWord, Slot, with_argument, with_bytes_known}
-use Rattle.image_reports.specs.Below.{zeros}
+use Rattle.image_reports.specs.Below.{KnownState, MutableArray, Shifts, SingleWord, Slot, with_argument}
+use Rattle.image_reports.specs.Below.{with_bytes_known, zeros}
 
 -- how many bytes from its slot's offset on an argument takes: a word 4, an array its elements
 abbrev pub argument_bytes : Form → Kind → ℕ → ℕ
@@ -38,7 +38,7 @@ known_with_given frame known (slot ∷ slots) (one ∷ given) =
 
 -- loaded as an image is with arguments: all registers are known, and the frame's bytes but those of arguments that
 -- are not given, where zeros stand; and amounts of shifts are seen or not
-abbrev pub known_at : ℕ → ℕ → Fields → List (Option Arg) → Shifts → Known
+abbrev pub known_at : ℕ → ℕ → Fields → List (Option Arg) → Shifts → KnownState
 known_at code_base frame_base image given shifts = record {
   state = record {
     pc = code_base;

@@ -1,7 +1,8 @@
 -- How it is explained that what an observer sees of two runs of an image differs first at an entry.
 use Rattle.std.specs.Prelude.{◌≡◌, ℕ, List, ◌++◌, Some, codes}
-use Rattle.image_reports.specs.Below.{Arg, Code, code_at, code_base, event, Fields, frame_base, IsLastBefore, IsLineAt}
-use Rattle.image_reports.specs.Below.{loaded_at, Observation, program_counter, SaysRegisters, Shown, ShowsAt, State}
+use Rattle.image_reports.specs.Below.{Arg, MachineCode, code_at, code_base, event, Fields, frame_base, IsLastBefore}
+use Rattle.image_reports.specs.Below.{IsLineAt, loaded_at, Observation, program_counter, SaysRegisters, Shown, ShowsAt}
+use Rattle.image_reports.specs.Below.{State}
 use Rattle.listing.specs.Lines.{entry_line, stop_line}
 use Rattle.run_reports.specs.declared.run_places.shown.Shown.TheVariants.{ProgramCounter, HasEvent, Stopped}
 
@@ -13,7 +14,7 @@ shown_line (Stopped stop) = stop_line stop
 
 -- what is said of one run, whose steps show this list up to the last one that begins before the place, at this
 -- program counter: what the word there reads, and what the run shows at the place
-pub record SaysRun (code : Code) (budget : ℕ) (s : State) (place : ℕ) (seen : List Observation) (pc : ℕ)
+pub record SaysRun (code : MachineCode) (budget : ℕ) (s : State) (place : ℕ) (seen : List Observation) (pc : ℕ)
     (text : List ℕ) : Type 0 where
   pub there : State
   pub registers : List ℕ
@@ -29,7 +30,7 @@ abbrev pub SaysOf : Fields → List Arg → ℕ → List Observation → ℕ →
 SaysOf image args = SaysRun (code_at code_base image) image.max_steps (loaded_at code_base frame_base image args)
 
 -- three lines: of the word that both runs come to, having shown one list, then of the first run and of the second
-pub record Explains (image : Fields) (one other : List Arg) (place : ℕ) (text : List ℕ) : Type 0 where
+pub record ExplainsDifference (image : Fields) (one other : List Arg) (place : ℕ) (text : List ℕ) : Type 0 where
   pub seen : List Observation
   pub pc : ℕ
   pub word : List ℕ

@@ -5,13 +5,13 @@ use Rattle.image_reports.specs.Below.{Results, Secret, words_of}
 use Rattle.image_reports.specs.vectors.Texts.{plain, difference_text}
 
 -- arguments within the parameter types, whose numbers texts spell
-pub record AreSpelled (params : List Param) (texts : List (List ℕ)) (args : List Arg) : Type 0 where
+pub record TextsSpell (params : List Param) (texts : List (List ℕ)) (args : List Arg) : Type 0 where
   pub within : AreWithin params args
   pub numbers : map (λ arg. Some (words_of arg)) args ≡ map numbers_of texts
 
 -- arguments that the texts spell, or the first fault of the texts
 abbrev pub IsReading : List Param → List (List ℕ) → Result (List Arg) ArgumentFault → Type 0
-IsReading params texts (Ok args) = AreSpelled params texts args
+IsReading params texts (Ok args) = TextsSpell params texts args
 IsReading params texts (Err fault) = fault_of_texts params texts ≡ Some fault
 
 -- an argument that is given where its parameter is public

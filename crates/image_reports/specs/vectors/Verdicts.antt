@@ -7,7 +7,7 @@ use Rattle.image_reports.specs.Below.{IsCompilation, MayDiffer, Means, Off, para
 use Rattle.image_reports.specs.Below.{ProgramTree, Results, Same}
 use Rattle.image_reports.specs.certificates.Certified.{Certified}
 use Rattle.image_reports.specs.vectors.Lines.{NamedVector}
-use Rattle.image_reports.specs.vectors.Spelled.{AreSpelled, Spell, lists_of, publics}
+use Rattle.image_reports.specs.vectors.Spelled.{TextsSpell, Spell, lists_of, publics}
 use Rattle.image_reports.specs.vectors.Texts.{plain, difference_text}
 
 -- a source that is accepted for an observer: its program, and its plain image
@@ -27,8 +27,8 @@ wrong_in (MayDiffer entry pc) = Some (codes "may differ at " ++ decimal entry)
 
 module _ (program : ProgramTree) (image : Fields) (vector : NamedVector) where
   -- the vector's texts spell these arguments, on which the program means this
-  pub record Gives (args : List Arg) (results : Results) : Type 0 where
-    pub spelled : AreSpelled (params_of image) (map plain vector.given) args
+  pub record VectorGives (args : List Arg) (results : Results) : Type 0 where
+    pub spelled : TextsSpell (params_of image) (map plain vector.given) args
     pub means : Means program args results
 
   -- and the vector asks for that
@@ -40,9 +40,9 @@ module _ (program : ProgramTree) (image : Fields) (vector : NamedVector) where
   pub data IsVerdict : Option (List ℕ) → Type 0 where
     no_arguments : {fault : ArgumentFault} → fault_of_texts (params_of image) (map plain vector.given) ≡ Some fault
         → IsVerdict (Some (fault_text fault))
-    another_outcome : {args : List Arg} {results : Results} → Gives args results → (Asks results → ⊥)
+    another_outcome : {args : List Arg} {results : Results} → VectorGives args results → (Asks results → ⊥)
         → IsVerdict (Some (difference_text vector.wanted (lists_of results)))
-    right_outcome : {args : List Arg} {results : Results} {end : CertifiedEnd} → Gives args results → Asks results
+    right_outcome : {args : List Arg} {results : Results} {end : CertifiedEnd} → VectorGives args results → Asks results
         → Certified image (publics (params_of image) args) Hidden (Ok end) → IsVerdict (wrong_in end)
 
 -- of these vectors so many passed and so many failed, each of which has a line

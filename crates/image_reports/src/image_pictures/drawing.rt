@@ -11,7 +11,7 @@ use crate::certificates::{Shifts, load_given};
 use hepurita::{CODE_BASE, FRAME_BASE, code, load};
 use image::Image;
 use language::{Arg, Args};
-use run_reports::pictures::{Area, Drawing, Runs, picture};
+use run_reports::pictures::{Area, Drawing, PairOfRuns, picture};
 use rv_machine::PagedMemory;
 use std::alloc::{AllocError, Global};
 
@@ -56,7 +56,7 @@ fn both_of_given(
     alloc: Global,
     image: &Image,
     given: &[Option<Arg>],
-) -> Result<Runs<PagedMemory>, AllocError>
+) -> Result<PairOfRuns<PagedMemory>, AllocError>
     requires { fault_of_given (params_of image.now) given.now ≡ None }
     ensures one { IfOk result (λ runs. BeginsAt image.now
         (known_at code_base frame_base image.now given.now Shifts.Hidden).state
@@ -67,7 +67,7 @@ fn both_of_given(
 {
     let one = load_given(alloc, image, given, Shifts::Hidden)?.run;
     let other = load_given(alloc, image, given, Shifts::Hidden)?.run;
-    Ok(Runs { one, other })
+    Ok(PairOfRuns { one, other })
 }
 
 /// The runs of two lists of arguments.
@@ -76,7 +76,7 @@ fn both_of_args(
     image: &Image,
     one: &Args,
     other: &Args,
-) -> Result<Runs<PagedMemory>, AllocError>
+) -> Result<PairOfRuns<PagedMemory>, AllocError>
     requires one { AreWithin (params_of image.now) one.now }
     requires other { AreWithin (params_of image.now) other.now }
     ensures one { IfOk result (λ runs. BeginsAt image.now (loaded_at code_base frame_base image.now one.now)
@@ -86,15 +86,15 @@ fn both_of_args(
 {
     let one = load(alloc, image, one)?;
     let other = load(alloc, image, other)?;
-    Ok(Runs { one, other })
+    Ok(PairOfRuns { one, other })
 }
 
 /// The page of two runs of an image, each loaded twice, or of one in both places.
 fn draw(
     alloc: Global,
     image: &Image,
-    counted: &mut Runs<PagedMemory>,
-    drawn: &mut Runs<PagedMemory>,
+    counted: &mut PairOfRuns<PagedMemory>,
+    drawn: &mut PairOfRuns<PagedMemory>,
     said: &[u8],
     are_two: bool,
 ) -> Result<Vec<u8>, AllocError>

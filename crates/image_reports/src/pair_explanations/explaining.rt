@@ -3,9 +3,9 @@
 ghost use Rattle.std.specs.Prelude.{◌≡◌, ◌<◌, List, Ok, IfOk};
 ghost use Rattle.image_reports.specs.Below.{AreWithin, code_at, code_base, code_of, Differ, frame_base, loaded_at};
 ghost use Rattle.image_reports.specs.Below.{Observation, Paired, params_of, ShowsFewer};
-ghost use Rattle.image_reports.specs.pair_explanations.Explained.{SaysOf, Explains};
+ghost use Rattle.image_reports.specs.pair_explanations.Explained.{SaysOf, ExplainsDifference};
 
-use crate::pair_explanations::lines::{Said, lines, push_shown};
+use crate::pair_explanations::lines::{SaidOfRun, lines, push_shown};
 use hepurita::{code, load};
 use image::Image;
 use language::Args;
@@ -21,7 +21,7 @@ fn said_of_run(
     code: &CodeRegion,
     args: &Args,
     place: u64,
-) -> Result<Said, AllocError>
+) -> Result<SaidOfRun, AllocError>
     requires within { AreWithin (params_of image.now) args.now }
     requires place { 0 < place }
     requires code { code_of code.now ≡ code_at code_base image.now }
@@ -42,7 +42,7 @@ fn said_of_run(
     text.extend_from_slice(b" ")?;
     let shown = shown_at(alloc, code, &mut again, place - before.entries);
     push_shown(&mut text, shown)?;
-    Ok(Said { pc, text })
+    Ok(SaidOfRun { pc, text })
 }
 
 /// The lines that explain why what an observer sees of the runs of an image on two lists of arguments differs first at
@@ -58,7 +58,7 @@ pub fn explain_difference(
     requires one { AreWithin (params_of image.now) one.now }
     requires other { AreWithin (params_of image.now) other.now }
     requires differ { Paired image.now one.now other.now (Ok (Differ place)) }
-    ensures { IfOk result (λ text. Explains image.now one.now other.now place text.items) }
+    ensures { IfOk result (λ text. ExplainsDifference image.now one.now other.now place text.items) }
 {
     let code = code(alloc, image)?;
     let first = said_of_run(alloc, image, &code, one, place)?;

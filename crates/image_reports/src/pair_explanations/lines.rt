@@ -15,7 +15,7 @@ const PROGRAM_COUNTER_LINE: usize = 12;
 
 /// What is said of one run.
 #[derive(Drop)]
-pub(crate) struct Said {
+pub(crate) struct SaidOfRun {
     /// The program counter of the last step that begins before the place.
     pub(crate) pc: u32,
     /// What is read there, and what is shown at the place.
@@ -46,8 +46,8 @@ pub(crate) fn push_shown(text: &mut Vec<u8>, shown: Shown) -> Result<(), AllocEr
 pub(crate) fn lines(
     alloc: Global,
     image: &Image,
-    first: &Said,
-    second: &Said,
+    first: &SaidOfRun,
+    second: &SaidOfRun,
 ) -> Result<Vec<u8>, AllocError>
     requires { word_at (code_at code_base image.now) first.now.pc ≢ None }
     ensures { IfOk result (λ text. (word : List ℕ) × IsLineAt (code_at code_base image.now) first.now.pc (Some word)

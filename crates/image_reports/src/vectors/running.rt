@@ -12,7 +12,7 @@ ghost use Rattle.image_reports.specs.vectors.Verdicts.{IsImageOf, wrong_in};
 use crate::certificates::{Certificate, Shifts, certify};
 use crate::vectors::given::publics;
 use crate::vectors::wanted::lists_of;
-use hepurita::{RunFault, execute, images_do_what_texts_mean, params};
+use hepurita::{RunFault, execute, images_do_what_sources_mean, params};
 use image::Image;
 use language::{Args, Numbers, Refusal};
 use rv_machine::NullRecorder;
@@ -30,7 +30,7 @@ pub fn outcome_of(alloc: Global, image: &Image, args: &Args) -> Result<Vec<Numbe
     ensures short { IfOk result (λ lists. All (λ list. length list < 65536) lists.items) }
     ensures memory { IfErr result (λ refusal. IsWantOfMemory refusal.rule refusal.place) }
 {
-    images_do_what_texts_mean();
+    images_do_what_sources_mean();
     match execute(alloc, image, args, &mut NullRecorder) {
         Ok(outcome) => Ok(lists_of(alloc, &outcome)?),
         Err(RunFault::Memory) => Err(Refusal::memory()),

@@ -4,7 +4,7 @@ ghost use Rattle.std.specs.Prelude.{◌≡◌, ℕ, List, map, IfOk, IfErr};
 ghost use Rattle.std.specs.Option.{option_map};
 ghost use Rattle.std.specs.String.{string_bytes};
 ghost use Rattle.image_reports.specs.Below.{IsRefusalOf, IsWantOfMemory, params_of, ProgramTree};
-ghost use Rattle.image_reports.specs.vectors.Spelled.{AreSpelled};
+ghost use Rattle.image_reports.specs.vectors.Spelled.{TextsSpell};
 ghost use Rattle.image_reports.specs.vectors.Texts.{plain};
 ghost use Rattle.image_reports.specs.vectors.Verdicts.{IsImageOf, IsSource, IsVerdict, IsTally, IsReport};
 ghost use Rattle.image_reports.specs.vectors.Views.{named};
@@ -45,7 +45,7 @@ fn verdict_on(
     vector: &Vector<'_>,
 ) -> Result<Option<String>, Refusal>
     requires source { (program : ProgramTree) × IsImageOf program image.now }
-    requires spelled { AreSpelled (params_of image.now) (map plain (named vector.now).given) args.now }
+    requires spelled { TextsSpell (params_of image.now) (map plain (named vector.now).given) args.now }
     ensures verdict { (program : ProgramTree)
         → IsImageOf program image.now
         → IfOk result (λ wrong. IsVerdict program image.now (named vector.now) (option_map string_bytes wrong)) }

@@ -5,9 +5,9 @@ use Rattle.std.proofs.lemmas.Bool.{cases_lt}
 use Rattle.std.proofs.lemmas.List.{length-map, nil_from_length}
 use Rattle.std.proofs.lemmas.Option.{none-some, same_Some}
 use Rattle.input_files.specs.Below.{HartCount, HartsRule}
-use Rattle.input_files.specs.harts_file.Lines.{PlannedHart, PlannedTurns, Said, lines_of, said_of, said_in}
+use Rattle.input_files.specs.harts_file.Lines.{PlannedHart, PlannedTurns, LineContent, lines_of, said_of, said_in}
 use Rattle.input_files.specs.harts_file.Plans.{turns_listed, IsPlan}
-use Rattle.input_files.specs.harts_file.Faults.{Given, given_from, given_by, rule_of, AreFine, IsFault, of_line}
+use Rattle.input_files.specs.harts_file.Faults.{GivenByLines, given_from, given_by, rule_of, AreFine, IsFault, of_line}
 use Rattle.input_files.specs.harts_file.Faults.{of_none, harts_of, turns_lines_of}
 use Rattle.input_files.proofs.harts_file_lemmas.ListLemmas.{not_empty, same_head, split}
 use Rattle.input_files.proofs.harts_file_lemmas.PlanLemmas.{lines_for, harts_of-lines, turns_of-lines, given_by-lines}
@@ -15,7 +15,7 @@ use Rattle.input_files.proofs.harts_file_lemmas.PlanLemmas.{AreRight, Planned, f
 use Rattle.input_files.proofs.harts_file_lemmas.PlanLemmas.{planned-none, planned-more}
 
 -- ---- where no line breaks a rule
-pub plan_given : (text : List ℕ) (given : Given) → Planned (said_in text) → given ≡ given_by (said_in text)
+pub plan_given : (text : List ℕ) (given : GivenByLines) → Planned (said_in text) → given ≡ given_by (said_in text)
     → 1 ≤ length given.harts → IsPlan text given.harts given.schedule
 plan_given text given p e some =
     let same : given ≡ given_from p.harts p.turns = e ∙ given_by-lines (said_in text) p.harts p.turns p.shape in
@@ -35,7 +35,7 @@ no_line [] [] right e = refl
 no_line [] (t ∷ turns) right e = absurd (omega (arith, right.some (omega arith)))
 no_line (h ∷ harts) turns right e = absurd (omega arith)
 
-pub none_given : (text : List ℕ) (given : Given) → Planned (said_in text) → given ≡ given_by (said_in text)
+pub none_given : (text : List ℕ) (given : GivenByLines) → Planned (said_in text) → given ≡ given_by (said_in text)
     → length given.harts ≡ 0 → IsFault text HartCount 1
 none_given text given p e none =
     let same : given ≡ given_from p.harts p.turns = e ∙ given_by-lines (said_in text) p.harts p.turns p.shape in
@@ -49,13 +49,13 @@ Answer text = ((harts : List PlannedHart) × (schedule : List ℕ) × IsPlan tex
 
 all_fine : (text : List ℕ) → Planned (said_in text) → Answer text
 all_fine text p =
-    let given : Given = given_by (said_in text) in
+    let given : GivenByLines = given_by (said_in text) in
     elim (cases_lt 0 (length given.harts)) [
       | inl h ↦ inl (given.harts, given.schedule, plan_given text given p refl (omega arith))
       | inr h ↦ inr (HartCount, 1, none_given text given p refl (omega arith))
     ]
 
-goes_on : (text : List ℕ) (front rest : List (Option Said)) → said_in text ≡ front ++ rest → AreFine front
+goes_on : (text : List ℕ) (front rest : List (Option LineContent)) → said_in text ≡ front ++ rest → AreFine front
     → Planned front → Answer text
 goes_on text front [] e fine p = all_fine text (subst Planned (sym (e ∙ append-nil front)) p)
 goes_on text front (line ∷ rest) e fine p =
@@ -106,7 +106,8 @@ not_both text harts schedule rule line p (of_none e) =
     nobody (x ∷ hs) ts h k = omega (arith, ap length k)
 
 -- of two first faults none comes before the other
-same_fault : (front front' rest rest' : List (Option Said)) (line line' : Option Said) (rule rule' : HartsRule)
+same_fault : (front front' rest rest' : List (Option LineContent)) (line line' : Option LineContent)
+    (rule rule' : HartsRule)
     → front ++ line ∷ rest ≡ front' ++ line' ∷ rest' → AreFine front → AreFine front'
     → rule_of (given_by front) line ≡ Some rule → rule_of (given_by front') line' ≡ Some rule'
     → (rule ≡ rule') × (length front + 1 ≡ length front' + 1)
@@ -116,7 +117,7 @@ same_fault front front' rest rest' line line' rule rule' e fine fine' broken bro
       | inr h ↦ by h.0 h.1 h.2
     ]
   where
-    by : (f : List (Option Said)) → front ≡ front' ++ f → line' ∷ rest' ≡ f ++ line ∷ rest
+    by : (f : List (Option LineContent)) → front ≡ front' ++ f → line' ∷ rest' ≡ f ++ line ∷ rest
         → (rule ≡ rule') × (length front + 1 ≡ length front' + 1)
     by [] a b =
         let fronts : front ≡ front' = a ∙ append-nil front' in

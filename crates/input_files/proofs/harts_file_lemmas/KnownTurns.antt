@@ -6,7 +6,7 @@ use Rattle.std.proofs.lemmas.List.FromFn.{get_or-range_with_len, length-range_wi
 use Rattle.std.specs.List.{range_with_len, repeat}
 use Rattle.input_files.specs.harts_file.Lines.{PlannedTurns, turns_of, rounds, said_in}
 use Rattle.input_files.specs.harts_file.Plans.{turns_listed, is_known}
-use Rattle.input_files.specs.harts_file.Faults.{Given, given_from, given_by}
+use Rattle.input_files.specs.harts_file.Faults.{GivenByLines, given_from, given_by}
 use Rattle.input_files.proofs.harts_file_lemmas.PlanLemmas.{Planned, given_by-lines}
 
 module _ (harts : ℕ) where
@@ -39,7 +39,7 @@ module _ (harts : ℕ) where
       (below_listed t (All-head (λ u. is_known harts u ≡ true) t turns known))
       (below_all turns (All-tail (λ u. is_known harts u ≡ true) t turns known))
 
-pub known_given : (text : List ℕ) (given : Given) → Planned (said_in text) → given ≡ given_by (said_in text)
+pub known_given : (text : List ℕ) (given : GivenByLines) → Planned (said_in text) → given ≡ given_by (said_in text)
     → (harts : ℕ) → length given.harts ≡ harts → All (λ hart. hart < harts) given.schedule
 known_given text given p e harts count =
     let same : given ≡ given_from p.harts p.turns = e ∙ given_by-lines (said_in text) p.harts p.turns p.shape in

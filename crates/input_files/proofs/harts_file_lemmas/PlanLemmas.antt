@@ -7,16 +7,16 @@ use Rattle.std.proofs.lemmas.Grind.{flat_map-append}
 use Rattle.std.proofs.lemmas.List.{map-append, nil_from_length}
 use Rattle.std.proofs.lemmas.List.Elements.{All-nil, All-cons, All-append, filter_map-append}
 use Rattle.input_files.specs.Below.{HartCount, most_images, most_turns}
-use Rattle.input_files.specs.harts_file.Lines.{PlannedHart, PlannedTurns, Said, a_hart, some_turns}
+use Rattle.input_files.specs.harts_file.Lines.{PlannedHart, PlannedTurns, LineContent, a_hart, some_turns}
 use Rattle.input_files.specs.harts_file.Plans.{turns_listed, is_known, hart_line, turns_line}
-use Rattle.input_files.specs.harts_file.Faults.{Given, given_from, given_by, hart_named, turns_named, harts_of}
+use Rattle.input_files.specs.harts_file.Faults.{GivenByLines, given_from, given_by, hart_named, turns_named, harts_of}
 use Rattle.input_files.specs.harts_file.Faults.{turns_lines_of, rule_of, AreFine}
 use Rattle.input_files.specs.harts_file.private.Reading.{given_with}
 use Rattle.input_files.proofs.harts_file_lemmas.ListLemmas.{not_empty, only, split, at_middle, mapped}
 use Rattle.input_files.proofs.harts_file_lemmas.RuleLemmas.{hart_allowed, turns_allowed, breaks_none}
 
 -- ---- lines that name harts, and then turns
-abbrev pub lines_for : List PlannedHart → List PlannedTurns → List (Option Said)
+abbrev pub lines_for : List PlannedHart → List PlannedTurns → List (Option LineContent)
 lines_for harts turns = map hart_line harts ++ map turns_line turns
 
 harts_of_turns : (turns : List PlannedTurns) → harts_of (map turns_line turns) ≡ []
@@ -36,7 +36,7 @@ pub turns_of-lines : (harts : List PlannedHart) (turns : List PlannedTurns)
 turns_of-lines [] turns = turns_of_turns turns
 turns_of-lines (h ∷ harts) turns = turns_of-lines harts turns
 
-pub given_by-lines : (lines : List (Option Said)) (harts : List PlannedHart) (turns : List PlannedTurns)
+pub given_by-lines : (lines : List (Option LineContent)) (harts : List PlannedHart) (turns : List PlannedTurns)
     → lines ≡ lines_for harts turns → given_by lines ≡ given_from harts turns
 given_by-lines lines harts turns e =
     ap₂ given_from (ap harts_of e ∙ harts_of-lines harts turns) (ap turns_lines_of e ∙ turns_of-lines harts turns)
@@ -48,7 +48,7 @@ pub record AreRight (harts : List PlannedHart) (turns : List PlannedTurns) : Typ
   pub known : All (λ t. is_known (length harts) t ≡ true) turns
   pub short : length (flat_map (turns_listed (length harts)) turns) ≤ most_turns
 
-pub record Planned (lines : List (Option Said)) : Type 0 where
+pub record Planned (lines : List (Option LineContent)) : Type 0 where
   pub harts : List PlannedHart
   pub turns : List PlannedTurns
   pub shape : lines ≡ lines_for harts turns
@@ -84,7 +84,7 @@ fine_turns harts turns first one others e right =
       short = omega (arith, right.short, ap (λ l. length (flat_map f l)) e, length-listed f first one others);
     })
 
-pub fine_from : (harts : List PlannedHart) (turns : List PlannedTurns) (lines : List (Option Said))
+pub fine_from : (harts : List PlannedHart) (turns : List PlannedTurns) (lines : List (Option LineContent))
     → lines ≡ lines_for harts turns → AreRight harts turns → AreFine lines
 fine_from harts turns lines e right front rest line whole =
     elim (split front (map hart_line harts) (map turns_line turns) rest line (sym e ∙ whole)) [
@@ -101,7 +101,7 @@ fine_from harts turns lines e right front rest line whole =
     ]
 
 -- ---- one line more
-pub fine-more : (lines : List (Option Said)) (line : Option Said) → AreFine lines
+pub fine-more : (lines : List (Option LineContent)) (line : Option LineContent) → AreFine lines
     → rule_of (given_by lines) line ≡ None → AreFine (lines ++ line ∷ [])
 fine-more lines line fine none front rest l e =
     elim (split front lines (line ∷ []) rest l e) [
@@ -130,7 +130,7 @@ planned-none = record {
 no_turns : (turns : List PlannedTurns) → nat_lt 0 (length turns) ≡ false → turns ≡ []
 no_turns turns e = nil_from_length turns (grind (arith, nat_tests, e))
 
-planned-hart : (lines : List (Option Said)) (hart : PlannedHart) → Planned lines
+planned-hart : (lines : List (Option LineContent)) (hart : PlannedHart) → Planned lines
     → rule_of (given_by lines) (Some (a_hart hart)) ≡ None → Planned (lines ++ Some (a_hart hart) ∷ [])
 planned-hart lines hart p none =
     let given = given_by-lines lines p.harts p.turns p.shape in
@@ -149,7 +149,7 @@ planned-hart lines hart p none =
       };
     }
 
-planned-turns : (lines : List (Option Said)) (t : PlannedTurns) → Planned lines
+planned-turns : (lines : List (Option LineContent)) (t : PlannedTurns) → Planned lines
     → rule_of (given_by lines) (Some (some_turns t)) ≡ None → Planned (lines ++ Some (some_turns t) ∷ [])
 planned-turns lines t p none =
     let given = given_by-lines lines p.harts p.turns p.shape in
@@ -175,17 +175,17 @@ planned-turns lines t p none =
       };
     }
 
-pub planned-more : (lines : List (Option Said)) (line : Option Said) → Planned lines
+pub planned-more : (lines : List (Option LineContent)) (line : Option LineContent) → Planned lines
     → rule_of (given_by lines) line ≡ None → Planned (lines ++ line ∷ [])
 planned-more lines None p none = cc
 planned-more lines (Some (a_hart hart)) p none = planned-hart lines hart p none
 planned-more lines (Some (some_turns t)) p none = planned-turns lines t p none
 
 -- ---- what is given with one line more
-abbrev made : List PlannedHart → Bool → List ℕ → Given
+abbrev made : List PlannedHart → Bool → List ℕ → GivenByLines
 made harts begun schedule = record { harts = harts; has_turns = begun; schedule = schedule }
 
-given_by-hart : (lines : List (Option Said)) (hart : PlannedHart)
+given_by-hart : (lines : List (Option LineContent)) (hart : PlannedHart)
     → rule_of (given_by lines) (Some (a_hart hart)) ≡ None
     → given_by (lines ++ Some (a_hart hart) ∷ []) ≡ given_with (given_by lines) (Some (a_hart hart))
 given_by-hart lines hart none =
@@ -196,7 +196,7 @@ given_by-hart lines hart none =
     (filter_map-append turns_named lines (Some (a_hart hart) ∷ []) ∙ append-nil (turns_lines_of lines) ∙ empty)
     ∙ ap (λ ts. given_with (given_from (harts_of lines) ts) (Some (a_hart hart))) (sym empty)
 
-given_by-turns : (lines : List (Option Said)) (t : PlannedTurns)
+given_by-turns : (lines : List (Option LineContent)) (t : PlannedTurns)
     → given_by (lines ++ Some (some_turns t) ∷ []) ≡ given_with (given_by lines) (Some (some_turns t))
 given_by-turns lines t =
     let harts = harts_of lines in
@@ -207,7 +207,8 @@ given_by-turns lines t =
     (filter_map-append turns_named lines (Some (some_turns t) ∷ []))
     ∙ ap₂ (made harts) begun (flat_map-append f turns (t ∷ []) ∙ ap (λ l. flat_map f turns ++ l) (append-nil (f t)))
 
-pub given_by-more : (lines : List (Option Said)) (line : Option Said) → rule_of (given_by lines) line ≡ None
+pub given_by-more : (lines : List (Option LineContent)) (line : Option LineContent) → rule_of
+    (given_by lines) line ≡ None
     → given_by (lines ++ line ∷ []) ≡ given_with (given_by lines) line
 given_by-more lines None none = cc
 given_by-more lines (Some (a_hart hart)) none = given_by-hart lines hart none

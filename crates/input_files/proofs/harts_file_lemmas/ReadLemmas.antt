@@ -5,11 +5,11 @@ use Rattle.std.proofs.lemmas.List.{drop_more, map-append, take-append-drop}
 use Rattle.std.proofs.lemmas.List.FromFn.{get_or-enumerate_from, length-enumerate_from}
 use Rattle.std.specs.List.{enumerate_from}
 use Rattle.std.specs.Option.{option_map}
-use Rattle.input_files.specs.harts_file.Lines.{PlannedTurns, Said, some_turns, lines_of, said_of, said_in}
+use Rattle.input_files.specs.harts_file.Lines.{PlannedTurns, LineContent, some_turns, lines_of, said_of, said_in}
 use Rattle.input_files.specs.harts_file.private.Reading.{held, held_turns}
 
 -- ---- what is held of what a line says
-pub held_as : (said : Option Said) (turns : PlannedTurns) → Some (some_turns turns) ≡ option_map held said
+pub held_as : (said : Option LineContent) (turns : PlannedTurns) → Some (some_turns turns) ≡ option_map held said
     → (whole : PlannedTurns) × (said ≡ Some (some_turns whole)) × (turns ≡ held_turns whole)
 held_as (Some (some_turns whole)) turns e = (whole, refl, cc)
 held_as said turns e = cc
@@ -18,13 +18,13 @@ held_as said turns e = cc
 abbrev pub Item : Type 0
 Item = ℕ × Bor (List ℕ)
 
-abbrev pub said_so_far : List Item → List (Option Said)
+abbrev pub said_so_far : List Item → List (Option LineContent)
 said_so_far items = map (λ item. said_of item.1.now) items
 
 abbrev pub numbered : Item → ℕ × List ℕ
 numbered item = (item.0, item.1.now)
 
-abbrev pub said_at : ℕ × List ℕ → Option Said
+abbrev pub said_at : ℕ × List ℕ → Option LineContent
 said_at line = said_of line.1
 
 said_numbered : (items : List Item) → said_so_far items ≡ map said_at (map numbered items)
@@ -41,7 +41,7 @@ all_said text items e = sym (said_numbered items ∙ ap (map said_at) e ∙ said
 
 -- the next line of the text is this item
 pub record IsNext (text : List ℕ) (items : List Item) (item : Item) : Type 0 where
-  pub rest : List (Option Said)
+  pub rest : List (Option LineContent)
   pub there : said_in text ≡ said_so_far items ++ said_of item.1.now ∷ rest
   pub number : item.0 ≡ length items
 

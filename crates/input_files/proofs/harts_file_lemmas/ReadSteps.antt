@@ -3,8 +3,8 @@ use Rattle.std.proofs.Common.{◌≡◌, ℕ, ◌+◌, List, [], ◌∷◌, ◌+
 use Rattle.std.proofs.Common.{subst, ◌∙◌, arith}
 use Rattle.std.proofs.lemmas.List.{length-map}
 use Rattle.input_files.specs.Below.{HartsRule}
-use Rattle.input_files.specs.harts_file.Lines.{Said, said_of}
-use Rattle.input_files.specs.harts_file.Faults.{Given, given_by, rule_of, AreFine, IsFault, of_line}
+use Rattle.input_files.specs.harts_file.Lines.{LineContent, said_of}
+use Rattle.input_files.specs.harts_file.Faults.{GivenByLines, given_by, rule_of, AreFine, IsFault, of_line}
 use Rattle.input_files.specs.harts_file.private.Reading.{given_with}
 use Rattle.input_files.specs.declared.harts_file.fault.PlanFault.{PlanFault}
 use Rattle.input_files.specs.declared.harts_file.fault.PlanFault.TheVariants as fault
@@ -21,7 +21,7 @@ same_fault {A} text rule rule' line line' e found =
     subst (λ n. IsFault text rule' n) lines (subst (λ r. IsFault text r line) rules found)
 
 -- the line that comes is the first that breaks a rule
-pub fault_at : (text : List ℕ) (items : List Item) (item : Item) (given : Given) (said : Option Said)
+pub fault_at : (text : List ℕ) (items : List Item) (item : Item) (given : GivenByLines) (said : Option LineContent)
     (rule : HartsRule) (index : ℕ) → IsNext text items item → said_of item.1.now ≡ said → item.0 ≡ index
     → given ≡ given_by (said_so_far items) → AreFine (said_so_far items) → rule_of given said ≡ Some rule
     → IsFault text rule (index + 1)
@@ -33,12 +33,13 @@ fault_at text items item given said rule index next says at is fine broken =
     (of_line (said_so_far items) next.rest (said_of item.1.now) rule next.there fine there)
 
 -- the line that comes breaks none
-pub record Goes (items : List Item) (given : Given) : Type 0 where
+pub record Goes (items : List Item) (given : GivenByLines) : Type 0 where
   pub is : given ≡ given_by (said_so_far items)
   pub fine : AreFine (said_so_far items)
   pub planned : Planned (said_so_far items)
 
-pub goes_on : (items : List Item) (item : Item) (given new : Given) (said : Option Said) → said_of item.1.now ≡ said
+pub goes_on : (items : List Item) (item : Item) (given new : GivenByLines) (said : Option LineContent)
+    → said_of item.1.now ≡ said
     → Goes items given → rule_of given said ≡ None → new ≡ given_with given said → Goes (items ++ item ∷ []) new
 goes_on items item given new said says so_far none taken =
     let before = said_so_far items in

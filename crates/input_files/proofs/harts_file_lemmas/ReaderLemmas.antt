@@ -3,8 +3,8 @@ use Rattle.std.proofs.Common.{◌≡◌, ℕ, ◌+◌, ◌*◌, ◌<◌, ◌≤�
 use Rattle.std.proofs.Common.{ap, subst, ◌∙◌, arith}
 use Rattle.std.specs.Option.{option_map}
 use Rattle.input_files.specs.Below.{HartsRule, most_turns, TooManyTurns}
-use Rattle.input_files.specs.harts_file.Lines.{PlannedTurns, rounds, Said, some_turns}
-use Rattle.input_files.specs.harts_file.Faults.{Given, rule_of, rule_of_said, rule_of_turns}
+use Rattle.input_files.specs.harts_file.Lines.{PlannedTurns, rounds, LineContent, some_turns}
+use Rattle.input_files.specs.harts_file.Faults.{GivenByLines, rule_of, rule_of_said, rule_of_turns}
 use Rattle.input_files.specs.harts_file.private.Reading.{held, given_also, given_with}
 use Rattle.input_files.proofs.harts_file_lemmas.RuleLemmas.{breaks_too_many, length-rounds, turns_allowed, held_same}
 use Rattle.input_files.proofs.harts_file_lemmas.RuleLemmas.{rule_held}
@@ -17,7 +17,7 @@ too_many_rounds harts before count most h e long =
     (breaks_too_many most before (rounds count) h refl (omega (arith, long, length-rounds most count))))
 
 -- turns whose numbers are held break the rule that they break, and give what they give where that is none
-module _ (given : Given) (said : Option Said) (turns : PlannedTurns)
+module _ (given : GivenByLines) (said : Option LineContent) (turns : PlannedTurns)
     (is : Some (some_turns turns) ≡ option_map held said) (few : length given.harts ≤ 8) where
   pub turns_rule : rule_of_said given (some_turns turns) ≡ rule_of given said
   turns_rule =
@@ -40,7 +40,7 @@ module _ (given : Given) (said : Option Said) (turns : PlannedTurns)
   turns_answer (Ok rule) h = h ∙ turns_rule
   turns_answer (Err e) h = tt
 
-  pub turns_taken : {E : Type 0} (answer : Result (Option HartsRule) E) (new : Given)
+  pub turns_taken : {E : Type 0} (answer : Result (Option HartsRule) E) (new : GivenByLines)
       → IfOk answer (λ rule. rule ≡ rule_of_said given (some_turns turns))
       → IfOk answer (λ rule. rule ≡ None → new ≡ given_also given (some_turns turns))
       → IfOk answer (λ rule. rule ≡ None → new ≡ given_with given said)

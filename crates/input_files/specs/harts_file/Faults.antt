@@ -2,47 +2,48 @@
 use Rattle.std.specs.Prelude.{◌≡◌, ℕ, ◌+◌, Bool, nat_lt, nat_le, ◌==◌, if◌then◌else◌, List, [], ◌∷◌, ◌++◌, length}
 use Rattle.std.specs.Prelude.{flat_map, filter_map, Option, Some, None}
 use Rattle.input_files.specs.Below.{HartCount, HartsRule, LineForm, most_images, most_turns, NoSuchHart, TooManyTurns}
-use Rattle.input_files.specs.harts_file.Lines.{PlannedHart, PlannedTurns, Said, a_hart, some_turns, lines_of, said_in}
+use Rattle.input_files.specs.harts_file.Lines.{PlannedHart, PlannedTurns, LineContent, a_hart, some_turns, lines_of}
+use Rattle.input_files.specs.harts_file.Lines.{said_in}
 use Rattle.input_files.specs.harts_file.Plans.{turns_listed, is_known}
 
 -- what lines give: harts, whether there is a line of turns, and whose turn it is
-pub record Given : Type 0 where
+pub record GivenByLines : Type 0 where
   pub harts : List PlannedHart
   pub has_turns : Bool
   pub schedule : List ℕ
 
 -- the hart that a line names, and the turns
-abbrev pub hart_in : Said → Option PlannedHart
+abbrev pub hart_in : LineContent → Option PlannedHart
 hart_in (a_hart hart) = Some hart
 hart_in (some_turns turns) = None
 
-abbrev pub turns_in : Said → Option PlannedTurns
+abbrev pub turns_in : LineContent → Option PlannedTurns
 turns_in (a_hart hart) = None
 turns_in (some_turns turns) = Some turns
 
-abbrev pub hart_named : Option Said → Option PlannedHart
+abbrev pub hart_named : Option LineContent → Option PlannedHart
 hart_named None = None
 hart_named (Some said) = hart_in said
 
-abbrev pub turns_named : Option Said → Option PlannedTurns
+abbrev pub turns_named : Option LineContent → Option PlannedTurns
 turns_named None = None
 turns_named (Some said) = turns_in said
 
-abbrev pub harts_of : List (Option Said) → List PlannedHart
+abbrev pub harts_of : List (Option LineContent) → List PlannedHart
 harts_of lines = filter_map hart_named lines
 
-abbrev pub turns_lines_of : List (Option Said) → List PlannedTurns
+abbrev pub turns_lines_of : List (Option LineContent) → List PlannedTurns
 turns_lines_of lines = filter_map turns_named lines
 
 -- what harts and then turns give
-abbrev pub given_from : List PlannedHart → List PlannedTurns → Given
+abbrev pub given_from : List PlannedHart → List PlannedTurns → GivenByLines
 given_from harts turns = record {
   harts = harts;
   has_turns = nat_lt 0 (length turns);
   schedule = flat_map (turns_listed (length harts)) turns;
 }
 
-abbrev pub given_by : List (Option Said) → Given
+abbrev pub given_by : List (Option LineContent) → GivenByLines
 given_by lines = given_from (harts_of lines) (turns_lines_of lines)
 
 -- the first rule that turns break behind so many harts and turns: there has to be a hart, and this hart, and the
@@ -56,26 +57,26 @@ rule_of_turns harts before turns =
 
 -- the first rule that a line breaks behind lines that give so much: a hart must not follow turns, and must not be one
 -- too many
-abbrev pub rule_of_said : Given → Said → Option HartsRule
+abbrev pub rule_of_said : GivenByLines → LineContent → Option HartsRule
 rule_of_said given (a_hart hart) =
     if given.has_turns then Some LineForm else
     if nat_lt (length given.harts) most_images then None else Some HartCount
 rule_of_said given (some_turns turns) = rule_of_turns (length given.harts) (length given.schedule) turns
 
 -- a line of no form breaks the rule on these
-abbrev pub rule_of : Given → Option Said → Option HartsRule
+abbrev pub rule_of : GivenByLines → Option LineContent → Option HartsRule
 rule_of given None = Some LineForm
 rule_of given (Some said) = rule_of_said given said
 
 -- no line breaks a rule behind those before it
-abbrev pub AreFine : List (Option Said) → Type 0
-AreFine lines = (front rest : List (Option Said)) (line : Option Said) → lines ≡ front ++ line ∷ rest
+abbrev pub AreFine : List (Option LineContent) → Type 0
+AreFine lines = (front rest : List (Option LineContent)) (line : Option LineContent) → lines ≡ front ++ line ∷ rest
     → rule_of (given_by front) line ≡ None
 
 -- a text's first faulty line, counted from 1, and the first rule that it breaks. That there is no hart stands at line
 -- 1
 pub data IsFault (text : List ℕ) : HartsRule → ℕ → Type 0 where
-  of_line : (front rest : List (Option Said)) (line : Option Said) (rule : HartsRule)
+  of_line : (front rest : List (Option LineContent)) (line : Option LineContent) (rule : HartsRule)
       → said_in text ≡ front ++ line ∷ rest → AreFine front
       → rule_of (given_by front) line ≡ Some rule → IsFault text rule (length front + 1)
   of_none : lines_of text ≡ [] → IsFault text HartCount 1

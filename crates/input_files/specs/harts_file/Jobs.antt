@@ -1,8 +1,8 @@
 -- Harts of a plan as values.
 use Rattle.std.specs.Prelude.{map}
 use Rattle.input_files.specs.harts_file.Lines.{PlannedHart}
-use Rattle.input_files.specs.declared.harts_file.jobs.Job.{Job}
+use Rattle.input_files.specs.declared.harts_file.jobs.FileJob.{FileJob}
 
 -- the hart that a job names
-abbrev pub hart_of : Job → PlannedHart
+abbrev pub hart_of : FileJob → PlannedHart
 hart_of job = record { path = job.path.now; arguments = map (λ text. text.now) job.arguments.items }

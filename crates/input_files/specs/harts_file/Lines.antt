@@ -17,9 +17,9 @@ pub data PlannedTurns : Type 0 where
   rounds : (count : ℕ) → PlannedTurns
 
 -- what a line says
-pub data Said : Type 0 where
-  a_hart : PlannedHart → Said
-  some_turns : PlannedTurns → Said
+pub data LineContent : Type 0 where
+  a_hart : PlannedHart → LineContent
+  some_turns : PlannedTurns → LineContent
 
 -- parts, without an empty one at the end
 abbrev pub without_empty_end : List (List ℕ) → List (List ℕ)
@@ -41,12 +41,12 @@ is_joined line = not (list_any (λ byte. byte == 13) line)
     && list_all (λ field. not (length field == 0)) (fields_of line)
 
 -- behind the word `hart`: a path, and arguments
-abbrev pub hart_by : List (List ℕ) → Option Said
+abbrev pub hart_by : List (List ℕ) → Option LineContent
 hart_by [] = None
 hart_by (path ∷ arguments) = Some (a_hart (record { path = path; arguments = arguments }))
 
 -- behind the word `turns`: the number of a hart, and how many turns
-abbrev pub turns_by : List (List ℕ) → Option Said
+abbrev pub turns_by : List (List ℕ) → Option LineContent
 turns_by [] = None
 turns_by (hart ∷ []) = None
 turns_by (hart ∷ count ∷ []) =
@@ -54,27 +54,27 @@ turns_by (hart ∷ count ∷ []) =
 turns_by (hart ∷ count ∷ field ∷ fields) = None
 
 -- behind the word `round`: how many rounds
-abbrev pub rounds_by : List (List ℕ) → Option Said
+abbrev pub rounds_by : List (List ℕ) → Option LineContent
 rounds_by [] = None
 rounds_by (count ∷ []) = option_map (λ n. some_turns (rounds n)) (number_in 10 count)
 rounds_by (count ∷ field ∷ fields) = None
 
 -- what a word and the fields behind it say
-abbrev pub said_with : List ℕ → List (List ℕ) → Option Said
+abbrev pub said_with : List ℕ → List (List ℕ) → Option LineContent
 said_with word fields =
     if bytes_eq word (codes "hart") then hart_by fields else
     if bytes_eq word (codes "turns") then turns_by fields else
     if bytes_eq word (codes "round") then rounds_by fields else None
 
 -- what fields say, of which the first is a word
-abbrev pub said_by_fields : List (List ℕ) → Option Said
+abbrev pub said_by_fields : List (List ℕ) → Option LineContent
 said_by_fields [] = None
 said_by_fields (word ∷ fields) = said_with word fields
 
 -- what a line says, if it has a form
-abbrev pub said_of : List ℕ → Option Said
+abbrev pub said_of : List ℕ → Option LineContent
 said_of line = if is_joined line then said_by_fields (fields_of line) else None
 
 -- what the lines of a text say, one after another
-abbrev pub said_in : List ℕ → List (Option Said)
+abbrev pub said_in : List ℕ → List (Option LineContent)
 said_in text = map said_of (lines_of text)

@@ -3,8 +3,8 @@ use Rattle.std.specs.Prelude.{◌≡◌, ℕ, ◌≤◌, Bool, true, nat_lt, Lis
 use Rattle.std.specs.Prelude.{Option, Some}
 use Rattle.std.specs.List.{range_with_len, repeat}
 use Rattle.input_files.specs.Below.{most_images, most_turns}
-use Rattle.input_files.specs.harts_file.Lines.{PlannedHart, PlannedTurns, turns_of, rounds, Said, a_hart, some_turns}
-use Rattle.input_files.specs.harts_file.Lines.{said_in}
+use Rattle.input_files.specs.harts_file.Lines.{PlannedHart, PlannedTurns, turns_of, rounds, LineContent, a_hart}
+use Rattle.input_files.specs.harts_file.Lines.{some_turns, said_in}
 
 -- whose turn it is, one after another, where there are so many harts
 abbrev pub turns_listed : ℕ → PlannedTurns → List ℕ
@@ -17,10 +17,10 @@ is_known harts (turns_of hart count) = nat_lt hart harts
 is_known harts (rounds count) = true
 
 -- a line of a hart, and one of turns
-abbrev pub hart_line : PlannedHart → Option Said
+abbrev pub hart_line : PlannedHart → Option LineContent
 hart_line hart = Some (a_hart hart)
 
-abbrev pub turns_line : PlannedTurns → Option Said
+abbrev pub turns_line : PlannedTurns → Option LineContent
 turns_line turns = Some (some_turns turns)
 
 -- a text gives these harts, and this schedule of their turns: the lines name the harts, one after another, and then

@@ -3,7 +3,7 @@
 use Rattle.std.specs.Prelude.{◌≡◌, ◌⊎◌, ℕ, ◌<◌, ◌≤◌, List, length, Some, ⊤}
 use Rattle.std.specs.Str.{IsUtf8}
 use Rattle.std.specs.String.{string_bytes}
-use Rattle.input_files.specs.Below.{IsRefusalOf, IsWantOfMemory, Profile, Refusal, text_limit, TextTooLong}
+use Rattle.input_files.specs.Below.{IsRefusalOf, IsWantOfMemory, Profile, Refusal, source_limit, TextTooLong}
 use Rattle.language.specs.declared.why.Why.TheVariants.{Plain}
 use Rattle.word.specs.Places.{origin}
 use Rattle.input_files.specs.declared.stream_build.fault.BuildFault.{BuildFault}
@@ -13,17 +13,17 @@ use Rattle.input_files.specs.declared.stream_build.fault.Unbuilt.TheVariants.{Un
 
 -- the bytes are a text that is not too long
 abbrev pub IsText : List ℕ → Type 0
-IsText bytes = (length bytes ≤ text_limit) × IsUtf8 bytes
+IsText bytes = (length bytes ≤ source_limit) × IsUtf8 bytes
 
 -- the refusal of a text that is too long
 abbrev pub IsTooLong : List ℕ → Refusal → Type 0
-IsTooLong bytes refusal = (text_limit < length bytes) × (refusal.rule ≡ TextTooLong) × (refusal.place ≡ Some origin)
+IsTooLong bytes refusal = (source_limit < length bytes) × (refusal.rule ≡ TextTooLong) × (refusal.place ≡ Some origin)
     × (refusal.why ≡ Plain)
 
 -- why a source's bytes are not had as a text; that a call of it failed, its count of failures says
 abbrev pub NoText : List ℕ → BuildFault Refusal → Type 0
 NoText bytes Read = ⊤
-NoText bytes NotUtf8 = (length bytes ≤ text_limit) × ¬ IsUtf8 bytes
+NoText bytes NotUtf8 = (length bytes ≤ source_limit) × ¬ IsUtf8 bytes
 NoText bytes (Refused refusal) = IsWantOfMemory refusal.rule refusal.place ⊎ IsTooLong bytes refusal
 NoText bytes Write = ⊥
 

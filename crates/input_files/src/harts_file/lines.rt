@@ -6,7 +6,7 @@ ghost use Rattle.input_files.specs.harts_file.Lines.{is_joined, hart_by, turns_b
 ghost use Rattle.input_files.specs.harts_file.Lines.{said_by_fields, said_of};
 ghost use Rattle.input_files.specs.harts_file.private.Reading.{said_by_line, held};
 
-use crate::harts_file::jobs::Job;
+use crate::harts_file::jobs::FileJob;
 use crate::harts_file::numerals::decimal;
 use std::alloc::{AllocError, Global};
 
@@ -14,7 +14,7 @@ use std::alloc::{AllocError, Global};
 #[derive(Debug, Drop)]
 pub enum Line<'a> {
     /// One hart more.
-    Hart(Job<'a>),
+    Hart(FileJob<'a>),
     /// So many turns of this hart.
     Turns { hart: u64, count: u64 },
     /// So many times one turn of each hart, in their order.
@@ -39,7 +39,7 @@ fn hart_by<'a>(alloc: Global, fields: &[&'a str]) -> Result<Option<Line<'a>>, Al
     match fields {
         [path, arguments @ ..] => {
             let arguments = Vec::from_slice(alloc, arguments)?;
-            Ok(Some(Line::Hart(Job { path, arguments })))
+            Ok(Some(Line::Hart(FileJob { path, arguments })))
         }
         [] => Ok(None),
     }

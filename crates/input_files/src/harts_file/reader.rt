@@ -3,12 +3,12 @@
 ghost use Rattle.std.specs.Prelude.{◌≤◌, vec_len};
 ghost use Rattle.input_files.specs.Below.{most_images, most_turns};
 
-use crate::harts_file::jobs::Job;
+use crate::harts_file::jobs::FileJob;
 
 /// What has been read of a plan.
 #[derive(Debug, Drop)]
-pub struct Reader<'a> {
-    pub jobs: Vec<Job<'a>>,
+pub struct PlanReader<'a> {
+    pub jobs: Vec<FileJob<'a>>,
     pub schedule: Vec<u8>,
     /// Whether turns were read, after which there comes no hart.
     pub has_turns: bool,

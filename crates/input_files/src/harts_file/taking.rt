@@ -9,18 +9,18 @@ ghost use Rattle.input_files.specs.harts_file.Faults.{given_from, rule_of, rule_
 ghost use Rattle.input_files.specs.harts_file.Jobs.{hart_of};
 ghost use Rattle.input_files.specs.harts_file.private.Reading.{given_to, given_also, given_with};
 
-use crate::harts_file::jobs::Job;
+use crate::harts_file::jobs::FileJob;
 use crate::harts_file::lines::{Line, line_of};
-use crate::harts_file::reader::Reader;
+use crate::harts_file::reader::PlanReader;
 use harts::{HartsRule, MOST_IMAGES, MOST_TURNS};
 use std::alloc::{AllocError, Global};
 
-impl<'a> Reader<'a> {
+impl<'a> PlanReader<'a> {
     /// No line was read.
     pub fn new(alloc: Global) -> Self
         ensures { given_to result ≡ given_from [] [] }
     {
-        Reader {
+        PlanReader {
             jobs: Vec::new(alloc),
             schedule: Vec::new(alloc),
             has_turns: false,
@@ -41,7 +41,7 @@ impl<'a> Reader<'a> {
         }
     }
 
-    fn take_hart(&mut self, job: Job<'a>) -> Result<Option<HartsRule>, AllocError>
+    fn take_hart(&mut self, job: FileJob<'a>) -> Result<Option<HartsRule>, AllocError>
         ensures rule { IfOk result (λ rule. rule ≡ rule_of_said (given_to self.old) (a_hart (hart_of job.entry))) }
         ensures taken { IfOk result (λ rule.
             rule ≡ None → given_to self.new ≡ given_also (given_to self.old) (a_hart (hart_of job.entry))) }

@@ -1,7 +1,7 @@
 // The image of a text that a source hands out, on a sink.
 
 ghost use Rattle.std.specs.Prelude.{◌≡◌, ◌≢◌, ◌+◌, length, IsTrue, IfOk, IfErr, OnOk, IsErrOf};
-ghost use Rattle.input_files.specs.Below.{IsBuilt, LosesPart, one_more, text_limit, Writes, WritesPart};
+ghost use Rattle.input_files.specs.Below.{IsBuilt, LosesPart, one_more, source_limit, Writes, WritesPart};
 ghost use Rattle.input_files.specs.stream_build.Faults.{IsText, IsFaultOf, IsUnbuilt};
 
 use crate::stream_build::fault::{BuildFault, Unbuilt};
@@ -31,7 +31,7 @@ pub fn build_stream_keeping<R: Source, W: Sink>(
     ensures text { IsTrue R.TELLS → OnOk result (IsText (R.coming source.old)) }
     ensures fault { IsTrue R.TELLS → IfErr result (IsUnbuilt profile (R.coming source.old)) }
     ensures unread { result ≢ Err (Unbuilt.Unread BuildFault.Write) }
-    ensures part { IsTrue R.TELLS → LosesPart (R.coming source.old) (R.coming source.new) (text_limit + 1) }
+    ensures part { IsTrue R.TELLS → LosesPart (R.coming source.old) (R.coming source.new) (source_limit + 1) }
     ensures read_calm { result ≢ Err (Unbuilt.Unread BuildFault.Read) → R.failures source.new ≡ R.failures source.old }
     ensures read_counts { IsErrOf result (Unbuilt.Unread BuildFault.Read)
         → R.failures source.new ≡ one_more (R.failures source.old) }
@@ -69,7 +69,7 @@ pub fn build_stream_with<R: Source, W: Sink>(
     ensures untouched { IfErr result (λ fault. fault ≢ BuildFault.Write → sink.new ≡ sink.old) }
     ensures text { IsTrue R.TELLS → OnOk result (IsText (R.coming source.old)) }
     ensures fault { IsTrue R.TELLS → IfErr result (IsFaultOf profile (R.coming source.old)) }
-    ensures part { IsTrue R.TELLS → LosesPart (R.coming source.old) (R.coming source.new) (text_limit + 1) }
+    ensures part { IsTrue R.TELLS → LosesPart (R.coming source.old) (R.coming source.new) (source_limit + 1) }
     ensures read_calm { result ≢ Err BuildFault.Read → R.failures source.new ≡ R.failures source.old }
     ensures read_counts { IsErrOf result BuildFault.Read → R.failures source.new ≡ one_more (R.failures source.old) }
     ensures write_calm { result ≢ Err BuildFault.Write → W.failures sink.new ≡ W.failures sink.old }
@@ -99,7 +99,7 @@ pub fn build_stream_as<R: Source, W: Sink>(
     ensures untouched { IfErr result (λ fault. fault ≢ BuildFault.Write → sink.new ≡ sink.old) }
     ensures text { IsTrue R.TELLS → OnOk result (IsText (R.coming source.old)) }
     ensures fault { IsTrue R.TELLS → IfErr result (IsFaultOf profile (R.coming source.old)) }
-    ensures part { IsTrue R.TELLS → LosesPart (R.coming source.old) (R.coming source.new) (text_limit + 1) }
+    ensures part { IsTrue R.TELLS → LosesPart (R.coming source.old) (R.coming source.new) (source_limit + 1) }
     ensures read_calm { result ≢ Err BuildFault.Read → R.failures source.new ≡ R.failures source.old }
     ensures read_counts { IsErrOf result BuildFault.Read → R.failures source.new ≡ one_more (R.failures source.old) }
     ensures write_calm { result ≢ Err BuildFault.Write → W.failures sink.new ≡ W.failures sink.old }
@@ -123,7 +123,7 @@ pub fn build_stream<R: Source, W: Sink>(
     ensures untouched { IfErr result (λ fault. fault ≢ BuildFault.Write → sink.new ≡ sink.old) }
     ensures text { IsTrue R.TELLS → OnOk result (IsText (R.coming source.old)) }
     ensures fault { IsTrue R.TELLS → IfErr result (IsFaultOf Profile.P1 (R.coming source.old)) }
-    ensures part { IsTrue R.TELLS → LosesPart (R.coming source.old) (R.coming source.new) (text_limit + 1) }
+    ensures part { IsTrue R.TELLS → LosesPart (R.coming source.old) (R.coming source.new) (source_limit + 1) }
     ensures read_calm { result ≢ Err BuildFault.Read → R.failures source.new ≡ R.failures source.old }
     ensures read_counts { IsErrOf result BuildFault.Read → R.failures source.new ≡ one_more (R.failures source.old) }
     ensures write_calm { result ≢ Err BuildFault.Write → W.failures sink.new ≡ W.failures sink.old }

@@ -5,7 +5,7 @@ ghost use Rattle.input_files.specs.wrapping.Wrapped.{Breaks, IsWrapped};
 ghost use Rattle.input_files.specs.declared.wrapping.asked.Asked.{Asked};
 ghost use Rattle.input_files.specs.declared.wrapping.fault.CodeRule.{CodeRule};
 
-use syntax::one_answer_for_a_text;
+use syntax::one_answer_for_a_source;
 
 /// Of a text, code and what is asked besides there is one image, or one rule that is broken first, and not both: what
 /// `wrap` answers twice is one list of bytes, or one rule.
@@ -23,5 +23,5 @@ pub fn wraps_agree()
         → Breaks text code asked rule
         → ⊥ }
 {
-    one_answer_for_a_text();
+    one_answer_for_a_source();
 }

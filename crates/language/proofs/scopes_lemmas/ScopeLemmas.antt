@@ -4,7 +4,7 @@ use Rattle.std.specs.Option.{option_map}
 use Rattle.std.proofs.lemmas.List.{take-map}
 use Rattle.word.specs.declared.place.Place.{Place}
 use Rattle.word.specs.declared.profile.Profile.{Profile}
-use Rattle.language.specs.declared.scopes.scope.Entry.{Entry}
+use Rattle.language.specs.declared.scopes.scope.ScopeEntry.{ScopeEntry}
 use Rattle.language.specs.declared.typing.Declared.{Declared}
 use Rattle.language.specs.names.Scope.{parts, declared as declared_in, found as found_in}
 use Rattle.language.specs.scopes.Shortened.{shortened}
@@ -12,12 +12,12 @@ use Rattle.language.specs.Types.{Scope, declared, found}
 use Rattle.language.proofs.names_lemmas.EntryLemmas.{declared_part, found_part}
 
 abbrev pub Entries : Type 0
-Entries = List (List ℕ × Entry)
+Entries = List (List ℕ × ScopeEntry)
 
-abbrev pub what_of : Entry → Declared
+abbrev pub what_of : ScopeEntry → Declared
 what_of entry = entry.what
 
-abbrev pub place_of : Entry → Place
+abbrev pub place_of : ScopeEntry → Place
 place_of entry = entry.place
 
 abbrev pub scope_as : Profile → Entries → Scope
@@ -35,8 +35,8 @@ shortened_as profile n entries =
       names = names;
       places = places;
     })
-    (sym (take-map (λ (e : List ℕ × Entry). (e.0, what_of e.1)) n entries))
-    (sym (take-map (λ (e : List ℕ × Entry). (e.0, place_of e.1)) n entries))
+    (sym (take-map (λ (e : List ℕ × ScopeEntry). (e.0, what_of e.1)) n entries))
+    (sym (take-map (λ (e : List ℕ × ScopeEntry). (e.0, place_of e.1)) n entries))
 
 pub declared_as : (profile : Profile) (place : Place) (name : List ℕ) (what : Declared) (entries : Entries)
     → scope_as profile (declared_in entries name (record { what = what; place = place }))
@@ -55,6 +55,6 @@ pub taken_as : (profile : Profile) (name : List ℕ) (entries : Entries)
     → is_some (found_in entries name) ≡ is_some (found (scope_as profile entries) name)
 taken_as profile name entries = by (found_in entries name) ∙ ap is_some (sym (found_part what_of entries name))
   where
-    by : (o : Option Entry) → is_some o ≡ is_some (option_map what_of o)
+    by : (o : Option ScopeEntry) → is_some o ≡ is_some (option_map what_of o)
     by (Some entry) = refl
     by None = refl

@@ -25,10 +25,9 @@ use Rattle.language.specs.ExprTyping.{typed_of_all, exprs_violations}
 use Rattle.language.specs.Reasons.{secret_in, literal_in}
 use Rattle.language.specs.Tree.{ExprTree, ParameterTree, ProcedureTree}
 use Rattle.language.specs.Types.{Scope, because, same_kind, same_label, when, typed_as}
-use Rattle.language.specs.Typing.{parameter_value, is_mutable, shape_rules, argument_rules}
-use Rattle.language.specs.Typing.{argument_variable, is_immutable, Passed, argument_violations, passed_violations, array_name}
-use Rattle.language.specs.Typing.{same_name, clash, shared, first_clash, clash_violations, passed}
-use Rattle.language.specs.Typing.{arguments_violations}
+use Rattle.language.specs.Typing.{parameter_value, is_mutable, shape_rules, argument_rules, argument_variable}
+use Rattle.language.specs.Typing.{is_immutable, Passed, argument_violations, passed_violations, array_name, same_name}
+use Rattle.language.specs.Typing.{clash, shared, first_clash, clash_violations, passed, arguments_violations}
 use Rattle.language.specs.WellTyped.{labelled, IsVariable, HasType, of_name, array_of, IsPassed, as_word, as_array}
 use Rattle.language.specs.WellTyped.{as_mutable_array, array_given, is_shared, SharesNone, ArePassed, none_passed}
 use Rattle.language.specs.WellTyped.{one_passed}
@@ -120,14 +119,14 @@ module _ (scope : Scope) where
       itself Secret = refl
 
   -- what is known of an argument that is passed
-  record Fits (p : ParameterTree) (e : ExprTree) : Type 0 where
+  record IsArgument (p : ParameterTree) (e : ExprTree) : Type 0 where
     type : ValueType
     has : HasType scope e type
     none : (place : Place)
         → argument_violations scope place (record { parameter = p; given = told scope e type; argument = e }) ≡ []
     names : array_name type e ≡ array_given p.form e
 
-  fits : (p : ParameterTree) {e : ExprTree} → IsPassed scope p e → Fits p e
+  fits : (p : ParameterTree) {e : ExprTree} → IsPassed scope p e → IsArgument p e
   fits p (as_word {given = given} form has suit) =
       record { type = Word given; has = has; none = λ place. rw (form, suited suit) refl; names = rw form }
   fits p (as_array form is) =

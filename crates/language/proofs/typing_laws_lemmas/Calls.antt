@@ -14,7 +14,7 @@ use Rattle.language.specs.Types.{Scope, found, callee, label_under, typed_as}
 use Rattle.language.specs.Typing.{called_one, with_tree, known_call_violations}
 use Rattle.language.specs.Typing.{call_type, call_violations, result_value, right_secret, right_literal}
 use Rattle.language.specs.Typing.{right_type, right_typed, right_violations}
-use Rattle.language.specs.WellTyped.{IsCall, of_procedure, Gives, of_call, of_value}
+use Rattle.language.specs.WellTyped.{IsCall, of_procedure, RightHasType, of_call, of_value}
 use Rattle.language.proofs.typing_laws_lemmas.Arguments.{have_types, all_typed, are_passed, passed_none}
 use Rattle.language.proofs.typing_laws_lemmas.Expressions.{known, is_typed}
 use Rattle.language.proofs.typing_laws_lemmas.NoRules.{none_of_two, no_rules, not_when}
@@ -91,7 +91,7 @@ module _ (earlier : List ProcedureTree) (scope : Scope) (control : Option Secret
 
   pub record RightKnown (right : RightTree) : Type 0 where
     pub type : ValueType
-    pub given : Gives earlier scope (label_under control) right type
+    pub given : RightHasType earlier scope (label_under control) right type
     pub told : right_typed earlier scope control right
         ≡ Some (typed_as (right_secret scope right) (right_literal right) type)
 
@@ -102,7 +102,7 @@ module _ (earlier : List ProcedureTree) (scope : Scope) (control : Option Secret
   right_known (computed e) h =
       let x = known scope e h in record { type = x.type; given = of_value x.has; told = x.told }
 
-  pub right_none : {right : RightTree} {type : ValueType} → Gives earlier scope (label_under control) right type
+  pub right_none : {right : RightTree} {type : ValueType} → RightHasType earlier scope (label_under control) right type
       → (right_violations earlier scope control right ≡ []) × (right_type earlier scope control right ≡ Some type)
   right_none (of_call is) = call_none is
   right_none (of_value has) = let x = is_typed scope has in (x.none, x.is)

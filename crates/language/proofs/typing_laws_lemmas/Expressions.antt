@@ -36,27 +36,27 @@ use Rattle.language.proofs.typing_laws_lemmas.Nodes.{is_converted, converted, is
 
 -- There is a type exactly where no rule is violated.
 
-data Agree : Option ValueType → List Violation → Type 0 where
-  typed_one : {type : ValueType} → Agree (Some type) []
-  untyped : {v : Violation} {vs : List Violation} → Agree None (v ∷ vs)
+data RulesAgree : Option ValueType → List Violation → Type 0 where
+  typed_one : {type : ValueType} → RulesAgree (Some type) []
+  untyped : {v : Violation} {vs : List Violation} → RulesAgree None (v ∷ vs)
 
 module _ (place : Place) where
   own : (why : Rule → Why) (rules : List Rule) (type : ValueType)
-      → Agree (unless rules type) (because_of why place rules)
+      → RulesAgree (unless rules type) (because_of why place rules)
   own why [] type = typed_one
   own why (rule ∷ rules) type = untyped
 
   one_part : (why : Typed → Rule → Why) (rules : ValueType → List Rule) (type : ValueType → ValueType)
-      (a : Option Place) (k : Option ℕ) {o : Option ValueType} {us : List Violation} → Agree o us
-      → Agree (of_one None (λ s. unless (rules s) (type s)) o)
+      (a : Option Place) (k : Option ℕ) {o : Option ValueType} {us : List Violation} → RulesAgree o us
+      → RulesAgree (of_one None (λ s. unless (rules s) (type s)) o)
       (us ++ asked_of_one why place rules (option_map (typed_as a k) o))
   one_part why rules type a k (typed_one {type = s}) = own (why (typed_as a k s)) (rules s) (type s)
   one_part why rules type a k untyped = untyped
 
   two_parts : (why : Typed → Typed → Rule → Why) (rules : ValueType → ValueType → List Rule)
       (type : ValueType → ValueType → ValueType) (a b : Option Place) (k l : Option ℕ) {o p : Option ValueType}
-      {us vs : List Violation} → Agree o us → Agree p vs
-      → Agree (of_two None (λ s t. unless (rules s t) (type s t)) o p)
+      {us vs : List Violation} → RulesAgree o us → RulesAgree p vs
+      → RulesAgree (of_two None (λ s t. unless (rules s t) (type s t)) o p)
       (us ++ vs ++ asked_of_two why place rules (option_map (typed_as a k) o) (option_map (typed_as b l) p))
   two_parts why rules type a b k l (typed_one {type = s}) (typed_one {type = t}) =
       own (why (typed_as a k s) (typed_as b l t)) (rules s t) (type s t)
@@ -65,8 +65,8 @@ module _ (place : Place) where
 
   three_parts : (why : Typed → Typed → Typed → Rule → Why) (rules : ValueType → ValueType → ValueType → List Rule)
       (type : ValueType → ValueType → ValueType → ValueType) (a b c : Option Place) (k l m : Option ℕ)
-      {o p q : Option ValueType} {us vs ws : List Violation} → Agree o us → Agree p vs → Agree q ws
-      → Agree (of_three None (λ s t u. unless (rules s t u) (type s t u)) o p q)
+      {o p q : Option ValueType} {us vs ws : List Violation} → RulesAgree o us → RulesAgree p vs → RulesAgree q ws
+      → RulesAgree (of_three None (λ s t u. unless (rules s t u) (type s t u)) o p q)
       (us ++ vs ++ ws ++ asked_of_three why place rules (option_map (typed_as a k) o) (option_map (typed_as b l) p)
       (option_map (typed_as c m) q))
   three_parts why rules type a b c k l m (typed_one {type = s}) (typed_one {type = t}) (typed_one {type = u}) =
@@ -75,13 +75,14 @@ module _ (place : Place) where
   three_parts why rules type a b c k l m typed_one untyped _ = untyped
   three_parts why rules type a b c k l m untyped _ _ = untyped
 
-  named : (why : Why) (o : Option Declared) → Agree (option_map (λ (v : VariableType). v.value) (variable o))
+  named : (why : Why) (o : Option Declared) → RulesAgree (option_map (λ (v : VariableType). v.value) (variable o))
       (because why place (when (not (is_some (variable o))) UndeclaredName))
   named why (Some (Variable v)) = typed_one
   named why (Some (Procedure c)) = untyped
   named why None = untyped
 
-none_violated : {o : Option ValueType} {type : ValueType} {vs : List Violation} → Agree o vs → o ≡ Some type → vs ≡ []
+none_violated : {o : Option ValueType} {type : ValueType} {vs : List Violation} → RulesAgree o vs → o ≡ Some type
+    → vs ≡ []
 none_violated typed_one h = refl
 none_violated untyped h = cc
 
@@ -95,7 +96,7 @@ is_variable why place (Some (Procedure c)) h = cc
 is_variable why place None h = cc
 
 module _ (scope : Scope) where
-  agree : (e : ExprTree) → Agree (type_of scope e) (expr_violations scope e)
+  agree : (e : ExprTree) → RulesAgree (type_of scope e) (expr_violations scope e)
   agree (number place value kind) = own place _ (number_rules value kind) _
   agree (truth place value) = typed_one
   agree (name place text) = named place (unknown_why scope text) (found scope text)

@@ -48,14 +48,14 @@ sign_takes Negate kind label h = rw (counts kind h)
 -- An operator between two operands.
 
 -- what the rules ask
-record IsTaken (profile : Profile) (operation : Operation) (s t : ValueType) : Type 0 where
+record OperandsAreTaken (profile : Profile) (operation : Operation) (s t : ValueType) : Type 0 where
   even : is_uneven operation s t ≡ false
   kinds : takes operation s t ≡ true
   told : divides_secret operation s t ≡ false
   shown : multiplies_secret profile operation s t ≡ false
 
 is_taken : {profile : Profile} {operation : Operation} {s t : ValueType} → operation_rules profile operation s t ≡ []
-    → IsTaken profile operation s t
+    → OperandsAreTaken profile operation s t
 is_taken h =
     let none = none_of_four h in
     record {
@@ -78,7 +78,7 @@ may_be_multiplied P2 k l Public Public h = both_public
 may_be_multiplied P2 k l _ _ h = cc
 
 makes : (profile : Profile) (operation : Operation) (k l : Kind) (m n : Label)
-    → IsTaken profile operation (word k m) (word l n)
+    → OperandsAreTaken profile operation (word k m) (word l n)
     → Makes profile operation (labelled k m) (labelled l n) (labelled (operation_kind operation k) (joined m n))
 makes profile Arithmetic k l m n x =
     let numbers = even_numbers k l m n x.even x.kinds in rw numbers.1 (arithmetic numbers.0)
@@ -125,7 +125,7 @@ is_operated profile operation s t h =
     }
 
 -- no rule is violated, and this is what is made
-pub record IsMade (profile : Profile) (operation : Operation) (one other whole : WordType) : Type 0 where
+pub record OperationIsMade (profile : Profile) (operation : Operation) (one other whole : WordType) : Type 0 where
   pub none : operation_rules profile operation (Word one) (Word other) ≡ []
   pub whole_is : labelled (operation_kind operation one.kind) (joined one.label other.label) ≡ whole
 
@@ -149,7 +149,7 @@ meets_others (order {kind = k} h) = (rw (counts k h, same_as_itself k), rw (coun
 meets_others logic = (refl, refl, refl, refl)
 
 pub made : {profile : Profile} {operation : Operation} {one other whole : WordType}
-    → Makes profile operation one other whole → IsMade profile operation one other whole
+    → Makes profile operation one other whole → OperationIsMade profile operation one other whole
 made makes =
     let x = meets_others makes in record { none = rw (x.0, x.1, x.2, shows_none makes); whole_is = x.3 }
 

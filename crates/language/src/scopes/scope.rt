@@ -10,7 +10,7 @@ use std::marker::Model;
 
 /// What a name stands for, and where it is declared.
 #[derive(Clone, Copy)]
-struct Entry {
+struct ScopeEntry {
     what: Declared,
     place: Place,
 }
@@ -19,20 +19,20 @@ struct Entry {
 #[derive(Drop)]
 pub struct Scope<'a> {
     profile: Profile,
-    names: Names<'a, Entry>,
+    names: Names<'a, ScopeEntry>,
 }
 
 impl<'a> Model for Scope<'a> {
     ghost use Rattle.language.specs.Types.{Scope as ScopeOfNames};
-    ghost use Rattle.language.specs.declared.scopes.scope.Entry.{Entry};
+    ghost use Rattle.language.specs.declared.scopes.scope.ScopeEntry.{ScopeEntry};
     ghost use Rattle.language.specs.names.Scope.{parts};
 
     ghost Value = { ScopeOfNames };
 
     ghost view = { λ scope. record {
       profile = scope.profile;
-      names = parts (λ (entry : Entry). entry.what) scope.names;
-      places = parts (λ (entry : Entry). entry.place) scope.names;
+      names = parts (λ (entry : ScopeEntry). entry.what) scope.names;
+      places = parts (λ (entry : ScopeEntry). entry.place) scope.names;
     } };
 }
 
@@ -129,6 +129,6 @@ impl<'a> Scope<'a> {
         ensures taken { IfOk result (λ taken. taken ≡ is_some (found self.old name.now)) }
         ensures ok { OnOk result (self.new ≡ declared self.old place name.now what) }
     {
-        self.names.declare(name, Entry { what, place })
+        self.names.declare(name, ScopeEntry { what, place })
     }
 }

@@ -8,7 +8,7 @@ use Rattle.optimisation.specs.private.SameWords.{are_alike}
 use Rattle.optimisation.specs.declared.constants.known.Constant.{Constant}
 use Rattle.optimisation.specs.declared.constants.known.WordCopy.{WordCopy}
 use Rattle.optimisation.specs.constants.private.Folding.{constant_of}
-use Rattle.optimisation.specs.constants.private.Known.{Words, with_word}
+use Rattle.optimisation.specs.constants.private.Known.{WordFacts, with_word}
 use Rattle.optimisation.specs.constants.private.Simplification.{copied, copied_where, may_be_read_as, set_to}
 use Rattle.optimisation.specs.constants.private.Simplification.{variable_of}
 use Rattle.optimisation.proofs.constants_lemmas.KnownLemmas.{Fact, valued, copy, IsFree, Knows, in_more, word_by}
@@ -26,7 +26,7 @@ two_variables declared x y is =
 
 -- what is known where a variable has been set to the value of an expression: its number, or that it is a copy, and what
 -- was known of others
-module _ (declared : List FlatVariable) (words : Words) (x : ℕ) (e : TermTree) (P : Fact → Type 0)
+module _ (declared : List FlatVariable) (words : WordFacts) (x : ℕ) (e : TermTree) (P : Fact → Type 0)
     (numbered : (c : Constant) → constant_of e ≡ Some c → P (valued x c))
     (is_copy : (y : ℕ) → variable_of e ≡ Some y → may_be_read_as declared x y ≡ true
     → P (copy (record { variable = x; source = y })))

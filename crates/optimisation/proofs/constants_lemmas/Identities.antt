@@ -6,10 +6,10 @@ use Rattle.std.proofs.lemmas.Bool.{eqb-true, eqb-false, false≢true}
 use Rattle.std.proofs.lemmas.Nat.{and_comm, and_mask}
 use Rattle.std.specs.Int.Bits.{or_zero_l, or_zero_r, xor_zero_l, xor_zero_r}
 use Rattle.inline.proofs.Fitting.{fits_number}
-use Rattle.optimisation.specs.Below.{Add, arithmetic, BinaryOperator, BitAnd, BitOr, bits, BitXor, Both, complemented}
-use Rattle.optimisation.specs.Below.{difference, Divide, Either, IsWithinKind, IsWord, logic, Makes, multiplication}
-use Rattle.optimisation.specs.Below.{Multiply, operated, operation_of, Profile, shift, ShiftLeft, ShiftRight, Subtract}
-use Rattle.optimisation.specs.Below.{truth_of, W16, W32, W8, Width, width_of, word_of, WordType}
+use Rattle.optimisation.specs.Below.{Add, arithmetic, BinaryOperator, BitAnd, BitOr, bits, BitXor, LogicalAnd}
+use Rattle.optimisation.specs.Below.{complemented, difference, Divide, LogicalOr, IsWithinKind, IsWord, logic, Makes}
+use Rattle.optimisation.specs.Below.{multiplication, Multiply, operated, operation_of, Profile, shift, ShiftLeft}
+use Rattle.optimisation.specs.Below.{ShiftRight, Subtract, truth_of, W16, W32, W8, Width, width_of, word_of, WordType}
 use Rattle.optimisation.specs.constants.private.Folding.{is_left_identity, is_right_identity}
 
 -- Words.
@@ -51,9 +51,9 @@ pub right_identity : {profile : Profile} (operator : BinaryOperator) {one other 
     → Makes profile (operation_of operator) one other whole → IsWithinKind one.kind a
     → is_right_identity operator (width_of one.kind) b ≡ true
     → operated operator (width_of one.kind) a b ≡ a
-right_identity Either a b logic fits is =
+right_identity LogicalOr a b logic fits is =
     rw (eqb-true b 0 is, either_nothing) (truth_again a fits)
-right_identity Both a b logic fits is =
+right_identity LogicalAnd a b logic fits is =
     rw (is, both_true) (truth_again a fits)
 right_identity BitOr a b makes fits is = rw (eqb-true b 0 is) (or_zero_r a)
 right_identity BitXor a b makes fits is = rw (eqb-true b 0 is) (xor_zero_r a)
@@ -77,9 +77,9 @@ pub left_identity : {profile : Profile} (operator : BinaryOperator) {one other w
     → Makes profile (operation_of operator) one other whole → IsWithinKind other.kind b
     → is_left_identity operator (width_of one.kind) a ≡ true
     → operated operator (width_of one.kind) a b ≡ b
-left_identity Either a b logic fits is =
+left_identity LogicalOr a b logic fits is =
     rw (eqb-true a 0 is) (truth_again b fits)
-left_identity Both a b logic fits is = rw is (truth_again b fits)
+left_identity LogicalAnd a b logic fits is = rw is (truth_again b fits)
 left_identity BitOr a b makes fits is = rw (eqb-true a 0 is) (or_zero_l b)
 left_identity BitXor a b makes fits is = rw (eqb-true a 0 is) (xor_zero_l b)
 left_identity BitAnd a b (arithmetic {kind = k} numeric) fits is =

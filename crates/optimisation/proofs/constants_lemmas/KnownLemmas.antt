@@ -11,8 +11,8 @@ use Rattle.std.proofs.lemmas.Option.{cond_some, none-some}
 use Rattle.optimisation.specs.Below.{Fits, Types, Values}
 use Rattle.optimisation.specs.declared.constants.known.Constant.{Constant}
 use Rattle.optimisation.specs.declared.constants.known.WordCopy.{WordCopy}
-use Rattle.optimisation.specs.constants.private.Known.{Words, known, word_at, source_in, is_apart, with_word, without}
-use Rattle.optimisation.specs.constants.private.Known.{latest, with_copy, short, all_short}
+use Rattle.optimisation.specs.constants.private.Known.{WordFacts, known, word_at, source_in, is_apart, with_word}
+use Rattle.optimisation.specs.constants.private.Known.{without, latest, with_copy, short, all_short}
 
 -- Facts: a variable's word, or a copy.
 
@@ -20,7 +20,7 @@ pub data Fact : Type 0 where
   valued : (x : ℕ) (c : Constant) → Fact
   copy : (c : WordCopy) → Fact
 
-abbrev pub Knows : Words → Fact → Type 0
+abbrev pub Knows : WordFacts → Fact → Type 0
 Knows words (valued x c) = known words x ≡ Some c
 Knows words (copy c) = Contains words.copies c
 
@@ -58,7 +58,7 @@ in_latest c copies is =
     in_rest (d ∷ cs) there = (suc there.0, omega arith, there.2)
 
 -- a copy that is known once one more is noted
-pub in_more : (words : Words) (c d : WordCopy) → Contains (with_copy words d).copies c
+pub in_more : (words : WordFacts) (c d : WordCopy) → Contains (with_copy words d).copies c
     → Contains words.copies c ⊎ (d ≡ c)
 in_more words c d is = ⊎_map (in_latest c words.copies) (λ h. h) (Contains-push_cases (latest words.copies) d c is)
 
@@ -104,19 +104,19 @@ short_word (w ∷ numbers) (suc y) c is = short_word numbers y c is
 -- Facts once something is noted or forgotten.
 
 -- of another variable no more is known
-pub known_beside : (words : Words) (x : ℕ) (word : Option Constant) (f : Fact) → IsFree x f
+pub known_beside : (words : WordFacts) (x : ℕ) (word : Option Constant) (f : Fact) → IsFree x f
     → Knows (with_word words x word) f → Knows words f
 known_beside words x word (valued y c) free is = sym (word_beside words.numbers x y word (free y refl)) ∙ is
 known_beside words x word (copy c) free is = (in_filtered (is_apart x) c words.copies is).0
 
 -- a copy that is still known has nothing to do with the variable
-still_copy : (words : Words) (x : ℕ) (word : Option Constant) (c : WordCopy)
+still_copy : (words : WordFacts) (x : ℕ) (word : Option Constant) (c : WordCopy)
     → Knows (with_word words x word) (copy c) → Knows words (copy c) × IsFree x (copy c)
 still_copy words x word c is =
     let found = in_filtered (is_apart x) c words.copies is in (found.0, apart_free x c found.1)
 
 -- what is known of the variable is what is noted of it, and all else was known before
-pub word_by : (words : Words) (x : ℕ) (word : Option Constant) (P : Fact → Type 0)
+pub word_by : (words : WordFacts) (x : ℕ) (word : Option Constant) (P : Fact → Type 0)
     → ((c : Constant) → word ≡ Some c → P (valued x c)) → ((f : Fact) → IsFree x f → Knows words f → P f)
     → (f : Fact) → Knows (with_word words x word) f → P f
 word_by words x word P noted known_before (copy c) is =
@@ -133,12 +133,12 @@ word_by words x word P noted known_before (valued y c) is = by_number (y == x) r
         known_before (valued y c) free (known_beside words x word (valued y c) free is)
 
 -- of a variable without a word nothing is known
-pub without_known : (words : Words) (x : ℕ) (f : Fact) → Knows (without words x) f → Knows words f × IsFree x f
+pub without_known : (words : WordFacts) (x : ℕ) (f : Fact) → Knows (without words x) f → Knows words f × IsFree x f
 without_known words x =
     word_by words x None (λ f. Knows words f × IsFree x f) (λ c is. absurd (none-some c is)) (λ f free is. (is, free))
 
 -- of short words no more is known
-pub short_same : (words : Words) (f : Fact) → Knows (all_short words) f → Knows words f
+pub short_same : (words : WordFacts) (f : Fact) → Knows (all_short words) f → Knows words f
 short_same words (valued y c) is = short_word words.numbers y c is
 short_same words (copy c) is = is
 
@@ -184,10 +184,10 @@ same_truth (copy c) m n same is =
     ∙ (is ∙ ap (λ numbers. slice_index numbers 0) (sym (same c.source (inr refl))))
 
 -- what is known is what the variables hold
-abbrev pub Agrees : Words → Values → Type 0
+abbrev pub Agrees : WordFacts → Values → Type 0
 Agrees words m = (f : Fact) → Knows words f → IsTrue f m
 
 -- what is known is what the variables hold, and each holds what it is declared as
-pub record Holds (types : Types) (words : Words) (m : Values) : Type 0 where
+pub record FactsHold (types : Types) (words : WordFacts) (m : Values) : Type 0 where
   pub agrees : Agrees words m
   pub fits : Fits types m

@@ -11,12 +11,12 @@ use Rattle.optimisation.specs.Below.{with_element, with_variable}
 use Rattle.inline.proofs.Fitting.{value_fits}
 use Rattle.branch_removal.proofs.Sequences.{after-chain, path-chain, fine_back}
 use Rattle.optimisation.specs.constants.private.Folding.{simple}
-use Rattle.optimisation.specs.constants.private.Known.{Words, behind, in_loop, without}
+use Rattle.optimisation.specs.constants.private.Known.{WordFacts, behind, in_loop, without}
 use Rattle.optimisation.specs.constants.private.Simplification.{at_iteration, code_of_iterations, knowing, knowing_all}
 use Rattle.optimisation.specs.constants.private.Simplification.{set_to, simplified, simplified_all}
 use Rattle.optimisation.proofs.constants_lemmas.Held.{counter_limit, IsCounter, fewer_fit, fits_after}
 use Rattle.optimisation.proofs.constants_lemmas.Held.{fits_after_all}
-use Rattle.optimisation.proofs.constants_lemmas.KnownLemmas.{Agrees, Holds, without_known}
+use Rattle.optimisation.proofs.constants_lemmas.KnownLemmas.{Agrees, FactsHold, without_known}
 use Rattle.optimisation.proofs.constants_lemmas.Learned.{AllHolds, arm_begins, decided_here, kept, loop_begins}
 use Rattle.optimisation.proofs.constants_lemmas.Learned.{noted_copy, number_here, iteration_end, iteration_known}
 use Rattle.optimisation.proofs.constants_lemmas.Learned.{iteration_start}
@@ -40,13 +40,13 @@ module _ (most : List ℕ) where
       (ap (iterations n (i + 1) f) one.0 ∙ rest.0, rw one.0 (both most one.1 rest.1))
 
   -- from a state code leads to that one, where these words are known, and its path is fine where this one is
-  pub record LeadsTo (s : StraightState) (code : StraightBlock) (words : Words) (t : StraightState) (whole : Path)
+  pub record LeadsTo (s : StraightState) (code : StraightBlock) (words : WordFacts) (t : StraightState) (whole : Path)
       : Type 0 where
     pub same : after_all s code ≡ t
     pub agrees : Agrees words t.variables
     pub path : IsNoWorse most whole (path_along s code)
 
-  both_lead : {s t u : StraightState} {code more : StraightBlock} {words next : Words} {p q : Path}
+  both_lead : {s t u : StraightState} {code more : StraightBlock} {words next : WordFacts} {p q : Path}
       → LeadsTo s code words t p → LeadsTo t more next u q → LeadsTo s (chain code more) next u (p ++ q)
   both_lead {s = s} {code = code} {more = more} one other = record {
     same = rw (after-chain s code more, one.same) other.same;
@@ -55,13 +55,14 @@ module _ (most : List ℕ) where
   }
 
   -- so where an iteration begins
-  iteration_leads : (x i : ℕ) (s : StraightState) {t : StraightState} {code : StraightBlock} {words : Words} {p : Path}
+  iteration_leads : (x i : ℕ) (s : StraightState) {t : StraightState} {code : StraightBlock} {words : WordFacts}
+      {p : Path}
       → LeadsTo (counted x i s) code words t p
       → LeadsTo s (first (set None x (number i counter_type.kind)) code) words t p
   iteration_leads x i s one = record { same = one.same; agrees = one.agrees; path = one.path }
 
   -- so on a longer path
-  along : {s t : StraightState} {code : StraightBlock} {words : Words} {p q : Path} → IsNoWorse most q p
+  along : {s t : StraightState} {code : StraightBlock} {words : WordFacts} {p q : Path} → IsNoWorse most q p
       → LeadsTo s code words t p → LeadsTo s code words t q
   along shorter one = record { same = one.same; agrees = one.agrees; path = through most shorter one.path }
 
@@ -69,7 +70,7 @@ module _ (most : List ℕ) where
     abbrev types : Types
     types = types_of profile declared
 
-    module _ (words : Words) (s : StraightState) (holds : AllHolds profile declared words s) where
+    module _ (words : WordFacts) (s : StraightState) (holds : AllHolds profile declared words s) where
       set_agrees : (within : Option ℕ) (x : ℕ) (value : TermTree) → IsSet profile declared x value
           → Agrees (set_to declared words within x (simple words value)) (after s (set within x value)).variables
       set_agrees None x value is =
@@ -81,7 +82,7 @@ module _ (most : List ℕ) where
 
       -- what holds where an array gets its first values
       holds_but : (x size : ℕ) (values : List TermTree) → IsFilled profile declared x size values
-          → Holds (types_but profile declared x) words s.variables
+          → FactsHold (types_but profile declared x) words s.variables
       holds_but x size values is = record {
         agrees = holds.agrees;
         fits = fewer_fit profile declared x s.variables holds.fits;
@@ -89,7 +90,7 @@ module _ (most : List ℕ) where
 
     -- a branch that is decided leads where its arm does
     arm_leads : (s : StraightState) (condition : TermTree) (accepted otherwise : StraightBlock)
-        {code : StraightBlock} {words : Words} (z : Bool) → (value_at s condition == 0) ≡ z
+        {code : StraightBlock} {words : WordFacts} (z : Bool) → (value_at s condition == 0) ≡ z
         → LeadsTo s code words (if z then after_all s otherwise else after_all s accepted)
         (if z then path_along s otherwise else path_along s accepted)
         → LeadsTo s code words (after s (branch condition accepted otherwise))
@@ -104,7 +105,7 @@ module _ (most : List ℕ) where
 
     -- so iterations between two numbers
     iterations_lead : (s : StraightState) (x : ℕ) (low high : TermTree) (body : StraightBlock) {code : StraightBlock}
-        {words : Words} (l h : ℕ) → l ≡ value_at s low → h ≡ value_at s high
+        {words : WordFacts} (l h : ℕ) → l ≡ value_at s low → h ≡ value_at s high
         → LeadsTo s code words (iterations (h - l) l (λ i t. after_all (counted x i t) body) s)
         (path_of_iterations (h - l) l (λ i t. after_all (counted x i t) body)
         (λ i t. path_along (counted x i t) body) s)
@@ -123,18 +124,20 @@ module _ (most : List ℕ) where
         (subst (λ k. LeadsTo s code words (iterations (h - k) k iteration s)
         (path_of_iterations (h - k) k iteration path s)) at_low one))
 
-    module _ (copies : List ℕ) where
+    module _ (unroll_limits : List ℕ) where
       -- so many iterations of a loop
       all_iterations_lead : (x : ℕ) (body : StraightBlock) → IsCounter declared x
           → AreTyped profile declared controls body
-          → ((w : Words) (t : StraightState) → AllHolds profile declared w t
-          → LeadsTo t (simplified_all copies declared w body) (knowing_all copies declared w body) (after_all t body)
+          → ((w : WordFacts) (t : StraightState) → AllHolds profile declared w t
+          → LeadsTo t (simplified_all unroll_limits declared w body) (knowing_all unroll_limits declared w body)
+          (after_all t body)
           (path_along t body))
-          → (n i : ℕ) (words : Words) (s : StraightState) → i + n ≤ counter_limit → AllHolds profile declared words s
-          → LeadsTo s (code_of_iterations n i (λ j w. knowing_all copies declared (at_iteration x j w) body)
+          → (n i : ℕ) (words : WordFacts) (s : StraightState) → i + n ≤ counter_limit
+          → AllHolds profile declared words s
+          → LeadsTo s (code_of_iterations n i (λ j w. knowing_all unroll_limits declared (at_iteration x j w) body)
           (λ j w. first (set None x (number j counter_type.kind))
-          (simplified_all copies declared (at_iteration x j w) body)) words)
-          (iterations n i (λ j w. knowing_all copies declared (at_iteration x j w) body) words)
+          (simplified_all unroll_limits declared (at_iteration x j w) body)) words)
+          (iterations n i (λ j w. knowing_all unroll_limits declared (at_iteration x j w) body) words)
           (iterations n i (λ j t. after_all (counted x j t) body) s)
           (path_of_iterations n i (λ j t. after_all (counted x j t) body) (λ j t. path_along (counted x j t) body) s)
       all_iterations_lead x body there is inside zero i words s below holds =
@@ -145,16 +148,17 @@ module _ (most : List ℕ) where
           let a = inside (at_iteration x i words) (counted x i s) known in
           both_lead (iteration_leads x i s a)
           (all_iterations_lead x body there is inside n (i + 1)
-          (knowing_all copies declared (at_iteration x i words) body)
+          (knowing_all unroll_limits declared (at_iteration x i words) body)
           (after_all (counted x i s) body) (omega arith) (record {
             agrees = a.agrees;
             fits = fits_after_all profile declared controls body is (counted x i s) known.fits;
           }))
 
       mutual
-        leads : (words : Words) (statement : StraightTree) → IsTyped profile declared controls statement
+        leads : (words : WordFacts) (statement : StraightTree) → IsTyped profile declared controls statement
             → (s : StraightState) → AllHolds profile declared words s
-            → LeadsTo s (simplified copies declared words statement) (knowing copies declared words statement)
+            → LeadsTo s (simplified unroll_limits declared words statement)
+            (knowing unroll_limits declared words statement)
             (after s statement) (path_at s statement)
         leads words (set within x value) is s holds =
             let a = suited_alike most types words s.variables holds is.1.suits in
@@ -184,11 +188,12 @@ module _ (most : List ℕ) where
             let a = still_alike most types words s.variables holds is.2.1 in
             record { same = rw a.value refl; agrees = holds.agrees; path = alone most a.path }
         leads words (branch condition accepted otherwise) is s holds =
-            let second = behind (knowing_all copies declared words accepted) accepted in
+            let second = behind (knowing_all unroll_limits declared words accepted) accepted in
             let chooser = still_alike most types words s.variables holds is.0 in
             let a = all_lead words accepted is.1 s holds in
-            let b = all_lead second otherwise is.2 s (arm_begins profile declared copies words accepted s holds) in
-            branch_by copies declared
+            let b = all_lead second otherwise is.2 s
+            (arm_begins profile declared unroll_limits words accepted s holds) in
+            branch_by unroll_limits declared
             (λ code next. LeadsTo s code next (after s (branch condition accepted otherwise))
             (path_at s (branch condition accepted otherwise))) words condition accepted otherwise
             (λ decides. arm_leads s condition accepted otherwise false
@@ -197,18 +202,19 @@ module _ (most : List ℕ) where
             (decided_here types words s holds is.0 false decides) (all_lead words otherwise is.2 s holds))
             (record {
               same = rw (chooser.value, b.same, a.same) refl;
-              agrees = kept words (behind (knowing_all copies declared second otherwise) otherwise)
+              agrees = kept words (behind (knowing_all unroll_limits declared second otherwise) otherwise)
                   (branch condition accepted otherwise) s holds.agrees
                   (λ f is.
-                  let later = behind_part copies declared second otherwise f is in
-                  let front = behind_part copies declared words accepted f later.0 in
+                  let later = behind_part unroll_limits declared second otherwise f is in
+                  let front = behind_part unroll_limits declared words accepted f later.0 in
                   (front.0, (front.1, later.1)));
-              path = alone most (branch_path most s s accepted otherwise (simplified_all copies declared words accepted)
-                  (simplified_all copies declared second otherwise) chooser a.path b.path);
+              path = alone most
+                  (branch_path most s s accepted otherwise (simplified_all unroll_limits declared words accepted)
+                  (simplified_all unroll_limits declared second otherwise) chooser a.path b.path);
             })
         leads words (repeats x low high body) is s holds =
             let inside = in_loop words x body in
-            let code = simplified_all copies declared inside body in
+            let code = simplified_all unroll_limits declared inside body in
             let from = still_alike most types words s.variables holds is.0 in
             let to = still_alike most types words s.variables holds is.1 in
             let low_fits = value_fits types s.variables holds.fits is.0 in
@@ -222,7 +228,7 @@ module _ (most : List ℕ) where
             (one.same, one.path, iteration_end profile declared words x body is.2 i t below known controls is.3))
             (value_at s high - value_at s low) (value_at s low) s (omega (arith, low_fits, high_fits))
             (loop_begins profile declared words x body s holds) in
-            loop_by copies declared
+            loop_by unroll_limits declared
             (λ made next. LeadsTo s made next (after s (repeats x low high body)) (path_at s (repeats x low high body)))
             words x low high body
             (λ a b low_is high_is.
@@ -234,20 +240,23 @@ module _ (most : List ℕ) where
             words s (omega (arith, at_low, at_high, low_fits, high_fits)) holds))
             (record {
               same = rw (from.value, to.value) run.0;
-              agrees = kept words (behind (knowing_all copies declared inside body) body) (repeats x low high body) s
-                  holds.agrees (λ f is. within_loop words x body f (behind_part copies declared inside body f is).0);
+              agrees = kept words (behind (knowing_all unroll_limits declared inside body) body)
+                  (repeats x low high body) s
+                  holds.agrees
+                  (λ f is. within_loop words x body f (behind_part unroll_limits declared inside body f is).0);
               path = alone most (loop_path most s s x body code from to run.1);
             })
 
-        pub all_lead : (words : Words) (body : StraightBlock) → AreTyped profile declared controls body
+        pub all_lead : (words : WordFacts) (body : StraightBlock) → AreTyped profile declared controls body
             → (s : StraightState) → AllHolds profile declared words s
-            → LeadsTo s (simplified_all copies declared words body) (knowing_all copies declared words body)
+            → LeadsTo s (simplified_all unroll_limits declared words body)
+            (knowing_all unroll_limits declared words body)
             (after_all s body) (path_along s body)
         all_lead words nothing is s holds = record { same = refl; agrees = holds.agrees; path = same_path most }
         all_lead words (first statement rest) is s holds =
             let a = leads words statement is.0 s holds in
             both_lead a
-            (all_lead (knowing copies declared words statement) rest is.1 (after s statement) (record {
+            (all_lead (knowing unroll_limits declared words statement) rest is.1 (after s statement) (record {
               agrees = a.agrees;
               fits = fits_after profile declared controls statement is.0 s holds.fits;
             }))

@@ -2,14 +2,14 @@
 use Rattle.std.proofs.Common.{◌≡◌, ℕ, List, [], ◌∷◌, map, slice_index, Option, None, Some, option_map, refl, sym, ap}
 use Rattle.std.proofs.Common.{◌∙◌, subst}
 use Rattle.inline.proofs.Fitting.{value_fits}
-use Rattle.optimisation.specs.Below.{AllSuit, HasType, IsResult, IsWithinKind, of_binary, of_conversion, of_element}
-use Rattle.optimisation.specs.Below.{of_number, of_prefix, of_rotation, of_selection, of_truth, of_variable, Suits}
+use Rattle.optimisation.specs.Below.{AllSuit, TermHasType, IsResult, IsWithinKind, of_binary, of_conversion, of_element}
+use Rattle.optimisation.specs.Below.{of_number, of_prefix, of_rotation, of_selection, of_truth, of_variable, TermSuits}
 use Rattle.optimisation.specs.Below.{TermTree, Types, value_in, Values, variable, WordType}
 use Rattle.optimisation.specs.declared.constants.known.Constant.{Constant}
 use Rattle.optimisation.specs.constants.private.Folding.{known_or, simple}
-use Rattle.optimisation.specs.constants.private.Known.{Words, known, source_in}
+use Rattle.optimisation.specs.constants.private.Known.{WordFacts, known, source_in}
 use Rattle.optimisation.proofs.constants_lemmas.Bounded.{negated_fits}
-use Rattle.optimisation.proofs.constants_lemmas.KnownLemmas.{Holds, IsReadAs, as_itself, as_source, copy, read_as}
+use Rattle.optimisation.proofs.constants_lemmas.KnownLemmas.{FactsHold, IsReadAs, as_itself, as_source, copy, read_as}
 use Rattle.optimisation.proofs.constants_lemmas.KnownLemmas.{valued}
 use Rattle.optimisation.proofs.constants_lemmas.TermRules.{MayStand, behind, prefixed_becomes, rotated_becomes}
 use Rattle.optimisation.proofs.constants_lemmas.TermRules.{converted_becomes, operated_becomes, chosen_becomes}
@@ -17,7 +17,7 @@ use Rattle.optimisation.proofs.over_lemmas.Values.{same_path, IsAlike, AreAllAli
 use Rattle.optimisation.proofs.over_lemmas.Values.{binary_alike, rotate_alike, convert_alike, select_alike}
 use Rattle.optimisation.proofs.over_lemmas.Values.{element_alike, all_values_alike}
 
-module _ (most : List ℕ) (types : Types) (words : Words) (m : Values) (holds : Holds types words m) where
+module _ (most : List ℕ) (types : Types) (words : WordFacts) (m : Values) (holds : FactsHold types words m) where
   -- a copy has its source's value
   source_value : (x y : ℕ) → IsReadAs words.copies x y → slice_index (m y) 0 ≡ slice_index (m x) 0
   source_value x y as_itself = refl
@@ -39,11 +39,11 @@ module _ (most : List ℕ) (types : Types) (words : Words) (m : Values) (holds :
   }
 
   -- a simple operand's value is within the operand's kind
-  operand_fits : {e f : TermTree} {word : WordType} → HasType types e word → IsAlike most m m e f
+  operand_fits : {e f : TermTree} {word : WordType} → TermHasType types e word → IsAlike most m m e f
       → IsWithinKind word.kind (value_in m f)
   operand_fits {word = word} has a = subst (IsWithinKind word.kind) (sym a.value) (value_fits types m holds.fits has)
 
-  stands : {e : TermTree} {word : WordType} → HasType types e word → MayStand most m e (simple words e)
+  stands : {e : TermTree} {word : WordType} → TermHasType types e word → MayStand most m e (simple words e)
   stands (of_number below) = record { alike = record { value = refl; path = same_path most }; bounded = tt }
   stands of_truth = record { alike = record { value = refl; path = same_path most }; bounded = tt }
   stands (of_variable {x = x} there) = variable_stands x (known words x) refl
@@ -80,10 +80,10 @@ module _ (most : List ℕ) (types : Types) (words : Words) (m : Values) (holds :
       b.bounded)
   stands (of_element there has) = record { alike = element_alike refl (stands has).alike; bounded = tt }
 
-  pub still_alike : {e : TermTree} {word : WordType} → HasType types e word → IsAlike most m m e (simple words e)
+  pub still_alike : {e : TermTree} {word : WordType} → TermHasType types e word → IsAlike most m m e (simple words e)
   still_alike has = (stands has).alike
 
-  pub suited_alike : {e : TermTree} {word : WordType} → Suits types word e → IsAlike most m m e (simple words e)
+  pub suited_alike : {e : TermTree} {word : WordType} → TermSuits types word e → IsAlike most m m e (simple words e)
   suited_alike suits = still_alike suits.has_type
 
   pub all_alike : (word : WordType) (es : List TermTree) → AllSuit types word es
@@ -98,6 +98,7 @@ module _ (most : List ℕ) (types : Types) (words : Words) (m : Values) (holds :
       let a = suited_alike is in record { value = ap Some a.value; path = a.path }
   result_alike returned value is = absurd is
 
-pub same_value : (types : Types) (words : Words) (m : Values) → Holds types words m → {e : TermTree} {word : WordType}
-    → HasType types e word → value_in m (simple words e) ≡ value_in m e
+pub same_value : (types : Types) (words : WordFacts) (m : Values) → FactsHold types words m → {e : TermTree}
+    {word : WordType}
+    → TermHasType types e word → value_in m (simple words e) ≡ value_in m e
 same_value types words m holds has = (still_alike [] types words m holds has).value

@@ -16,7 +16,7 @@ use Rattle.optimisation.specs.Below.{PrefixOperator, Remainder, rotate, rotated_
 use Rattle.optimisation.specs.Below.{TermTree, truth, truth_of, swapped_of, Uint32, value_in, Values, W32, Width}
 use Rattle.optimisation.specs.Below.{width_of, word_of}
 use Rattle.branch_removal.proofs.Sequences.{fine_both, fine_front, fine_back}
-use Rattle.optimisation.specs.declared.constants.fields.Field.{Field}
+use Rattle.optimisation.specs.declared.constants.fields.BitField.{BitField}
 use Rattle.optimisation.specs.declared.constants.known.Constant.{Constant}
 use Rattle.optimisation.specs.constants.private.Fields.{amount_of, cleared_by, field_of, field_within, mask_of}
 use Rattle.optimisation.specs.constants.private.Fields.{moved, moved_or}
@@ -191,7 +191,7 @@ module _ (most : List ℕ) (m : Values) where
     down_then = binary inner ShiftRight W32 word amount
 
     -- bits of a word, by two shifts
-    bits_moved : (by mask : Constant) (field : Field) → value_in m word < 2 ^ 32 → constant_of amount ≡ Some by
+    bits_moved : (by mask : Constant) (field : BitField) → value_in m word < 2 ^ 32 → constant_of amount ≡ Some by
         → constant_of right ≡ Some mask → IsField by mask.value field
         → MayStand (binary place BitAnd width down_then right) (moved place W32 word field)
     bits_moved by mask field below is also found = record {

@@ -8,11 +8,11 @@ use Rattle.std.specs.Int.Count.{count_leading_zeros}
 use Rattle.optimisation.specs.Below.{binary, number, Place, shifted_left, shifted_right, ShiftLeft, TermTree, value_in}
 use Rattle.optimisation.specs.Below.{Values, W32, Width}
 use Rattle.optimisation.specs.declared.constants.known.Constant.{Constant}
-use Rattle.optimisation.specs.declared.constants.fields.Field.{Field}
+use Rattle.optimisation.specs.declared.constants.fields.BitField.{BitField}
 use Rattle.optimisation.specs.constants.private.Fields.{cleared_by, field_within, lifted, moved}
 
 -- a word that goes up, or stays
-pub lifted_by : (P : TermTree → Type 0) (place : Place) (w : Width) (word : TermTree) (field : Field)
+pub lifted_by : (P : TermTree → Type 0) (place : Place) (w : Width) (word : TermTree) (field : BitField)
     → (field.up ≡ 0 → P word) → P (binary place ShiftLeft w word (number field.up field.kind))
     → P (lifted place w word field)
 lifted_by P place w word field stays goes =
@@ -22,7 +22,7 @@ lifted_by P place w word field stays goes =
 -- Masks.
 
 -- where bits go up and then down that a mask leaves, behind a shift by an amount
-pub record IsField (amount : Constant) (n : ℕ) (field : Field) : Type 0 where
+pub record IsField (amount : Constant) (n : ℕ) (field : BitField) : Type 0 where
   pub ones : n + 1 ≡ 2 ^ (32 - field.down)
   pub few : field.down < 32
   pub reach : amount.value + field.up ≡ field.down
@@ -100,14 +100,14 @@ unmoved : (v : ℕ) → v < 2 ^ 32 → shifted_left W32 v 0 ≡ v
 unmoved v fits = omega arith
 
 module _ (m : Values) where
-  lifted_value : (place : Place) (word : TermTree) (field : Field) → value_in m word < 2 ^ 32
+  lifted_value : (place : Place) (word : TermTree) (field : BitField) → value_in m word < 2 ^ 32
       → value_in m (lifted place W32 word field) ≡ shifted_left W32 (value_in m word) field.up
   lifted_value place word field fits =
       lifted_by (λ e. value_in m e ≡ shifted_left W32 (value_in m word) field.up) place W32 word field
       (λ zero. sym (ap (shifted_left W32 (value_in m word)) zero ∙ unmoved (value_in m word) fits)) refl
 
   -- two shifts have the value that the operators have
-  pub moved_value : (place : Place) (word amount right : TermTree) (by : Constant) (n : ℕ) (field : Field)
+  pub moved_value : (place : Place) (word amount right : TermTree) (by : Constant) (n : ℕ) (field : BitField)
       → value_in m word < 2 ^ 32 → value_in m amount ≡ by.value → value_in m right ≡ n
       → IsField by n field
       → value_in m (moved place W32 word field)

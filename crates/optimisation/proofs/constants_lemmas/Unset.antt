@@ -7,7 +7,7 @@ use Rattle.optimisation.specs.Below.{repeats, set, StraightBlock, StraightState,
 use Rattle.optimisation.specs.Below.{iterations, value_at, with_variable}
 use Rattle.inline.proofs.Face.{iterations_keep, with_value-other}
 use Rattle.optimisation.specs.constants.private.Folding.{simple}
-use Rattle.optimisation.specs.constants.private.Known.{Words, without, all_short, behind, forgotten, forgotten_all}
+use Rattle.optimisation.specs.constants.private.Known.{WordFacts, without, all_short, behind, forgotten, forgotten_all}
 use Rattle.optimisation.specs.constants.private.Known.{in_loop}
 use Rattle.optimisation.specs.constants.private.Simplification.{at_iteration, knowing, knowing_all, set_to}
 use Rattle.optimisation.proofs.constants_lemmas.CopyLemmas.{set_by}
@@ -31,7 +31,7 @@ abbrev mutual
 
 mutual
   -- what is not forgotten was known, and is about nothing that is set
-  pub remembered : (words : Words) (statement : StraightTree) (f : Fact) → Knows (forgotten words statement) f
+  pub remembered : (words : WordFacts) (statement : StraightTree) (f : Fact) → Knows (forgotten words statement) f
       → Knows words f × IsUnset f statement
   remembered words (set within x value) f is = without_known words x f is
   remembered words (array x size values) f is = without_known words x f is
@@ -46,7 +46,7 @@ mutual
       let here = without_known words x f inner.0 in
       (here.0, (here.1, inner.1))
 
-  pub remembered_all : (words : Words) (body : StraightBlock) (f : Fact) → Knows (forgotten_all words body) f
+  pub remembered_all : (words : WordFacts) (body : StraightBlock) (f : Fact) → Knows (forgotten_all words body) f
       → Knows words f × AreUnset f body
   remembered_all words nothing f is = (is, tt)
   remembered_all words (first statement rest) f is =
@@ -55,14 +55,14 @@ mutual
       (here.0, (here.1, behind.1))
 
 -- what is known where a variable has been set, and is not about it, was known before
-known_before : (declared : List FlatVariable) (words : Words) (within : Option ℕ) (x : ℕ) (e : TermTree) (f : Fact)
+known_before : (declared : List FlatVariable) (words : WordFacts) (within : Option ℕ) (x : ℕ) (e : TermTree) (f : Fact)
     → IsFree x f → Knows (set_to declared words within x e) f → Knows words f
 known_before declared words (Some control) x e f free is = (without_known words x f is).0
 known_before declared words None x e f free is =
     set_by declared words x e (λ g. IsFree x g → Knows words g) (λ c same apart. absurd (apart x refl refl))
     (λ y same may apart. absurd (apart x (inl refl) refl)) (λ g apart known also. known) f is free
 
-pub within_loop : (words : Words) (x : ℕ) (body : StraightBlock) (f : Fact) → Knows (in_loop words x body) f
+pub within_loop : (words : WordFacts) (x : ℕ) (body : StraightBlock) (f : Fact) → Knows (in_loop words x body) f
     → Knows words f × (IsFree x f × AreUnset f body)
 within_loop words x body f is =
     let found = remembered_all (without (all_short words) x) body f is in
@@ -70,51 +70,57 @@ within_loop words x body f is =
     (short_same words f here.0, (here.1, found.1))
 
 -- nothing is learned of what is not set
-module _ (copies : List ℕ) (declared : List FlatVariable) (f : Fact) where
+module _ (unroll_limits : List ℕ) (declared : List FlatVariable) (f : Fact) where
   -- in so many iterations of a loop
   unlearned_iterations : (x : ℕ) (body : StraightBlock) → IsFree x f
-      → ((w : Words) → Knows (knowing_all copies declared w body) f → Knows w f) → (n i : ℕ) (words : Words)
-      → Knows (iterations n i (λ j w. knowing_all copies declared (at_iteration x j w) body) words) f → Knows words f
+      → ((w : WordFacts) → Knows (knowing_all unroll_limits declared w body) f → Knows w f) → (n i : ℕ)
+      (words : WordFacts)
+      → Knows (iterations n i (λ j w. knowing_all unroll_limits declared (at_iteration x j w) body) words) f
+      → Knows words f
   unlearned_iterations x body free inside zero i words is = is
   unlearned_iterations x body free inside (suc n) i words is =
       known_beside words x _ f free (inside (at_iteration x i words)
       (unlearned_iterations x body free inside n (i + 1)
-      (knowing_all copies declared (at_iteration x i words) body) is))
+      (knowing_all unroll_limits declared (at_iteration x i words) body) is))
 
   mutual
-    unlearned : (words : Words) (statement : StraightTree) → IsUnset f statement
-        → Knows (knowing copies declared words statement) f → Knows words f
+    unlearned : (words : WordFacts) (statement : StraightTree) → IsUnset f statement
+        → Knows (knowing unroll_limits declared words statement) f → Knows words f
     unlearned words (set within x value) unset = known_before declared words within x (simple words value) f unset
     unlearned words (array x size values) unset = λ is. (without_known words x f is).0
     unlearned words (put within place x size index value) unset = λ is. (without_known words x f is).0
     unlearned words (take control within condition) unset = λ is. is
     unlearned words (branch condition accepted otherwise) unset =
-        let second = behind (knowing_all copies declared words accepted) accepted in
-        branch_by copies declared (λ code after. Knows after f → Knows words f) words condition accepted otherwise
+        let second = behind (knowing_all unroll_limits declared words accepted) accepted in
+        branch_by unroll_limits declared
+        (λ code after. Knows after f → Knows words f) words condition accepted otherwise
         (λ decides. unlearned_all words accepted unset.0) (λ decides. unlearned_all words otherwise unset.1)
         (λ is. unlearned_all words accepted unset.0
-        (remembered_all (knowing_all copies declared words accepted) accepted f (unlearned_all second otherwise unset.1
-        (remembered_all (knowing_all copies declared second otherwise) otherwise f is).0)).0)
+        (remembered_all (knowing_all unroll_limits declared words accepted) accepted f
+        (unlearned_all second otherwise unset.1
+        (remembered_all (knowing_all unroll_limits declared second otherwise) otherwise f is).0)).0)
     unlearned words (repeats x low high body) unset =
         let inside = in_loop words x body in
-        loop_by copies declared (λ code after. Knows after f → Knows words f) words x low high body
+        loop_by unroll_limits declared (λ code after. Knows after f → Knows words f) words x low high body
         (λ a b low_is high_is. unlearned_iterations x body unset.0 (λ w. unlearned_all w body unset.1)
         (b.value - a.value) a.value words)
         (λ is. (within_loop words x body f (unlearned_all inside body unset.1
-        (remembered_all (knowing_all copies declared inside body) body f is).0)).0)
+        (remembered_all (knowing_all unroll_limits declared inside body) body f is).0)).0)
 
-    unlearned_all : (words : Words) (body : StraightBlock) → AreUnset f body
-        → Knows (knowing_all copies declared words body) f → Knows words f
+    unlearned_all : (words : WordFacts) (body : StraightBlock) → AreUnset f body
+        → Knows (knowing_all unroll_limits declared words body) f → Knows words f
     unlearned_all words nothing unset is = is
     unlearned_all words (first statement rest) unset is =
-        unlearned words statement unset.0 (unlearned_all (knowing copies declared words statement) rest unset.1 is)
+        unlearned words statement unset.0
+        (unlearned_all (knowing unroll_limits declared words statement) rest unset.1 is)
 
 -- what is known behind an arm or an iteration
-pub behind_part : (copies : List ℕ) (declared : List FlatVariable) (words : Words) (body : StraightBlock) (f : Fact)
-    → Knows (behind (knowing_all copies declared words body) body) f → Knows words f × AreUnset f body
-behind_part copies declared words body f is =
-    let found = remembered_all (knowing_all copies declared words body) body f is in
-    (unlearned_all copies declared f words body found.1 found.0, found.1)
+pub behind_part : (unroll_limits : List ℕ) (declared : List FlatVariable) (words : WordFacts) (body : StraightBlock)
+    (f : Fact)
+    → Knows (behind (knowing_all unroll_limits declared words body) body) f → Knows words f × AreUnset f body
+behind_part unroll_limits declared words body f is =
+    let found = remembered_all (knowing_all unroll_limits declared words body) body f is in
+    (unlearned_all unroll_limits declared f words body found.1 found.0, found.1)
 
 -- Runs.
 

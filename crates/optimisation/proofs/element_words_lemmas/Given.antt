@@ -6,7 +6,7 @@ use Rattle.optimisation.specs.Below.{after_all, elements, FlatVariable, HasCount
 use Rattle.optimisation.specs.Below.{Profile, StraightBlock, StraightState, TermTree, value_at, value_in, Values}
 use Rattle.optimisation.specs.Below.{with_value, with_variable}
 use Rattle.inline.proofs.Face.{with_value-other, with_value-same}
-use Rattle.optimisation.specs.declared.element_words.parts.Part.{Part}
+use Rattle.optimisation.specs.declared.element_words.parts.SplitArray.{SplitArray}
 use Rattle.optimisation.specs.element_words.private.Parts.{Parts, part_of}
 use Rattle.optimisation.specs.element_words.private.Splitting.{split, first_value, given_words}
 use Rattle.optimisation.proofs.element_words_lemmas.PartLemmas.{IsSplitting}
@@ -52,7 +52,7 @@ words_controls (suc n) base kind values t =
     (with_variable t base (value_at t (first_value kind values) ∷ []))
 
 module _ (declared new : List FlatVariable) (parts : Parts) (is_splitting : IsSplitting declared new parts)
-    (x : ℕ) (part : Part) (is : part_of parts x ≡ Some part) (m : Values) where
+    (x : ℕ) (part : SplitArray) (is : part_of parts x ≡ Some part) (m : Values) where
   -- setting a word of the array leaves the other variables
   undisturbed : (k : Values) (base i : ℕ) (v : List ℕ) → AreAlike (but declared x) parts m k → base ≡ part.base + i
       → i < part.size → AreAlike (but declared x) parts m (with_value k base v)
@@ -73,7 +73,8 @@ module _ (declared new : List FlatVariable) (parts : Parts) (is_splitting : IsSp
   }
 
   -- so many words that get values hold them, and the path is fine where the values' path is
-  pub record AreGiven (most : List ℕ) (values : List TermTree) (n base : ℕ) (t : StraightState) (code : StraightBlock)
+  pub record ElementsHold (most : List ℕ) (values : List TermTree) (n base : ℕ) (t : StraightState)
+      (code : StraightBlock)
       : Type 0 where
     pub each : (i z : ℕ) → i < n → z ≡ base + i
         → (after_all t code).variables z ≡ slice_index (map (value_in m) values) i ∷ []
@@ -100,7 +101,7 @@ module _ (declared new : List FlatVariable) (parts : Parts) (is_splitting : IsSp
       → AllStand declared new parts is_splitting most profile (but declared x) (but_within declared x) values
       → (n base : ℕ) (kind : Kind) (t : StraightState)
       → AreAlike (but declared x) parts m t.variables → (o : ℕ) → base ≡ part.base + o → o + n ≤ part.size
-      → AreGiven most values n base t (given_words base n kind (map (split parts) values))
+      → ElementsHold most values n base t (given_words base n kind (map (split parts) values))
   words_given most profile values all zero base kind t alike o at room = record {
     each = λ i z below place. absurd (omega arith);
     path = record { fine = λ fine. tt };

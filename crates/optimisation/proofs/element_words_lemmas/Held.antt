@@ -7,7 +7,7 @@ use Rattle.std.proofs.lemmas.List.{get_or-set_other, get_or-set_same, length-set
 use Rattle.std.proofs.lemmas.Option.{none-some, same_Some, slice_get_within}
 use Rattle.optimisation.specs.Below.{FlatVariable, Values, with_value}
 use Rattle.inline.proofs.Face.{with_value-other, with_value-same}
-use Rattle.optimisation.specs.declared.element_words.parts.Part.{Part}
+use Rattle.optimisation.specs.declared.element_words.parts.SplitArray.{SplitArray}
 use Rattle.optimisation.specs.element_words.private.Parts.{Parts, part_of}
 use Rattle.optimisation.proofs.element_words_lemmas.PartLemmas.{IsSplitting}
 use Rattle.optimisation.proofs.element_words_lemmas.Values.{AreAlike}
@@ -21,7 +21,7 @@ module _ (declared new : List FlatVariable) (parts : Parts) (is_splitting : IsSp
     (at : ℕ → Option FlatVariable)
     (within : (y : ℕ) (d : FlatVariable) → at y ≡ Some d → slice_get declared y ≡ Some d) where
   -- a variable in scope is no word of an array
-  pub no_word : (y x : ℕ) (d : FlatVariable) (part : Part) (i : ℕ) → at y ≡ Some d → part_of parts x ≡ Some part
+  pub no_word : (y x : ℕ) (d : FlatVariable) (part : SplitArray) (i : ℕ) → at y ≡ Some d → part_of parts x ≡ Some part
       → y ≡ part.base + i → ⊥
   no_word y x d part i there is same =
       let below = slice_get_within declared y d (within y d there) in
@@ -29,7 +29,7 @@ module _ (declared new : List FlatVariable) (parts : Parts) (is_splitting : IsSp
       omega arith
 
   -- one that stays is none that becomes words
-  pub not_split : (x y : ℕ) (part : Part) → part_of parts x ≡ None → part_of parts y ≡ Some part → y ≡ x → ⊥
+  pub not_split : (x y : ℕ) (part : SplitArray) → part_of parts x ≡ None → part_of parts y ≡ Some part → y ≡ x → ⊥
   not_split x y part none is same = none-some part (sym none ∙ (ap (part_of parts) (sym same) ∙ is))
 
   -- a variable that stays is set in both
@@ -47,7 +47,7 @@ module _ (declared new : List FlatVariable) (parts : Parts) (is_splitting : IsSp
   }
 
   -- an array's words are set, and no others
-  pub words_set : (m k l : Values) (x : ℕ) (part : Part) (numbers : List ℕ) → AreAlike at parts m k
+  pub words_set : (m k l : Values) (x : ℕ) (part : SplitArray) (numbers : List ℕ) → AreAlike at parts m k
       → part_of parts x ≡ Some part → length numbers ≡ part.size
       → ((i : ℕ) → i < part.size → l (part.base + i) ≡ slice_index numbers i ∷ [])
       → ((z : ℕ) → ((i : ℕ) → i < part.size → z ≡ part.base + i → ⊥) → l z ≡ k z)
@@ -75,7 +75,8 @@ module _ (declared new : List FlatVariable) (parts : Parts) (is_splitting : IsSp
   }
 
   -- an element and its word are set
-  pub word_set : (m k : Values) (x i v w : ℕ) (d : FlatVariable) (part : Part) → AreAlike at parts m k → at x ≡ Some d
+  pub word_set : (m k : Values) (x i v w : ℕ) (d : FlatVariable) (part : SplitArray) → AreAlike at parts m k
+      → at x ≡ Some d
       → part_of parts x ≡ Some part → i < part.size → w ≡ v
       → AreAlike at parts (with_value m x (slice_set (m x) i v)) (with_value k (part.base + i) (w ∷ []))
   word_set m k x i v w d part alike there is below same =

@@ -6,7 +6,7 @@ use Rattle.std.proofs.lemmas.Bool.{ltb-true}
 use Rattle.std.proofs.lemmas.Option.{cond_some, none-some}
 use Rattle.optimisation.specs.Below.{array, binary, branch, convert, element, first, Kind, nothing, number, prefix, put}
 use Rattle.optimisation.specs.Below.{repeats, rotate, select, set, StraightBlock, StraightTree, take, TermTree}
-use Rattle.optimisation.specs.declared.element_words.parts.Part.{Part}
+use Rattle.optimisation.specs.declared.element_words.parts.SplitArray.{SplitArray}
 use Rattle.optimisation.specs.element_words.private.Parts.{Parts, part_of, whole, known_index, word_in, word_of}
 use Rattle.optimisation.specs.element_words.private.Narrowing.{unless_word, narrowed_at, narrowed, all_narrowed}
 use Rattle.optimisation.specs.element_words.private.Narrowing.{narrowed_by, narrowed_by_all, narrowed_result}
@@ -27,11 +27,11 @@ known_index_is size (number value kind) i is =
 known_index_is size index i is = absurd (none-some i is)
 
 -- an array that becomes words has a known index
-abbrev pub IsKnown : Option Part → TermTree → Type 0
+abbrev pub IsKnown : Option SplitArray → TermTree → Type 0
 IsKnown None index = Unit {0}
 IsKnown (Some part) index = IsKnownIndex part.size index
 
-known_word : (part : Part) (index : TermTree) (word : ℕ) → word_in (Some part) index ≡ Some word
+known_word : (part : SplitArray) (index : TermTree) (word : ℕ) → word_in (Some part) index ≡ Some word
     → IsKnownIndex part.size index
 known_word part index word = by_index (known_index part.size index) refl
   where
@@ -50,7 +50,8 @@ module _ (last : Parts) where
         size = found.size;
       }
 
-  is_known : (index : TermTree) (o : Option Part) → ((part : Part) → o ≡ Some part → IsKnownIndex part.size index)
+  is_known : (index : TermTree) (o : Option SplitArray) →
+      ((part : SplitArray) → o ≡ Some part → IsKnownIndex part.size index)
       → IsKnown o index
   is_known index None each = tt
   is_known index (Some part) each = each part refl
@@ -72,7 +73,7 @@ module _ (last : Parts) where
         is_known index (part_of last x)
             (λ part is. let found = below x part is in
             rw found.size (known_word found.other index word
-            (ap (λ (o : Option Part). word_in o index) (sym found.there) ∙ same))),
+            (ap (λ (o : Option SplitArray). word_in o index) (sym found.there) ∙ same))),
       )
 
   -- What is there behind code was there before.

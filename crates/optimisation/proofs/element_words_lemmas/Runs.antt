@@ -3,10 +3,10 @@
 use Rattle.std.proofs.Common.{◌≡◌, ℕ, ◌+◌, List, [], ◌∷◌, map, Option, None, Some, slice_get, slice_set, refl, sym, ap}
 use Rattle.std.proofs.Common.{false, ◌∙◌, arith}
 use Rattle.optimisation.specs.Below.{after_all, AreTyped, array, array_as, branch, counter_type, elements, first}
-use Rattle.optimisation.specs.Below.{FlatVariable, IsFilled, IsPut, IsTyped, nothing, Place, Profile, put, repeats, set}
-use Rattle.optimisation.specs.Below.{StraightBlock, StraightState, StraightTree, take, TermTree, value_at, Values}
-use Rattle.optimisation.specs.Below.{with_variable, word_as}
-use Rattle.optimisation.specs.declared.element_words.parts.Part.{Part}
+use Rattle.optimisation.specs.Below.{FlatVariable, IsFilled, IsElementSet, IsTyped, nothing, Place, Profile, put}
+use Rattle.optimisation.specs.Below.{repeats, set, StraightBlock, StraightState, StraightTree, take, TermTree, value_at}
+use Rattle.optimisation.specs.Below.{Values, with_variable, word_as}
+use Rattle.optimisation.specs.declared.element_words.parts.SplitArray.{SplitArray}
 use Rattle.optimisation.specs.element_words.private.Narrowing.{narrowed_at, narrowed, narrowed_by, narrowed_by_all}
 use Rattle.optimisation.specs.element_words.private.Parts.{Parts, part_of, word_in}
 use Rattle.optimisation.specs.element_words.private.Splitting.{split, single, given_words, new_array, put_in, split_in}
@@ -20,7 +20,7 @@ use Rattle.optimisation.proofs.element_words_lemmas.Given.{words_outside, words_
 use Rattle.optimisation.proofs.element_words_lemmas.Given.{elements_count, elements_at}
 use Rattle.optimisation.proofs.over_lemmas.Variables.{but, but_within}
 use Rattle.optimisation.proofs.over_lemmas.Values.{same_path, both, alone, at_index, IsAlike}
-use Rattle.optimisation.proofs.over_lemmas.Beside.{AreBeside, within_beside, taken_beside, Follows, FollowsAt}
+use Rattle.optimisation.proofs.over_lemmas.Beside.{AreBeside, within_beside, taken_beside, RunsBeside, FollowsAt}
 use Rattle.optimisation.proofs.over_lemmas.Beside.{branch_follows, loop_follows, then_follows}
 
 module _ (declared new : List FlatVariable) (parts : Parts) (is_splitting : IsSplitting declared new parts) where
@@ -46,7 +46,7 @@ module _ (declared new : List FlatVariable) (parts : Parts) (is_splitting : IsSp
     -- a new array that stays whole, and one that becomes words
     array_follows : (x size : ℕ) (values : List TermTree) → IsFilled profile declared x size values
         → AllStand declared new parts is_splitting most profile (but declared x) (but_within declared x) values
-        → (o : Option Part) → part_of parts x ≡ o → {s t : StraightState} → AreBeside InStep s t
+        → (o : Option SplitArray) → part_of parts x ≡ o → {s t : StraightState} → AreBeside InStep s t
         → FollowsAt InStep most s t (array x size values) (new_array o x size (map (split parts) values))
     array_follows x size values is all None whole {s} {t} beside =
         let a = all_alike declared new parts is_splitting most profile (but declared x) (but_within declared x) values
@@ -77,7 +77,8 @@ module _ (declared new : List FlatVariable) (parts : Parts) (is_splitting : IsSp
         }
 
     put_follows : (within : Option ℕ) (place : Place) (x size : ℕ) (index value : TermTree)
-        → IsPut profile declared x size index value → (o : Option Part) → part_of parts x ≡ o → IsKnown o index
+        → IsElementSet profile declared x size index value → (o : Option SplitArray) → part_of parts x ≡ o
+        → IsKnown o index
         → {s t : StraightState} → AreBeside InStep s t
         → IsAlike most s.variables t.variables index (split parts index)
         → IsAlike most s.variables t.variables value (split parts value)
@@ -156,7 +157,7 @@ module _ (declared new : List FlatVariable) (parts : Parts) (is_splitting : IsSp
 
       pub all_follow : (body : StraightBlock) → AreTyped profile declared controls body → (before : Parts)
           → IsBelow parts (narrowed_by_all before body) → {s t : StraightState} → AreBeside InStep s t
-          → Follows InStep most s t body (split_all parts body)
+          → RunsBeside InStep most s t body (split_all parts body)
       all_follow nothing is before h beside = record { beside = beside; path = same_path most }
       all_follow (first statement rest) is before h beside =
           let a = follows statement is.0 before (before_all parts rest (narrowed_by before statement) h) beside in

@@ -3,10 +3,10 @@
 use Rattle.std.proofs.Common.{◌≡◌, ℕ, ◌+◌, ◌<◌, Bool, List, [], ◌∷◌, map, length, Option, None, Some, option_map}
 use Rattle.std.proofs.Common.{slice_get, slice_index, refl, sym, ap, ◌∙◌}
 use Rattle.std.proofs.lemmas.Option.{none-some, same_Some}
-use Rattle.optimisation.specs.Below.{AllSuit, array_as, element, FlatVariable, HasType, IsResult, of_binary}
+use Rattle.optimisation.specs.Below.{AllSuit, array_as, element, FlatVariable, TermHasType, IsResult, of_binary}
 use Rattle.optimisation.specs.Below.{of_conversion, of_element, of_number, of_prefix, of_rotation, of_selection}
 use Rattle.optimisation.specs.Below.{of_truth, of_variable, Place, Profile, TermTree, Types, Values, word_as, WordType}
-use Rattle.optimisation.specs.declared.element_words.parts.Part.{Part}
+use Rattle.optimisation.specs.declared.element_words.parts.SplitArray.{SplitArray}
 use Rattle.optimisation.specs.element_words.private.Narrowing.{narrowed_at, narrowed, all_narrowed, narrowed_result}
 use Rattle.optimisation.specs.element_words.private.Parts.{Parts, part_of, word_in}
 use Rattle.optimisation.specs.element_words.private.Splitting.{word_or, split}
@@ -17,19 +17,19 @@ use Rattle.optimisation.proofs.over_lemmas.Values.{binary_alike, rotate_alike, c
 use Rattle.optimisation.proofs.over_lemmas.Values.{element_alike, all_values_alike}
 
 -- an array's elements
-pub record IsHeldIn (part : Part) (numbers : List ℕ) (k : Values) : Type 0 where
+pub record IsHeldIn (part : SplitArray) (numbers : List ℕ) (k : Values) : Type 0 where
   pub count : length numbers ≡ part.size
   pub each : (i : ℕ) → i < part.size → k (part.base + i) ≡ slice_index numbers i ∷ []
 
 -- of the variables in scope those that stay hold the same, and the words of an array its elements
 pub record AreAlike (at : ℕ → Option FlatVariable) (parts : Parts) (m k : Values) : Type 0 where
   pub plain : (y : ℕ) (d : FlatVariable) → at y ≡ Some d → part_of parts y ≡ None → k y ≡ m y
-  pub held : (y : ℕ) (d : FlatVariable) (part : Part) → at y ≡ Some d → part_of parts y ≡ Some part
+  pub held : (y : ℕ) (d : FlatVariable) (part : SplitArray) → at y ≡ Some d → part_of parts y ≡ Some part
       → IsHeldIn part (m y) k
 
 module _ (declared new : List FlatVariable) (parts : Parts) (is_splitting : IsSplitting declared new parts) where
   whole_by : (y : ℕ) (word : WordType) (mutable : Bool) → slice_get declared y ≡ Some (word_as word mutable)
-      → (o : Option Part) → part_of parts y ≡ o → o ≡ None
+      → (o : Option SplitArray) → part_of parts y ≡ o → o ≡ None
   whole_by y word mutable there None same = refl
   whole_by y word mutable there (Some part) same =
       let array = is_splitting.arrays y part same in
@@ -42,7 +42,7 @@ module _ (declared new : List FlatVariable) (parts : Parts) (is_splitting : IsSp
   stays_whole y word mutable there = whole_by y word mutable there (part_of parts y) refl
 
   -- an array becomes as many words as it has elements
-  pub part_size : (y : ℕ) (word : WordType) (mutable : Bool) (size : ℕ) (part : Part)
+  pub part_size : (y : ℕ) (word : WordType) (mutable : Bool) (size : ℕ) (part : SplitArray)
       → slice_get declared y ≡ Some (array_as word mutable size) → part_of parts y ≡ Some part → part.size ≡ size
   part_size y word mutable size part there same =
       let array = is_splitting.arrays y part same in
@@ -64,7 +64,7 @@ module _ (declared new : List FlatVariable) (parts : Parts) (is_splitting : IsSp
     AllStand (e ∷ es) = Stands e × AllStand es
 
     element_stands : (place : Place) (x size : ℕ) (index : TermTree) (d : FlatVariable) → at x ≡ Some d
-        → (o : Option Part) → part_of parts x ≡ o → IsKnown o index → {m k : Values} → AreAlike at parts m k
+        → (o : Option SplitArray) → part_of parts x ≡ o → IsKnown o index → {m k : Values} → AreAlike at parts m k
         → IsAlike most m k index (split parts index)
         → IsAlike most m k (element place x size index)
         (word_or (word_in o index) (element place x size (split parts index)))
@@ -76,7 +76,7 @@ module _ (declared new : List FlatVariable) (parts : Parts) (is_splitting : IsSp
           path = record { fine = λ fine. tt };
         })
 
-    pub stands : {e : TermTree} {word : WordType} → HasType types e word → (before : Parts)
+    pub stands : {e : TermTree} {word : WordType} → TermHasType types e word → (before : Parts)
         → IsBelow parts (narrowed before e) → Stands e
     stands (of_number below) before h m k alike = record { value = refl; path = same_path most }
     stands of_truth before h m k alike = record { value = refl; path = same_path most }

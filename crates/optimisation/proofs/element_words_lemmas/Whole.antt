@@ -10,7 +10,7 @@ use Rattle.language.proofs.arguments_lemmas.FaultLemmas.{length-AreWithin}
 use Rattle.optimisation.specs.Below.{AreWithin, Arg, array_of, arrays_from, counter_type, declaration_of, end_of}
 use Rattle.optimisation.specs.Below.{FlatVariable, given, IsReplaced, IsStraight, numbers_in, outcome_of, Param, start}
 use Rattle.optimisation.specs.Below.{StraightBlock, StraightProgram, TermTree, Values, with_variables, word_as}
-use Rattle.optimisation.specs.declared.element_words.parts.Part.{Part}
+use Rattle.optimisation.specs.declared.element_words.parts.SplitArray.{SplitArray}
 use Rattle.optimisation.specs.element_words.Limits.{most_variable_words}
 use Rattle.optimisation.specs.element_words.private.Narrowing.{narrowed_by_all}
 use Rattle.optimisation.specs.element_words.private.Parts.{Parts, part_of, candidates, numbered, all_words}
@@ -25,7 +25,7 @@ use Rattle.optimisation.proofs.element_words_lemmas.Values.{result_alike}
 use Rattle.optimisation.proofs.element_words_lemmas.Held.{zeros_at}
 use Rattle.optimisation.proofs.element_words_lemmas.Runs.{InStep, all_follow}
 use Rattle.optimisation.proofs.over_lemmas.Values.{both, IsResultAlike}
-use Rattle.optimisation.proofs.over_lemmas.Beside.{AreBeside, Follows}
+use Rattle.optimisation.proofs.over_lemmas.Beside.{AreBeside, RunsBeside}
 use Rattle.optimisation.proofs.over_lemmas.Whole.{is_replaced}
 
 -- What the variables hold at first.
@@ -58,7 +58,7 @@ same_arrays x (p ∷ params) m k same =
 module _ (p : StraightProgram) (is_straight : IsStraight p) (parts : Parts)
     (is_splitting : IsSplitting p.declared (p.declared ++ all_words parts) parts)
     (below : IsBelow parts (used_parts p))
-    (behind : (x : ℕ) (part : Part) → part_of parts x ≡ Some part → length p.parameters ≤ x) where
+    (behind : (x : ℕ) (part : SplitArray) → part_of parts x ≡ Some part → length p.parameters ≤ x) where
   abbrev new : List FlatVariable
   new = p.declared ++ all_words parts
 
@@ -99,7 +99,7 @@ module _ (p : StraightProgram) (is_straight : IsStraight p) (parts : Parts)
       controls = refl;
     }
 
-    ends : Follows (InStep p.declared new parts is_splitting) p.iterations (start p args) (start made_of args) p.body
+    ends : RunsBeside (InStep p.declared new parts is_splitting) p.iterations (start p args) (start made_of args) p.body
         (split_all parts p.body)
     ends =
         all_follow p.declared new parts is_splitting p.iterations p.profile p.controls p.body is_straight.typed.body
@@ -113,7 +113,7 @@ module _ (p : StraightProgram) (is_straight : IsStraight p) (parts : Parts)
         (λ y d there. there) p.returned p.value is_straight.typed.result
         (narrowed_by_all (candidates (length p.parameters) p.declared) p.body) below ends.beside.variables
 
-    parameter_stays : (y : ℕ) → y < length p.parameters → (o : Option Part) → part_of parts y ≡ o → o ≡ None
+    parameter_stays : (y : ℕ) → y < length p.parameters → (o : Option SplitArray) → part_of parts y ≡ o → o ≡ None
     parameter_stays y below None same = refl
     parameter_stays y below (Some part) same = absurd (omega (arith, behind y part same))
 
@@ -142,7 +142,7 @@ module _ (p : StraightProgram) (is_straight : IsStraight p) (parts : Parts)
 
 -- which of a program's arrays were candidates, and what becomes of it
 module _ (p : StraightProgram) (is_straight : IsStraight p) (last : Parts) (below : IsBelow last (used_parts p)) where
-  was_candidate : (x : ℕ) (part : Part) → part_of last x ≡ Some part
+  was_candidate : (x : ℕ) (part : SplitArray) → part_of last x ≡ Some part
       → (length p.parameters ≤ x) × IsArray p.declared x part
   was_candidate x part is =
       let from = candidates (length p.parameters) p.declared in

@@ -20,7 +20,7 @@ use Rattle.optimisation.proofs.live_words_lemmas.Grown.{grows_head}
 use Rattle.optimisation.proofs.over_lemmas.Values.{same_path, both, alone, at_index, IsAlike, AreAllAlike}
 use Rattle.optimisation.proofs.over_lemmas.Values.{prefix_alike, binary_alike, rotate_alike, convert_alike}
 use Rattle.optimisation.proofs.over_lemmas.Values.{select_alike, element_alike, all_values_alike}
-use Rattle.optimisation.proofs.over_lemmas.Beside.{AreBeside, within_beside, taken_beside, Follows, FollowsAt}
+use Rattle.optimisation.proofs.over_lemmas.Beside.{AreBeside, within_beside, taken_beside, RunsBeside, FollowsAt}
 use Rattle.optimisation.proofs.over_lemmas.Beside.{branch_follows, loop_follows, then_follows}
 
 module _ (table : Table) where
@@ -235,7 +235,7 @@ module _ (table : Table) where
 
       pub all_follow : (held : Held) (body : StraightBlock) {s u : StraightState}
           → AreReady (before_all table held body) s u
-          → (held.fits ≡ true) × Follows (Alike held.holders) most s u body (shared_all table held body)
+          → (held.fits ≡ true) × RunsBeside (Alike held.holders) most s u body (shared_all table held body)
       all_follow held nothing ready = (ready.fits, record { beside = ready.beside; path = same_path most })
       all_follow held (first statement rest) {s} {u} ready =
           let behind = before_all table held rest in

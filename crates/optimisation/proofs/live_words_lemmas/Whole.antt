@@ -20,7 +20,7 @@ use Rattle.optimisation.proofs.live_words_lemmas.HeldLemmas.{alike_first}
 use Rattle.optimisation.proofs.live_words_lemmas.TermLemmas.{grows_reading}
 use Rattle.optimisation.proofs.live_words_lemmas.Same.{AreReady, Alike, ready_before, reads, all_follow}
 use Rattle.optimisation.proofs.over_lemmas.Values.{same_path, both, IsResultAlike}
-use Rattle.optimisation.proofs.over_lemmas.Beside.{Follows}
+use Rattle.optimisation.proofs.over_lemmas.Beside.{RunsBeside}
 use Rattle.optimisation.proofs.over_lemmas.Whole.{is_replaced}
 
 -- an array is a result where it may be changed
@@ -83,7 +83,8 @@ module _ (table : Table) where
 
     module _ (args : List Arg) where
       runs : ((at_end table held p).fits ≡ true)
-          × Follows (Alike table (at_end table held p).holders) p.iterations (start p args) (start p args) p.body code
+          × RunsBeside (Alike table (at_end table held p).holders) p.iterations (start p args)
+          (start p args) p.body code
       runs =
           all_follow table p.iterations (at_end table held p) p.body (record {
             fits = fits;

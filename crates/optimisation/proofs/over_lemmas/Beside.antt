@@ -76,7 +76,7 @@ module _ (R : Values → Values → Type 0) where
 
   module _ (most : List ℕ) where
     -- a block beside another one
-    pub record Follows (s t : StraightState) (body code : StraightBlock) : Type 0 where
+    pub record RunsBeside (s t : StraightState) (body code : StraightBlock) : Type 0 where
       pub beside : AreBeside R (after_all s body) (after_all t code)
       pub path : IsNoWorse most (path_along s body) (path_along t code)
 
@@ -86,7 +86,8 @@ module _ (R : Values → Values → Type 0) where
       pub path : IsNoWorse most (path_at s statement) (path_along t code)
 
     pub branch_follows : {s t : StraightState} {condition c : TermTree} {accepted otherwise one other : StraightBlock}
-        → IsAlike most s.variables t.variables condition c → Follows s t accepted one → Follows s t otherwise other
+        → IsAlike most s.variables t.variables condition c → RunsBeside s t accepted one
+        → RunsBeside s t otherwise other
         → FollowsAt s t (branch condition accepted otherwise) (single (branch c one other))
     branch_follows {s} {t} {condition} {c} {accepted} {otherwise} {one} {other} chooser first_arm second_arm =
         record {
@@ -109,7 +110,7 @@ module _ (R : Values → Values → Type 0) where
 
     pub loop_follows : {s t : StraightState} (x : ℕ) {low high a b : TermTree} {body code : StraightBlock}
         → AreBeside R s t → IsAlike most s.variables t.variables low a → IsAlike most s.variables t.variables high b
-        → ((i : ℕ) (u v : StraightState) → AreBeside R u v → Follows (counted x i u) (counted x i v) body code)
+        → ((i : ℕ) (u v : StraightState) → AreBeside R u v → RunsBeside (counted x i u) (counted x i v) body code)
         → FollowsAt s t (repeats x low high body) (single (repeats x a b code))
     loop_follows {s} {t} x {low} {high} {a} {b} {body} {code} beside from to each =
         let run = iterations_follow (λ i u. after_all (counted x i u) body) (λ i u. after_all (counted x i u) code)
@@ -125,8 +126,8 @@ module _ (R : Values → Values → Type 0) where
 -- a statement, and others behind it
 pub then_follows : {Q R : Values → Values → Type 0} {most : List ℕ} {s t : StraightState} {statement : StraightTree}
     {rest code more : StraightBlock} → FollowsAt Q most s t statement code
-    → Follows R most (after s statement) (after_all t code) rest more
-    → Follows R most s t (first statement rest) (chain code more)
+    → RunsBeside R most (after s statement) (after_all t code) rest more
+    → RunsBeside R most s t (first statement rest) (chain code more)
 then_follows {most = most} {t = t} {code = code} {more = more} one others = record {
   beside = rw (after-chain t code more) others.beside;
   path = rw (path-chain t code more) (both most one.path others.path);

@@ -64,10 +64,10 @@ fn nodes_in_all(terms: &[Term]) -> u64
 }
 
 /// How many iterations the loop of a counter may become.
-pub fn copies_of(copies: &[u32], counter: u32) -> u32
-    ensures { result ≡ slice_index copies.now counter }
+pub fn unroll_limit_of(unroll_limits: &[u32], counter: u32) -> u32
+    ensures { result ≡ slice_index unroll_limits.now counter }
 {
-    copies.get(counter as usize).copied().unwrap_or(0)
+    unroll_limits.get(counter as usize).copied().unwrap_or(0)
 }
 
 /// How many nodes an iteration may have, by how many iterations there are.
@@ -82,10 +82,10 @@ fn most_nodes_of(iterations: u32) -> u64
 }
 
 /// The loop of a counter may not become iterations.
-fn refuse(copies: &mut Vec<u32>, counter: u32)
-    ensures { copies.new.items ≡ slice_set copies.old.items counter 0 }
+fn refuse(unroll_limits: &mut Vec<u32>, counter: u32)
+    ensures { unroll_limits.new.items ≡ slice_set unroll_limits.old.items counter 0 }
 {
-    if let Some(iterations) = copies.get_mut(counter as usize) {
+    if let Some(iterations) = unroll_limits.get_mut(counter as usize) {
         *iterations = 0;
     }
 }
@@ -94,7 +94,7 @@ fn refuse(copies: &mut Vec<u32>, counter: u32)
 /// for, and how many there are so far.
 #[derive(Drop)]
 pub struct Choice {
-    pub copies: Vec<u32>,
+    pub unroll_limits: Vec<u32>,
     room: u64,
     nodes: u64,
 }
@@ -105,7 +105,7 @@ impl Choice {
         ensures { IfOk result (λ choice. choice_of choice ≡ chosen_all (begun straight.now) straight.now.body) }
     {
         let mut choice = Choice {
-            copies: straight.iterations().to_vec(alloc)?,
+            unroll_limits: straight.iterations().to_vec(alloc)?,
             room: (u64::from(straight.nodes()) * ROOM_FACTOR).min(MOST_ROOM),
             nodes: 0,
         };
@@ -125,7 +125,7 @@ impl Choice {
     fn settle(&mut self, before: u64, room: u64, counter: u32, own: u64)
         ensures { choice_of self.new ≡ settled before room counter own (choice_of self.old) }
     {
-        let iterations = copies_of(self.copies.as_slice(), counter);
+        let iterations = unroll_limit_of(self.unroll_limits.as_slice(), counter);
         let cost = self
             .nodes
             .saturating_add(COUNTER_NODES)
@@ -134,7 +134,7 @@ impl Choice {
             self.room = room - cost;
             self.nodes = before.saturating_add(cost);
         } else {
-            refuse(&mut self.copies, counter);
+            refuse(&mut self.unroll_limits, counter);
             self.nodes = before.saturating_add(own).saturating_add(self.nodes);
         }
     }

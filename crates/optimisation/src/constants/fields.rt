@@ -18,7 +18,7 @@ const FIRST_LONG_MASK: u32 = 2_048;
 
 /// How far bits of a word go up and then down, by amounts of this kind.
 #[derive(Clone, Copy)]
-pub struct Field {
+pub struct BitField {
     up: u32,
     down: u32,
     kind: Kind,
@@ -37,11 +37,11 @@ fn cleared_by(mask: u32) -> Option<u32>
 }
 
 /// How far the bits go that a mask leaves of a word that is moved down by an amount.
-fn field_within(amount: Constant, mask: u32, others: u32) -> Option<Field>
+fn field_within(amount: Constant, mask: u32, others: u32) -> Option<BitField>
     ensures { result ≡ fields.field_within amount mask (Some others) }
 {
     if amount.value == others || (amount.value < others && mask >= FIRST_LONG_MASK) {
-        Some(Field {
+        Some(BitField {
             up: others - amount.value,
             down: others,
             kind: amount.kind,
@@ -52,7 +52,7 @@ fn field_within(amount: Constant, mask: u32, others: u32) -> Option<Field>
 }
 
 /// The bits that are left by a mask and an amount, where both are numbers.
-fn field_of(mask: Option<Constant>, amount: Option<Constant>) -> Option<Field>
+fn field_of(mask: Option<Constant>, amount: Option<Constant>) -> Option<BitField>
     ensures { result ≡ fields.field_of mask amount }
 {
     let mask = mask?.value;
@@ -119,7 +119,7 @@ fn lifted(
     place: Place,
     width: Width,
     word: Term,
-    field: Field,
+    field: BitField,
 ) -> Result<Term, AllocError>
     ensures { IfOk result (λ term. term_tree term ≡ fields.lifted place width (term_tree word) field) }
 {
@@ -137,7 +137,7 @@ fn moved(
     place: Place,
     width: Width,
     word: Term,
-    field: Field,
+    field: BitField,
 ) -> Result<Term, AllocError>
     ensures { IfOk result (λ term. term_tree term ≡ fields.moved place width (term_tree word) field) }
 {

@@ -45,17 +45,17 @@ const MOST_COPIES: usize = 16;
 /// What is known of variables: their words, at their numbers, and the last that have the value of another one, the
 /// oldest first.
 #[derive(Drop)]
-pub struct Known {
+pub struct KnownWords {
     pub words: Vec<Option<Constant>>,
     pub copies: Vec<WordCopy>,
 }
 
-impl Known {
+impl KnownWords {
     /// Nothing is known of so many variables.
     pub fn nothing(alloc: Global, variables: usize) -> Result<Self, AllocError>
         ensures { IfOk result (λ known. words_of known ≡ record { numbers = replicate variables None; copies = [] }) }
     {
-        Ok(Known {
+        Ok(KnownWords {
             words: vec![in alloc; None; variables]?,
             copies: Vec::new(alloc),
         })

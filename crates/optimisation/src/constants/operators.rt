@@ -23,9 +23,9 @@ pub fn decided_by_left(operator: BinaryOperator, left: u32) -> Option<bool>
     ensures { result ≡ decided_by_left operator left }
 {
     match operator {
-        BinaryOperator::Either => is_true(left).then_some(true),
+        BinaryOperator::LogicalOr => is_true(left).then_some(true),
         BinaryOperator::LessOrEqual => (left == 0).then_some(true),
-        BinaryOperator::Both | BinaryOperator::Greater => (left == 0).then_some(false),
+        BinaryOperator::LogicalAnd | BinaryOperator::Greater => (left == 0).then_some(false),
         _ => None,
     }
 }
@@ -35,9 +35,9 @@ pub fn decided_by_right(operator: BinaryOperator, right: u32) -> Option<bool>
     ensures { result ≡ decided_by_right operator right }
 {
     match operator {
-        BinaryOperator::Either => is_true(right).then_some(true),
+        BinaryOperator::LogicalOr => is_true(right).then_some(true),
         BinaryOperator::GreaterOrEqual => (right == 0).then_some(true),
-        BinaryOperator::Both | BinaryOperator::Less => (right == 0).then_some(false),
+        BinaryOperator::LogicalAnd | BinaryOperator::Less => (right == 0).then_some(false),
         _ => None,
     }
 }
@@ -47,10 +47,10 @@ pub fn is_right_identity(operator: BinaryOperator, width: Width, right: u32) -> 
     ensures { result ≡ is_right_identity operator width right }
 {
     match operator {
-        BinaryOperator::Both => is_true(right),
+        BinaryOperator::LogicalAnd => is_true(right),
         BinaryOperator::BitAnd => right == word::complement(width, 0),
         BinaryOperator::Multiply | BinaryOperator::Divide => right == 1,
-        BinaryOperator::Either
+        BinaryOperator::LogicalOr
         | BinaryOperator::BitOr
         | BinaryOperator::BitXor
         | BinaryOperator::ShiftLeft
@@ -66,10 +66,10 @@ pub fn is_left_identity(operator: BinaryOperator, width: Width, left: u32) -> bo
     ensures { result ≡ is_left_identity operator width left }
 {
     match operator {
-        BinaryOperator::Both => is_true(left),
+        BinaryOperator::LogicalAnd => is_true(left),
         BinaryOperator::BitAnd => left == word::complement(width, 0),
         BinaryOperator::Multiply => left == 1,
-        BinaryOperator::Either
+        BinaryOperator::LogicalOr
         | BinaryOperator::BitOr
         | BinaryOperator::BitXor
         | BinaryOperator::Add => left == 0,

@@ -9,7 +9,7 @@ use language::{BinaryOperator, Kind};
 
 /// An operator, and the number on its right.
 #[derive(Clone, Copy)]
-pub struct Step {
+pub struct OperatorStep {
     pub operator: BinaryOperator,
     pub number: Constant,
 }
@@ -27,7 +27,7 @@ fn exponent_of(number: u32) -> Option<u32>
 }
 
 /// What makes the same as an operator with a power of two on its right, this its exponent.
-fn step_by(operator: BinaryOperator, power: Constant, exponent: u32) -> Option<Step>
+fn step_by(operator: BinaryOperator, power: Constant, exponent: u32) -> Option<OperatorStep>
     ensures { result ≡ powers.step_by operator power exponent }
 {
     let amount = Constant {
@@ -35,15 +35,15 @@ fn step_by(operator: BinaryOperator, power: Constant, exponent: u32) -> Option<S
         kind: Kind::Uint32,
     };
     match operator {
-        BinaryOperator::Multiply => Some(Step {
+        BinaryOperator::Multiply => Some(OperatorStep {
             operator: BinaryOperator::ShiftLeft,
             number: amount,
         }),
-        BinaryOperator::Divide => Some(Step {
+        BinaryOperator::Divide => Some(OperatorStep {
             operator: BinaryOperator::ShiftRight,
             number: amount,
         }),
-        BinaryOperator::Remainder => Some(Step {
+        BinaryOperator::Remainder => Some(OperatorStep {
             operator: BinaryOperator::BitAnd,
             number: Constant {
                 value: power.value.saturating_sub(1),
@@ -55,7 +55,7 @@ fn step_by(operator: BinaryOperator, power: Constant, exponent: u32) -> Option<S
 }
 
 /// What makes the same as an operator with this on its right, where that is a power of two.
-pub fn step_of(operator: BinaryOperator, right: Option<Constant>) -> Option<Step>
+pub fn step_of(operator: BinaryOperator, right: Option<Constant>) -> Option<OperatorStep>
     ensures { result ≡ powers.step_of operator right }
 {
     let power = right?;
@@ -64,7 +64,7 @@ pub fn step_of(operator: BinaryOperator, right: Option<Constant>) -> Option<Step
 }
 
 /// What makes the same as an operator with this on its left: only a product's operands may be swapped.
-pub fn swapped_step(operator: BinaryOperator, left: Option<Constant>) -> Option<Step>
+pub fn swapped_step(operator: BinaryOperator, left: Option<Constant>) -> Option<OperatorStep>
     ensures { result ≡ powers.swapped_step operator left }
 {
     if matches!(operator, BinaryOperator::Multiply) {

@@ -4,7 +4,7 @@ ghost use Rattle.optimisation.specs.constants.Exact.{simplified_of, unrolled_of}
 ghost use Rattle.optimisation.specs.constants.private.Simplification.{simplified_program};
 
 use crate::constants::choice::Choice;
-use crate::constants::known::Known;
+use crate::constants::known::KnownWords;
 use crate::constants::statements::{Pass, statements};
 use crate::constants::terms::simple_where_any;
 use branch_removal::StraightCode;
@@ -16,18 +16,18 @@ use std::alloc::{AllocError, Global};
 fn simpler<'f>(
     alloc: Global,
     straight: &StraightCode<'f>,
-    copies: &[u32],
+    unroll_limits: &[u32],
 ) -> Result<Option<StraightCode<'f>>, AllocError>
     ensures replaced { IfOk result (λ made. IfSome made (IsReplaced straight.now)) }
-    ensures exact { IfOk result (λ made. made ≡ checked (simplified_program copies.now straight.now)) }
+    ensures exact { IfOk result (λ made. made ≡ checked (simplified_program unroll_limits.now straight.now)) }
 {
     let declared = straight.declared();
     let pass = Pass {
         alloc,
-        copies,
+        unroll_limits,
         declared,
     };
-    let mut known = Known::nothing(alloc, declared.len())?;
+    let mut known = KnownWords::nothing(alloc, declared.len())?;
     let mut code = Vec::new(alloc);
     statements(&pass, &mut known, &mut code, straight.body())?;
     let value = simple_where_any(alloc, &known, straight.value())?;
@@ -63,5 +63,5 @@ pub fn unroll<'f>(
     ensures memory { IfErr result (λ refusal. IsWantOfMemory refusal.rule refusal.place) }
 {
     let choice = Choice::of(alloc, straight)?;
-    Ok(simpler(alloc, straight, choice.copies.as_slice())?)
+    Ok(simpler(alloc, straight, choice.unroll_limits.as_slice())?)
 }

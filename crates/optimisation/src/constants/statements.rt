@@ -7,12 +7,13 @@ ghost use Rattle.optimisation.specs.Below.{chain, set, straight_block, straight_
 ghost use Rattle.optimisation.specs.constants.private.Folding.{simple};
 ghost use Rattle.optimisation.specs.constants.private.Known.{forgotten_all, words_of};
 ghost use Rattle.optimisation.specs.constants.private.Simplification.{knowing, knowing_all, set_to, simplified};
-ghost use Rattle.optimisation.specs.constants.private.Simplification.{simplified_all, single, iterations_code, iterations_known};
+ghost use Rattle.optimisation.specs.constants.private.Simplification.{simplified_all, single, iterations_code};
+ghost use Rattle.optimisation.specs.constants.private.Simplification.{iterations_known};
 
-use crate::constants::choice::copies_of;
-use crate::constants::copies::learn;
-use crate::constants::known::{Constant, Known};
-use crate::constants::terms::{Numbers, all_simple, decision, number_of, numbers_of, simple};
+use crate::constants::choice::unroll_limit_of;
+use crate::constants::copy_propagation::learn;
+use crate::constants::known::{Constant, KnownWords};
+use crate::constants::terms::{CounterRange, all_simple, decision, number_of, numbers_of, simple};
 use branch_removal::{StraightStatement, branch_of, loop_of};
 use inline::{FlatVariable, Term};
 use language::Kind;
@@ -23,13 +24,13 @@ use std::alloc::{AllocError, Global};
 pub struct Pass<'p> {
     pub alloc: Global,
     /// How many iterations the loop of each counter may become, at the counter's number.
-    pub copies: &'p [u32],
+    pub unroll_limits: &'p [u32],
     pub declared: &'p [FlatVariable],
 }
 
 /// The counter of a loop and its bounds.
 #[derive(Clone, Copy)]
-struct Bounds<'b> {
+struct LoopBounds<'b> {
     counter: u32,
     low: &'b Term,
     high: &'b Term,
@@ -47,7 +48,7 @@ fn push(code: &mut Vec<StraightStatement>, statement: StraightStatement) -> Resu
 /// A variable is set to a value, which is learnt where no control value decides.
 fn set_simple(
     pass: &Pass<'_>,
-    known: &mut Known,
+    known: &mut KnownWords,
     code: &mut Vec<StraightStatement>,
     within: Option<u32>,
     variable: u32,
@@ -72,14 +73,14 @@ fn set_simple(
 #[cycle(simplification)]
 fn statement(
     pass: &Pass<'_>,
-    known: &mut Known,
+    known: &mut KnownWords,
     code: &mut Vec<StraightStatement>,
     statement: &StraightStatement,
 ) -> Result<(), AllocError>
     ensures code { OnOk result (straight_block code.new.items
-        ≡ chain (straight_block code.old.items) (simplified pass.now.copies.now pass.now.declared.now
+        ≡ chain (straight_block code.old.items) (simplified pass.now.unroll_limits.now pass.now.declared.now
         (words_of known.old) (straight_tree statement.now))) }
-    ensures known { OnOk result (words_of known.new ≡ knowing pass.now.copies.now pass.now.declared.now
+    ensures known { OnOk result (words_of known.new ≡ knowing pass.now.unroll_limits.now pass.now.declared.now
         (words_of known.old) (straight_tree statement.now)) }
 {
     match statement {
@@ -108,7 +109,7 @@ fn statement(
             branch(pass, known, code, condition, accepted, otherwise)
         }
         StraightStatement::Repeat(counter, low, high, body) => {
-            let bounds = Bounds {
+            let bounds = LoopBounds {
                 counter: *counter,
                 low,
                 high,
@@ -122,17 +123,17 @@ fn statement(
 #[cycle(simplification)]
 fn branch(
     pass: &Pass<'_>,
-    known: &mut Known,
+    known: &mut KnownWords,
     code: &mut Vec<StraightStatement>,
     condition: &Term,
     accepted: &[StraightStatement],
     otherwise: &[StraightStatement],
 ) -> Result<(), AllocError>
     ensures code { OnOk result (straight_block code.new.items
-        ≡ chain (straight_block code.old.items) (simplified pass.now.copies.now pass.now.declared.now
+        ≡ chain (straight_block code.old.items) (simplified pass.now.unroll_limits.now pass.now.declared.now
         (words_of known.old) (straight.branch (term_tree condition.now) (straight_block accepted.now)
         (straight_block otherwise.now)))) }
-    ensures known { OnOk result (words_of known.new ≡ knowing pass.now.copies.now pass.now.declared.now
+    ensures known { OnOk result (words_of known.new ≡ knowing pass.now.unroll_limits.now pass.now.declared.now
         (words_of known.old) (straight.branch (term_tree condition.now) (straight_block accepted.now)
         (straight_block otherwise.now))) }
 {
@@ -152,25 +153,25 @@ fn branch(
 #[cycle(simplification)]
 fn repeat(
     pass: &Pass<'_>,
-    known: &mut Known,
+    known: &mut KnownWords,
     code: &mut Vec<StraightStatement>,
-    bounds: Bounds<'_>,
+    bounds: LoopBounds<'_>,
     body: &[StraightStatement],
 ) -> Result<(), AllocError>
     ensures code { OnOk result (straight_block code.new.items
         ≡ chain (straight_block code.old.items)
-        (simplified pass.now.copies.now pass.now.declared.now (words_of known.old)
+        (simplified pass.now.unroll_limits.now pass.now.declared.now (words_of known.old)
         (straight.repeats bounds.entry.counter (term_tree bounds.entry.low.now) (term_tree bounds.entry.high.now)
         (straight_block body.now)))) }
     ensures known { OnOk result (words_of known.new
-        ≡ knowing pass.now.copies.now pass.now.declared.now (words_of known.old)
+        ≡ knowing pass.now.unroll_limits.now pass.now.declared.now (words_of known.old)
         (straight.repeats bounds.entry.counter (term_tree bounds.entry.low.now) (term_tree bounds.entry.high.now)
         (straight_block body.now))) }
 {
     let counter = bounds.counter;
     let low = simple(pass.alloc, known, bounds.low)?;
     let high = simple(pass.alloc, known, bounds.high)?;
-    let most = copies_of(pass.copies, counter);
+    let most = unroll_limit_of(pass.unroll_limits, counter);
     match numbers_of(most, &low, &high) {
         Some(numbers) => iterations(pass, known, code, counter, numbers, body),
         None => {
@@ -185,16 +186,16 @@ fn repeat(
 #[cycle(simplification)]
 fn iterations(
     pass: &Pass<'_>,
-    known: &mut Known,
+    known: &mut KnownWords,
     code: &mut Vec<StraightStatement>,
     counter: u32,
-    numbers: Numbers,
+    numbers: CounterRange,
     body: &[StraightStatement],
 ) -> Result<(), AllocError>
     ensures code { OnOk result (straight_block code.new.items
-        ≡ chain (straight_block code.old.items) (iterations_code pass.now.copies.now pass.now.declared.now
+        ≡ chain (straight_block code.old.items) (iterations_code pass.now.unroll_limits.now pass.now.declared.now
         (words_of known.old) counter numbers (straight_block body.now))) }
-    ensures known { OnOk result (words_of known.new ≡ iterations_known pass.now.copies.now pass.now.declared.now
+    ensures known { OnOk result (words_of known.new ≡ iterations_known pass.now.unroll_limits.now pass.now.declared.now
         (words_of known.old) counter numbers (straight_block body.now)) }
 {
     for value in numbers.low..numbers.high {
@@ -216,13 +217,14 @@ fn iterations(
 #[cycle(simplification)]
 fn part(
     pass: &Pass<'_>,
-    known: &mut Known,
+    known: &mut KnownWords,
     body: &[StraightStatement],
 ) -> Result<Vec<StraightStatement>, AllocError>
     ensures code { IfOk result (λ code. straight_block code.items
-        ≡ simplified_all pass.now.copies.now pass.now.declared.now (words_of known.old) (straight_block body.now)) }
+        ≡ simplified_all pass.now.unroll_limits.now pass.now.declared.now (words_of known.old)
+        (straight_block body.now)) }
     ensures known { OnOk result (words_of known.new ≡ forgotten_all
-        (knowing_all pass.now.copies.now pass.now.declared.now (words_of known.old) (straight_block body.now))
+        (knowing_all pass.now.unroll_limits.now pass.now.declared.now (words_of known.old) (straight_block body.now))
         (straight_block body.now)) }
 {
     let mut code = Vec::new(pass.alloc);
@@ -235,14 +237,14 @@ fn part(
 #[cycle(simplification)]
 pub fn statements(
     pass: &Pass<'_>,
-    known: &mut Known,
+    known: &mut KnownWords,
     code: &mut Vec<StraightStatement>,
     body: &[StraightStatement],
 ) -> Result<(), AllocError>
     ensures code { OnOk result (straight_block code.new.items
-        ≡ chain (straight_block code.old.items) (simplified_all pass.now.copies.now pass.now.declared.now
+        ≡ chain (straight_block code.old.items) (simplified_all pass.now.unroll_limits.now pass.now.declared.now
         (words_of known.old) (straight_block body.now))) }
-    ensures known { OnOk result (words_of known.new ≡ knowing_all pass.now.copies.now pass.now.declared.now
+    ensures known { OnOk result (words_of known.new ≡ knowing_all pass.now.unroll_limits.now pass.now.declared.now
         (words_of known.old) (straight_block body.now)) }
 {
     for each in body {

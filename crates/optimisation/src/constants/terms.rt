@@ -9,7 +9,7 @@ ghost use Rattle.optimisation.specs.constants.private.Folding.{chosen, constant_
 ghost use Rattle.optimisation.specs.constants.private.Folding.{simple};
 
 use crate::constants::fields::{narrowed, operation};
-use crate::constants::known::{Constant, Known};
+use crate::constants::known::{Constant, KnownWords};
 use crate::constants::operators::{
     decided_by_left, decided_by_right, folded, is_left_identity, is_right_identity,
 };
@@ -21,7 +21,7 @@ use word::Width;
 
 /// The numbers of a counter: from the first up to the last before the second.
 #[derive(Clone, Copy)]
-pub struct Numbers {
+pub struct CounterRange {
     pub low: u32,
     pub high: u32,
 }
@@ -320,7 +320,7 @@ fn select(
 }
 
 /// An expression, where this is known of the variables.
-pub fn simple(alloc: Global, known: &Known, term: &Term) -> Result<Term, AllocError>
+pub fn simple(alloc: Global, known: &KnownWords, term: &Term) -> Result<Term, AllocError>
     ensures { IfOk result (λ simpler. term_tree simpler ≡ simple (words_of known.now) (term_tree term.now)) }
 {
     match term {
@@ -361,7 +361,11 @@ pub fn simple(alloc: Global, known: &Known, term: &Term) -> Result<Term, AllocEr
 }
 
 /// Expressions, in their order.
-pub fn all_simple(alloc: Global, known: &Known, terms: &[Term]) -> Result<Vec<Term>, AllocError>
+pub fn all_simple(
+    alloc: Global,
+    known: &KnownWords,
+    terms: &[Term],
+) -> Result<Vec<Term>, AllocError>
     ensures { IfOk result (λ simpler.
         map term_tree simpler.items ≡ map (simple (words_of known.now)) (map term_tree terms.now)) }
 {
@@ -375,7 +379,7 @@ pub fn all_simple(alloc: Global, known: &Known, terms: &[Term]) -> Result<Vec<Te
 /// An expression, where there is one.
 pub fn simple_where_any(
     alloc: Global,
-    known: &Known,
+    known: &KnownWords,
     term: Option<&Term>,
 ) -> Result<Option<Term>, AllocError>
     ensures { IfOk result (λ simpler. option_map term_tree simpler
@@ -388,13 +392,13 @@ pub fn simple_where_any(
 }
 
 /// The numbers of a loop's counter, where both its bounds are numbers, and it makes no more iterations than this.
-pub fn numbers_of(most: u32, low: &Term, high: &Term) -> Option<Numbers>
+pub fn numbers_of(most: u32, low: &Term, high: &Term) -> Option<CounterRange>
     ensures { result ≡ numbers_of most (constant_of (term_tree low.now)) (constant_of (term_tree high.now)) }
 {
     let low = constant_of(low)?.value;
     let high = constant_of(high)?.value;
     if high.saturating_sub(low) <= most {
-        Some(Numbers { low, high })
+        Some(CounterRange { low, high })
     } else {
         None
     }

@@ -6,12 +6,12 @@ ghost use Rattle.optimisation.specs.Below.{straight_block, straight_tree, term_t
 ghost use Rattle.optimisation.specs.element_words.private.Narrowing.{all_narrowed, narrowed, narrowed_at, narrowed_by};
 ghost use Rattle.optimisation.specs.element_words.private.Narrowing.{narrowed_by_all, narrowed_put, narrowed_result};
 
-use crate::element_words::parts::Parts;
+use crate::element_words::parts::SplitArrays;
 use branch_removal::StraightStatement;
 use inline::Term;
 
 /// An array stays whole unless this use of it is a word.
-fn narrow_at(parts: &mut Parts, array: u32, index: &Term)
+fn narrow_at(parts: &mut SplitArrays, array: u32, index: &Term)
     ensures { parts.new.arrays.items ≡ narrowed_at parts.old.arrays.items array (term_tree index.now) }
 {
     if parts.word(array, index).is_none() {
@@ -20,7 +20,7 @@ fn narrow_at(parts: &mut Parts, array: u32, index: &Term)
 }
 
 /// The uses in an expression.
-fn narrow(parts: &mut Parts, term: &Term)
+fn narrow(parts: &mut SplitArrays, term: &Term)
     ensures { parts.new.arrays.items ≡ narrowed parts.old.arrays.items (term_tree term.now) }
 {
     match term {
@@ -45,7 +45,7 @@ fn narrow(parts: &mut Parts, term: &Term)
 }
 
 /// Those in expressions.
-fn narrow_all(parts: &mut Parts, terms: &[Term])
+fn narrow_all(parts: &mut SplitArrays, terms: &[Term])
     ensures { parts.new.arrays.items ≡ all_narrowed parts.old.arrays.items (map term_tree terms.now) }
 {
     for term in terms {
@@ -54,7 +54,7 @@ fn narrow_all(parts: &mut Parts, terms: &[Term])
 }
 
 /// Those where an element is set.
-fn narrow_put(parts: &mut Parts, array: u32, index: &Term, value: &Term)
+fn narrow_put(parts: &mut SplitArrays, array: u32, index: &Term, value: &Term)
     ensures { parts.new.arrays.items
         ≡ narrowed_put parts.old.arrays.items array (term_tree index.now) (term_tree value.now) }
 {
@@ -65,7 +65,7 @@ fn narrow_put(parts: &mut Parts, array: u32, index: &Term, value: &Term)
 
 /// Those in a statement.
 #[cycle(narrowing)]
-fn narrow_by(parts: &mut Parts, statement: &StraightStatement)
+fn narrow_by(parts: &mut SplitArrays, statement: &StraightStatement)
     ensures { parts.new.arrays.items ≡ narrowed_by parts.old.arrays.items (straight_tree statement.now) }
 {
     match statement {
@@ -91,7 +91,7 @@ fn narrow_by(parts: &mut Parts, statement: &StraightStatement)
 
 /// Those in statements.
 #[cycle(narrowing)]
-pub fn narrow_by_all(parts: &mut Parts, body: &[StraightStatement])
+pub fn narrow_by_all(parts: &mut SplitArrays, body: &[StraightStatement])
     ensures { parts.new.arrays.items ≡ narrowed_by_all parts.old.arrays.items (straight_block body.now) }
 {
     for statement in body {
@@ -100,7 +100,7 @@ pub fn narrow_by_all(parts: &mut Parts, body: &[StraightStatement])
 }
 
 /// Those in a result, where there is one.
-pub fn narrow_result(parts: &mut Parts, value: Option<&Term>)
+pub fn narrow_result(parts: &mut SplitArrays, value: Option<&Term>)
     ensures { parts.new.arrays.items
         ≡ narrowed_result parts.old.arrays.items (option_map (λ term. term_tree term.now) value.entry) }
 {

@@ -14,7 +14,7 @@ pub const MOST_ELEMENTS_SPLIT: u32 = 64;
 
 /// An array that becomes words: the number of the first, how many there are, and their type.
 #[derive(Clone, Copy)]
-pub struct Part {
+pub struct SplitArray {
     pub base: u16,
     pub size: u16,
     pub word: WordType,
@@ -22,8 +22,8 @@ pub struct Part {
 
 /// For each variable, at its number, what becomes of it where it is an array that becomes words.
 #[derive(Drop)]
-pub struct Parts {
-    pub arrays: Vec<Option<Part>>,
+pub struct SplitArrays {
+    pub arrays: Vec<Option<SplitArray>>,
 }
 
 /// The number of an index, where it is one below the size.
@@ -43,14 +43,14 @@ fn known_index(size: u16, index: &Term) -> Option<u32>
 }
 
 /// What becomes of a variable that is no parameter, where it is a short array.
-fn candidate(variable: &FlatVariable) -> Option<Part>
+fn candidate(variable: &FlatVariable) -> Option<SplitArray>
     ensures { result ≡ candidate variable.now }
 {
     match variable.elements {
         None => None,
         Some(size) => {
             if size <= MOST_ELEMENTS_SPLIT {
-                Some(Part {
+                Some(SplitArray {
                     base: 0,
                     size: size as u16,
                     word: variable.word,
@@ -62,12 +62,12 @@ fn candidate(variable: &FlatVariable) -> Option<Part>
     }
 }
 
-impl Parts {
+impl SplitArrays {
     /// None of the variables becomes words.
     pub fn none(alloc: Global) -> Self
         ensures { result.arrays.items ≡ [] }
     {
-        Parts {
+        SplitArrays {
             arrays: Vec::new(alloc),
         }
     }
@@ -85,11 +85,11 @@ impl Parts {
         for variable in &declared[parameters..] {
             arrays.push(candidate(variable))?;
         }
-        Ok(Parts { arrays })
+        Ok(SplitArrays { arrays })
     }
 
     /// What becomes of a variable.
-    pub fn of(&self, variable: u32) -> Option<Part>
+    pub fn of(&self, variable: u32) -> Option<SplitArray>
         ensures { result ≡ part_of self.now.arrays.items variable }
     {
         match self.arrays.get(variable as usize) {

@@ -7,7 +7,7 @@ ghost use Rattle.optimisation.specs.element_words.private.Parts.{Parts as Table,
 ghost use Rattle.optimisation.specs.element_words.private.Plan.{parts_of, room_beside, used_parts};
 
 use crate::element_words::narrowing::{narrow_by_all, narrow_result};
-use crate::element_words::parts::{Part, Parts};
+use crate::element_words::parts::{SplitArray, SplitArrays};
 use crate::element_words::statements::block;
 use crate::element_words::terms::split_where_any;
 use branch_removal::{StraightCode, words_taken};
@@ -37,8 +37,8 @@ fn room_beside(declared: &[FlatVariable]) -> u16
 /// Puts an array behind the others, with words from this number on, or whole where there is no room for so many. How
 /// many words it becomes.
 fn push_numbered(
-    arrays: &mut Vec<Option<Part>>,
-    array: Option<Part>,
+    arrays: &mut Vec<Option<SplitArray>>,
+    array: Option<SplitArray>,
     base: u16,
     room: u16,
 ) -> Result<u16, AllocError>
@@ -50,7 +50,7 @@ fn push_numbered(
     match array {
         Some(part) => {
             if part.size <= room {
-                arrays.push(Some(Part { base, ..part }))?;
+                arrays.push(Some(SplitArray { base, ..part }))?;
                 Ok(part.size)
             } else {
                 arrays.push(None)?;
@@ -65,7 +65,12 @@ fn push_numbered(
 }
 
 /// The arrays with words from this number on, each as long as there is room for so many.
-fn numbered(alloc: Global, parts: &Parts, first: u16, most: u16) -> Result<Parts, AllocError>
+fn numbered(
+    alloc: Global,
+    parts: &SplitArrays,
+    first: u16,
+    most: u16,
+) -> Result<SplitArrays, AllocError>
     requires { first + most < 65536 }
     ensures { IfOk result (λ made. made.arrays.items ≡ numbered first most parts.now.arrays.items) }
 {
@@ -77,11 +82,11 @@ fn numbered(alloc: Global, parts: &Parts, first: u16, most: u16) -> Result<Parts
         base += size;
         room -= size;
     }
-    Ok(Parts { arrays })
+    Ok(SplitArrays { arrays })
 }
 
 /// Puts the words of an array behind the variables.
-fn push_words(declared: &mut Vec<FlatVariable>, part: Part) -> Result<(), AllocError>
+fn push_words(declared: &mut Vec<FlatVariable>, part: SplitArray) -> Result<(), AllocError>
     ensures { OnOk result (declared.new.items ≡ declared.old.items ++ words_for (Some part)) }
 {
     for _word in 0..part.size {
@@ -98,7 +103,7 @@ fn push_words(declared: &mut Vec<FlatVariable>, part: Part) -> Result<(), AllocE
 fn with_words(
     alloc: Global,
     variables: &[FlatVariable],
-    parts: &Parts,
+    parts: &SplitArrays,
 ) -> Result<Vec<FlatVariable>, AllocError>
     ensures { IfOk result (λ declared. declared.items ≡ variables.now ++ all_words parts.now.arrays.items) }
 {
@@ -112,24 +117,28 @@ fn with_words(
 }
 
 /// The arrays that are used by known indices alone.
-fn used_parts(alloc: Global, straight: &StraightCode<'_>) -> Result<Parts, AllocError>
+fn used_parts(alloc: Global, straight: &StraightCode<'_>) -> Result<SplitArrays, AllocError>
     ensures parts { IfOk result (λ parts. parts.arrays.items ≡ used_parts straight.now) }
     ensures kept { IfOk result (λ parts. IsStraight straight.now) }
 {
     let body = straight.body();
-    let mut parts = Parts::candidates(alloc, straight.parameters().len(), straight.declared())?;
+    let mut parts = SplitArrays::candidates(
+        alloc,
+        straight.parameters().len(),
+        straight.declared(),
+    )?;
     narrow_by_all(&mut parts, body);
     narrow_result(&mut parts, straight.value());
     Ok(parts)
 }
 
 /// What a program's arrays become.
-fn parts_of(alloc: Global, straight: &StraightCode<'_>) -> Result<Parts, AllocError>
+fn parts_of(alloc: Global, straight: &StraightCode<'_>) -> Result<SplitArrays, AllocError>
     ensures { IfOk result (λ parts. parts.arrays.items ≡ parts_of straight.now) }
 {
     let declared = straight.declared();
     if MOST_VARIABLE_WORDS < declared.len() {
-        return Ok(Parts::none(alloc));
+        return Ok(SplitArrays::none(alloc));
     }
     let parts = used_parts(alloc, straight)?;
     numbered(alloc, &parts, declared.len() as u16, room_beside(declared))
@@ -137,12 +146,12 @@ fn parts_of(alloc: Global, straight: &StraightCode<'_>) -> Result<Parts, AllocEr
 
 /// The words that a program's short arrays become, where they are used by known indices alone.
 #[derive(Drop)]
-pub struct Words {
+pub struct ElementWords {
     declared: Vec<FlatVariable>,
-    parts: Parts,
+    parts: SplitArrays,
 }
 
-impl Model for Words {
+impl Model for ElementWords {
     ghost use Rattle.optimisation.specs.element_words.private.Plan.{WordPlan};
 
     ghost Value = { WordPlan };
@@ -150,16 +159,16 @@ impl Model for Words {
     ghost view = { λ words. record { declared = words.declared.items; parts = words.parts.arrays.items } };
 }
 
-impl Words {
+impl ElementWords {
     /// The words that a program's arrays become. The program alone decides them. Running out of memory alone refuses
     /// it.
-    pub fn of(alloc: Global, straight: &StraightCode<'_>) -> Result<Words, Refusal>
+    pub fn of(alloc: Global, straight: &StraightCode<'_>) -> Result<ElementWords, Refusal>
         ensures exact { IfOk result (λ words. words ≡ words_of straight.now) }
         ensures memory { IfErr result (λ refusal. IsWantOfMemory refusal.rule refusal.place) }
     {
         let parts = parts_of(alloc, straight)?;
         let declared = with_words(alloc, straight.declared(), &parts)?;
-        Ok(Words { declared, parts })
+        Ok(ElementWords { declared, parts })
     }
 
     /// The program in which its arrays are these words. It may stand in the place of the program that it is made of,

@@ -6,7 +6,7 @@ ghost use Rattle.optimisation.specs.element_words.private.Parts.{part_of};
 ghost use Rattle.optimisation.specs.element_words.private.Splitting.{first_value, given_words, new_array, single};
 ghost use Rattle.optimisation.specs.element_words.private.Splitting.{split, split_all, split_in};
 
-use crate::element_words::parts::{Part, Parts};
+use crate::element_words::parts::{SplitArray, SplitArrays};
 use crate::element_words::terms::{all_split, split};
 use branch_removal::{StraightStatement, branch_of, loop_of};
 use inline::Term;
@@ -25,7 +25,7 @@ fn push(code: &mut Vec<StraightStatement>, statement: StraightStatement) -> Resu
 /// The value of an element of a new array: the one that is given for it, else 0.
 fn element_value(
     alloc: Global,
-    parts: &Parts,
+    parts: &SplitArrays,
     values: &[Term],
     element: u16,
     kind: Kind,
@@ -42,9 +42,9 @@ fn element_value(
 /// The words of an array get its first values, or become 0 where none are given.
 fn push_words(
     alloc: Global,
-    parts: &Parts,
+    parts: &SplitArrays,
     code: &mut Vec<StraightStatement>,
-    part: Part,
+    part: SplitArray,
     values: &[Term],
 ) -> Result<(), AllocError>
     ensures { OnOk result (straight_block code.new.items
@@ -62,7 +62,7 @@ fn push_words(
 /// A new array, whole or as its words.
 fn new_array(
     alloc: Global,
-    parts: &Parts,
+    parts: &SplitArrays,
     code: &mut Vec<StraightStatement>,
     array: u32,
     size: u32,
@@ -85,7 +85,7 @@ fn new_array(
 #[cycle(splitting)]
 fn statement(
     alloc: Global,
-    parts: &Parts,
+    parts: &SplitArrays,
     code: &mut Vec<StraightStatement>,
     statement: &StraightStatement,
 ) -> Result<(), AllocError>
@@ -133,7 +133,7 @@ fn statement(
 #[cycle(splitting)]
 pub fn block(
     alloc: Global,
-    parts: &Parts,
+    parts: &SplitArrays,
     body: &[StraightStatement],
 ) -> Result<Vec<StraightStatement>, AllocError>
     ensures { IfOk result (λ code.

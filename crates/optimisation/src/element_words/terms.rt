@@ -6,13 +6,13 @@ ghost use Rattle.optimisation.specs.Below.{term_tree};
 ghost use Rattle.optimisation.specs.element_words.private.Splitting as splitting;
 ghost use Rattle.optimisation.specs.element_words.private.Splitting.{split};
 
-use crate::element_words::parts::Parts;
+use crate::element_words::parts::SplitArrays;
 use inline::Term;
 use std::alloc::{AllocError, Global};
 
 /// An expression.
 #[cycle(split)]
-pub fn split(alloc: Global, parts: &Parts, term: &Term) -> Result<Term, AllocError>
+pub fn split(alloc: Global, parts: &SplitArrays, term: &Term) -> Result<Term, AllocError>
     ensures { IfOk result (λ made. term_tree made ≡ split parts.now.arrays.items (term_tree term.now)) }
 {
     match term {
@@ -54,7 +54,7 @@ pub fn split(alloc: Global, parts: &Parts, term: &Term) -> Result<Term, AllocErr
 
 /// The same, in a box of its own.
 #[cycle(split)]
-fn boxed(alloc: Global, parts: &Parts, term: &Term) -> Result<Box<Term>, AllocError>
+fn boxed(alloc: Global, parts: &SplitArrays, term: &Term) -> Result<Box<Term>, AllocError>
     ensures { IfOk result (λ made. term_tree made.value ≡ split parts.now.arrays.items (term_tree term.now)) }
 {
     let made = split(alloc, parts, term)?;
@@ -62,7 +62,11 @@ fn boxed(alloc: Global, parts: &Parts, term: &Term) -> Result<Box<Term>, AllocEr
 }
 
 /// Expressions, in their order.
-pub fn all_split(alloc: Global, parts: &Parts, terms: &[Term]) -> Result<Vec<Term>, AllocError>
+pub fn all_split(
+    alloc: Global,
+    parts: &SplitArrays,
+    terms: &[Term],
+) -> Result<Vec<Term>, AllocError>
     ensures { IfOk result (λ made.
         map term_tree made.items ≡ map (split parts.now.arrays.items) (map term_tree terms.now)) }
 {
@@ -76,7 +80,7 @@ pub fn all_split(alloc: Global, parts: &Parts, terms: &[Term]) -> Result<Vec<Ter
 /// An expression, where there is one.
 pub fn split_where_any(
     alloc: Global,
-    parts: &Parts,
+    parts: &SplitArrays,
     term: Option<&Term>,
 ) -> Result<Option<Term>, AllocError>
     ensures { IfOk result (λ made. option_map term_tree made

@@ -42,13 +42,13 @@ fn is_some(word: Option<u32>) -> bool
 
 /// What is chosen from: the variables, what is live at the beginning, and how many words may share.
 #[derive(Clone, Copy)]
-pub struct Words<'w> {
+pub struct WordCandidates<'w> {
     pub declared: &'w [FlatVariable],
     pub starts: &'w [Option<u32>],
     pub width: u32,
 }
 
-impl<'w> Words<'w> {
+impl<'w> WordCandidates<'w> {
     /// Whether a word keeps its variable.
     fn is_fixed(&self, conflicts: &[bool], word: u32) -> bool
         ensures { result ≡ is_fixed self.now.starts.now conflicts.now self.now.width word }
@@ -176,7 +176,7 @@ impl Placed {
     }
 
     /// Places a word.
-    fn place(&mut self, words: Words<'_>, word: u32) -> Result<(), AllocError>
+    fn place(&mut self, words: WordCandidates<'_>, word: u32) -> Result<(), AllocError>
         ensures { IfOk result (λ done. placing_by self.new
             ≡ placed words.entry.declared.now words.entry.starts.now words.entry.width (placing_by self.old) word) }
     {
@@ -188,7 +188,11 @@ impl Placed {
     }
 
     /// Places the words that are used, by their weights, the greatest first.
-    fn place_all(&mut self, words: Words<'_>, weights: &mut Vec<u64>) -> Result<(), AllocError>
+    fn place_all(
+        &mut self,
+        words: WordCandidates<'_>,
+        weights: &mut Vec<u64>,
+    ) -> Result<(), AllocError>
         requires { length weights.old.items ≤ words.width }
         ensures { IfOk result (λ done. placing_by self.new
             ≡ placed_all words.entry.declared.now words.entry.starts.now words.entry.width words.entry.width
@@ -209,7 +213,7 @@ impl Placed {
 /// The variables that words live in, by how much the words are used.
 pub fn choose(
     alloc: Global,
-    words: Words<'_>,
+    words: WordCandidates<'_>,
     mut weights: Vec<u64>,
     conflicts: Vec<bool>,
 ) -> Result<Vec<u32>, AllocError>

@@ -7,7 +7,7 @@ ghost use Rattle.optimisation.specs.live_words.private.Held.{held_by};
 ghost use Rattle.optimisation.specs.live_words.private.Whole.{all_fits, at_end, at_start, kept, nothing_live, over};
 ghost use Rattle.optimisation.specs.live_words.private.Whole.{table_for, with_results};
 
-use crate::live_words::choice::{Words, choose};
+use crate::live_words::choice::{WordCandidates, choose};
 use crate::live_words::live::{Live, hold_own, share};
 use crate::live_words::statements::statements;
 use crate::live_words::terms::{read_any, renamed_any};
@@ -41,7 +41,7 @@ fn keep_results(live: &mut Live, table: &[u32], parameters: &[Param])
 
 /// A body and a result.
 #[derive(Drop)]
-struct Parts {
+struct BodyAndResult {
     body: Vec<StraightStatement>,
     value: Option<Term>,
 }
@@ -52,7 +52,7 @@ fn over(
     straight: &StraightCode<'_>,
     live: &mut Live,
     table: &[u32],
-) -> Result<Parts, AllocError>
+) -> Result<BodyAndResult, AllocError>
     ensures code { IfOk result (λ parts. with_body straight.now (straight_block parts.body.items)
         (option_map term_tree parts.value)
         ≡ over table.now (held_by live.old) straight.now) }
@@ -64,7 +64,7 @@ fn over(
     read_any(live, table, straight.value());
     let body = statements(alloc, live, table, code)?;
     let value = renamed_any(alloc, table, straight.value())?;
-    Ok(Parts { body, value })
+    Ok(BodyAndResult { body, value })
 }
 
 /// Whether sharing fits: no variable has to hold two words at once, and what is live at the beginning keeps its number.
@@ -90,7 +90,7 @@ fn table_for(alloc: Global, straight: &StraightCode<'_>) -> Result<Vec<u32>, All
     over(alloc, straight, &mut live, &[])?;
     let weights = variable_weights(alloc, straight)?;
     let conflicts = live.conflicts;
-    let words = Words {
+    let words = WordCandidates {
         declared: straight.declared(),
         starts: live.holders.as_slice(),
         width: live.width,

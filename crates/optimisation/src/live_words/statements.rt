@@ -17,7 +17,7 @@ use std::alloc::{AllocError, Global};
 
 /// The counter of a loop and its bounds.
 #[derive(Clone, Copy)]
-struct Bounds<'b> {
+struct LoopBounds<'b> {
     counter: u32,
     low: &'b Term,
     high: &'b Term,
@@ -132,7 +132,7 @@ fn statement(
             branch(alloc, live, table, condition, accepted, otherwise)
         }
         StraightStatement::Repeat(counter, low, high, body) => {
-            let bounds = Bounds {
+            let bounds = LoopBounds {
                 counter: *counter,
                 low,
                 high,
@@ -174,7 +174,7 @@ fn repeat(
     alloc: Global,
     live: &mut Live,
     table: &[u32],
-    bounds: Bounds<'_>,
+    bounds: LoopBounds<'_>,
     body: &[StraightStatement],
 ) -> Result<Option<StraightStatement>, AllocError>
     ensures code { IfOk result (λ code. option_map straight_tree code

@@ -10,7 +10,7 @@ use Rattle.run_reports.specs.pictures.Grid.{cell_number, cell_count, has, cell_o
 use Rattle.run_reports.specs.pictures.Marks.{blank, joined}
 use Rattle.run_reports.specs.declared.pictures.cells.Axes.{Axes}
 use Rattle.run_reports.specs.declared.pictures.cells.Cell.{Cell}
-use Rattle.run_reports.specs.declared.pictures.cells.Mark.{Mark}
+use Rattle.run_reports.specs.declared.pictures.cells.CellMark.{CellMark}
 use Rattle.run_reports.specs.pictures.private.Added.{Adds}
 
 -- no marks
@@ -22,12 +22,12 @@ empty_grid axes cells is = record {
 }
 
 -- marks and more marks
-pub adds_then : {axes axes' : Axes} {first second : List Mark} {old mid new : List Cell} → axes' ≡ axes
+pub adds_then : {axes axes' : Axes} {first second : List CellMark} {old mid new : List Cell} → axes' ≡ axes
     → Adds axes first old mid → Adds axes' second mid new → Adds axes (first ++ second) old new
 adds_then {first = first} same one two before grid =
     rw (append_assoc, same) at (two (before ++ first) (rw same (one before grid)))
 
-module _ (axes : Axes) (before : List Mark) (mark : Mark) where
+module _ (axes : Axes) (before : List CellMark) (mark : CellMark) where
   more : (number : ℕ) (this : Cell → Bool) → has axes (before ++ mark ∷ []) number this
       ≡ (has axes before number this || (cell_number axes mark == number && this mark.cell || false))
   more number this = list_any-append (λ m. cell_number axes m == number && this m.cell) before (mark ∷ [])
@@ -63,7 +63,7 @@ module _ (axes : Axes) (before : List Mark) (mark : Mark) where
   }
 
 -- a mark in its cell
-pub adds_mark : (axes : Axes) (mark : Mark) (cells : List Cell) (at : ℕ) (held now : Cell)
+pub adds_mark : (axes : Axes) (mark : CellMark) (cells : List Cell) (at : ℕ) (held now : Cell)
     → at ≡ cell_number axes mark → at < cell_count
     → held ≡ get_or cells at held → now ≡ joined held mark.cell → Adds axes (mark ∷ []) cells (set cells at now)
 adds_mark axes mark cells at held now is within read put before grid =

@@ -2,7 +2,7 @@
 use Rattle.std.proofs.Common.{◌≡◌, ℕ, ◌+◌, ◌≤◌, ◌<◌, List, [], ◌∷◌, ◌++◌, true, Option, Some, None, is_some, length}
 use Rattle.std.proofs.Common.{append_assoc, append-nil, refl, sym, ap, ◌∙◌, arith}
 use Rattle.std.proofs.lemmas.Option.{none-some}
-use Rattle.run_reports.specs.Below.{Budget, Code, followed_by, IsShown, Observation, spent, State, stays}
+use Rattle.run_reports.specs.Below.{Budget, MachineCode, followed_by, IsShown, Observation, spent, State, stays}
 use Rattle.rv_machine.proofs.RunLaws.{Runs-determined}
 use Rattle.rv_machine.proofs.Shown.{runs_no_steps}
 use Rattle.run_reports.specs.pictures.Grid.{IsGrid}
@@ -10,7 +10,7 @@ use Rattle.run_reports.specs.pictures.Marks.{marks_of_both, marks_from}
 use Rattle.run_reports.specs.pictures.private.Added.{Adds}
 use Rattle.run_reports.specs.declared.pictures.cells.Axes.{Axes}
 use Rattle.run_reports.specs.declared.pictures.cells.Cell.{Cell}
-use Rattle.run_reports.specs.declared.pictures.cells.Mark.{Mark}
+use Rattle.run_reports.specs.declared.pictures.cells.CellMark.{CellMark}
 
 -- whether something is shown
 pub some_shown : (o : Option Observation) → is_some o ≡ true → o ≡ None → ⊥
@@ -27,35 +27,37 @@ fewer_left None (Some p) fewer fewer' none none' some = omega (arith, none refl,
 fewer_left None None fewer fewer' none none' some = absurd (some (refl, refl))
 
 -- where no steps are left, nothing is shown
-ended_shows : {code : Code} {n : ℕ} {s : State} {seen : List Observation} → n ≡ 0 → IsShown code n s seen → seen ≡ []
+ended_shows : {code : MachineCode} {n : ℕ} {s : State} {seen : List Observation} → n ≡ 0 → IsShown code n s seen
+    → seen ≡ []
 ended_shows none shown = runs_no_steps (rw none at shown.2)
 
-ended : {code : Code} {n : ℕ} {s : State} → n ≡ 0 → IsShown code n s []
+ended : {code : MachineCode} {n : ℕ} {s : State} → n ≡ 0 → IsShown code n s []
 ended {s = s} none = rw none (Budget, s, spent stays, λ e. cc)
 
 -- what a later state shows follows, in an earlier one, what this step shows
-abbrev pub StepShows : Code → ℕ → State → ℕ → State → Option Observation → Type 0
+abbrev pub StepShows : MachineCode → ℕ → State → ℕ → State → Option Observation → Type 0
 StepShows code m s n t seen = (rest : List Observation) → IsShown code n t rest
     → IsShown code m s (followed_by seen rest)
 
 -- so many observations come before those that a later state shows
-pub record Counted (code : Code) (m : ℕ) (s : State) (n : ℕ) (t : State) (count : ℕ) : Type 0 where
+pub record CountedBefore (code : MachineCode) (m : ℕ) (s : State) (n : ℕ) (t : State) (count : ℕ) : Type 0 where
   pub before : (rest : List Observation) → IsShown code n t rest
       → (seen : List Observation) × IsShown code m s seen × (length seen ≡ count + length rest)
 
-pub count_begins : {code : Code} {m : ℕ} {s : State} → Counted code m s m s 0
+pub count_begins : {code : MachineCode} {m : ℕ} {s : State} → CountedBefore code m s m s 0
 count_begins = record { before = λ rest shown. (rest, shown, omega arith) }
 
-pub count_on : {code : Code} {m n k count : ℕ} {s t u : State} {seen : Option Observation} {o : Observation}
-    → Counted code m s n t count → seen ≡ Some o → StepShows code n t k u seen → Counted code m s k u (count + 1)
+pub count_on : {code : MachineCode} {m n k count : ℕ} {s t u : State} {seen : Option Observation} {o : Observation}
+    → CountedBefore code m s n t count → seen ≡ Some o → StepShows code n t k u seen → CountedBefore code m s k u
+    (count + 1)
 count_on {o = o} counted is step = record {
   before = λ rest shown.
       let now = counted.before (o ∷ rest) (rw is at (step rest shown)) in
       (now.0, now.1, omega (arith, now.2));
 }
 
-pub count_ends : {code : Code} {m n k count : ℕ} {s t u : State} {seen : Option Observation}
-    → Counted code m s n t count → seen ≡ None → k ≡ 0 → StepShows code n t k u seen
+pub count_ends : {code : MachineCode} {m n k count : ℕ} {s t u : State} {seen : Option Observation}
+    → CountedBefore code m s n t count → seen ≡ None → k ≡ 0 → StepShows code n t k u seen
     → (all : List Observation) × IsShown code m s all × (count ≡ length all)
 count_ends counted is none step =
     let now = counted.before [] (rw is at (step [] (ended none))) in
@@ -63,16 +65,18 @@ count_ends counted is none step =
 
 -- the cells have some marks, and with those of what two later states show they are the marks of what two earlier ones
 -- show
-pub record Painted (axes : Axes) (code : Code) (m : ℕ) (s : State) (n : ℕ) (t : State) (m' : ℕ) (s' : State) (n' : ℕ)
+pub record Painted (axes : Axes) (code : MachineCode) (m : ℕ) (s : State) (n : ℕ) (t : State) (m' : ℕ) (s' : State)
+    (n' : ℕ)
     (t' : State) (step : ℕ) (cells : List Cell) : Type 0 where
-  pub marks : List Mark
+  pub marks : List CellMark
   pub filled : IsGrid axes marks cells
   pub before :
       (rest rest' : List Observation) → IsShown code n t rest → IsShown code n' t' rest'
       → (seen seen' : List Observation) × IsShown code m s seen × IsShown code m' s' seen'
       × (marks_from 0 seen seen' ≡ marks ++ marks_from step rest rest')
 
-pub paint_begins : {axes : Axes} {code : Code} {m m' : ℕ} {s s' : State} {cells : List Cell} → IsGrid axes [] cells
+pub paint_begins : {axes : Axes} {code : MachineCode} {m m' : ℕ} {s s' : State} {cells : List Cell} → IsGrid axes
+    [] cells
     → Painted axes code m s m s m' s' m' s' 0 cells
 paint_begins filled = record {
   marks = [];
@@ -91,7 +95,7 @@ marks_on at (Some o) None rest rest' none none' some = rw none' refl
 marks_on at None (Some p) rest rest' none none' some = rw none refl
 marks_on at None None rest rest' none none' some = absurd (some (refl, refl))
 
-module _ {axes : Axes} {code : Code} {m n k m' n' k' at : ℕ} {s t u s' t' u' : State} {cells : List Cell} where
+module _ {axes : Axes} {code : MachineCode} {m n k m' n' k' at : ℕ} {s t u s' t' u' : State} {cells : List Cell} where
   -- a step of both, of which one at least shows something
   pub paint_on : {new : List Cell} (one other : Option Observation) → Painted axes code m s n t m' s' n' t' at cells
       → Adds axes (marks_of_both at one other) cells new → StepShows code n t k u one
@@ -126,7 +130,7 @@ module _ {axes : Axes} {code : Code} {m n k m' n' k' at : ℕ} {s t u s' t' u' :
       (now.0, now.1, now.2, now.3, rw (now.4, append-nil) painted.filled)
 
 -- as many steps as another run of the same counts from the same state on
-pub counted_again : {code : Code} {n n' count : ℕ} {s s' : State} {seen : List Observation} → n ≡ n' → s ≡ s'
+pub counted_again : {code : MachineCode} {n n' count : ℕ} {s s' : State} {seen : List Observation} → n ≡ n' → s ≡ s'
     → (all : List Observation) × IsShown code n s all × (count ≡ length all) → IsShown code n' s' seen
     → count ≡ length seen
 counted_again {code} {n} {s = s} {seen = seen} same_steps same_state counted shown =

@@ -7,20 +7,22 @@ use Rattle.run_reports.proofs.progress_lemmas.Told.{all_told}
 use Rattle.run_reports.specs.progress.GoingOn.{BothGoOn, Reaches, HasLines, IsTold}
 use Rattle.run_reports.specs.progress.Lines.{steps_a_line, WentOut}
 use Rattle.rv_machine.proofs.Face.{Leads-append, goes_on-determined, goes_on≢stops}
-use Rattle.run_reports.specs.Below.{advances, begins, Code, Collected, entries_of, finishes, further, IsFirstDifference}
-use Rattle.run_reports.specs.Below.{Leads, Makes, MakesAll, Observation, rests, State, stays, steps_on}
+use Rattle.run_reports.specs.Below.{advances, begins, MachineCode, Collected, entries_of, finishes, further}
+use Rattle.run_reports.specs.Below.{IsFirstDifference, Leads, MakesProgress, MakesAll, Observation, rests, State, stays}
+use Rattle.run_reports.specs.Below.{steps_on}
 
 -- Steps that leave more to be made go on.
 
 -- one more step leads on, where more may be made behind it
-leads_one : {code : Code} {m n : ℕ} {s t : State} {last : Option Observation} {o : Observation}
-    → Makes code m s last n t → last ≡ Some o → 0 < n → Leads code 1 s (o ∷ []) t × (n + 1 ≡ m)
+leads_one : {code : MachineCode} {m n : ℕ} {s t : State} {last : Option Observation} {o : Observation}
+    → MakesProgress code m s last n t → last ≡ Some o → 0 < n → Leads code 1 s (o ∷ []) t × (n + 1 ≡ m)
 leads_one rests is more = absurd (omega (arith, more))
 leads_one {o = o} (advances {o = p} step) is more = let same : o
     ≡ p = cc in (rw same (steps_on step stays), omega arith)
 leads_one (finishes end) is more = absurd (omega (arith, more))
 
-pub leads_all : {code : Code} {m n : ℕ} {s t : State} {seen : List Observation} → MakesAll code m s seen n t → 0 < n
+pub leads_all : {code : MachineCode} {m n : ℕ} {s t : State} {seen : List Observation} → MakesAll code m s seen n t
+    → 0 < n
     → Leads code (length seen) s seen t × (n + length seen ≡ m)
 leads_all begins more = (stays, omega arith)
 leads_all (further {seen = seen} {o = o} all step) more =
@@ -33,8 +35,8 @@ leads_all (further {seen = seen} {o = o} all step) more =
 -- On the way of a run that goes on, each step is one of its own.
 
 -- the next step is the run's
-step_along : {code : Code} {m n j : ℕ} {s t u : State} {last : Option Observation} {rest : List Observation}
-    → Makes code m s last n t → Leads code j s rest u → 0 < m → 0 < j
+step_along : {code : MachineCode} {m n j : ℕ} {s t u : State} {last : Option Observation} {rest : List Observation}
+    → MakesProgress code m s last n t → Leads code j s rest u → 0 < m → 0 < j
     → (o : Observation) × (more : List Observation) × (i : ℕ) × (last ≡ Some o) × (rest ≡ o ∷ more) × (j ≡ suc i)
     × Leads code i t more u × (n + 1 ≡ m)
 step_along rests lead some later = absurd (omega (arith, some))
@@ -45,7 +47,8 @@ step_along (advances {o = o} step) (steps_on {n = i} {o = p} {seen = more} other
 step_along (finishes end) (steps_on other then) some later = absurd (goes_on≢stops other end)
 
 -- so are all that were made
-pub along : {code : Code} {m n k : ℕ} {s t u : State} {seen whole : List Observation} → MakesAll code m s seen n t
+pub along : {code : MachineCode} {m n k : ℕ} {s t u : State} {seen whole : List Observation}
+    → MakesAll code m s seen n t
     → Leads code k s whole u → k < m → length seen ≤ k
     → (j : ℕ) × (rest : List Observation) × (k ≡ length seen + j) × (whole ≡ seen ++ rest) × Leads code j t rest u
     × (n + length seen ≡ m)
@@ -70,7 +73,7 @@ along {whole = whole} (further {seen = seen} {o = o} all step) lead within far =
     )
 
 -- two runs have shown this list
-abbrev pub InStep : Code → ℕ → State → ℕ → State → State → ℕ → State → List Observation → Type 0
+abbrev pub InStep : MachineCode → ℕ → State → ℕ → State → State → ℕ → State → List Observation → Type 0
 InStep code m s n t s' n' t' seen = MakesAll code m s seen n t × MakesAll code m s' seen n' t'
 
 -- two steps show the same
@@ -78,9 +81,9 @@ abbrev pub ShowSame : Option Observation → Option Observation → Type 0
 ShowSame one other = (o : Observation) × (one ≡ Some o) × (other ≡ Some o)
 
 -- where both go on, the next steps of both show the same
-pub both_show : {code : Code} {m n k n' k' due : ℕ} {s t u s' t' u' : State} {seen : List Observation}
-    {one other : Option Observation} → InStep code m s n t s' n' t' seen → Makes code n t one k u
-    → Makes code n' t' other k' u' → length seen ≤ due → (0 < n → 0 < n' → length seen < due)
+pub both_show : {code : MachineCode} {m n k n' k' due : ℕ} {s t u s' t' u' : State} {seen : List Observation}
+    {one other : Option Observation} → InStep code m s n t s' n' t' seen → MakesProgress code n t one k u
+    → MakesProgress code n' t' other k' u' → length seen ≤ due → (0 < n → 0 < n' → length seen < due)
     → BothGoOn code m s s' due → ShowSame one other
 both_show {n = n} {n' = n'} {seen = seen} made step step' far near on =
     let way = along made.0 on.1.3 on.0 far in
@@ -98,13 +101,14 @@ both_show {n = n} {n' = n'} {seen = seen} made step step' far near on =
     heads h = cc
 
 -- one more step of each, which shows the same
-pub both_step : {code : Code} {m n k n' k' : ℕ} {s t u s' t' u' : State} {seen : List Observation} {o : Observation}
-    → InStep code m s n t s' n' t' seen → Makes code n t (Some o) k u → Makes code n' t' (Some o) k' u'
+pub both_step : {code : MachineCode} {m n k n' k' : ℕ} {s t u s' t' u' : State} {seen : List Observation}
+    {o : Observation}
+    → InStep code m s n t s' n' t' seen → MakesProgress code n t (Some o) k u → MakesProgress code n' t' (Some o) k' u'
     → InStep code m s k u s' k' u' (seen ++ o ∷ [])
 both_step made step step' = (further made.0 step, further made.1 step')
 
 -- both go on after all that were made, where more may be
-pub both_go_on : {code : Code} {m n n' due : ℕ} {s t s' t' : State} {seen : List Observation}
+pub both_go_on : {code : MachineCode} {m n n' due : ℕ} {s t s' t' : State} {seen : List Observation}
     → InStep code m s n t s' n' t' seen → 0 < n → 0 < n' → length seen ≡ due → BothGoOn code m s s' due
 both_go_on {t = t} {t' = t'} {seen = seen} made more more' is =
     let one = leads_all made.0 more in
@@ -127,9 +131,10 @@ they_differ {o = o} {p = p} {entry = entry} is is' first same =
     first.there (ap (λ x. slice_get (entries_of (x ∷ [])) entry) equal)
 
 -- so the lines that went out are all
-pub told_at_end : {code : Code} {m n k n' k' made : ℕ} {s t u s' t' u' : State} {seen : List Observation}
+pub told_at_end : {code : MachineCode} {m n k n' k' made : ℕ} {s t u s' t' u' : State} {seen : List Observation}
     {one other : Option Observation} {before after : Collected} (whole : Bool) (count : ℕ)
-    → InStep code m s n t s' n' t' seen → length seen ≡ made → Makes code n t one k u → Makes code n' t' other k' u'
+    → InStep code m s n t s' n' t' seen → length seen ≡ made → MakesProgress code n t one k u
+    → MakesProgress code n' t' other k' u'
     → made ≤ suc count * steps_a_line → (0 < n → 0 < n' → made < suc count * steps_a_line)
     → (ShowSame one other → ⊥) → Reaches (BothGoOn code m s s') count → WentOut whole count before after
     → IsTold HasLines (BothGoOn code m s s') before after

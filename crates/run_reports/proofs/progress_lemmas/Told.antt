@@ -2,7 +2,7 @@
 use Rattle.std.proofs.Common.{◌≡◌, ℕ, ◌+◌, ◌*◌, ◌<◌, ◌≤◌, ◌⊎◌, zero, suc, Bool, true, false, List, ◌++◌, length, take}
 use Rattle.std.proofs.Common.{IsTrue, length-append, append_assoc, append-nil, inl, inr, refl, sym, ap, ◌∙◌, arith}
 use Rattle.run_reports.specs.progress.GoingOn.{GoesOn, Reaches, HasLines, IsTold}
-use Rattle.run_reports.specs.Below.{Code, Collected, GainsPart, Leads, Observation, one_more, State}
+use Rattle.run_reports.specs.Below.{MachineCode, Collected, GainsPart, Leads, Observation, one_more, State}
 use Rattle.std.proofs.Math.Seq.{take-append-add}
 use Rattle.std.proofs.lemmas.List.{take-append-le}
 use Rattle.run_reports.specs.progress.Lines.{steps_a_line, progress_line, progress_lines, WentOut, AreTold}
@@ -63,7 +63,7 @@ all_told true count before after went = inl went
 all_told false count before after went = inr went
 
 -- so many pieces were made, and the run does not go on after one more
-pub lines_of_run : {code : Code} {budget left count : ℕ} {s t : State}
+pub lines_of_run : {code : MachineCode} {budget left count : ℕ} {s t : State}
     → (seen : List Observation) × Leads code (count * steps_a_line) s seen t → count * steps_a_line + left ≡ budget
     → (count ≡ 0) ⊎ (0 < left)
     → ((seen : List Observation) (u : State) → Leads code (count * steps_a_line + steps_a_line) s seen u → ⊥)
@@ -76,7 +76,7 @@ lines_of_run {count = count} {t = t} led made more over = record {
 }
 
 -- so many pieces were made, and at most one more may be
-pub lines_at_end : {code : Code} {budget left count : ℕ} {s t : State}
+pub lines_at_end : {code : MachineCode} {budget left count : ℕ} {s t : State}
     → (seen : List Observation) × Leads code (count * steps_a_line) s seen t → count * steps_a_line + left ≡ budget
     → (count ≡ 0) ⊎ (0 < left) → left ≤ steps_a_line → HasLines (GoesOn code budget s) count
 lines_at_end {count = count} {t = t} led made more last = record {

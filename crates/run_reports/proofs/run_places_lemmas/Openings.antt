@@ -3,16 +3,16 @@ use Rattle.std.specs.Prelude.{slice_get}
 use Rattle.std.proofs.Common.{◌≡◌, ◌≢◌, ℕ, zero, suc, ◌%◌, ◌<◌, ◌≤◌, ◌⊎◌, List, [], ◌∷◌, Option, Some, None, length}
 use Rattle.std.proofs.Common.{take, refl, sym, ap, ◌∙◌, inl, inr, arith}
 use Rattle.rv_code.specs.Words.{word_of}
-use Rattle.run_reports.specs.Below.{Code, cut_short, effect_of, Ending, entries_of, Entry, executes, goes_on, halted}
-use Rattle.run_reports.specs.Below.{halts, IsFirstDifference, no_instruction, not_code, Observation, pc_misaligned}
-use Rattle.run_reports.specs.Below.{program_counter, RecorderRefused, Runs, spent, State, stays, Stop, stops, Step}
-use Rattle.run_reports.specs.Below.{steps_on, word_at}
+use Rattle.run_reports.specs.Below.{MachineCode, cut_short, effect_of, StepEnding, entries_of, Entry, executes, goes_on}
+use Rattle.run_reports.specs.Below.{halted, halts, IsFirstDifference, no_instruction, not_code, Observation}
+use Rattle.run_reports.specs.Below.{pc_misaligned, program_counter, RecorderRefused, RunsWithin, spent, State, stays}
+use Rattle.run_reports.specs.Below.{Stop, stops, Step, steps_on, word_at}
 use Rattle.run_reports.proofs.run_places_lemmas.Below.{IsOwn, goes_own, stops_own, effect_own, Runs-determined}
 use Rattle.run_reports.specs.run_places.Places.{Ends, ShowsNext, IsLastBefore, ShowsFewer}
 
 -- A step shows its program counter first where a word stands there, and nothing where none does.
 
-abbrev shown_by : Ending → List Observation
+abbrev shown_by : StepEnding → List Observation
 shown_by (goes_on o t) = o ∷ []
 shown_by (stops seen stop) = seen
 
@@ -20,20 +20,21 @@ abbrev first_entry : List Observation → Option Entry
 first_entry [] = None
 first_entry (o ∷ list) = Some (program_counter o.pc)
 
-abbrev Stands : Code → ℕ → Type 0
+abbrev Stands : MachineCode → ℕ → Type 0
 Stands code pc = (pc % 4 ≡ 0) × (word_at code pc ≢ None)
 
-abbrev Opens : Code → ℕ → Option Entry → Type 0
+abbrev Opens : MachineCode → ℕ → Option Entry → Type 0
 Opens code pc first = ((first ≡ None) × (Stands code pc → ⊥)) ⊎ ((first ≡ Some (program_counter pc)) × Stands code pc)
 
-stands : (code : Code) (pc word : ℕ) → pc % 4 ≡ 0 → word_at code pc ≡ Some word → Stands code pc
+stands : (code : MachineCode) (pc word : ℕ) → pc % 4 ≡ 0 → word_at code pc ≡ Some word → Stands code pc
 stands code pc word even is = (even, λ none. cc)
 
-opens_here : {s : State} {e : Ending} → IsOwn s e → first_entry (shown_by e) ≡ Some (program_counter s.pc)
+opens_here : {s : State} {e : StepEnding} → IsOwn s e → first_entry (shown_by e) ≡ Some (program_counter s.pc)
 opens_here goes_own = refl
 opens_here (stops_own calm more) = refl
 
-step_opens : {code : Code} {s : State} {e : Ending} → Step code s e → Opens code s.pc (first_entry (shown_by e))
+step_opens : {code : MachineCode} {s : State} {e : StepEnding} → Step code s e → Opens code s.pc
+    (first_entry (shown_by e))
 step_opens (pc_misaligned odd) = inl (refl, λ there. odd there.0)
 step_opens (not_code even none) = inl (refl, λ there. there.1 none)
 step_opens {code} {s} (no_instruction {word = word} even is misfit) = inr (refl, stands code s.pc word even is)
@@ -43,12 +44,12 @@ step_opens {code} {s} (executes {ending = e} i even is ok ends) =
       stands code s.pc (word_of i) even is,
     )
 
-shown_opens : (code : Code) (t : State) (o : Observation) → ShowsNext code t o
+shown_opens : (code : MachineCode) (t : State) (o : Observation) → ShowsNext code t o
     → Opens code t.pc (Some (program_counter o.pc))
 shown_opens code t o (inl (u, step)) = step_opens step
 shown_opens code t o (inr (stop, step)) = step_opens step
 
-pub word_before : (code : Code) (budget : ℕ) (s t : State) (place : ℕ) (seen : List Observation)
+pub word_before : (code : MachineCode) (budget : ℕ) (s t : State) (place : ℕ) (seen : List Observation)
     → IsLastBefore code budget s place seen t → word_at code t.pc ≢ None
 word_before code budget s t place seen last = by (shown_opens code t last.next last.shown)
   where
@@ -58,11 +59,11 @@ word_before code budget s t place seen last = by (shown_opens code t last.next l
 
 -- A run begins as its first step does, where it makes any.
 
-abbrev Begins : Code → ℕ → State → List Observation → Type 0
+abbrev Begins : MachineCode → ℕ → State → List Observation → Type 0
 Begins code budget s whole = ((budget ≡ 0) × (whole ≡ [])) ⊎ ((0 < budget) × Opens code s.pc (first_entry whole))
 
-begins : (code : Code) (budget : ℕ) (s end : State) (whole : List Observation) (stop : Stop)
-    → Runs code budget s whole stop end → stop ≢ RecorderRefused → Begins code budget s whole
+begins : (code : MachineCode) (budget : ℕ) (s end : State) (whole : List Observation) (stop : Stop)
+    → RunsWithin code budget s whole stop end → stop ≢ RecorderRefused → Begins code budget s whole
 begins code budget s end whole stop (halted within (halts stays step is)) calm =
     inr (omega (arith, within), rw is (step_opens step))
 begins code budget s end whole stop (halted within (halts (steps_on first rest) step is)) calm =
@@ -78,14 +79,14 @@ first_at : (list : List Observation) → slice_get (entries_of list) 0 ≡ first
 first_at [] = refl
 first_at (o ∷ list) = refl
 
-one_opening : (code : Code) (pc : ℕ) (first second : Option Entry) → Opens code pc first → Opens code pc second
+one_opening : (code : MachineCode) (pc : ℕ) (first second : Option Entry) → Opens code pc first → Opens code pc second
     → first ≡ second
 one_opening code pc first second (inl (is, missing)) (inl (also, missing')) = is ∙ sym also
 one_opening code pc first second (inl (is, missing)) (inr (also, there)) = absurd (missing there)
 one_opening code pc first second (inr (is, there)) (inl (also, missing)) = absurd (missing there)
 one_opening code pc first second (inr (is, there)) (inr (also, there')) = is ∙ sym also
 
-one_beginning : (code : Code) (budget : ℕ) (s s' : State) (whole whole' : List Observation) → s.pc ≡ s'.pc
+one_beginning : (code : MachineCode) (budget : ℕ) (s s' : State) (whole whole' : List Observation) → s.pc ≡ s'.pc
     → Begins code budget s whole → Begins code budget s' whole' → first_entry whole ≡ first_entry whole'
 one_beginning code budget s s' whole whole' same (inl (none, is)) (inl (also, is')) = ap first_entry (is ∙ sym is')
 one_beginning code budget s s' whole whole' same (inl (none, is)) (inr (some, opens)) =
@@ -108,13 +109,13 @@ difference_within (x ∷ one) (y ∷ other) (suc place) differ =
     let within = difference_within one other place further in
     (omega (arith, within.0), omega (arith, within.1))
 
-enough : (code : Code) (budget : ℕ) (s : State) (whole : List Observation) (stop : Stop) (place : ℕ)
+enough : (code : MachineCode) (budget : ℕ) (s : State) (whole : List Observation) (stop : Stop) (place : ℕ)
     → Ends code budget s whole stop → place ≤ length (entries_of whole) → ShowsFewer code budget s place → ⊥
 enough code budget s whole stop place ends within (seen, stop', ends', few) =
     let same : whole ≡ seen = (Runs-determined ends.1 ends'.1 ends.2 ends'.2).0 in
     absurd (omega (arith, within, few, ap (λ l. length (entries_of l)) same))
 
-pub difference_reached : (code : Code) (budget : ℕ) (s s' : State) (whole whole' : List Observation)
+pub difference_reached : (code : MachineCode) (budget : ℕ) (s s' : State) (whole whole' : List Observation)
     (stop stop' : Stop) (place : ℕ)
     → Ends code budget s whole stop → Ends code budget s' whole' stop' → s.pc ≡ s'.pc
     → IsFirstDifference (entries_of whole) (entries_of whole') place

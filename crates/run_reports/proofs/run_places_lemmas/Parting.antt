@@ -2,9 +2,9 @@
 use Rattle.std.proofs.Common.{◌≡◌, ℕ, zero, suc, ◌+◌, ◌-◌, ◌<◌, ◌≤◌, List, [], ◌∷◌, ◌++◌, Option, Some, None, length}
 use Rattle.std.proofs.Common.{take, refl, sym, ap, ◌∙◌, inl, inr, arith}
 use Rattle.std.proofs.Math.Seq.{take-append-add}
-use Rattle.run_reports.specs.Below.{Code, effect_of, Ending, entries_of, Entry, Event, events_of, executes, goes_on}
-use Rattle.run_reports.specs.Below.{here, IsFirstDifference, no_instruction, not_code, Observation, pc_misaligned}
-use Rattle.run_reports.specs.Below.{program_counter, State, Stop, stops, Step}
+use Rattle.run_reports.specs.Below.{MachineCode, effect_of, StepEnding, entries_of, Entry, Event, events_of, executes}
+use Rattle.run_reports.specs.Below.{goes_on, here, IsFirstDifference, no_instruction, not_code, Observation}
+use Rattle.run_reports.specs.Below.{pc_misaligned, program_counter, State, Stop, stops, Step}
 use Rattle.run_reports.proofs.run_places_lemmas.Below.{IsOwn, goes_own, stops_own, effect_own, entry_count-append}
 use Rattle.run_reports.proofs.run_places_lemmas.Below.{entries_of-injective, Runs-determined, entries_of-append}
 use Rattle.run_reports.specs.run_places.Places.{Ends, ShowsNext, IsLastBefore}
@@ -12,7 +12,7 @@ use Rattle.run_reports.proofs.run_places_lemmas.Runs.{ends_next}
 
 -- What a step shows, it shows of its own program counter.
 
-abbrev IsHere : ℕ → Ending → Type 0
+abbrev IsHere : ℕ → StepEnding → Type 0
 IsHere pc (goes_on o t) = o.pc ≡ pc
 IsHere pc (stops seen stop) = (o : Observation) → seen ≡ o ∷ [] → o.pc ≡ pc
 
@@ -24,18 +24,18 @@ here_alone : (s : State) (o : Observation) → here s ≡ o ∷ [] → o.pc ≡ 
 unfolding first_pc
 here_alone s o same = sym (ap first_pc same)
 
-step_here : {code : Code} {s : State} {e : Ending} → Step code s e → IsHere s.pc e
+step_here : {code : MachineCode} {s : State} {e : StepEnding} → Step code s e → IsHere s.pc e
 step_here (pc_misaligned odd) = λ o same. cc
 step_here (not_code even none) = λ o same. cc
 step_here {s = s} (no_instruction even is misfit) = here_alone s
 step_here {code} {s} (executes {ending = e} i even is ok ends) =
     from_own {e = e} (rw ends (effect_own code.profile (effect_of i s.pc s.regs) s))
   where
-    from_own : {e : Ending} → IsOwn s e → IsHere s.pc e
+    from_own : {e : StepEnding} → IsOwn s e → IsHere s.pc e
     from_own goes_own = refl
     from_own (stops_own calm more) = here_alone s
 
-next_here : (code : Code) (t : State) (o : Observation) → ShowsNext code t o → o.pc ≡ t.pc
+next_here : (code : MachineCode) (t : State) (o : Observation) → ShowsNext code t o → o.pc ≡ t.pc
 next_here code t o (inl (u, step)) = step_here step
 next_here code t o (inr (stop, step)) = step_here step o refl
 
@@ -52,7 +52,7 @@ cut pc (Some e) rest (suc zero) some fits = (None, refl)
 cut pc (Some e) rest (suc (suc zero)) some fits = (Some e, refl)
 cut pc (Some e) rest (suc (suc (suc k))) some fits = absurd (omega (arith, fits))
 
-module _ (code : Code) (budget : ℕ) (s : State) (whole : List Observation) (stop : Stop)
+module _ (code : MachineCode) (budget : ℕ) (s : State) (whole : List Observation) (stop : Stop)
     (ends : Ends code budget s whole stop) (place : ℕ) (seen : List Observation) (t : State)
     (last : IsLastBefore code budget s place seen t) where
   whole_is : (more : List Observation) × (whole ≡ seen ++ last.next ∷ more)
@@ -96,7 +96,7 @@ last_apart (x ∷ a) (y ∷ b) p q same =
     let tail : a ≡ b = parts.0 in
     (cc, parts.1)
 
-pub one_last_step : (code : Code) (budget : ℕ) (s s' t t' : State) (whole whole' seen seen' : List Observation)
+pub one_last_step : (code : MachineCode) (budget : ℕ) (s s' t t' : State) (whole whole' seen seen' : List Observation)
     (stop stop' : Stop) (place : ℕ)
     → Ends code budget s whole stop → Ends code budget s' whole' stop'
     → IsFirstDifference (entries_of whole) (entries_of whole') place

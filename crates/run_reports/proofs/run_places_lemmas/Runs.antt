@@ -5,8 +5,8 @@ use Rattle.std.proofs.Common.{inl, inr, arith}
 use Rattle.std.specs.Option.{option_map}
 use Rattle.std.specs.Prelude.{slice_get}
 use Rattle.std.proofs.lemmas.Option.{same_Some, slice_get_past, slice_get_within}
-use Rattle.run_reports.specs.Below.{Budget, Code, entries_of, Entry, goes_on, halted, halts, Leads, listed, Observation}
-use Rattle.run_reports.specs.Below.{Runs, spent, State, stays, Stop, stops, Step, OneStep, steps_on}
+use Rattle.run_reports.specs.Below.{Budget, MachineCode, entries_of, Entry, goes_on, halted, halts, Leads, listed}
+use Rattle.run_reports.specs.Below.{Observation, RunsWithin, spent, State, stays, Stop, stops, Step, OneStep, steps_on}
 use Rattle.run_reports.proofs.run_places_lemmas.Below.{Leads-more, entries_of-append, entry_count-append, Runs-more}
 use Rattle.run_reports.proofs.run_places_lemmas.Below.{step_stops, some_of, run_of_state, stopped_at, went_to}
 use Rattle.run_reports.specs.run_places.Places.{Ends, ShowsNext, IsLastBefore, ShowsFewer}
@@ -15,24 +15,25 @@ use Rattle.rv_machine.specs.OneStep as one_step
 use Rattle.run_reports.specs.declared.run_places.shown.Shown.{Shown}
 use Rattle.run_reports.specs.declared.run_places.shown.Shown.TheVariants.{Stopped}
 
-shows_next : (code : Code) (t u : State) (o : Observation) (answer : Option Stop) → OneStep code t (Some o) answer u
+shows_next : (code : MachineCode) (t u : State) (o : Observation) (answer : Option Stop) → OneStep code t
+    (Some o) answer u
     → ShowsNext code t o
 shows_next code t u o None (one_step.went_on step) = inl (u, step)
 shows_next code t u o (Some stop) (one_step.stopped step) = inr (stop, step)
 
-silent : (code : Code) (t u : State) (answer : Option Stop) → OneStep code t None answer u
+silent : (code : MachineCode) (t u : State) (answer : Option Stop) → OneStep code t None answer u
     → (stop : Stop) × Step code t (stops [] stop)
 silent code t u None one_step = elim one_step [ ]
 silent code t u (Some stop) (one_step.stopped step) = (stop, step)
 
-pub Leads-length : {code : Code} {k : ℕ} {s t : State} {seen : List Observation} → Leads code k s seen t
+pub Leads-length : {code : MachineCode} {k : ℕ} {s t : State} {seen : List Observation} → Leads code k s seen t
     → length seen ≡ k
 Leads-length stays = refl
 Leads-length (steps_on first rest) = ap suc (Leads-length rest)
 
 -- steps, and then a run
-pub Runs-after : {code : Code} {k n : ℕ} {s t u : State} {seen more : List Observation} {stop : Stop}
-    → Leads code k s seen t → Runs code n t more stop u → Runs code (k + n) s (seen ++ more) stop u
+pub Runs-after : {code : MachineCode} {k n : ℕ} {s t u : State} {seen more : List Observation} {stop : Stop}
+    → Leads code k s seen t → RunsWithin code n t more stop u → RunsWithin code (k + n) s (seen ++ more) stop u
 Runs-after stays run = rw zero-add run
 Runs-after (steps_on first rest) run = rw suc-add (Runs-more first (Runs-after rest run))
 
@@ -47,7 +48,8 @@ get_within (y ∷ xs) ys zero x is = is
 get_within (y ∷ xs) ys (suc n) x is = get_within xs ys n x is
 
 -- so many steps were made from a state, which showed this
-module _ {code : Code} {s : State} {k : ℕ} {t : State} {seen : List Observation} (led : Leads code k s seen t) where
+module _ {code : MachineCode} {s : State} {k : ℕ} {t : State} {seen : List Observation}
+    (led : Leads code k s seen t) where
   -- the next one goes on
   leads_on : {o : Observation} {u : State} → Step code t (goes_on o u) → Leads code (k + 1) s (seen ++ o ∷ []) u
   leads_on step = rw add-one (Leads-more led step)
@@ -59,7 +61,7 @@ module _ {code : Code} {s : State} {k : ℕ} {t : State} {seen : List Observatio
       let went = went_to code t u last answer one_step none in
       rw (same_Some went.0 o (sym went.1 ∙ is)) at (leads_on went.2)
 
-module _ {code : Code} {budget : ℕ} {s : State} {k : ℕ} {t : State} {seen : List Observation}
+module _ {code : MachineCode} {budget : ℕ} {s : State} {k : ℕ} {t : State} {seen : List Observation}
     (led : Leads code k s seen t) where
   -- the next one stops
   pub ends_here : {last : List Observation} {stop : Stop} → k < budget → Step code t (stops last stop)
@@ -140,13 +142,13 @@ module _ {code : Code} {budget : ℕ} {s : State} {k : ℕ} {t : State} {seen : 
           (shows_entry o place left entry (shows_next code t u o answer one_step) within there at)
 
 -- behind all entries of a run there is its stop
-pub shows_stop : (code : Code) (budget : ℕ) (s : State) (seen : List Observation) (stop : Stop) (place : ℕ)
+pub shows_stop : (code : MachineCode) (budget : ℕ) (s : State) (seen : List Observation) (stop : Stop) (place : ℕ)
     → Ends code budget s seen stop → length (entries_of seen) ≤ place → ShowsAt code budget s place (Stopped stop)
 shows_stop code budget s seen stop place ends past =
     (seen, stop, ends, ap (λ e. entry_or_stop e stop) (sym (slice_get_past (entries_of seen) place past)))
 
 -- what a run shows at a place behind the entries of steps is what the state after them shows
-pub later_place : (code : Code) (budget : ℕ) (s t : State) (seen : List Observation) (place : ℕ) (shown : Shown)
+pub later_place : (code : MachineCode) (budget : ℕ) (s t : State) (seen : List Observation) (place : ℕ) (shown : Shown)
     → Leads code (length seen) s seen t → length seen ≤ budget
     → ShowsAt code (budget - length seen) t place shown
     → ShowsAt code budget s (length (entries_of seen) + place) shown

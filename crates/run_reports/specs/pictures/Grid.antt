@@ -8,7 +8,7 @@ use Rattle.run_reports.specs.pictures.Marks.{blank}
 use Rattle.run_reports.specs.declared.pictures.cells.Area.{Area}
 use Rattle.run_reports.specs.declared.pictures.cells.Axes.{Axes}
 use Rattle.run_reports.specs.declared.pictures.cells.Cell.{Cell}
-use Rattle.run_reports.specs.declared.pictures.cells.Mark.{Mark}
+use Rattle.run_reports.specs.declared.pictures.cells.CellMark.{CellMark}
 
 -- the most columns, and the most rows of code and of the frame
 abbrev pub most_columns : ℕ
@@ -43,18 +43,18 @@ abbrev pub row_of : Axes → ℕ → ℕ
 row_of axes a = row_behind axes (word_number axes.code a) (word_number axes.frame a)
 
 -- the number of a mark's cell: cells are numbered row by row
-abbrev pub cell_number : Axes → Mark → ℕ
+abbrev pub cell_number : Axes → CellMark → ℕ
 cell_number axes mark = row_of axes mark.address * most_columns + place_of axes.steps most_columns mark.step
 
 abbrev pub cell_count : ℕ
 cell_count = (2 * most_rows + 1) * most_columns
 
 -- whether a mark in the cell with a number has this
-abbrev pub has : Axes → List Mark → ℕ → (Cell → Bool) → Bool
+abbrev pub has : Axes → List CellMark → ℕ → (Cell → Bool) → Bool
 has axes marks number this = list_any (λ mark. cell_number axes mark == number && this mark.cell) marks
 
 -- the cell with a number holds what some mark in it has
-abbrev pub cell_of : Axes → List Mark → ℕ → Cell
+abbrev pub cell_of : Axes → List CellMark → ℕ → Cell
 cell_of axes marks number = record {
   fetched = has axes marks number (λ cell. cell.fetched);
   loaded = has axes marks number (λ cell. cell.loaded);
@@ -64,6 +64,6 @@ cell_of axes marks number = record {
 }
 
 -- the cells of these marks
-pub record IsGrid (axes : Axes) (marks : List Mark) (cells : List Cell) : Type 0 where
+pub record IsGrid (axes : Axes) (marks : List CellMark) (cells : List Cell) : Type 0 where
   pub all : length cells ≡ cell_count
   pub each : (number : ℕ) → number < cell_count → slice_index_or cells number blank ≡ cell_of axes marks number

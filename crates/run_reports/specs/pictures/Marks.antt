@@ -5,7 +5,7 @@ use Rattle.rv_machine.specs.Sizes.{byte_count}
 use Rattle.run_reports.specs.Below.{Event, Observation}
 use Rattle.rv_machine.specs.declared.observation.Event.TheVariants.{Load, Store, Div, Mul}
 use Rattle.run_reports.specs.declared.pictures.cells.Cell.{Cell}
-use Rattle.run_reports.specs.declared.pictures.cells.Mark.{Mark}
+use Rattle.run_reports.specs.declared.pictures.cells.CellMark.{CellMark}
 use Rattle.run_reports.specs.declared.pictures.cells.Side.{Side}
 use Rattle.run_reports.specs.declared.pictures.cells.Side.TheVariants.{One, Other}
 
@@ -85,11 +85,11 @@ cell_of_event (Div a b) = fetched
 cell_of_event (Mul a b) = fetched
 
 -- the marks of what a run shows in a step, beside what the other run shows in it
-abbrev pub counter_mark : ℕ → Side → Observation → Option Observation → Mark
+abbrev pub counter_mark : ℕ → Side → Observation → Option Observation → CellMark
 counter_mark step side o beside =
     record { step = step; address = o.pc; cell = joined fetched (difference side (other_counter o.pc beside)) }
 
-abbrev pub event_mark : ℕ → Side → ℕ → Event → Option Observation → Mark
+abbrev pub event_mark : ℕ → Side → ℕ → Event → Option Observation → CellMark
 event_mark step side pc e beside =
     record {
       step = step;
@@ -97,20 +97,20 @@ event_mark step side pc e beside =
       cell = joined (cell_of_event e) (difference side (other_event e beside));
     }
 
-abbrev pub event_marks : ℕ → Side → ℕ → Option Event → Option Observation → List Mark
+abbrev pub event_marks : ℕ → Side → ℕ → Option Event → Option Observation → List CellMark
 event_marks step side pc None beside = []
 event_marks step side pc (Some e) beside = event_mark step side pc e beside ∷ []
 
-abbrev pub marks_of : ℕ → Side → Option Observation → Option Observation → List Mark
+abbrev pub marks_of : ℕ → Side → Option Observation → Option Observation → List CellMark
 marks_of step side None beside = []
 marks_of step side (Some o) beside = counter_mark step side o beside ∷ event_marks step side o.pc o.event beside
 
 -- the marks of what both show in a step
-abbrev pub marks_of_both : ℕ → Option Observation → Option Observation → List Mark
+abbrev pub marks_of_both : ℕ → Option Observation → Option Observation → List CellMark
 marks_of_both step one other = marks_of step One one other ++ marks_of step Other other one
 
 -- the marks of what both show from a step on
-abbrev pub marks_from : ℕ → List Observation → List Observation → List Mark
+abbrev pub marks_from : ℕ → List Observation → List Observation → List CellMark
 marks_from step [] [] = []
 marks_from step (o ∷ ones) [] = marks_of_both step (Some o) None ++ marks_from (step + 1) ones []
 marks_from step [] (p ∷ others) = marks_of_both step None (Some p) ++ marks_from (step + 1) [] others

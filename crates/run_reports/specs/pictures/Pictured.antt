@@ -1,6 +1,6 @@
 -- Which page is the picture of two runs.
 use Rattle.std.specs.Prelude.{◌≡◌, ℕ, max, Bool, List, length}
-use Rattle.run_reports.specs.Below.{Code, IsShown, Observation, State}
+use Rattle.run_reports.specs.Below.{MachineCode, IsShown, Observation, State}
 use Rattle.run_reports.specs.pictures.Grid.{IsGrid}
 use Rattle.run_reports.specs.pictures.Marks.{marks_from}
 use Rattle.run_reports.specs.pictures.Page.{page_text}
@@ -21,7 +21,7 @@ pub record Depicts (code frame : Area) (said : List ℕ) (are_two : Bool) (seen 
   pub written : page ≡ page_text (axes_of code frame seen seen') cells said are_two (length seen) (length seen')
 
 -- the page of two runs of code, each from a state on and of at most so many steps
-pub record IsPicture (code : Code) (steps : ℕ) (s : State) (steps' : ℕ) (s' : State) (in_code in_frame : Area)
+pub record IsPicture (code : MachineCode) (steps : ℕ) (s : State) (steps' : ℕ) (s' : State) (in_code in_frame : Area)
     (said : List ℕ) (are_two : Bool) (page : List ℕ) : Type 0 where
   pub seen : List Observation
   pub seen' : List Observation

@@ -1,11 +1,11 @@
 -- Certified runs that go on after so many steps, and the end of one of which entries were counted before.
 use Rattle.std.specs.Prelude.{ℕ, ◌+◌, ◌<◌, List}
-use Rattle.run_reports.specs.Below.{CertifiedEnd, Code, Known, KnownLeads, MayDiffer, Observation, Same}
+use Rattle.run_reports.specs.Below.{CertifiedEnd, MachineCode, KnownState, KnownLeads, MayDiffer, Observation, Same}
 
 -- so many steps of what is known are made, of which none stops or depends, and more may be made
-abbrev pub GoesOnKnown : Code → ℕ → Known → ℕ → Type 0
+abbrev pub GoesOnKnown : MachineCode → ℕ → KnownState → ℕ → Type 0
 GoesOnKnown code budget k steps =
-    (steps < budget) × ((seen : List Observation) × (later : Known) × KnownLeads code steps k seen later)
+    (steps < budget) × ((seen : List Observation) × (later : KnownState) × KnownLeads code steps k seen later)
 
 -- how many entries are counted at an end
 abbrev pub entries_at : CertifiedEnd → ℕ

@@ -2,14 +2,14 @@
 use Rattle.std.specs.Prelude.{◌≡◌, ℕ, ◌*◌, ◌<◌, ◌⊎◌, List}
 use Rattle.std.proofs.Common.{suc}
 use Rattle.run_reports.specs.progress.Lines.{steps_a_line, AreTold}
-use Rattle.run_reports.specs.Below.{Code, Collected, Leads, Observation, State}
+use Rattle.run_reports.specs.Below.{MachineCode, Collected, Leads, Observation, State}
 
 -- so many steps are made from this state, of which none stops, and more may be made
-abbrev pub GoesOn : Code → ℕ → State → ℕ → Type 0
+abbrev pub GoesOn : MachineCode → ℕ → State → ℕ → Type 0
 GoesOn code budget s steps = (steps < budget) × ((seen : List Observation) × (t : State) × Leads code steps s seen t)
 
 -- so many steps are made from each of two states, which show the same and of which none stops, and more may be made
-abbrev pub BothGoOn : Code → ℕ → State → State → ℕ → Type 0
+abbrev pub BothGoOn : MachineCode → ℕ → State → State → ℕ → Type 0
 BothGoOn code budget s s' steps =
     (steps < budget)
     × ((seen : List Observation) × (t t' : State) × Leads code steps s seen t × Leads code steps s' seen t')

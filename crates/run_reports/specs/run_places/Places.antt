@@ -1,19 +1,20 @@
 -- The steps of a run, by the places of the entries that they show.
 use Rattle.std.specs.Prelude.{◌≢◌, ◌⊎◌, ℕ, ◌<◌, ◌≤◌, List, [], ◌∷◌, ◌++◌, length}
-use Rattle.run_reports.specs.Below.{Code, entries_of, goes_on, Leads, Observation, RecorderRefused, Runs, State, Stop}
-use Rattle.run_reports.specs.Below.{stops, Step}
+use Rattle.run_reports.specs.Below.{MachineCode, entries_of, goes_on, Leads, Observation, RecorderRefused, RunsWithin}
+use Rattle.run_reports.specs.Below.{State, Stop, stops, Step}
 
 -- a run of at most so many steps, which no recorder cuts short, shows this and stops so
-abbrev pub Ends : Code → ℕ → State → List Observation → Stop → Type 0
-Ends code budget s seen stop = (end : State) × Runs code budget s seen stop end × (stop ≢ RecorderRefused)
+abbrev pub Ends : MachineCode → ℕ → State → List Observation → Stop → Type 0
+Ends code budget s seen stop = (end : State) × RunsWithin code budget s seen stop end × (stop ≢ RecorderRefused)
 
 -- the step from a state shows this, and goes on or stops
-abbrev pub ShowsNext : Code → State → Observation → Type 0
+abbrev pub ShowsNext : MachineCode → State → Observation → Type 0
 ShowsNext code t o = ((u : State) × Step code t (goes_on o u)) ⊎ ((stop : Stop) × Step code t (stops (o ∷ []) stop))
 
 -- steps that show this list lead to a state, and the next one is the last whose program counter is an entry before
 -- the place, so that the place is at most the one behind its entries
-pub record IsLastBefore (code : Code) (budget : ℕ) (s : State) (place : ℕ) (seen : List Observation) (t : State) :
+pub record IsLastBefore (code : MachineCode) (budget : ℕ) (s : State) (place : ℕ) (seen : List Observation)
+    (t : State) :
     Type 0 where
   pub leads : Leads code (length seen) s seen t
   pub within : length seen < budget
@@ -23,6 +24,6 @@ pub record IsLastBefore (code : Code) (budget : ℕ) (s : State) (place : ℕ) (
   pub reached : place ≤ length (entries_of (seen ++ next ∷ []))
 
 -- the run shows fewer entries than that
-abbrev pub ShowsFewer : Code → ℕ → State → ℕ → Type 0
+abbrev pub ShowsFewer : MachineCode → ℕ → State → ℕ → Type 0
 ShowsFewer code budget s place = (seen : List Observation) × (stop : Stop) × Ends code budget s seen stop
     × (length (entries_of seen) < place)

@@ -6,7 +6,7 @@ use Rattle.rv_code.specs.declared.instructions.Instr.TheVariants.{Upper, Jump, J
 use Rattle.rv_code.specs.declared.instructions.Instr.TheVariants.{Immediate, Shift, Register, Multiply, Divide, Fence}
 use Rattle.rv_code.specs.declared.instructions.Instr.TheVariants.{Ecall, Ebreak}
 use Rattle.rv_code.specs.FieldText.{reg_text}
-use Rattle.run_reports.specs.Below.{Code, IsAt, State}
+use Rattle.run_reports.specs.Below.{MachineCode, IsAt, State}
 use Rattle.rv_machine.specs.Registers.{register}
 
 -- the registers that an instruction reads, in the order of its text
@@ -40,6 +40,6 @@ registers_text regs [] = []
 registers_text regs (r ∷ rs) = register_text regs r ++ registers_text regs rs
 
 -- what the instruction at the program counter reads, if one stands there
-pub data SaysRegisters (code : Code) (s : State) : List ℕ → Type 0 where
+pub data SaysRegisters (code : MachineCode) (s : State) : List ℕ → Type 0 where
   read : (i : Instr) → IsAt code s.pc i → SaysRegisters code s (registers_text s.regs (registers_read i))
   nothing_read : ((i : Instr) → IsAt code s.pc i → ⊥) → SaysRegisters code s []

@@ -78,7 +78,7 @@ impl Cell {
 
 /// What is put into the cell of a step at an address.
 #[derive(Clone, Copy)]
-pub struct Mark {
+pub struct CellMark {
     pub step: u64,
     pub address: u32,
     pub cell: Cell,

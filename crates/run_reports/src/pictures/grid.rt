@@ -6,7 +6,7 @@ ghost use Rattle.run_reports.specs.pictures.Grid.{cell_count, most_rows};
 ghost use Rattle.run_reports.specs.pictures.Marks.{marks_of, marks_of_both};
 ghost use Rattle.run_reports.specs.pictures.private.Added.{Adds};
 
-use crate::pictures::cells::{Area, Axes, Cell, Mark, Side};
+use crate::pictures::cells::{Area, Axes, Cell, CellMark, Side};
 use crate::pictures::marks::{counter_mark, event_mark};
 use rv_machine::Observation;
 use std::alloc::{AllocError, Global};
@@ -83,7 +83,7 @@ impl Axes {
     }
 
     /// The number of a mark's cell.
-    fn cell_number(&self, mark: Mark) -> u64
+    fn cell_number(&self, mark: CellMark) -> u64
         ensures exact { result ≡ cell_number self.now mark }
         ensures inside { result < cell_count }
     {
@@ -112,7 +112,7 @@ impl Grid {
     }
 
     /// Puts a mark into its cell.
-    fn put(&mut self, mark: Mark)
+    fn put(&mut self, mark: CellMark)
         ensures put { Adds self.old.axes (mark ∷ []) self.old.cells.items self.new.cells.items }
         ensures axes { self.new.axes ≡ self.old.axes }
     {

@@ -4,7 +4,7 @@ ghost use Rattle.std.specs.Prelude.{◌≡◌};
 ghost use Rattle.run_reports.specs.pictures.Marks.{same_event, is_event, other_counter, other_event, place_of_event};
 ghost use Rattle.run_reports.specs.pictures.Marks.{cell_of_event, counter_mark, event_mark};
 
-use crate::pictures::cells::{Cell, Mark, Side};
+use crate::pictures::cells::{Cell, CellMark, Side};
 use rv_machine::{Event, Observation};
 
 /// Whether two events are the same.
@@ -72,10 +72,15 @@ fn cell_of_event(event: Event) -> Cell
 }
 
 /// The mark of the program counter that a run shows in a step, beside what the other run shows in it.
-pub fn counter_mark(step: u64, side: Side, seen: Observation, beside: Option<Observation>) -> Mark
+pub fn counter_mark(
+    step: u64,
+    side: Side,
+    seen: Observation,
+    beside: Option<Observation>,
+) -> CellMark
     ensures { result ≡ counter_mark step side seen beside }
 {
-    Mark {
+    CellMark {
         step,
         address: seen.pc,
         cell: Cell::FETCHED.joined(Cell::difference(side, is_other_counter(seen.pc, beside))),
@@ -83,11 +88,17 @@ pub fn counter_mark(step: u64, side: Side, seen: Observation, beside: Option<Obs
 }
 
 /// The mark of an event that a run shows in a step at a program counter, beside what the other run shows in it.
-pub fn event_mark(step: u64, side: Side, pc: u32, event: Event, beside: Option<Observation>) -> Mark
+pub fn event_mark(
+    step: u64,
+    side: Side,
+    pc: u32,
+    event: Event,
+    beside: Option<Observation>,
+) -> CellMark
     ensures { result ≡ event_mark step side pc event beside }
 {
     let difference = Cell::difference(side, is_other_event(event, beside));
-    Mark {
+    CellMark {
         step,
         address: place_of_event(pc, event),
         cell: cell_of_event(event).joined(difference),

@@ -13,7 +13,7 @@ use std::alloc::{AllocError, Global};
 
 /// Two runs that have not begun yet.
 #[derive(Drop)]
-pub struct Runs<M> {
+pub struct PairOfRuns<M> {
     pub one: Running<M>,
     pub other: Running<M>,
 }
@@ -33,8 +33,8 @@ pub struct Drawing<'a> {
 pub fn picture<M: Memory>(
     alloc: Global,
     code: &CodeRegion,
-    counted: &mut Runs<M>,
-    drawn: &mut Runs<M>,
+    counted: &mut PairOfRuns<M>,
+    drawn: &mut PairOfRuns<M>,
     drawing: &Drawing<'_>,
 ) -> Result<Vec<u8>, AllocError>
     requires few { (drawn.old.one.steps_left < 2 ^ 63) × (drawn.old.other.steps_left < 2 ^ 63) }

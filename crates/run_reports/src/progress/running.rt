@@ -2,7 +2,7 @@
 
 ghost use Rattle.std.specs.Prelude.{◌≡◌, ◌≢◌, ℕ, ◌^◌, ◌<◌, ◌≤◌, true, false, List, [], IsTrue};
 ghost use Rattle.run_reports.specs.progress.Lines.{steps_a_line};
-ghost use Rattle.run_reports.specs.Below.{code_of, collected, Observation, Runs, state_of};
+ghost use Rattle.run_reports.specs.Below.{code_of, collected, Observation, RunsWithin, state_of};
 ghost use Rattle.run_reports.specs.progress.GoingOn.{GoesOn, HasLines, IsTold};
 
 use crate::progress::lines::{ProgressLines, STEPS_A_LINE};
@@ -58,7 +58,7 @@ pub fn run_in_pieces<M: Memory, E: Sink>(
 ) -> Stop
     requires few { running.old.steps_left < 2 ^ 63 }
     ensures ran { (seen : List Observation)
-        × Runs (code_of code.now) running.old.steps_left
+        × RunsWithin (code_of code.now) running.old.steps_left
         (state_of running.old.hart (M.bytes running.old.memory)) seen result
         (state_of running.new.hart (M.bytes running.new.memory)) }
     ensures calm { result ≢ Stop.RecorderRefused }

@@ -1,17 +1,17 @@
 -- The values of the parser, as the machine sees them.
 use Rattle.std.specs.Prelude.{◌≡◌, Bool, if◌then◌else◌, List, [], ◌∷◌, Option, Some, None, Result, MatchResult, ℕ}
 use Rattle.syntax.specs.declared.nesting.Nesting.{Nesting}
-use Rattle.syntax.specs.declared.parser.Fault.{Fault}
-use Rattle.syntax.specs.declared.parser.Fault.TheVariants.{Refused, Memory}
+use Rattle.syntax.specs.declared.parser.ParseFault.{ParseFault}
+use Rattle.syntax.specs.declared.parser.ParseFault.TheVariants.{Refused, Memory}
 use Rattle.syntax.specs.declared.parser.Parser.{Parser}
 use Rattle.syntax.specs.declared.parser.expression.Joint.{Joint}
-use Rattle.syntax.specs.declared.parser.statement.Begun.{Begun}
+use Rattle.syntax.specs.declared.parser.statement.BegunStatement.{BegunStatement}
 use Rattle.syntax.specs.declared.token.Token.{Token}
 use Rattle.syntax.specs.declared.token.TokenKind.TheVariants.{Name}
 use Rattle.syntax.specs.Lexeme.{Lexeme, lexeme, lexemes}
-use Rattle.syntax.specs.private.Machine.{State, linked, statements, statement, verdict}
+use Rattle.syntax.specs.private.Machine.{ParserState, linked, statements, statement, verdict}
 use Rattle.syntax.specs.Nesting.{Nest}
-use Rattle.syntax.specs.Reading.{Answer, refused}
+use Rattle.syntax.specs.Reading.{ParseAnswer, refused}
 use Rattle.syntax.specs.Tokens.{ending}
 use Rattle.syntax.specs.Below.{BlockTree, ExprTree, first, nothing, origin}
 
@@ -20,16 +20,16 @@ abbrev pub nest : Nesting → Nest
 nest n = record { count = n.count; bases = n.bases.items; after_block = n.after_block }
 
 -- the machine's answer to what is left
-abbrev pub ahead : State → Parser → Answer
+abbrev pub ahead : ParserState → Parser → ParseAnswer
 ahead s p = verdict s (nest p.nesting) (lexemes p.rest.now) (ending p.end)
 
 -- the fault is this answer, or out of memory
-abbrev pub FaultIs : Fault → Answer → Type 0
+abbrev pub FaultIs : ParseFault → ParseAnswer → Type 0
 FaultIs (Refused rule place) answer = answer ≡ refused rule place
 FaultIs Memory answer = Unit {0}
 
 -- the answer from the state on is that from the next one on, after the call
-abbrev pub Leads : {T : Type 0} → State → (T → State) → Result T Fault → Parser → Parser → Type 0
+abbrev pub Leads : {T : Type 0} → ParserState → (T → ParserState) → Result T ParseFault → Parser → Parser → Type 0
 Leads s next result old new =
     MatchResult result (λ x. ahead s old ≡ ahead (next x) new) (λ f. FaultIs f (ahead s old))
 
@@ -39,20 +39,20 @@ front [] = record { kind = Name; place = origin; text = [] }
 front (token ∷ rest) = lexeme token
 
 -- after the token that stands next, where it may stand there, and without it
-abbrev pub skipped : (Lexeme → State) → State → List Token → Bool → State
+abbrev pub skipped : (Lexeme → ParserState) → ParserState → List Token → Bool → ParserState
 skipped next other tokens is = if is then next (front tokens) else other
 
 -- after a token that may stand there, and without it
-abbrev pub taken : (Lexeme → State) → State → Option Token → State
+abbrev pub taken : (Lexeme → ParserState) → ParserState → Option Token → ParserState
 taken next other None = other
 taken next other (Some token) = next (lexeme token)
 
 -- after a sign its right side follows; without one the expression is complete
-abbrev pub after_sign : ℕ → ExprTree → (ExprTree → State) → Option Joint → State
+abbrev pub after_sign : ℕ → ExprTree → (ExprTree → ParserState) → Option Joint → ParserState
 after_sign level left k None = k left
 after_sign level left k (Some joint) = linked joint.link joint.place level left k
 
 -- after its first token a statement follows; without one there are no more
-abbrev pub after_start : (BlockTree → State) → Option Begun → State
+abbrev pub after_start : (BlockTree → ParserState) → Option BegunStatement → ParserState
 after_start k None = k nothing
 after_start k (Some begun) = statement begun.start (lexeme begun.token) (λ s. statements (λ b. k (first s b)))

@@ -1,13 +1,13 @@
 ghost use Rattle.std.specs.Prelude.{◌≡◌, ◌≤◌, ◌<◌, List, Option, OnOk, length, map};
 ghost use Rattle.std.specs.Option.{option_map};
 ghost use Rattle.syntax.specs.Lexeme.{lexeme};
-ghost use Rattle.syntax.specs.private.Machine.{State, first_values, declared_array, declared_word, declared_as};
+ghost use Rattle.syntax.specs.private.Machine.{ParserState, first_values, declared_array, declared_word, declared_as};
 ghost use Rattle.syntax.specs.private.Machine.{declared as declared_state, assigned, element_assigned, called_alone};
 ghost use Rattle.syntax.specs.private.Machine.{targeted as targeted_state};
 ghost use Rattle.syntax.specs.private.ParserViews.{Leads};
 ghost use Rattle.syntax.specs.Below.{expr_tree, ExprTree, statement_tree, StatementTree};
 
-use super::{Fault, Parser};
+use super::{ParseFault, Parser};
 use crate::{
     ArrayDeclaration, Assignment, Declaration, ElementAssignment, Expr, Keyword, Kind, Label,
     Place, Sign, Statement, Token, TokenKind,
@@ -15,8 +15,8 @@ use crate::{
 
 impl<'t> Parser<'t> {
     /// The first values of an array, where they are written.
-    fn first_values(&mut self) -> Result<Option<Vec<Expr>>, Fault>
-        ensures leads { (k : Option (List ExprTree) → State)
+    fn first_values(&mut self) -> Result<Option<Vec<Expr>>, ParseFault>
+        ensures leads { (k : Option (List ExprTree) → ParserState)
             → Leads (first_values k) (λ vs. k (option_map (λ values. map expr_tree values.items) vs))
             result self.old self.new }
         ensures shorter { OnOk result (length self.new.rest.now ≤ length self.old.rest.now) }
@@ -36,8 +36,8 @@ impl<'t> Parser<'t> {
         mutable: bool,
         kind: Kind,
         words: u16,
-    ) -> Result<Statement, Fault>
-        ensures leads { (k : StatementTree → State)
+    ) -> Result<Statement, ParseFault>
+        ensures leads { (k : StatementTree → ParserState)
             → Leads (declared_array label mutable kind words k) (λ s. k (statement_tree s)) result self.old self.new }
         ensures shorter { OnOk result (length self.new.rest.now ≤ length self.old.rest.now) }
     {
@@ -57,8 +57,13 @@ impl<'t> Parser<'t> {
     }
 
     /// A declaration of a word, after its type.
-    fn declared_word(&mut self, label: Label, mutable: bool, kind: Kind) -> Result<Statement, Fault>
-        ensures leads { (k : StatementTree → State)
+    fn declared_word(
+        &mut self,
+        label: Label,
+        mutable: bool,
+        kind: Kind,
+    ) -> Result<Statement, ParseFault>
+        ensures leads { (k : StatementTree → ParserState)
             → Leads (declared_word label mutable kind k) (λ s. k (statement_tree s)) result self.old self.new }
         ensures shorter { OnOk result (length self.new.rest.now ≤ length self.old.rest.now) }
     {
@@ -77,8 +82,8 @@ impl<'t> Parser<'t> {
     }
 
     /// A declaration, after its label and `mut`.
-    fn declared_as(&mut self, label: Label, mutable: bool) -> Result<Statement, Fault>
-        ensures leads { (k : StatementTree → State)
+    fn declared_as(&mut self, label: Label, mutable: bool) -> Result<Statement, ParseFault>
+        ensures leads { (k : StatementTree → ParserState)
             → Leads (declared_as label mutable k) (λ s. k (statement_tree s)) result self.old self.new }
         ensures shorter { OnOk result (length self.new.rest.now ≤ length self.old.rest.now) }
     {
@@ -91,8 +96,8 @@ impl<'t> Parser<'t> {
     }
 
     /// A declaration, after its label.
-    pub fn declared(&mut self, label: Label) -> Result<Statement, Fault>
-        ensures leads { (k : StatementTree → State)
+    pub fn declared(&mut self, label: Label) -> Result<Statement, ParseFault>
+        ensures leads { (k : StatementTree → ParserState)
             → Leads (declared_state label k) (λ s. k (statement_tree s)) result self.old self.new }
         ensures shorter { OnOk result (length self.new.rest.now ≤ length self.old.rest.now) }
     {
@@ -101,8 +106,8 @@ impl<'t> Parser<'t> {
     }
 
     /// An assignment, after its name and `=`.
-    fn assigned(&mut self, token: Token<'t>, place: Place) -> Result<Statement, Fault>
-        ensures leads { (k : StatementTree → State)
+    fn assigned(&mut self, token: Token<'t>, place: Place) -> Result<Statement, ParseFault>
+        ensures leads { (k : StatementTree → ParserState)
             → Leads (assigned (lexeme token.entry) place k) (λ s. k (statement_tree s)) result self.old self.new }
         ensures shorter { OnOk result (length self.new.rest.now ≤ length self.old.rest.now) }
     {
@@ -117,8 +122,12 @@ impl<'t> Parser<'t> {
     }
 
     /// An assignment to an element, after its name and `[`.
-    fn element_assigned(&mut self, token: Token<'t>, bracket: Place) -> Result<Statement, Fault>
-        ensures leads { (k : StatementTree → State)
+    fn element_assigned(
+        &mut self,
+        token: Token<'t>,
+        bracket: Place,
+    ) -> Result<Statement, ParseFault>
+        ensures leads { (k : StatementTree → ParserState)
             → Leads (element_assigned (lexeme token.entry) bracket k) (λ s. k (statement_tree s))
             result self.old self.new }
         ensures shorter { OnOk result (length self.new.rest.now ≤ length self.old.rest.now) }
@@ -138,8 +147,8 @@ impl<'t> Parser<'t> {
     }
 
     /// A call as a statement, after its name.
-    fn called_alone(&mut self, name: Token<'t>) -> Result<Statement, Fault>
-        ensures leads { (k : StatementTree → State)
+    fn called_alone(&mut self, name: Token<'t>) -> Result<Statement, ParseFault>
+        ensures leads { (k : StatementTree → ParserState)
             → Leads (called_alone (lexeme name.entry) k) (λ s. k (statement_tree s)) result self.old self.new }
         ensures shorter { OnOk result (length self.new.rest.now ≤ length self.old.rest.now) }
     {
@@ -150,8 +159,8 @@ impl<'t> Parser<'t> {
     }
 
     /// A statement that begins with a name, after the name.
-    pub fn targeted(&mut self, name: Token<'t>) -> Result<Statement, Fault>
-        ensures leads { (k : StatementTree → State)
+    pub fn targeted(&mut self, name: Token<'t>) -> Result<Statement, ParseFault>
+        ensures leads { (k : StatementTree → ParserState)
             → Leads (targeted_state (lexeme name.entry) k) (λ s. k (statement_tree s)) result self.old self.new }
         ensures shorter { OnOk result (length self.new.rest.now ≤ length self.old.rest.now) }
     {

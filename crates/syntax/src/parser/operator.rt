@@ -18,7 +18,7 @@ const ROTATION_LEVEL: u8 = 7;
 
 /// How an operand begins.
 #[derive(Clone, Copy)]
-pub enum Begins {
+pub enum OperandStart {
     Number(u32, Option<Suffix>),
     Truth(bool),
     Name,
@@ -71,18 +71,18 @@ fn prefix_of(kind: TokenKind) -> Option<PrefixOperator>
 }
 
 /// How an operand that begins with such a token begins.
-pub fn begins_of(kind: TokenKind) -> Option<Begins>
+pub fn begins_of(kind: TokenKind) -> Option<OperandStart>
     ensures { result ≡ begins_that kind }
 {
     match kind {
-        TokenKind::Number(value, suffix) => Some(Begins::Number(value, suffix)),
-        TokenKind::Keyword(Keyword::True) => Some(Begins::Truth(true)),
-        TokenKind::Keyword(Keyword::False) => Some(Begins::Truth(false)),
-        TokenKind::Keyword(Keyword::Select) => Some(Begins::Select),
-        TokenKind::Keyword(_) => conversion_of(kind).map(Begins::Conversion),
-        TokenKind::Name => Some(Begins::Name),
-        TokenKind::Sign(Sign::OpenRound) => Some(Begins::Bracket),
-        TokenKind::Sign(_) => prefix_of(kind).map(Begins::Prefix),
+        TokenKind::Number(value, suffix) => Some(OperandStart::Number(value, suffix)),
+        TokenKind::Keyword(Keyword::True) => Some(OperandStart::Truth(true)),
+        TokenKind::Keyword(Keyword::False) => Some(OperandStart::Truth(false)),
+        TokenKind::Keyword(Keyword::Select) => Some(OperandStart::Select),
+        TokenKind::Keyword(_) => conversion_of(kind).map(OperandStart::Conversion),
+        TokenKind::Name => Some(OperandStart::Name),
+        TokenKind::Sign(Sign::OpenRound) => Some(OperandStart::Bracket),
+        TokenKind::Sign(_) => prefix_of(kind).map(OperandStart::Prefix),
     }
 }
 
@@ -91,8 +91,8 @@ fn operator_of(kind: TokenKind) -> Option<BinaryOperator>
     ensures { result ≡ operator_that kind }
 {
     match kind {
-        TokenKind::Sign(Sign::OrElse) => Some(BinaryOperator::Either),
-        TokenKind::Sign(Sign::AndAlso) => Some(BinaryOperator::Both),
+        TokenKind::Sign(Sign::OrElse) => Some(BinaryOperator::LogicalOr),
+        TokenKind::Sign(Sign::AndAlso) => Some(BinaryOperator::LogicalAnd),
         TokenKind::Sign(Sign::Equals) => Some(BinaryOperator::Equal),
         TokenKind::Sign(Sign::Differs) => Some(BinaryOperator::Unequal),
         TokenKind::Sign(Sign::Below) => Some(BinaryOperator::Less),
@@ -129,8 +129,8 @@ pub fn level_of(operator: BinaryOperator) -> u8
     ensures small { result < PREFIX_LEVEL }
 {
     match operator {
-        BinaryOperator::Either => 1,
-        BinaryOperator::Both => 2,
+        BinaryOperator::LogicalOr => 1,
+        BinaryOperator::LogicalAnd => 2,
         BinaryOperator::Equal
         | BinaryOperator::Unequal
         | BinaryOperator::Less

@@ -1,6 +1,6 @@
 ghost use Rattle.std.specs.Prelude.{◌≡◌, ◌≤◌, ◌<◌, List, Option, OnOk, length, map};
 ghost use Rattle.std.specs.Option.{option_map};
-ghost use Rattle.syntax.specs.private.Machine.{State, exported, result_type as result_type_state, parameter_name};
+ghost use Rattle.syntax.specs.private.Machine.{ParserState, exported, result_type as result_type_state, parameter_name};
 ghost use Rattle.syntax.specs.private.Machine.{parameter as parameter_state, labelled};
 ghost use Rattle.syntax.specs.private.Machine.{parameters as parameters_state, returned as returned_state};
 ghost use Rattle.syntax.specs.private.Machine.{procedure as procedure_state};
@@ -8,14 +8,14 @@ ghost use Rattle.syntax.specs.private.ParserViews.{Leads};
 ghost use Rattle.syntax.specs.Below.{parameter_tree, ParameterTree, Place as PlaceOf, procedure_tree, ProcedureTree};
 ghost use Rattle.syntax.specs.Below.{return_tree, ReturnTree, WordType as WordTypeOf};
 
-use super::{Fault, Parser};
+use super::{ParseFault, Parser};
 use crate::{
     Form, Keyword, Kind, Label, Parameter, Place, Procedure, Return, Sign, TokenKind, WordType,
 };
 
 impl<'t> Parser<'t> {
-    pub fn procedure(&mut self) -> Result<Procedure, Fault>
-        ensures leads { (k : ProcedureTree → State)
+    pub fn procedure(&mut self) -> Result<Procedure, ParseFault>
+        ensures leads { (k : ProcedureTree → ParserState)
             → Leads (procedure_state k) (λ p. k (procedure_tree p)) result self.old self.new }
         ensures shorter { OnOk result (length self.new.rest.now < length self.old.rest.now) }
     {
@@ -40,8 +40,8 @@ impl<'t> Parser<'t> {
     }
 
     /// Where `export` stands.
-    fn exported(&mut self) -> Result<Option<Place>, Fault>
-        ensures leads { (k : Option PlaceOf → State) → Leads (exported k) k result self.old self.new }
+    fn exported(&mut self) -> Result<Option<Place>, ParseFault>
+        ensures leads { (k : Option PlaceOf → ParserState) → Leads (exported k) k result self.old self.new }
         ensures shorter { OnOk result (length self.new.rest.now ≤ length self.old.rest.now) }
     {
         match self.takes(TokenKind::Keyword(Keyword::Export))? {
@@ -51,8 +51,8 @@ impl<'t> Parser<'t> {
     }
 
     /// The type of a result, where there is one.
-    fn result_type(&mut self) -> Result<Option<WordType>, Fault>
-        ensures leads { (k : Option WordTypeOf → State) → Leads (result_type_state k) k result self.old self.new }
+    fn result_type(&mut self) -> Result<Option<WordType>, ParseFault>
+        ensures leads { (k : Option WordTypeOf → ParserState) → Leads (result_type_state k) k result self.old self.new }
         ensures shorter { OnOk result (length self.new.rest.now < length self.old.rest.now) }
     {
         if self.skips(TokenKind::Keyword(Keyword::Void))? {
@@ -64,8 +64,8 @@ impl<'t> Parser<'t> {
     }
 
     /// The parameters, after their opening bracket, and the closing one.
-    fn parameters(&mut self) -> Result<Vec<Parameter>, Fault>
-        ensures leads { (k : List ParameterTree → State)
+    fn parameters(&mut self) -> Result<Vec<Parameter>, ParseFault>
+        ensures leads { (k : List ParameterTree → ParserState)
             → Leads (parameters_state k) (λ ps. k (map parameter_tree ps.items)) result self.old self.new }
         ensures shorter { OnOk result (length self.new.rest.now ≤ length self.old.rest.now) }
     {
@@ -83,8 +83,8 @@ impl<'t> Parser<'t> {
         Ok(parameters)
     }
 
-    fn parameter(&mut self) -> Result<Parameter, Fault>
-        ensures leads { (k : ParameterTree → State)
+    fn parameter(&mut self) -> Result<Parameter, ParseFault>
+        ensures leads { (k : ParameterTree → ParserState)
             → Leads (parameter_state k) (λ p. k (parameter_tree p)) result self.old self.new }
         ensures shorter { OnOk result (length self.new.rest.now < length self.old.rest.now) }
     {
@@ -93,8 +93,8 @@ impl<'t> Parser<'t> {
     }
 
     /// A parameter, after its label.
-    fn labelled(&mut self, label: Label) -> Result<Parameter, Fault>
-        ensures leads { (k : ParameterTree → State)
+    fn labelled(&mut self, label: Label) -> Result<Parameter, ParseFault>
+        ensures leads { (k : ParameterTree → ParserState)
             → Leads (labelled label k) (λ p. k (parameter_tree p)) result self.old self.new }
         ensures shorter { OnOk result (length self.new.rest.now ≤ length self.old.rest.now) }
     {
@@ -119,8 +119,8 @@ impl<'t> Parser<'t> {
         kind: Kind,
         form: Form,
         words: u16,
-    ) -> Result<Parameter, Fault>
-        ensures leads { (k : ParameterTree → State)
+    ) -> Result<Parameter, ParseFault>
+        ensures leads { (k : ParameterTree → ParserState)
             → Leads (parameter_name label kind form words k) (λ p. k (parameter_tree p)) result self.old self.new }
         ensures shorter { OnOk result (length self.new.rest.now ≤ length self.old.rest.now) }
     {
@@ -137,8 +137,8 @@ impl<'t> Parser<'t> {
     }
 
     /// The `return` of a body, where it has one, and the closing bracket.
-    fn returned(&mut self) -> Result<Option<Return>, Fault>
-        ensures leads { (k : Option ReturnTree → State)
+    fn returned(&mut self) -> Result<Option<Return>, ParseFault>
+        ensures leads { (k : Option ReturnTree → ParserState)
             → Leads (returned_state k) (λ r. k (option_map return_tree r)) result self.old self.new }
         ensures shorter { OnOk result (length self.new.rest.now ≤ length self.old.rest.now) }
     {

@@ -1,17 +1,17 @@
 ghost use Rattle.std.specs.Prelude.{◌≡◌, ◌≤◌, ◌<◌, List, OnOk, length, map};
 ghost use Rattle.syntax.specs.Lexeme.{lexeme};
-ghost use Rattle.syntax.specs.private.Machine.{State, some_exprs, arguments as arguments_state, call_of, right_from};
-ghost use Rattle.syntax.specs.private.Machine.{right as right_state, right_end as right_end_state};
+ghost use Rattle.syntax.specs.private.Machine.{ParserState, some_exprs, arguments as arguments_state, call_of};
+ghost use Rattle.syntax.specs.private.Machine.{right_from, right as right_state, right_end as right_end_state};
 ghost use Rattle.syntax.specs.private.ParserViews.{Leads};
 ghost use Rattle.syntax.specs.Below.{call_tree, CallTree, expr_tree, ExprTree, right_tree, RightTree};
 
-use super::{Fault, Parser};
+use super::{ParseFault, Parser};
 use crate::{Call, Expr, RightSide, Sign, Token, TokenKind};
 
 impl<'t> Parser<'t> {
     /// Expressions, each but the first after a comma, and the token that ends them.
-    pub fn expressions(&mut self, end: TokenKind) -> Result<Vec<Expr>, Fault>
-        ensures leads { (k : List ExprTree → State)
+    pub fn expressions(&mut self, end: TokenKind) -> Result<Vec<Expr>, ParseFault>
+        ensures leads { (k : List ExprTree → ParserState)
             → Leads (some_exprs end k) (λ es. k (map expr_tree es.items)) result self.old self.new }
         ensures shorter { OnOk result (length self.new.rest.now < length self.old.rest.now) }
     {
@@ -27,8 +27,8 @@ impl<'t> Parser<'t> {
     }
 
     /// Arguments, after their opening bracket, and the closing one.
-    fn arguments(&mut self) -> Result<Vec<Expr>, Fault>
-        ensures leads { (k : List ExprTree → State)
+    fn arguments(&mut self) -> Result<Vec<Expr>, ParseFault>
+        ensures leads { (k : List ExprTree → ParserState)
             → Leads (arguments_state k) (λ es. k (map expr_tree es.items)) result self.old self.new }
         ensures shorter { OnOk result (length self.new.rest.now < length self.old.rest.now) }
     {
@@ -39,8 +39,8 @@ impl<'t> Parser<'t> {
     }
 
     /// A call, after its opening bracket.
-    pub fn call(&mut self, name: Token<'t>) -> Result<Call, Fault>
-        ensures leads { (k : CallTree → State)
+    pub fn call(&mut self, name: Token<'t>) -> Result<Call, ParseFault>
+        ensures leads { (k : CallTree → ParserState)
             → Leads (call_of (lexeme name.entry) k) (λ c. k (call_tree c)) result self.old self.new }
         ensures shorter { OnOk result (length self.new.rest.now < length self.old.rest.now) }
     {
@@ -54,8 +54,8 @@ impl<'t> Parser<'t> {
     }
 
     /// A right side that begins with a name, after the name.
-    fn right_side_from(&mut self, name: Token<'t>) -> Result<RightSide, Fault>
-        ensures leads { (k : RightTree → State)
+    fn right_side_from(&mut self, name: Token<'t>) -> Result<RightSide, ParseFault>
+        ensures leads { (k : RightTree → ParserState)
             → Leads (right_from (lexeme name.entry) k) (λ r. k (right_tree r)) result self.old self.new }
         ensures shorter { OnOk result (length self.new.rest.now ≤ length self.old.rest.now) }
     {
@@ -66,8 +66,8 @@ impl<'t> Parser<'t> {
         Ok(RightSide::Value(self.further(1, first)?))
     }
 
-    fn right_side(&mut self) -> Result<RightSide, Fault>
-        ensures leads { (k : RightTree → State)
+    fn right_side(&mut self) -> Result<RightSide, ParseFault>
+        ensures leads { (k : RightTree → ParserState)
             → Leads (right_state k) (λ r. k (right_tree r)) result self.old self.new }
         ensures shorter { OnOk result (length self.new.rest.now < length self.old.rest.now) }
     {
@@ -78,8 +78,8 @@ impl<'t> Parser<'t> {
     }
 
     /// A right side, after its `=`, and the semicolon.
-    pub fn right_end(&mut self) -> Result<RightSide, Fault>
-        ensures leads { (k : RightTree → State)
+    pub fn right_end(&mut self) -> Result<RightSide, ParseFault>
+        ensures leads { (k : RightTree → ParserState)
             → Leads (right_end_state k) (λ r. k (right_tree r)) result self.old self.new }
         ensures shorter { OnOk result (length self.new.rest.now < length self.old.rest.now) }
     {

@@ -1,6 +1,6 @@
 ghost use Rattle.std.specs.Prelude.{◌≡◌, ◌≤◌, ◌<◌, IfOk, IfErr, OnOk, OnSome, length, [], ◌∷◌};
 ghost use Rattle.syntax.specs.Lexeme.{Lexeme, lexeme};
-ghost use Rattle.syntax.specs.private.Machine.{State, starts_with, statements as statements_state};
+ghost use Rattle.syntax.specs.private.Machine.{ParserState, starts_with, statements as statements_state};
 ghost use Rattle.syntax.specs.private.Machine.{statement as statement_state, conditioned, counter as counter_state};
 ghost use Rattle.syntax.specs.private.Machine.{looped, block as block_state, otherwise as otherwise_state};
 ghost use Rattle.syntax.specs.private.Machine.{after_else};
@@ -8,7 +8,7 @@ ghost use Rattle.syntax.specs.private.ParserViews.{Leads, after_start};
 ghost use Rattle.syntax.specs.Below.{block_tree, BlockTree, statement_tree, StatementTree};
 
 use super::step::label_of;
-use super::{Fault, Parser};
+use super::{ParseFault, Parser};
 use crate::{Counter, Keyword, Label, Place, Sign, Statement, Token, TokenKind};
 
 /// How a statement begins.
@@ -22,7 +22,7 @@ pub enum Start {
 
 /// A statement of which the first token is taken.
 #[derive(Clone, Copy)]
-struct Begun<'t> {
+struct BegunStatement<'t> {
     start: Start,
     token: Token<'t>,
 }
@@ -41,9 +41,9 @@ fn starts_with(kind: TokenKind) -> Option<Start>
 
 impl<'t> Parser<'t> {
     /// A block of one statement.
-    fn alone(&self, statement: Statement) -> Result<Vec<Statement>, Fault>
+    fn alone(&self, statement: Statement) -> Result<Vec<Statement>, ParseFault>
         ensures items { IfOk result (λ ss. ss.items ≡ statement ∷ []) }
-        ensures memory { IfErr result (λ f. f ≡ Fault.Memory) }
+        ensures memory { IfErr result (λ f. f ≡ ParseFault.Memory) }
     {
         let mut statements = Vec::new(self.alloc);
         statements.push(statement)?;
@@ -52,8 +52,8 @@ impl<'t> Parser<'t> {
 
     /// Statements, up to a token that begins none.
     #[cycle(statement)]
-    pub fn statements(&mut self) -> Result<Vec<Statement>, Fault>
-        ensures leads { (k : BlockTree → State)
+    pub fn statements(&mut self) -> Result<Vec<Statement>, ParseFault>
+        ensures leads { (k : BlockTree → ParserState)
             → Leads (statements_state k) (λ ss. k (block_tree ss.items)) result self.old self.new }
         ensures shorter { OnOk result (length self.new.rest.now ≤ length self.old.rest.now) }
     {
@@ -65,8 +65,8 @@ impl<'t> Parser<'t> {
     }
 
     /// Takes the token that stands next, where it begins a statement.
-    fn start(&mut self) -> Result<Option<Begun<'t>>, Fault>
-        ensures leads { (k : BlockTree → State)
+    fn start(&mut self) -> Result<Option<BegunStatement<'t>>, ParseFault>
+        ensures leads { (k : BlockTree → ParserState)
             → Leads (statements_state k) (after_start k) result self.old self.new }
         ensures shorter { IfOk result (λ b. OnSome b (length self.new.rest.now < length self.old.rest.now)) }
         ensures same { OnOk result (length self.new.rest.now ≤ length self.old.rest.now) }
@@ -78,13 +78,13 @@ impl<'t> Parser<'t> {
             return Ok(None);
         };
         self.advance(token, rest)?;
-        Ok(Some(Begun { start, token }))
+        Ok(Some(BegunStatement { start, token }))
     }
 
     /// A statement, after its first token.
     #[cycle(statement)]
-    fn statement(&mut self, begun: Begun<'t>) -> Result<Statement, Fault>
-        ensures leads { (k : StatementTree → State)
+    fn statement(&mut self, begun: BegunStatement<'t>) -> Result<Statement, ParseFault>
+        ensures leads { (k : StatementTree → ParserState)
             → Leads (statement_state begun.entry.start (lexeme begun.entry.token) k) (λ s. k (statement_tree s))
             result self.old self.new }
         ensures shorter { OnOk result (length self.new.rest.now ≤ length self.old.rest.now) }
@@ -99,8 +99,8 @@ impl<'t> Parser<'t> {
 
     /// A conditional, after its keyword.
     #[cycle(statement)]
-    fn conditional(&mut self, place: Place) -> Result<Statement, Fault>
-        ensures leads { (k : StatementTree → State)
+    fn conditional(&mut self, place: Place) -> Result<Statement, ParseFault>
+        ensures leads { (k : StatementTree → ParserState)
             → Leads (conditioned place k) (λ s. k (statement_tree s)) result self.old self.new }
         ensures shorter { OnOk result (length self.new.rest.now ≤ length self.old.rest.now) }
     {
@@ -112,8 +112,8 @@ impl<'t> Parser<'t> {
     }
 
     /// The counter of a loop, after its keyword, and the word before its first number.
-    fn counter(&mut self) -> Result<Token<'t>, Fault>
-        ensures leads { (k : Lexeme → State)
+    fn counter(&mut self) -> Result<Token<'t>, ParseFault>
+        ensures leads { (k : Lexeme → ParserState)
             → Leads (counter_state k) (λ t. k (lexeme t)) result self.old self.new }
         ensures shorter { OnOk result (length self.new.rest.now < length self.old.rest.now) }
     {
@@ -125,10 +125,10 @@ impl<'t> Parser<'t> {
     }
 
     /// The counter that a token names.
-    fn counter_named(&self, token: Token<'t>) -> Result<Counter, Fault>
+    fn counter_named(&self, token: Token<'t>) -> Result<Counter, ParseFault>
         ensures place { IfOk result (λ counter. counter.place ≡ token.entry.place) }
         ensures name { IfOk result (λ counter. counter.name ≡ token.entry.text.now) }
-        ensures memory { IfErr result (λ f. f ≡ Fault.Memory) }
+        ensures memory { IfErr result (λ f. f ≡ ParseFault.Memory) }
     {
         let name = self.name(token)?;
         Ok(Counter {
@@ -139,8 +139,8 @@ impl<'t> Parser<'t> {
 
     /// A loop, after its keyword.
     #[cycle(statement)]
-    fn counted(&mut self, place: Place) -> Result<Statement, Fault>
-        ensures leads { (k : StatementTree → State)
+    fn counted(&mut self, place: Place) -> Result<Statement, ParseFault>
+        ensures leads { (k : StatementTree → ParserState)
             → Leads (looped place k) (λ s. k (statement_tree s)) result self.old self.new }
         ensures shorter { OnOk result (length self.new.rest.now ≤ length self.old.rest.now) }
     {
@@ -154,8 +154,8 @@ impl<'t> Parser<'t> {
 
     /// Statements in curly brackets.
     #[cycle(statement)]
-    fn block(&mut self) -> Result<Vec<Statement>, Fault>
-        ensures leads { (k : BlockTree → State)
+    fn block(&mut self) -> Result<Vec<Statement>, ParseFault>
+        ensures leads { (k : BlockTree → ParserState)
             → Leads (block_state k) (λ ss. k (block_tree ss.items)) result self.old self.new }
         ensures shorter { OnOk result (length self.new.rest.now < length self.old.rest.now) }
     {
@@ -167,8 +167,8 @@ impl<'t> Parser<'t> {
 
     /// The second arm, where there is one.
     #[cycle(statement)]
-    fn otherwise(&mut self) -> Result<Vec<Statement>, Fault>
-        ensures leads { (k : BlockTree → State)
+    fn otherwise(&mut self) -> Result<Vec<Statement>, ParseFault>
+        ensures leads { (k : BlockTree → ParserState)
             → Leads (otherwise_state k) (λ ss. k (block_tree ss.items)) result self.old self.new }
         ensures shorter { OnOk result (length self.new.rest.now ≤ length self.old.rest.now) }
     {
@@ -180,8 +180,8 @@ impl<'t> Parser<'t> {
 
     /// What stands after `else`: one more conditional, or a block.
     #[cycle(statement)]
-    fn after_else(&mut self) -> Result<Vec<Statement>, Fault>
-        ensures leads { (k : BlockTree → State)
+    fn after_else(&mut self) -> Result<Vec<Statement>, ParseFault>
+        ensures leads { (k : BlockTree → ParserState)
             → Leads (after_else k) (λ ss. k (block_tree ss.items)) result self.old self.new }
         ensures shorter { OnOk result (length self.new.rest.now ≤ length self.old.rest.now) }
     {

@@ -2,13 +2,13 @@ ghost use Rattle.std.specs.Prelude.{◌≡◌, ◌≤◌, ◌<◌, true, IfOk, I
 ghost use Rattle.syntax.specs.Grammar.{label_of as label_that, word_of as word_that, amount_of as amount_that};
 ghost use Rattle.syntax.specs.Grammar.{length_of as length_that};
 ghost use Rattle.syntax.specs.Lexeme.{Lexeme, lexeme};
-ghost use Rattle.syntax.specs.private.Machine.{State, one, either, a_label, a_kind, a_length, an_amount};
+ghost use Rattle.syntax.specs.private.Machine.{ParserState, one, either, a_label, a_kind, a_length, an_amount};
 ghost use Rattle.syntax.specs.private.Machine.{fits as fits_that, sized, step, ending_answer};
 ghost use Rattle.syntax.specs.private.ParserViews.{Leads, FaultIs, front, skipped, taken};
 ghost use Rattle.syntax.specs.Tokens.{ending};
 ghost use Rattle.syntax.specs.Below.{Kind as KindOf, Label as LabelOf};
 
-use super::{Fault, Parser};
+use super::{ParseFault, Parser};
 use crate::nesting::NESTING_LIMIT;
 use crate::{Keyword, Kind, Label, ListEnd, Name, Rule, Sign, Token, TokenKind};
 use language::MOST_ELEMENTS;
@@ -70,25 +70,25 @@ fn fits(wanted: TokenKind, kind: TokenKind) -> bool
 }
 
 /// No program begins with the tokens up to this one.
-pub fn unexpected(token: Token<'_>) -> Fault
-    ensures { result ≡ Fault.Refused Rule.UnexpectedToken token.entry.place }
+pub fn unexpected(token: Token<'_>) -> ParseFault
+    ensures { result ≡ ParseFault.Refused Rule.UnexpectedToken token.entry.place }
 {
-    Fault::Refused(Rule::UnexpectedToken, token.place)
+    ParseFault::Refused(Rule::UnexpectedToken, token.place)
 }
 
 /// Why no token stands next, where the tokens end like this.
-fn at_end(end: ListEnd) -> Fault
+fn at_end(end: ListEnd) -> ParseFault
     ensures { FaultIs result (ending_answer (ending end) None) }
 {
     match end {
-        ListEnd::TextEnd(place) => Fault::Refused(Rule::UnexpectedToken, place),
-        ListEnd::Fault(rule, place) => Fault::Refused(rule, place),
+        ListEnd::TextEnd(place) => ParseFault::Refused(Rule::UnexpectedToken, place),
+        ListEnd::Fault(rule, place) => ParseFault::Refused(rule, place),
     }
 }
 
 impl<'t> Parser<'t> {
     /// The next token, and those after it.
-    pub fn first(&self) -> Result<(Token<'t>, &'t [Token<'t>]), Fault>
+    pub fn first(&self) -> Result<(Token<'t>, &'t [Token<'t>]), ParseFault>
         ensures found { IfOk result (λ f. self.now.rest.now ≡ f.0 ∷ f.1.now) }
         ensures ended { IfErr result (λ f. (self.now.rest.now ≡ [])
             × FaultIs f (ending_answer (ending self.now.end) None)) }
@@ -100,14 +100,14 @@ impl<'t> Parser<'t> {
     }
 
     /// Takes the next token, which may stand here.
-    pub fn advance(&mut self, token: Token<'t>, rest: &'t [Token<'t>]) -> Result<(), Fault>
+    pub fn advance(&mut self, token: Token<'t>, rest: &'t [Token<'t>]) -> Result<(), ParseFault>
         requires { self.old.rest.now ≡ token ∷ rest.now }
-        ensures leads { (s next : State) → step s (lexeme token.entry) ≡ Some next
+        ensures leads { (s next : ParserState) → step s (lexeme token.entry) ≡ Some next
             → Leads s (λ _. next) result self.old self.new }
         ensures rest { OnOk result (self.new.rest.now ≡ rest.entry.now) }
     {
         if self.nesting.count_after(token.kind) > NESTING_LIMIT {
-            return Err(Fault::Refused(Rule::Nesting, token.place));
+            return Err(ParseFault::Refused(Rule::Nesting, token.place));
         }
         self.nesting.take(token.kind)?;
         self.rest = rest;
@@ -115,8 +115,8 @@ impl<'t> Parser<'t> {
     }
 
     /// Takes a token of this kind, of which no more is asked.
-    pub fn pass(&mut self, wanted: TokenKind) -> Result<(), Fault>
-        ensures leads { (k : Lexeme → State)
+    pub fn pass(&mut self, wanted: TokenKind) -> Result<(), ParseFault>
+        ensures leads { (k : Lexeme → ParserState)
             → Leads (one wanted k) (λ _. k (front self.old.rest.now)) result self.old self.new }
         ensures shorter { OnOk result (length self.new.rest.now < length self.old.rest.now) }
     {
@@ -128,8 +128,8 @@ impl<'t> Parser<'t> {
     }
 
     /// Takes a token of this kind.
-    pub fn expect(&mut self, wanted: TokenKind) -> Result<Token<'t>, Fault>
-        ensures leads { (k : Lexeme → State)
+    pub fn expect(&mut self, wanted: TokenKind) -> Result<Token<'t>, ParseFault>
+        ensures leads { (k : Lexeme → ParserState)
             → Leads (one wanted k) (λ t. k (lexeme t)) result self.old self.new }
         ensures shorter { OnOk result (length self.new.rest.now < length self.old.rest.now) }
     {
@@ -139,8 +139,8 @@ impl<'t> Parser<'t> {
     }
 
     /// Whether the token that stands next is of this kind: then it is taken, and no more is asked of it.
-    pub fn skips(&mut self, wanted: TokenKind) -> Result<bool, Fault>
-        ensures leads { (next : Lexeme → State) (other : State)
+    pub fn skips(&mut self, wanted: TokenKind) -> Result<bool, ParseFault>
+        ensures leads { (next : Lexeme → ParserState) (other : ParserState)
             → Leads (either wanted next other) (skipped next other self.old.rest.now) result self.old self.new }
         ensures shorter { IfOk result (λ is. is ≡ true → length self.new.rest.now < length self.old.rest.now) }
         ensures same { OnOk result (length self.new.rest.now ≤ length self.old.rest.now) }
@@ -156,8 +156,8 @@ impl<'t> Parser<'t> {
     }
 
     /// Takes the token that stands next, where it is of this kind.
-    pub fn takes(&mut self, wanted: TokenKind) -> Result<Option<Token<'t>>, Fault>
-        ensures leads { (next : Lexeme → State) (other : State)
+    pub fn takes(&mut self, wanted: TokenKind) -> Result<Option<Token<'t>>, ParseFault>
+        ensures leads { (next : Lexeme → ParserState) (other : ParserState)
             → Leads (either wanted next other) (taken next other) result self.old self.new }
         ensures shorter { IfOk result (λ t. OnSome t (length self.new.rest.now < length self.old.rest.now)) }
         ensures same { OnOk result (length self.new.rest.now ≤ length self.old.rest.now) }
@@ -172,15 +172,15 @@ impl<'t> Parser<'t> {
     }
 
     /// The name that a token spells.
-    pub fn name(&self, token: Token<'t>) -> Result<Name, Fault>
+    pub fn name(&self, token: Token<'t>) -> Result<Name, ParseFault>
         ensures name { IfOk result (λ name. name ≡ token.entry.text.now) }
-        ensures memory { IfErr result (λ f. f ≡ Fault.Memory) }
+        ensures memory { IfErr result (λ f. f ≡ ParseFault.Memory) }
     {
         Ok(Name::new(self.alloc, token.text)?)
     }
 
-    pub fn label(&mut self) -> Result<Label, Fault>
-        ensures leads { (k : LabelOf → State) → Leads (a_label k) k result self.old self.new }
+    pub fn label(&mut self) -> Result<Label, ParseFault>
+        ensures leads { (k : LabelOf → ParserState) → Leads (a_label k) k result self.old self.new }
         ensures shorter { OnOk result (length self.new.rest.now < length self.old.rest.now) }
     {
         let (token, rest) = self.first()?;
@@ -191,8 +191,8 @@ impl<'t> Parser<'t> {
         Ok(label)
     }
 
-    pub fn kind(&mut self) -> Result<Kind, Fault>
-        ensures leads { (k : KindOf → State) → Leads (a_kind k) k result self.old self.new }
+    pub fn kind(&mut self) -> Result<Kind, ParseFault>
+        ensures leads { (k : KindOf → ParserState) → Leads (a_kind k) k result self.old self.new }
         ensures shorter { OnOk result (length self.new.rest.now < length self.old.rest.now) }
     {
         let (token, rest) = self.first()?;
@@ -204,8 +204,8 @@ impl<'t> Parser<'t> {
     }
 
     /// How far a rotation goes.
-    pub fn amount(&mut self) -> Result<u32, Fault>
-        ensures leads { (k : ℕ → State) → Leads (an_amount k) k result self.old self.new }
+    pub fn amount(&mut self) -> Result<u32, ParseFault>
+        ensures leads { (k : ℕ → ParserState) → Leads (an_amount k) k result self.old self.new }
         ensures shorter { OnOk result (length self.new.rest.now < length self.old.rest.now) }
     {
         let (token, rest) = self.first()?;
@@ -217,8 +217,8 @@ impl<'t> Parser<'t> {
     }
 
     /// The length of an array.
-    fn bare_length(&mut self) -> Result<u16, Fault>
-        ensures leads { (k : ℕ → State) → Leads (a_length k) k result self.old self.new }
+    fn bare_length(&mut self) -> Result<u16, ParseFault>
+        ensures leads { (k : ℕ → ParserState) → Leads (a_length k) k result self.old self.new }
         ensures shorter { OnOk result (length self.new.rest.now < length self.old.rest.now) }
     {
         let (token, rest) = self.first()?;
@@ -230,8 +230,8 @@ impl<'t> Parser<'t> {
     }
 
     /// The length of an array, after its opening bracket, and the closing one.
-    pub fn length(&mut self) -> Result<u16, Fault>
-        ensures leads { (k : ℕ → State) → Leads (sized k) k result self.old self.new }
+    pub fn length(&mut self) -> Result<u16, ParseFault>
+        ensures leads { (k : ℕ → ParserState) → Leads (sized k) k result self.old self.new }
         ensures shorter { OnOk result (length self.new.rest.now < length self.old.rest.now) }
     {
         let length = self.bare_length()?;

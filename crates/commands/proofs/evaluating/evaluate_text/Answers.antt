@@ -48,7 +48,7 @@ returns-in_err-outcome-clause-finds g c = λ tells.
     let program = program_tree c.in-Ok.accepted.program in
     let spelled = spelled_from c.args.arguments.now (λ word. word.now) (c.as_slice-params.ensures.value
     ∙ ok.3) c.in_ok-args.ensures.within c.in_ok-args.ensures.found in
-    let meant = c.accepted_texts_are_evaluated.ensures P1 c.as_str.result.now program ok.0 ok.1 c.in_ok-args.args
+    let meant = c.accepted_sources_are_evaluated.ensures P1 c.as_str.result.now program ok.0 ok.1 c.in_ok-args.args
     evaluation_budget ok.2 spelled.within (omega arith) in
     finds_fault _ _ c.from_residual-in_err-outcome.ensures.1 (
       out_of_memory {fault = Eval c.in_err-outcome.field-0.0}
@@ -70,7 +70,7 @@ returns-clause-finds g c = λ tells.
     let same = c.as_slice-params.ensures.value ∙ ok.3 in
     let spelled = spelled_from c.args.arguments.now (λ word. word.now) same c.in_ok-args.ensures.within
     c.in_ok-args.ensures.found in
-    let meant = c.accepted_texts_are_evaluated.ensures P1 c.as_str.result.now program ok.0 ok.1 args evaluation_budget
+    let meant = c.accepted_sources_are_evaluated.ensures P1 c.as_str.result.now program ok.0 ok.1 args evaluation_budget
     ok.2 spelled.within (omega arith) in
     let is = same_outcome outcome meant.0 (answer program args evaluation_budget) meant.2
     c.in_ok-outcome.ensures.answer in

@@ -3,7 +3,7 @@ use Rattle.std.proofs.lemmas.Result.{on_ok_weaker}
 use Rattle.std.specs.String.{string_bytes}
 use Rattle.commands.specs.Below.{Asked, Breaks, IsRefusalOf, IsWrapped}
 use Rattle.input_files.specs.wrapping.Wrapped.{IsFaultOf}
-use Rattle.commands.specs.Contents.{Contents, Store, Begins, IsWritten, IsCutOff}
+use Rattle.commands.specs.Contents.{Contents, Store, BeginsFile, IsWritten, IsCutOff}
 use Rattle.commands.specs.FileTexts.{HoldsText}
 use Rattle.commands.specs.Judged.{no_text}
 use Rattle.commands.specs.Judged as judged
@@ -18,7 +18,7 @@ use Rattle.commands.proofs.foreign_code.wrap_code.Goals as goal
 -- what was made of the first bytes of the code, for what the string says, is made of all of it for the file's text
 image_of_code : (asked : Asked) (files : Contents) (path code text as_str items as_slice bytes : List ℕ)
     → HoldsText files path text → as_str ≡ text → as_slice ≡ items
-    → Begins files code 768257 items → IsWrapped as_str as_slice asked bytes
+    → BeginsFile files code 768257 items → IsWrapped as_str as_slice asked bytes
     → IsImageOfCode asked files path code bytes
 image_of_code asked files path code text as_str items as_slice bytes held same_text same_code begun wrapped = record {
   text = text;

@@ -3,7 +3,7 @@ use Rattle.std.proofs.Common.{List, map, Err, refl, ap, subst}
 use Rattle.std.specs.List.{AllZip}
 use Rattle.commands.specs.Harts.{IsJobOf, RefusesJobs, by_jobs, plan_wants_memory}
 use Rattle.commands.specs.Below.{hart_of, job_of}
-use Rattle.input_files.specs.declared.harts_file.jobs.Job.{Job}
+use Rattle.input_files.specs.declared.harts_file.jobs.FileJob.{FileJob}
 use Rattle.language.proofs.Handed.{handed_on, converted_on}
 use Rattle.commands.proofs.AnswerLemmas.{read_fault, read_memory}
 use Rattle.commands.proofs.HartLemmas.{plan_said, plan_refused, run_refused}
@@ -13,7 +13,7 @@ pub returns-clause-said : goal.returns-clause-said
 returns-clause-said g c = λ tells.
     let files = (g.F.Files.store c.args.files.now).contents in
     let jobs = map job_of c.in_ok-jobs.jobs.items in
-    let loaded = subst (λ (named : List Job). AllZip (IsJobOf files) (map hart_of named) jobs)
+    let loaded = subst (λ (named : List FileJob). AllZip (IsJobOf files) (map hart_of named) jobs)
     c.as_slice.ensures.value (c.in_ok-jobs.ensures.said tells) in
     plan_said files c.args.text.now (map hart_of c.in_ok-plan.plan.jobs.items) c.in_ok-plan.plan.schedule.items
     c.as_slice-3.result.now jobs (map job_of c.as_slice-2.result.now) (map job_of c.as_slice-4.result.now)
@@ -36,14 +36,14 @@ returns-in_err-jobs-clause-refused g c = λ tells.
     let why = c.in_err-jobs.field-0.0 in
     handed_on _ _ c.from_residual-in_err-jobs.ensures.1
     (by_jobs c.in_ok-plan.ensures.plan
-    (subst (λ (named : List Job). RefusesJobs files (map hart_of named) why) c.as_slice.ensures.value
+    (subst (λ (named : List FileJob). RefusesJobs files (map hart_of named) why) c.as_slice.ensures.value
     (c.in_err-jobs.ensures.refused tells)))
 
 pub returns-in_err-ends-clause-refused : goal.returns-in_err-ends-clause-refused
 returns-in_err-ends-clause-refused g c = λ tells.
     let files = (g.F.Files.store c.args.files.now).contents in
     let jobs = map job_of c.in_ok-jobs.jobs.items in
-    let loaded = subst (λ (named : List Job). AllZip (IsJobOf files) (map hart_of named) jobs)
+    let loaded = subst (λ (named : List FileJob). AllZip (IsJobOf files) (map hart_of named) jobs)
     c.as_slice.ensures.value (c.in_ok-jobs.ensures.said tells) in
     handed_on _ _ c.from_residual-in_err-ends.ensures.1
     (run_refused files c.args.text.now (map hart_of c.in_ok-plan.plan.jobs.items) c.in_ok-plan.plan.schedule.items

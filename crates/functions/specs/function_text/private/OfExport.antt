@@ -1,16 +1,16 @@
 -- What is made of an export and its image, whichever text they come from.
 use Rattle.std.specs.Prelude.{◌≡◌, true, false, map}
-use Rattle.functions.specs.function_text.Functions.{Parts, written_parameter}
+use Rattle.functions.specs.function_text.Functions.{FunctionParts, written_parameter}
 use Rattle.functions.specs.function_text.Names.{is_taken_name}
 use Rattle.functions.specs.Below.{Fields, Place, ProcedureTree}
 
-pub record IsOfExport (export : ProcedureTree) (code : Fields) (parts : Parts) : Type 0 where
+pub record IsOfExport (export : ProcedureTree) (code : Fields) (parts : FunctionParts) : Type 0 where
   pub image : parts.image ≡ code
   pub name : parts.name ≡ export.name
   pub free : is_taken_name export.name ≡ false
   pub parameters : parts.parameters ≡ map (written_parameter export.name) export.parameters
 
 -- the export stands there, and its name is taken
-pub record IsTaken (export : ProcedureTree) (place : Place) : Type 0 where
+pub record NameIsTaken (export : ProcedureTree) (place : Place) : Type 0 where
   pub taken : is_taken_name export.name ≡ true
   pub stands : place ≡ export.place

@@ -3,4 +3,4 @@ use Rattle.hepurita.proofs.compiling.compile_with.Goals as goal
 pub returns-clause-compiled : goal.returns-clause-compiled
 returns-clause-compiled c =
     let is = c.in_ok-flattened.ensures.accepted in
-    (is.before, is.export, c.in_ok-code.ensures.compiled c.args.profile c.args.text.now is)
+    (is.before, is.export, c.in_ok-code.ensures.compiled c.args.profile c.args.source.now is)

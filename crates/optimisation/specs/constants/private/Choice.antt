@@ -40,27 +40,27 @@ most_nodes_of iterations = if nat_le iterations 3 then 4096 else 384
 -- what is chosen so far: how many iterations the loop of each counter may become, at its number; how many nodes there
 -- is room for; and how many there are, with the iterations of the loops that are chosen
 pub record Chosen : Type 0 where
-  pub copies : List ℕ
+  pub unroll_limits : List ℕ
   pub room : ℕ
   pub nodes : ℕ
 
 abbrev pub choice_of : Choice → Chosen
-choice_of choice = record { copies = choice.copies.items; room = choice.room; nodes = choice.nodes }
+choice_of choice = record { unroll_limits = choice.unroll_limits.items; room = choice.room; nodes = choice.nodes }
 
 abbrev pub grown : Chosen → ℕ → Chosen
-grown so_far n = record { copies = so_far.copies; room = so_far.room; nodes = counted (so_far.nodes + n) }
+grown so_far n = record { unroll_limits = so_far.unroll_limits; room = so_far.room; nodes = counted (so_far.nodes + n) }
 
 -- behind so many nodes, where there was so much room, a loop of so many nodes without its body, for which all is
 -- chosen: its iterations, each a counter that is set and the body, where each is short and there is room for all of
 -- them; or else the loop
 abbrev pub settled : ℕ → ℕ → ℕ → ℕ → Chosen → Chosen
 settled before room x own inner =
-    let iterations = slice_index inner.copies x in
+    let iterations = slice_index inner.unroll_limits x in
     let cost = counted (counted (inner.nodes + 2) * iterations) in
     if nat_le 1 iterations && nat_le inner.nodes (most_nodes_of iterations) && nat_le cost room
-    then record { copies = inner.copies; room = room - cost; nodes = counted (before + cost) }
+    then record { unroll_limits = inner.unroll_limits; room = room - cost; nodes = counted (before + cost) }
     else record {
-      copies = slice_set inner.copies x 0;
+      unroll_limits = slice_set inner.unroll_limits x 0;
       room = inner.room;
       nodes = counted (before + own + inner.nodes);
     }
@@ -77,7 +77,7 @@ abbrev mutual
       chosen_all (chosen_all (grown so_far (1 + term_size condition)) accepted) otherwise
   chosen so_far (repeats x low high body) =
       settled so_far.nodes so_far.room x (1 + term_size low + term_size high)
-      (chosen_all (record { copies = so_far.copies; room = so_far.room; nodes = 0 }) body)
+      (chosen_all (record { unroll_limits = so_far.unroll_limits; room = so_far.room; nodes = 0 }) body)
 
   -- with those in statements, one after the other
   pub chosen_all : Chosen → StraightBlock → Chosen
@@ -90,8 +90,8 @@ room_for nodes = min (32 * nodes) 48000
 
 -- where nothing is chosen yet, all iterations that are counted are allowed
 abbrev pub begun : StraightProgram → Chosen
-begun p = record { copies = p.iterations; room = room_for p.nodes; nodes = 0 }
+begun p = record { unroll_limits = p.iterations; room = room_for p.nodes; nodes = 0 }
 
 -- how many iterations the loop of each counter may become
-abbrev pub copies_of : StraightProgram → List ℕ
-copies_of p = (chosen_all (begun p) p.body).copies
+abbrev pub unroll_limits_of : StraightProgram → List ℕ
+unroll_limits_of p = (chosen_all (begun p) p.body).unroll_limits

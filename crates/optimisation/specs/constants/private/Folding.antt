@@ -6,17 +6,17 @@
 use Rattle.std.specs.Prelude.{ℕ, ◌-◌, ◌==◌, ◌&&◌, Bool, true, false, nat_le, Option, None, Some, if◌then◌else◌}
 use Rattle.std.specs.Bool.{then_some}
 use Rattle.std.specs.Option.{option_and, option_and_then, option_map, option_or}
-use Rattle.optimisation.specs.Below.{Add, binary, BinaryOperator, BitAnd, BitOr, BitXor, Boolean, Both, Complement}
-use Rattle.optimisation.specs.Below.{complemented, convert, converted, Divide, divides, Either, element, Greater}
-use Rattle.optimisation.specs.Below.{GreaterOrEqual, Kind, Less, LessOrEqual, Multiply, Negate, Not, number, operated}
-use Rattle.optimisation.specs.Below.{operation_kind, operation_of, opposite_of, Place, prefix, prefix_value}
+use Rattle.optimisation.specs.Below.{Add, binary, BinaryOperator, BitAnd, BitOr, BitXor, Boolean, LogicalAnd}
+use Rattle.optimisation.specs.Below.{Complement, complemented, convert, converted, Divide, divides, LogicalOr, element}
+use Rattle.optimisation.specs.Below.{Greater, GreaterOrEqual, Kind, Less, LessOrEqual, Multiply, Negate, Not, number}
+use Rattle.optimisation.specs.Below.{operated, operation_kind, operation_of, opposite_of, Place, prefix, prefix_value}
 use Rattle.optimisation.specs.Below.{PrefixOperator, rotate, rotated_left, select, ShiftLeft, ShiftRight, Subtract}
 use Rattle.optimisation.specs.Below.{TermTree, truth, truth_of, swapped_of, variable, Width, width_of, word_of}
 use Rattle.optimisation.specs.declared.constants.known.Constant.{Constant}
-use Rattle.optimisation.specs.declared.constants.terms.Numbers.{Numbers}
+use Rattle.optimisation.specs.declared.constants.terms.CounterRange.{CounterRange}
 use Rattle.optimisation.specs.constants.private.Fields.{amount_of, field_of, mask_of, moved_or}
-use Rattle.optimisation.specs.declared.constants.powers.Step.{Step}
-use Rattle.optimisation.specs.constants.private.Known.{Words, known, source_in}
+use Rattle.optimisation.specs.declared.constants.powers.OperatorStep.{OperatorStep}
+use Rattle.optimisation.specs.constants.private.Known.{WordFacts, known, source_in}
 use Rattle.optimisation.specs.constants.private.Powers.{step_of, swapped_step}
 
 -- a number of this value and kind
@@ -91,16 +91,16 @@ between operator width _ _ = None
 
 -- what an operator comes to by its left operand alone, whatever the right one is: a bool, where it does
 abbrev pub decided_by_left : BinaryOperator → ℕ → Option Bool
-decided_by_left Either a = then_some (truth_of a) true
-decided_by_left Both a = then_some (a == 0) false
+decided_by_left LogicalOr a = then_some (truth_of a) true
+decided_by_left LogicalAnd a = then_some (a == 0) false
 decided_by_left LessOrEqual a = then_some (a == 0) true
 decided_by_left Greater a = then_some (a == 0) false
 decided_by_left _ a = None
 
 -- and by its right operand
 abbrev pub decided_by_right : BinaryOperator → ℕ → Option Bool
-decided_by_right Either b = then_some (truth_of b) true
-decided_by_right Both b = then_some (b == 0) false
+decided_by_right LogicalOr b = then_some (truth_of b) true
+decided_by_right LogicalAnd b = then_some (b == 0) false
 decided_by_right Less b = then_some (b == 0) false
 decided_by_right GreaterOrEqual b = then_some (b == 0) true
 decided_by_right _ b = None
@@ -119,8 +119,8 @@ truth_or (Some b) e = truth b
 -- the right identities of an operator, its left operand of this width: with one of them on the right it leaves what is
 -- on the left as it is
 abbrev pub is_right_identity : BinaryOperator → Width → ℕ → Bool
-is_right_identity Either w b = b == 0
-is_right_identity Both w b = truth_of b
+is_right_identity LogicalOr w b = b == 0
+is_right_identity LogicalAnd w b = truth_of b
 is_right_identity BitOr w b = b == 0
 is_right_identity BitXor w b = b == 0
 is_right_identity BitAnd w b = b == complemented w 0
@@ -134,8 +134,8 @@ is_right_identity _ w b = false
 
 -- and its left identities
 abbrev pub is_left_identity : BinaryOperator → Width → ℕ → Bool
-is_left_identity Either w a = a == 0
-is_left_identity Both w a = truth_of a
+is_left_identity LogicalOr w a = a == 0
+is_left_identity LogicalAnd w a = truth_of a
 is_left_identity BitOr w a = a == 0
 is_left_identity BitXor w a = a == 0
 is_left_identity BitAnd w a = a == complemented w 0
@@ -166,7 +166,7 @@ swapped place operator width left right =
     (operation place operator width left right)
 
 -- an operand and a step that makes the same of it, where there is one, else an expression
-abbrev pub stepped_or : Option Step → Place → Width → TermTree → TermTree → TermTree
+abbrev pub stepped_or : Option OperatorStep → Place → Width → TermTree → TermTree → TermTree
 stepped_or None place width word e = e
 stepped_or (Some step) place width word e = operation place step.operator width word (number_of step.number)
 
@@ -203,7 +203,7 @@ chosen (Some true) condition accepted otherwise = accepted
 chosen (Some false) condition accepted otherwise = otherwise
 
 -- an expression, where this is known of the variables
-abbrev pub simple : Words → TermTree → TermTree
+abbrev pub simple : WordFacts → TermTree → TermTree
 simple words (number value kind) = number value kind
 simple words (truth value) = truth value
 simple words (variable x) = known_or (known words x) (variable (source_in words.copies x))
@@ -218,7 +218,7 @@ simple words (select condition accepted otherwise) =
 simple words (element place x size index) = element place x size (simple words index)
 
 -- the numbers of a loop's counter, where both its bounds are known, and it makes no more iterations than this
-abbrev pub numbers_of : ℕ → Option Constant → Option Constant → Option Numbers
+abbrev pub numbers_of : ℕ → Option Constant → Option Constant → Option CounterRange
 numbers_of most (Some low) (Some high) = if nat_le (high.value - low.value) most
     then Some (record { low = low.value; high = high.value }) else None
 numbers_of most _ _ = None

@@ -6,14 +6,14 @@ use Rattle.std.specs.Option.{option_and_then}
 use Rattle.optimisation.specs.Below.{BinaryOperator, BitAnd, Divide, multiplies, Multiply, Remainder, ShiftLeft}
 use Rattle.optimisation.specs.Below.{ShiftRight, Uint32}
 use Rattle.optimisation.specs.declared.constants.known.Constant.{Constant}
-use Rattle.optimisation.specs.declared.constants.powers.Step.{Step}
+use Rattle.optimisation.specs.declared.constants.powers.OperatorStep.{OperatorStep}
 
 -- which power of two a number of 32 bits is, where it is one
 abbrev pub exponent_of : ℕ → Option ℕ
 exponent_of n = let k = count_trailing_zeros 32 n in if nat_lt k 32 && (n == 2 ^ k) then Some k else None
 
 -- what makes the same as an operator with 2 ^ k on its right; an amount is of 32 bits, and a mask as wide as the power
-abbrev pub step_by : BinaryOperator → Constant → ℕ → Option Step
+abbrev pub step_by : BinaryOperator → Constant → ℕ → Option OperatorStep
 step_by Multiply power k = Some (record { operator = ShiftLeft; number = record { value = k; kind = Uint32 } })
 step_by Divide power k = Some (record { operator = ShiftRight; number = record { value = k; kind = Uint32 } })
 step_by Remainder power k =
@@ -21,10 +21,10 @@ step_by Remainder power k =
 step_by _ power k = None
 
 -- by the right operand, where that is a number
-abbrev pub step_of : BinaryOperator → Option Constant → Option Step
+abbrev pub step_of : BinaryOperator → Option Constant → Option OperatorStep
 step_of operator None = None
 step_of operator (Some power) = option_and_then (step_by operator power) (exponent_of power.value)
 
 -- by the left operand: only a product is the same with its operands swapped
-abbrev pub swapped_step : BinaryOperator → Option Constant → Option Step
+abbrev pub swapped_step : BinaryOperator → Option Constant → Option OperatorStep
 swapped_step operator left = if multiplies operator then step_of operator left else None

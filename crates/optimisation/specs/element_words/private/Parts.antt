@@ -3,14 +3,14 @@ use Rattle.std.specs.Prelude.{ℕ, ◌+◌, ◌-◌, nat_le, nat_lt, List, [], �
 use Rattle.std.specs.Prelude.{Some, if◌then◌else◌, slice_get, slice_set, true, unwrap_or}
 use Rattle.std.specs.Option.{option_map}
 use Rattle.optimisation.specs.Below.{FlatVariable, number, TermTree, word_as, WordType}
-use Rattle.optimisation.specs.declared.element_words.parts.Part.{Part}
+use Rattle.optimisation.specs.declared.element_words.parts.SplitArray.{SplitArray}
 use Rattle.optimisation.specs.element_words.Limits.{most_elements_split}
 
 -- for each variable, at its number, what becomes of it where it is an array that becomes words
 abbrev pub Parts : Type 0
-Parts = List (Option Part)
+Parts = List (Option SplitArray)
 
-abbrev pub part_of : Parts → ℕ → Option Part
+abbrev pub part_of : Parts → ℕ → Option SplitArray
 part_of parts x = unwrap_or (slice_get parts x) None
 
 -- an array stays whole
@@ -23,7 +23,7 @@ known_index size (number value kind) = if nat_lt value size then Some value else
 known_index size _ = None
 
 -- the word of an element, where the array becomes words and the index is known
-abbrev pub word_in : Option Part → TermTree → Option ℕ
+abbrev pub word_in : Option SplitArray → TermTree → Option ℕ
 word_in None index = None
 word_in (Some part) index = option_map (λ i. part.base + i) (known_index part.size index)
 
@@ -33,14 +33,14 @@ word_of parts x index = word_in (part_of parts x) index
 -- Which arrays may become words, and which number each first word has.
 
 -- so many words of a type, the first of this number
-abbrev pub part_at : ℕ → ℕ → WordType → Part
+abbrev pub part_at : ℕ → ℕ → WordType → SplitArray
 part_at base size word = record { base = base; size = size; word = word }
 
-abbrev pub sized : WordType → Option ℕ → Option Part
+abbrev pub sized : WordType → Option ℕ → Option SplitArray
 sized word None = None
 sized word (Some size) = if nat_le size most_elements_split then Some (part_at 0 size word) else None
 
-abbrev pub candidate : FlatVariable → Option Part
+abbrev pub candidate : FlatVariable → Option SplitArray
 candidate d = sized d.word d.elements
 
 -- the arrays behind so many parameters, where they are short
@@ -56,7 +56,7 @@ numbered base room (Some part ∷ parts) = if nat_le part.size room
     else None ∷ numbered base room parts
 
 -- the words, in their order
-abbrev pub words_for : Option Part → List FlatVariable
+abbrev pub words_for : Option SplitArray → List FlatVariable
 words_for None = []
 words_for (Some part) = replicate part.size (word_as part.word true)
 

@@ -3,7 +3,7 @@ use Rattle.std.specs.Prelude.{ℕ, zero, suc, ◌+◌, List, [], ◌∷◌, drop
 use Rattle.optimisation.specs.Below.{array, binary, branch, chain, convert, element, first, Kind, nothing, number}
 use Rattle.optimisation.specs.Below.{Place, prefix, put, repeats, rotate, select, set, StraightBlock, StraightTree}
 use Rattle.optimisation.specs.Below.{take, TermTree, truth, variable}
-use Rattle.optimisation.specs.declared.element_words.parts.Part.{Part}
+use Rattle.optimisation.specs.declared.element_words.parts.SplitArray.{SplitArray}
 use Rattle.optimisation.specs.element_words.private.Parts.{Parts, part_of, word_of}
 
 -- a word, where there is one, else an expression
@@ -39,7 +39,7 @@ given_words base (suc n) kind values =
     first (set None base (first_value kind values)) (given_words (base + 1) n kind (drop 1 values))
 
 -- a new array, its first values split already
-abbrev pub new_array : Option Part → ℕ → ℕ → List TermTree → StraightBlock
+abbrev pub new_array : Option SplitArray → ℕ → ℕ → List TermTree → StraightBlock
 new_array None x size values = single (array x size values)
 new_array (Some part) x size values = given_words part.base part.size part.word.kind values
 

@@ -2,7 +2,7 @@ use Rattle.std.proofs.Common.{◌+◌, ◌-◌, ◌*◌, ◌≤◌, ℕ, drop}
 use Rattle.source_eval.specs.Below.{block_tree, counting, expr_tree, loop_run, Run, run_all, State, iterations}
 use Rattle.source_eval.specs.Metering.{known_of}
 use Rattle.source_eval.specs.Views.{held}
-use Rattle.source_eval.proofs.RunLemmas.{Leads}
+use Rattle.source_eval.proofs.RunLemmas.{GoesOnTo}
 use Rattle.source_eval.proofs.statements.+statement.Given as goal
 
 -- each way from a statement to itself counts a node
@@ -36,7 +36,7 @@ decreases-statement l = 5 * l.running.now.left + 2
 -- the statements left lead to the end of all
 abbrev pub invariant-block-loop-one : goal.invariant-block-loop-one
 invariant-block-loop-one l = record {
-  leads : Leads (run_all (known_of l.earlier) (held l.fn.running.variables) (block_tree l.fn.block))
+  leads : GoesOnTo (run_all (known_of l.earlier) (held l.fn.running.variables) (block_tree l.fn.block))
       l.fn.running.left l.room
       (run_all (known_of l.earlier) (held l.running.variables) (block_tree (drop l.one-index l.block)))
       l.running.left (λ s. s);
@@ -48,7 +48,7 @@ abbrev pub invariant-repeat-loop-number : goal.invariant-repeat-loop-number
 invariant-repeat-loop-number l = let iteration : ℕ → State
     → Run State = λ i t. run_all (known_of l.earlier) (counting t l.counter.name i) (block_tree l.body) in
     record {
-      leads : Leads (loop_run (held l.fn.running.variables) (expr_tree l.fn.low) (expr_tree l.fn.high) iteration)
+      leads : GoesOnTo (loop_run (held l.fn.running.variables) (expr_tree l.fn.low) (expr_tree l.fn.high) iteration)
           l.fn.running.left l.room
           (iterations (l.number-end - l.number) l.number iteration (held l.running.variables)) l.running.left (λ s. s);
       spends : l.running.left ≤ l.fn.running.left;

@@ -7,8 +7,8 @@ use Rattle.syntax.proofs.lexer.tokens_of.Given as goal
 abbrev pub invariant-pieces : goal.invariant-pieces
 invariant-pieces l = record {
   is_text : shadow (Utf8 l.rest);
-  goes_on : GoesOn l.text l.tokens.items l.place l.rest;
-  room : l.place.offset + length l.rest ≡ length l.text;
+  goes_on : GoesOn l.source l.tokens.items l.place l.rest;
+  room : l.place.offset + length l.rest ≡ length l.source;
   line : l.place.line ≤ l.place.offset + 1;
   column : l.place.column ≤ l.place.offset + 1;
 }

@@ -2,7 +2,7 @@ use Rattle.std.proofs.Common.{ap, sym, subst, ◌∙◌, inr}
 use Rattle.syntax.specs.Lexeme.{lexemes}
 use Rattle.syntax.specs.private.Machine.{program, verdict}
 use Rattle.syntax.specs.private.ParserViews.{nest, FaultIs}
-use Rattle.syntax.specs.Reading.{Answers, refused}
+use Rattle.syntax.specs.Reading.{IsParseAnswer, refused}
 use Rattle.syntax.specs.Tokens.{ending}
 use Rattle.syntax.proofs.MachineAnswers.{answers}
 use Rattle.syntax.proofs.parser.parse_tokens.Goals as goal
@@ -11,7 +11,8 @@ pub returns-in-Ok-clause-accepted : goal.returns-in-Ok-clause-accepted
 returns-in-Ok-clause-accepted c =
     let ts = lexemes c.args.tokens.now in
     let e = ending c.args.end in
-    subst (Answers ts e) (ap (λ n. verdict program n ts e) (sym c.new.ensures) ∙ c.in-Ok.ensures.leads) (answers ts e)
+    subst (IsParseAnswer ts e) (ap (λ n. verdict program n ts e) (sym c.new.ensures) ∙ c.in-Ok.ensures.leads)
+    (answers ts e)
 
 pub returns-in-Err-Refused-clause-refused : goal.returns-in-Err-Refused-clause-refused
 returns-in-Err-Refused-clause-refused c =
@@ -20,10 +21,10 @@ returns-in-Err-Refused-clause-refused c =
     let place = c.in-Err-Refused.place in
     let h = subst (λ f. FaultIs f (verdict program (nest c.new.result) ts e)) c.in-Err-Refused.field-0-is
     c.in-Err-Refused.ensures.leads in
-    let a = subst (Answers ts e) (ap (λ n. verdict program n ts e) (sym c.new.ensures) ∙ h) (answers ts e) in
+    let a = subst (IsParseAnswer ts e) (ap (λ n. verdict program n ts e) (sym c.new.ensures) ∙ h) (answers ts e) in
     inr (
       place,
       c.at.ensures.place,
-      subst (λ r. Answers ts e (refused r place)) (sym c.at.ensures.rule) a,
+      subst (λ r. IsParseAnswer ts e (refused r place)) (sym c.at.ensures.rule) a,
       c.at.ensures.why,
     )

@@ -3,6 +3,6 @@ use Rattle.functions.proofs.function_text.laws.functions_agree.Goals as goal
 
 pub returns : goal.returns
 returns c = record {
-  parts = one_function c.one_answer_for_a_text.ensures;
-  texts = one_pair c.words_differ.ensures c.one_answer_for_a_text.ensures;
+  parts = one_function c.one_answer_for_a_source.ensures;
+  texts = one_pair c.words_differ.ensures c.one_answer_for_a_source.ensures;
 }

@@ -1,10 +1,12 @@
 use Rattle.std.proofs.Common.{◌≡◌, ℕ, List, Option, subst, arith}
-use Rattle.image_reports.specs.Below.{Arg, Code, code_at, code_base, code_of, Counting, Fields, frame_base, GoesOnKnown}
-use Rattle.image_reports.specs.Below.{HasLines, IsTold, Known, known_of, paged_bytes, Shifts, state_of}
+use Rattle.image_reports.specs.Below.{Arg, MachineCode, code_at, code_base, code_of, Counting, Fields, frame_base}
+use Rattle.image_reports.specs.Below.{GoesOnKnown, HasLines, IsTold, KnownState, known_of, paged_bytes, Shifts}
+use Rattle.image_reports.specs.Below.{state_of}
 use Rattle.image_reports.specs.certificates.KnownImage.{known_at}
 use Rattle.streams.specs.Streams.{Collected}
 use Rattle.language.proofs.Handed.{err_is}
-use Rattle.image_reports.proofs.certificates_lemmas.AnswerLemmas.{first_is, refused_certified, memory_certified, run_certified}
+use Rattle.image_reports.proofs.certificates_lemmas.AnswerLemmas.{first_is, refused_certified, memory_certified}
+use Rattle.image_reports.proofs.certificates_lemmas.AnswerLemmas.{run_certified}
 use Rattle.image_reports.proofs.certificates.certifying.certify_telling.Goals as goal
 
 pub returns-in-Some-clause-certified : goal.returns-in-Some-clause-certified
@@ -40,16 +42,18 @@ returns-clause-certified g c =
     none c.in_ok-code.ensures c.in_ok-loaded.ensures.steps c.in_ok-loaded.ensures.known run.2 run.3
 
 -- the lines of the run are those of the image's
-told_of_image : (Has : Counting) {code : Code} {steps : ℕ} {k : Known} {before after : Collected} (image : Fields)
+told_of_image : (Has : Counting) {code : MachineCode} {steps : ℕ} {k : KnownState} {before after : Collected}
+    (image : Fields)
     (given : List (Option Arg)) (shifts : Shifts) → code ≡ code_at code_base image → steps ≡ image.max_steps
     → k ≡ known_at code_base frame_base image given shifts → IsTold Has (GoesOnKnown code steps k) before after
     → IsTold Has
     (GoesOnKnown (code_at code_base image) image.max_steps (known_at code_base frame_base image given shifts)) before
     after
 told_of_image Has {code} {steps} {k} {before} {after} image given shifts code_is steps_is known_is told =
-    subst (λ (x : Known). IsTold Has (GoesOnKnown (code_at code_base image) image.max_steps x) before after) known_is
+    subst (λ (x : KnownState). IsTold Has
+    (GoesOnKnown (code_at code_base image) image.max_steps x) before after) known_is
     (subst (λ (x : ℕ). IsTold Has (GoesOnKnown (code_at code_base image) x k) before after) steps_is
-    (subst (λ (x : Code). IsTold Has (GoesOnKnown x steps k) before after) code_is told))
+    (subst (λ (x : MachineCode). IsTold Has (GoesOnKnown x steps k) before after) code_is told))
 
 pub returns-clause-told : goal.returns-clause-told
 returns-clause-told g c = λ tells.

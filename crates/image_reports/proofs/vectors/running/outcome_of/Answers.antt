@@ -8,7 +8,7 @@ unreachable-requires c =
     let program = c.requires.source.0 in
     let args = c.args.args.now in
     let fault = c.in-Err-Argument.field-0 in
-    let outcome = meant c.images_do_what_texts_mean.ensures.outcome program c.args.image.now args _ _ _ (Err fault)
+    let outcome = meant c.images_do_what_sources_mean.ensures.outcome program c.args.image.now args _ _ _ (Err fault)
     c.requires.source.1 c.requires.within (c.in-Err-Argument.ensures.executed) in
     let calm = c.in-Err-Argument.ensures.ready tt in
     not_argument c.in-Err-Argument.field-0-0 c.in-Err-Argument.field-0-1 (sym c.in-Err-Argument.field-0-is
@@ -19,7 +19,7 @@ unreachable-requires-in-Err-Stopped c =
     let program = c.requires.source.0 in
     let args = c.args.args.now in
     let fault = c.in-Err-Stopped.field-0 in
-    let outcome = meant c.images_do_what_texts_mean.ensures.outcome program c.args.image.now args _ _ _ (Err fault)
+    let outcome = meant c.images_do_what_sources_mean.ensures.outcome program c.args.image.now args _ _ _ (Err fault)
     c.requires.source.1 c.requires.within (c.in-Err-Stopped.ensures.executed) in
     let calm = c.in-Err-Stopped.ensures.ready tt in
     not_stopped c.in-Err-Stopped.field-0-0 (sym c.in-Err-Stopped.field-0-is
@@ -29,7 +29,7 @@ pub returns-in_ok-lists_of-in-Ok-clause-means : goal.returns-in_ok-lists_of-in-O
 returns-in_ok-lists_of-in-Ok-clause-means c =
     λ program is. (
       c.in-Ok.outcome,
-      meant c.images_do_what_texts_mean.ensures.outcome program c.args.image.now c.args.args.now _ _ _
+      meant c.images_do_what_sources_mean.ensures.outcome program c.args.image.now c.args.args.now _ _ _
           (Ok c.in-Ok.outcome) is c.requires.within (c.in-Ok.ensures.executed),
       c.in_ok-lists_of-in-Ok.ensures,
     )

@@ -23,4 +23,4 @@ pub returns-clause-replaced : goal.returns-clause-replaced
 returns-clause-replaced c =
     let p = c.args.straight.now in
     where_checked (IsReplaced p) _ _ (returns-clause-exact c) c.rewritten.ensures.straight
-    (replaced c.args.copies.now p c.body.ensures.kept)
+    (replaced c.args.unroll_limits.now p c.body.ensures.kept)

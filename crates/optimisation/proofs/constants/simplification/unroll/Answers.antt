@@ -9,5 +9,5 @@ returns-clause-exact c =
     rw (
       c.in_ok-simpler.ensures.exact,
       c.as_slice.ensures.value,
-      ap (λ (so_far : Chosen). so_far.copies) c.in_ok-choice.ensures,
+      ap (λ (so_far : Chosen). so_far.unroll_limits) c.in_ok-choice.ensures,
     ) refl

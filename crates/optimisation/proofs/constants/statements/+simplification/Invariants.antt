@@ -3,7 +3,7 @@ use Rattle.optimisation.specs.Below.{block_nodes, chain, statement_nodes, straig
 use Rattle.optimisation.specs.constants.private.Known.{words_of}
 use Rattle.optimisation.specs.constants.private.Simplification.{knowing_all, simplified_all, iterations_code}
 use Rattle.optimisation.specs.constants.private.Simplification.{iterations_known}
-use Rattle.optimisation.specs.declared.constants.terms.Numbers.{Numbers}
+use Rattle.optimisation.specs.declared.constants.terms.CounterRange.{CounterRange}
 use Rattle.optimisation.proofs.constants.statements.+simplification.Given as goal
 
 -- the code so far and that of what is left are the code of all statements, and what is known in the end is what is
@@ -13,28 +13,28 @@ invariant-statements-loop-each l =
     let rest = straight_block (drop l.each-index l.body) in
     let all = straight_block l.fn.body in
     record {
-      code : chain (straight_block l.code.items) (simplified_all l.pass.copies.now l.pass.declared.now
+      code : chain (straight_block l.code.items) (simplified_all l.pass.unroll_limits.now l.pass.declared.now
           (words_of l.known) rest)
           ≡ chain (straight_block l.fn.code.items)
-          (simplified_all l.pass.copies.now l.pass.declared.now (words_of l.fn.known) all);
-      known : knowing_all l.pass.copies.now l.pass.declared.now (words_of l.known) rest
-          ≡ knowing_all l.pass.copies.now l.pass.declared.now (words_of l.fn.known) all;
+          (simplified_all l.pass.unroll_limits.now l.pass.declared.now (words_of l.fn.known) all);
+      known : knowing_all l.pass.unroll_limits.now l.pass.declared.now (words_of l.known) rest
+          ≡ knowing_all l.pass.unroll_limits.now l.pass.declared.now (words_of l.fn.known) all;
     }
 
 -- the code so far and that of the iterations that are left are the code of all iterations
 abbrev pub invariant-iterations-loop-value : goal.invariant-iterations-loop-value
 invariant-iterations-loop-value l =
-    let copies = l.pass.copies.now in
+    let unroll_limits = l.pass.unroll_limits.now in
     let declared = l.pass.declared.now in
     let body = straight_block l.fn.body in
-    let left : Numbers = record { low = l.value; high = l.value-end } in
+    let left : CounterRange = record { low = l.value; high = l.value-end } in
     record {
       code : chain (straight_block l.code.items)
-          (iterations_code copies declared (words_of l.known) l.counter left body)
+          (iterations_code unroll_limits declared (words_of l.known) l.counter left body)
           ≡ chain (straight_block l.fn.code.items)
-          (iterations_code copies declared (words_of l.fn.known) l.counter l.fn.numbers body);
-      known : iterations_known copies declared (words_of l.known) l.counter left body
-          ≡ iterations_known copies declared (words_of l.fn.known) l.counter l.fn.numbers body;
+          (iterations_code unroll_limits declared (words_of l.fn.known) l.counter l.fn.numbers body);
+      known : iterations_known unroll_limits declared (words_of l.known) l.counter left body
+          ≡ iterations_known unroll_limits declared (words_of l.fn.known) l.counter l.fn.numbers body;
     }
 
 -- Each call is for a part of what it is called in.

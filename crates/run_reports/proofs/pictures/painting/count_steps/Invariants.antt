@@ -1,14 +1,14 @@
 -- So many steps were made.
 use Rattle.std.proofs.Common.{◌+◌, ◌≤◌}
 use Rattle.run_reports.specs.Below.{code_of, state_of}
-use Rattle.run_reports.proofs.pictures_lemmas.Painted.{Counted}
+use Rattle.run_reports.proofs.pictures_lemmas.Painted.{CountedBefore}
 use Rattle.run_reports.proofs.pictures.painting.count_steps.Given as goal
 
 abbrev pub invariant-steps : goal.invariant-steps
 invariant-steps g l =
     let bytes = g.M.Memory.bytes in
     record {
-      counted : Counted (code_of l.code) l.fn.run.steps_left (state_of l.fn.run.hart (bytes l.fn.run.memory))
+      counted : CountedBefore (code_of l.code) l.fn.run.steps_left (state_of l.fn.run.hart (bytes l.fn.run.memory))
           l.run.steps_left (state_of l.run.hart (bytes l.run.memory)) l.steps;
       few : l.steps + l.run.steps_left ≤ l.fn.run.steps_left;
     }

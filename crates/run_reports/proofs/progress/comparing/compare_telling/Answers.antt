@@ -4,7 +4,7 @@ use Rattle.std.proofs.Common.{add-zero, arith}
 use Rattle.run_reports.proofs.progress_lemmas.Together.{InStep, both_step, both_go_on, told_at_end, one_ended}
 use Rattle.run_reports.proofs.progress_lemmas.Together.{other_ended, they_differ}
 use Rattle.run_reports.proofs.progress_lemmas.Told.{none_yet}
-use Rattle.run_reports.specs.Below.{begins, Code, collected, entries_of, Observation, State}
+use Rattle.run_reports.specs.Below.{begins, MachineCode, collected, entries_of, Observation, State}
 use Rattle.rv_machine.proofs.Face.{entry_count-append, count-few, differ_after, same_after, something_shown}
 use Rattle.rv_machine.proofs.Face.{nothing_shown, one-ends, other-ends}
 use Rattle.rv_machine.proofs.Face as machine
@@ -14,7 +14,7 @@ use Rattle.run_reports.proofs.progress.comparing.compare_telling.Goals.{else-is_
 use Rattle.run_reports.proofs.progress.comparing.compare_telling.Goals as goal
 
 -- what both have shown has so many entries
-in_step : {code : Code} {m m' n n' place : ℕ} {s t s' t' : State} {seen : List Observation}
+in_step : {code : MachineCode} {m m' n n' place : ℕ} {s t s' t' : State} {seen : List Observation}
     → length (entries_of seen) ≡ place → InStep code m s n t s' n' t' seen → m' ≡ m
     → machine.InStep code m s n t m' s' n' t' place
 in_step {seen = seen} is made equal = (seen, is, made.0, rw equal made.1)

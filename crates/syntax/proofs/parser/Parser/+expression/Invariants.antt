@@ -1,5 +1,5 @@
 use Rattle.std.proofs.Common.{◌≡◌, ◌≤◌, length, ◌+◌, ◌*◌}
-use Rattle.syntax.specs.private.Machine.{State, more}
+use Rattle.syntax.specs.private.Machine.{ParserState, more}
 use Rattle.syntax.specs.private.ParserViews.{ahead}
 use Rattle.syntax.specs.Below.{expr_tree, ExprTree}
 use Rattle.syntax.proofs.parser.Parser.+expression.Given as goal
@@ -36,7 +36,7 @@ decreases-select l = 8 * length l.self.now.rest.now + 5
 
 abbrev pub invariant-further-loop-left : goal.invariant-further-loop-left
 invariant-further-loop-left l = record {
-  same : (k : ExprTree → State) → ahead (more l.level 11 (expr_tree l.fn.first) k) l.fn.self
+  same : (k : ExprTree → ParserState) → ahead (more l.level 11 (expr_tree l.fn.first) k) l.fn.self
       ≡ ahead (more l.level l.top (expr_tree l.left) k) l.self;
   shorter : length l.self.rest.now ≤ length l.fn.self.rest.now;
 }

@@ -1,5 +1,5 @@
 use Rattle.std.proofs.Common.{◌≡◌, ◌≤◌, length, ◌+◌, ◌*◌}
-use Rattle.syntax.specs.private.Machine.{State, statements}
+use Rattle.syntax.specs.private.Machine.{ParserState, statements}
 use Rattle.syntax.specs.private.ParserViews.{ahead}
 use Rattle.syntax.specs.Below.{BlockTree}
 use Rattle.syntax.proofs.StatementSteps.{followed_by}
@@ -28,7 +28,7 @@ decreases-after_else l = 8 * length l.self.now.rest.now + 4
 
 abbrev pub invariant-statements-loop-statements : goal.invariant-statements-loop-statements
 invariant-statements-loop-statements l = record {
-  same : (k : BlockTree → State) → ahead (statements k) l.fn.self
+  same : (k : BlockTree → ParserState) → ahead (statements k) l.fn.self
       ≡ ahead (statements (λ b. k (followed_by l.statements.items b))) l.self;
   shorter : length l.self.rest.now ≤ length l.fn.self.rest.now;
 }

@@ -1,5 +1,5 @@
 use Rattle.std.proofs.Common.{◌≡◌, ◌≤◌, map, List, length}
-use Rattle.syntax.specs.private.Machine.{State, some_exprs}
+use Rattle.syntax.specs.private.Machine.{ParserState, some_exprs}
 use Rattle.syntax.specs.private.ParserViews.{ahead}
 use Rattle.syntax.specs.Below.{expr_tree, ExprTree}
 use Rattle.syntax.proofs.MachineSteps.{further}
@@ -7,7 +7,7 @@ use Rattle.syntax.proofs.parser.Parser.expressions.Given as goal
 
 abbrev pub invariant-list : goal.invariant-list
 invariant-list l = record {
-  same : (k : List ExprTree → State) → ahead (some_exprs l.end k) l.fn.self
+  same : (k : List ExprTree → ParserState) → ahead (some_exprs l.end k) l.fn.self
       ≡ ahead (further l.end (map expr_tree l.expressions.items) k) l.self;
   shorter : length l.self.rest.now ≤ length l.fn.self.rest.now;
 }

@@ -1,5 +1,0 @@
-use Rattle.hepurita.proofs.Existence.{each_judged}
-use Rattle.hepurita.proofs.building.each_text_is_judged.Goals as goal
-
-pub returns : goal.returns
-returns c = each_judged

@@ -1,5 +1,0 @@
-use Rattle.hepurita.proofs.grammar_laws_lemmas.Existence.{tokens_of}
-use Rattle.hepurita.proofs.grammar_laws.laws.each_text_has_tokens.Goals as goal
-
-pub returns : goal.returns
-returns c = tokens_of

@@ -1,5 +1,0 @@
-use Rattle.syntax.proofs.AnswerLaws.{one_answer}
-use Rattle.syntax.proofs.parser.one_answer_for_a_text.Goals as goal
-
-pub returns : goal.returns
-returns c = one_answer

@@ -1,5 +1,0 @@
-use Rattle.syntax.proofs.GrammarLemmas.{grammatical}
-use Rattle.syntax.proofs.parser.texts_are_grammatical.Goals as goal
-
-pub returns : goal.returns
-returns c = grammatical
