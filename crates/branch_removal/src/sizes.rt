@@ -150,10 +150,11 @@ fn branch_size(condition: &Term, accepted: StraightSize, otherwise: StraightSize
 fn loop_size(iterations: u64, low: &Term, high: &Term, iteration: StraightSize) -> StraightSize
     requires { iterations < 2 ^ 32 }
     ensures work { result.work
-        ≡ counted
-        (term_nodes (term_tree low.now) + term_nodes (term_tree high.now) + (iterations + 1) * counted (1 + iteration.work)) }
+        ≡ counted (term_nodes (term_tree low.now) + term_nodes (term_tree high.now)
+        + (iterations + 1) * counted (1 + iteration.work)) }
     ensures height { result.height
-        ≡ max (max (counted (height_of (term_tree low.now))) (counted (height_of (term_tree high.now)))) iteration.height }
+        ≡ max (max (counted (height_of (term_tree low.now))) (counted (height_of (term_tree high.now))))
+        iteration.height }
     ensures depth { result.depth ≡ counted (1 + iteration.depth) }
 {
     let all = iteration

@@ -59,8 +59,8 @@ impl<'f> Model for StraightCode<'f> {
 
     ghost coded = { coded_straight };
 
-    ghost view = { λ s. straight_program s.profile s.parameters.now s.returned s.nodes s.work s.iterations.now s.declared.now
-        s.controls s.body.items s.value };
+    ghost view = { λ s. straight_program s.profile s.parameters.now s.returned s.nodes s.work s.iterations.now
+        s.declared.now s.controls s.body.items s.value };
 
     ghost invariant = { λ s. IsStraight (straight_program s.profile s.parameters.now s.returned s.nodes s.work
         s.iterations.now s.declared.now s.controls s.body.items s.value) };
@@ -75,10 +75,11 @@ impl<'f> StraightCode<'f> {
         value: Option<Term>,
     ) -> Self
         requires { IsStraight (straight_program ranged.now.flat.profile ranged.now.flat.parameters
-            ranged.now.flat.returned ranged.now.flat.nodes ranged.now.work ranged.now.iterations ranged.now.flat.declared
-            controls body.items value) }
+            ranged.now.flat.returned ranged.now.flat.nodes ranged.now.work ranged.now.iterations
+            ranged.now.flat.declared controls body.items value) }
         ensures { result ≡ straight_program ranged.now.flat.profile ranged.now.flat.parameters ranged.now.flat.returned
-            ranged.now.flat.nodes ranged.now.work ranged.now.iterations ranged.now.flat.declared controls body.items value }
+            ranged.now.flat.nodes ranged.now.work ranged.now.iterations ranged.now.flat.declared controls body.items
+            value }
     {
         let flat = ranged.flat();
         StraightCode {

@@ -1,7 +1,7 @@
 // The code of expressions: variables in registers of their own or at fixed offsets of the frame, and the instructions
-// that compute an expression from them, with temporaries in registers and beyond these in slots. Its law: the machine on
-// them has the expression's value where it is found, and what it shows is decided by what the code's observer sees of the
-// path. It stands on the numbered variables of inlined programs, the instructions and the machine.
+// that compute an expression from them, with temporaries in registers and beyond these in slots. Its law: the machine
+// on them has the expression's value where it is found, and what it shows is decided by what the code's observer sees
+// of the path. It stands on the numbered variables of inlined programs, the instructions and the machine.
 
 mod allocation;
 pub mod emit;

@@ -212,9 +212,9 @@ fn generate_with(
     Ok(Some(Code::new(fields)))
 }
 
-/// The code of a straight program. The machine, running it, follows the program: the outcome is that of the program, and
-/// what it shows is decided by what the program's observer sees of the path. The program alone decides which code it is.
-/// It is refused only when out of memory.
+/// The code of a straight program. The machine, running it, follows the program: the outcome is that of the program,
+/// and what it shows is decided by what the program's observer sees of the path. The program alone decides which code
+/// it is. It is refused only when out of memory.
 pub fn generate(alloc: Global, straight: &Straight<'_>) -> Result<Code, Refusal>
     ensures generated { IfOk result (IsGenerated straight.now) }
     ensures exact { IfOk result (λ code. code ≡ fields_of straight.now) }
@@ -231,8 +231,8 @@ pub fn generate(alloc: Global, straight: &Straight<'_>) -> Result<Code, Refusal>
 
 /// The same with words in registers and numbers in instructions: the variables and control values that are used most
 /// live in a register each, for the whole run, and a number gets none where an instruction holds it. A program may have
-/// been made longer than its source, as by unrolling; there is no code where it has more words than are promised for the
-/// nodes of the source.
+/// been made longer than its source, as by unrolling; there is no code where it has more words than are promised for
+/// the nodes of the source.
 pub fn generate_optimised(
     alloc: Global,
     straight: &StraightCode<'_>,

@@ -152,7 +152,8 @@ pub fn keep(
     }
 }
 
-/// The new word where the mask is all ones, and the old one where it is 0, into a register; the scratch one is written too.
+/// The new word where the mask is all ones, and the old one where it is 0, into a register; the scratch one is written
+/// too.
 pub fn merge(
     code: &mut Vec<Instr>,
     target: Reg,

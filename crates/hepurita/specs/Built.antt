@@ -62,8 +62,8 @@ abbrev pub IsRefusal : (Judgement → Type 0) → Refusal → Type 0
 IsRefusal J refusal = IsWantOfMemory refusal.rule refusal.place
     ⊎ ((place : Place) × (refusal.place ≡ Some place) × J (refuses refusal.rule place))
 
--- the image is that of an accepted source, plain or optimised, for an observer: the exported procedure and what it calls,
--- compiled; which sources are accepted is one question for both
+-- the image is that of an accepted source, plain or optimised, for an observer: the exported procedure and what it
+-- calls, compiled; which sources are accepted is one question for both
 pub record IsCompilation (optimisation : Optimisation) (profile : Profile) (source : List ℕ) (program : ProgramTree)
     (before : List ProcedureTree) (export : ProcedureTree) (image : Fields) : Type 0 where
   pub judged : Judges profile source (accepts program before export)

@@ -28,8 +28,8 @@ pub fn build_as(alloc: Global, source: &str, profile: Profile) -> Result<Vec<u8>
     build_with(alloc, source, profile, Optimisation::Off)
 }
 
-/// The bytes of the image, plain or optimised, of a source that is accepted for an observer of this profile, or the first
-/// refusal, as of `compile_with`.
+/// The bytes of the image, plain or optimised, of a source that is accepted for an observer of this profile, or the
+/// first refusal, as of `compile_with`.
 pub fn build_with(
     alloc: Global,
     source: &str,

@@ -78,8 +78,8 @@ pub struct Compiled {
 }
 
 /// A source that is accepted for an observer of this profile, compiled to plain or to optimised code, or the first
-/// refusal. Passes are asked in the order: the source itself; names, types and labels; sizes; ranges; work. Which sources
-/// are accepted, and what the others are refused for, does not depend on the optimisation.
+/// refusal. Passes are asked in the order: the source itself; names, types and labels; sizes; ranges; work. Which
+/// sources are accepted, and what the others are refused for, does not depend on the optimisation.
 ///
 /// Either image, run on any arguments within the parameter types, gives what the source means, within its
 /// stated steps and its frame; and on arguments that are equal where they are public the observer

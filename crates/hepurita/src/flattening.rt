@@ -21,8 +21,8 @@ pub struct Flattened {
 }
 
 impl Flattened {
-    /// The body with what is counted for it, where its source is accepted; or else the source's refusal, for a range or for
-    /// the work.
+    /// The body with what is counted for it, where its source is accepted; or else the source's refusal, for a range or
+    /// for the work.
     pub fn ranged<'f>(&'f self, alloc: Global) -> Result<Ranged<'f>, Refusal>
         ensures accepted { (profile : Profile) (source : List ℕ) (is : IsFlattened profile source self.now)
             → IfOk result (λ counted. (counted ≡ ranged (flattened profile is.before is.export))

@@ -41,8 +41,8 @@ pub fn bases_fit()
         → AreBases image (code_base + code_distance * k) (frame_base + frame_distance * k) }
 {}
 
-/// A source has one plain and one optimised image for an observer: what `build_with` answers twice is one list of bytes,
-/// so an image can be checked by its hash.
+/// A source has one plain and one optimised image for an observer: what `build_with` answers twice is one list of
+/// bytes, so an image can be checked by its hash.
 pub fn builds_agree()
     ensures { (optimisation : Optimisation) (profile : Profile) (source one other : List ℕ)
         → IsBuilt optimisation profile source one → IsBuilt optimisation profile source other → one ≡ other }
@@ -101,8 +101,8 @@ pub fn images_do_what_sources_mean()
 
 /// Runs that are cut off. However few steps the image of an accepted source, plain or optimised, is given, on arguments
 /// within the parameter types and with no recorder that refuses, it has stopped by `Ecall` with the one outcome that
-/// the source means, or it has not stopped and had fewer steps than the image states. On two lists of arguments that are
-/// equal where they are public, as many steps show one and the same list.
+/// the source means, or it has not stopped and had fewer steps than the image states. On two lists of arguments that
+/// are equal where they are public, as many steps show one and the same list.
 pub fn cut_off_runs_are_right()
     ensures outcome { (optimisation : Optimisation) (profile : Profile) (source bytes : List ℕ) (program : ProgramTree)
         (before : List ProcedureTree) (export : ProcedureTree) (image : Fields) (args : List Arg) (given : ℕ)

@@ -15,7 +15,9 @@ pub fn strict_runs_are_loose()
 
 /// A safe program meets no fault on arguments within its parameter types.
 pub fn safe_runs_meet_no_fault()
-    ensures { (p : FlatProgram) (iterations : List ℕ) (args : List Arg) → IsSafe p iterations → AreWithin p.parameters args
+    ensures { (p : FlatProgram) (iterations : List ℕ) (args : List Arg)
+        → IsSafe p iterations
+        → AreWithin p.parameters args
         → ending_of p args ≡ gives (outcome_of p args) }
 {}
 
@@ -27,6 +29,8 @@ pub fn accepted_is_safe()
 
 /// A run of a safe program on arguments within its parameter types evaluates at most as many nodes as its work.
 pub fn safe_runs_are_within_work()
-    ensures { (p : FlatProgram) (iterations : List ℕ) (args : List Arg) → IsSafe p iterations → AreWithin p.parameters args
+    ensures { (p : FlatProgram) (iterations : List ℕ) (args : List Arg)
+        → IsSafe p iterations
+        → AreWithin p.parameters args
         → evaluated_by p args ≤ body_work iterations p.body + value_nodes p.value }
 {}

@@ -77,7 +77,8 @@ fn work_of(iterations: &[u32], statement: &FlatStatement) -> u64
 /// The work of the iterations of a loop: one more than it makes at most.
 #[cycle(work)]
 fn work_of_iterations(iterations: &[u32], counter: u32, body: &[FlatStatement]) -> u64
-    ensures { result ≡ counted ((slice_index iterations.now counter + 1) * (1 + body_work iterations.now (flat_block body.now))) }
+    ensures { result ≡ counted
+        ((slice_index iterations.now counter + 1) * (1 + body_work iterations.now (flat_block body.now))) }
 {
     let times = u64::from(iterations_at(iterations, counter)) + 1;
     let iteration = work_of_all(iterations, body).saturating_add(1);

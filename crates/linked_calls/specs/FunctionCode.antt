@@ -117,7 +117,8 @@ store_by Uint32 = Sw
 
 -- an element of the caller's array into the slot
 abbrev pub copied_in_code : Kind → List Instr
-copied_in_code kind = Load (load_by kind) 28 5 0 ∷ element_meant_code kind ++ Store (store_by kind) 28 6 0 ∷ next_code kind
+copied_in_code kind =
+    Load (load_by kind) 28 5 0 ∷ element_meant_code kind ++ Store (store_by kind) 28 6 0 ∷ next_code kind
 
 -- and of the slot into the caller's array
 abbrev pub copied_out_code : Kind → List Instr

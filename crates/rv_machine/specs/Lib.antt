@@ -1,6 +1,6 @@
 -- What this crate defines, by file.
 -- A step: Machine has the machine and its step, Effects what each instruction does with registers and program counter,
---   Plans what a planned step comes to, OneStep what a step of a run shows and how it ends it, Stops the names of stops.
+--   Plans what a planned step comes to, OneStep what a step of a run shows and how it ends, Stops the names of stops.
 -- Runs: Leakage has whole runs and their traces, Progress runs in progress and how two of them compare, PairingText how
 --   that answer is printed; Entries has the entries that an observer sees, and where two traces differ first.
 -- Memory: Bytes has numbers in little-endian bytes, Flat and Paged memories of one range of addresses and of several,

@@ -36,8 +36,8 @@ impl<'f> Model for Allocation<'f> {
 }
 
 impl<'f> Allocation<'f> {
-    /// Registers for so many temporaries, and homes by the numbers of variables, those of control values behind them; what
-    /// comes behind the last has none. Each number gets a register.
+    /// Registers for so many temporaries, and homes by the numbers of variables, those of control values behind them;
+    /// what comes behind the last has none. Each number gets a register.
     pub fn new(count: u32, homes: &'f [Option<Reg>]) -> Self
         requires { count ≤ 16 }
         ensures { result ≡ record { count = count; homes = homes.now; immediates = false; unread = [] } }

@@ -139,8 +139,8 @@ fn fetched_operands(
     })
 }
 
-/// A choice between a value and 0, which are in their places, into a register. Both operands are fetched where they lie in
-/// slots.
+/// A choice between a value and 0, which are in their places, into a register. Both operands are fetched where they lie
+/// in slots.
 fn fetched_or_zero(
     layout: &Layout<'_>,
     code: &mut Vec<Instr>,

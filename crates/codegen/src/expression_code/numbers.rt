@@ -13,8 +13,8 @@ use language::BinaryOperator;
 use rv_code::{Immediate12, ImmediateOperation, ShiftAmount, ShiftOperation};
 use word::{Width, negate};
 
-/// What is made of the outcome of an operator's instruction: nothing more, whether it is 0, whether it is not, or its cut
-/// to the width.
+/// What is made of the outcome of an operator's instruction: nothing more, whether it is 0, whether it is not, or its
+/// cut to the width.
 #[derive(Clone, Copy)]
 pub enum Finish {
     Alone,
@@ -23,9 +23,9 @@ pub enum Finish {
     Narrowed,
 }
 
-/// What is made of one operand with the number that is the other: by an instruction that holds it as an immediate in two's
-/// complement or as the amount of a shift, or of which it is 0, that the operand is above; or by two shifts that leave its
-/// low bits, of which they move so many others out.
+/// What is made of one operand with the number that is the other: by an instruction that holds it as an immediate in
+/// two's complement or as the amount of a shift, or of which it is 0, that the operand is above; or by two shifts that
+/// leave its low bits, of which they move so many others out.
 #[derive(Clone, Copy)]
 pub enum NumberStep {
     WithImmediate(ImmediateOperation, Immediate12),
@@ -172,7 +172,8 @@ pub fn left_row(layout: &Layout<'_>, operator: BinaryOperator, left: &Term) -> O
     }
 }
 
-/// Whether a choice, whose third operand is this expression, is one between a value and 0, which takes no register then.
+/// Whether a choice, whose third operand is this expression, is one between a value and 0, which takes no register
+/// then.
 pub fn chooses_zero(layout: &Layout<'_>, otherwise: &Term) -> bool
     ensures { result ≡ chooses_zero layout.now.allocation (term_tree otherwise.now) }
 {

@@ -6,9 +6,10 @@ ghost use Rattle.codegen.specs.program_logic.StraightCode.{Contents, AreFit, Are
 ghost use Rattle.codegen.specs.program_logic.StraightCode.{state_at};
 ghost use Rattle.codegen.specs.Below.{MachineCode, Event, Instr, Leads};
 
-/// The machine does what straight-line code is run to by symbols: wherever the code stands, and whatever state it begins
-/// in, if each access goes to its address, which is a multiple of its size, and data is there, then as many steps as
-/// there are instructions lead to that state, and show the list that is read off the code and the addresses alone.
+/// The machine does what straight-line code is run to by symbols: wherever the code stands, and whatever state it
+/// begins in, if each access goes to its address, which is a multiple of its size, and data is there, then as many
+/// steps as there are instructions lead to that state, and show the list that is read off the code and the addresses
+/// alone.
 pub fn straight_code_is_run()
     ensures { (works : ℕ → Bool) (code : MachineCode) (p : ℕ) (instructions : List Instr) (places : List ℕ)
         (c : Contents)
