@@ -11,6 +11,7 @@ use Rattle.codegen.proofs.Language.{term_nodes, types_of, TermHasType, counter_t
 use Rattle.codegen.proofs.Language.{StraightState, counted, after, after_all, path_at, path_along, word_of, Values}
 use Rattle.codegen.proofs.LoopRuns.{AtLoop, bounds_runs, is_left, next, next_inside, test_runs}
 use Rattle.codegen.proofs.Logic.{lt-ltb, nat_tests, none-some, same_Some, HeldAt, Setting, setting, base_of, MarkKnown}
+use Rattle.codegen.proofs.Logic.{terms_at}
 use Rattle.codegen.proofs.Logic.{layout_of}
 use Rattle.codegen.proofs.Logic.{by_bounds, none, Runs, along, along_fit, seq, quietly, weaken, gives, cheaper, never}
 use Rattle.codegen.proofs.Logic.{Ready, HomesKept, home_beside, homes_moved, number_or_zero, take, does, moves_run}
@@ -220,7 +221,7 @@ module _ (z : Setting) (depth x h : ℕ) (within : depth < z.depths)
 
     certain_runs : is_below bound low ≡ true → Runs z (16 * term_nodes low + (iterations_cost 1 + 1))
         (λ env. path_in env.variables low ++ bounded x (bounds env).0 (bounds env).1 ∷ path_by env (bounds env))
-        (into_code z.declared z.allocation (base_of z) h 0 low ++ iterations_code h (below_number_code 5 h bound) ys)
+        (into_code (terms_at z (base_of z)) h 0 low ++ iterations_code h (below_number_code 5 h bound) ys)
         (Ready z) Looped
     certain_runs below =
         let is = z.allocated.allowed x h at in

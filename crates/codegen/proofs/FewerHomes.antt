@@ -21,6 +21,7 @@ use Rattle.codegen.specs.expression_code.Allocation.{temporary, working_register
 use Rattle.codegen.specs.expression_code.TermCode.{is_at_home, keeps_words, operand}
 use Rattle.inline.specs.Flat as flat
 use Rattle.codegen.specs.Below.{Kind}
+use Rattle.codegen.specs.expression_code.Layout.{term_layout}
 
 neither_of_three : (a b c : Bool) → (a || (b || c)) ≡ false → (a ≡ false) × (b ≡ false) × (c ≡ false)
 neither_of_three a b c h =
@@ -140,37 +141,37 @@ module _ (layout : Frame) (left_out : ℕ → Bool)
   at_home_same : (e : TermTree) → Spares (λ y. names_in y e) → is_at_home b e ≡ is_at_home a e
   at_home_same e spares = ap (λ (h : Option ℕ). is_some h) (term_home_same e spares)
 
-  operand_same : (free place : ℕ) (e : TermTree) → Spares (λ y. names_in y e)
-      → operand b free place e ≡ operand a free place e
-  operand_same free place e spares =
-      ap (λ (h : Option ℕ). at_home h (temporary a.count free place)) (term_home_same e spares)
+  operand_same : (place : ℕ) (e : TermTree) → Spares (λ y. names_in y e)
+      → operand (term_layout fewer) place e ≡ operand (term_layout layout) place e
+  operand_same place e spares =
+      ap (λ (h : Option ℕ). at_home h (temporary a.count (temporaries_offset layout) place)) (term_home_same e spares)
 
-  pub into_same : (free d place : ℕ) (e : TermTree) → Spares (λ y. names_in y e)
-      → into_code declared b free d place e ≡ into_code declared a free d place e
-  into_same free d place (flat.number value kind) spares = refl
-  into_same free d place (flat.truth value) spares = refl
-  into_same free d place (flat.variable x) spares = rw (location_same x spares) refl
-  into_same free d place (flat.prefix operator width e) spares =
-      rw (at_home_same e spares, operand_same free place e spares, into_same free (own place) place e spares) refl
-  into_same free d place (flat.rotate width e amount) spares =
-      rw (at_home_same e spares, operand_same free place e spares, into_same free (own place) place e spares) refl
-  into_same free d place (flat.convert kind e) spares =
-      simp (at_home_same, operand_same, into_same free (own place) place e spares, into_same free d place e spares)
-  into_same free d place (flat.element source x size index) spares =
+  pub into_same : (d place : ℕ) (e : TermTree) → Spares (λ y. names_in y e)
+      → into_code (term_layout fewer) d place e ≡ into_code (term_layout layout) d place e
+  into_same d place (flat.number value kind) spares = refl
+  into_same d place (flat.truth value) spares = refl
+  into_same d place (flat.variable x) spares = rw (location_same x spares) refl
+  into_same d place (flat.prefix operator width e) spares =
+      rw (at_home_same e spares, operand_same place e spares, into_same (own place) place e spares) refl
+  into_same d place (flat.rotate width e amount) spares =
+      rw (at_home_same e spares, operand_same place e spares, into_same (own place) place e spares) refl
+  into_same d place (flat.convert kind e) spares =
+      simp (at_home_same, operand_same, into_same (own place) place e spares, into_same d place e spares)
+  into_same d place (flat.element source x size index) spares =
       let one = λ (y : ℕ) (out : left_out y ≡ true). (or_parts _ _ (spares y out)).1 in
-      rw (at_home_same index one, operand_same free place index one, into_same free (own place) place index one) refl
-  into_same free d place (flat.binary source operator width left right) spares =
+      rw (at_home_same index one, operand_same place index one, into_same (own place) place index one) refl
+  into_same d place (flat.binary source operator width left right) spares =
       let parts = λ (y : ℕ) (out : left_out y ≡ true). or_parts _ _ (spares y out) in
       let one : Spares (λ y. names_in y left) = λ y out. (parts y out).0 in
       let two : Spares (λ y. names_in y right) = λ y out. (parts y out).1 in
       simp (
         at_home_same,
         operand_same,
-        into_same free (own place) place left one,
-        into_same free (own place) place right two,
-        into_same free (own (place + 1)) (place + 1) right two,
+        into_same (own place) place left one,
+        into_same (own place) place right two,
+        into_same (own (place + 1)) (place + 1) right two,
       )
-  into_same free d place (flat.select condition accepted otherwise) spares =
+  into_same d place (flat.select condition accepted otherwise) spares =
       let parts = λ (y : ℕ) (out : left_out y ≡ true). neither_of_three _ _ _ (spares y out) in
       let one : Spares (λ y. names_in y condition) = λ y out. (parts y out).0 in
       let two : Spares (λ y. names_in y accepted) = λ y out. (parts y out).1 in
@@ -178,15 +179,15 @@ module _ (layout : Frame) (left_out : ℕ → Bool)
       simp (
         at_home_same,
         operand_same,
-        into_same free (own place) place condition one,
-        into_same free (own (place + 1)) (place + 1) accepted two,
-        into_same free (own (place + 2)) (place + 2) otherwise three,
+        into_same (own place) place condition one,
+        into_same (own (place + 1)) (place + 1) accepted two,
+        into_same (own (place + 2)) (place + 2) otherwise three,
       )
 
   read_same : (r place : ℕ) (e : TermTree) → Spares (λ y. names_in y e)
       → read_code fewer r place e ≡ read_code layout r place e
   read_same r place e spares =
-      ap₂ unless_home (term_home_same e spares) (into_same (temporaries_offset layout) r place e spares)
+      ap₂ unless_home (term_home_same e spares) (into_same r place e spares)
 
   register_same : (r : ℕ) (e : TermTree) → Spares (λ y. names_in y e) → read_register b r e ≡ read_register a r e
   register_same r e spares = rw (term_home_same e spares) refl
@@ -197,7 +198,7 @@ module _ (layout : Frame) (left_out : ℕ → Bool)
 
   set_same : (within : Option ℕ) (l : Location) (e : TermTree) → Spares (λ y. names_in y e)
       → set_code fewer within l e ≡ set_code layout within l e
-  set_same None (InRegister home) e spares = into_same (temporaries_offset layout) home 0 e spares
+  set_same None (InRegister home) e spares = into_same home 0 e spares
   set_same None (InSlot o) e spares = assign_same e o spares
   set_same (Some c) l e spares =
       rw (control_same c, read_same 5 0 e spares, register_same 5 e spares) refl
@@ -279,7 +280,7 @@ module _ (layout : Frame) (left_out : ℕ → Bool)
       → loop_from fewer next counter low high body home bound
       ≡ loop_from layout next counter low high body home bound
   loop_same next counter low high body (Some home) (Some bound) one two =
-      rw (into_same (temporaries_offset layout) home 0 low one, read_same 5 0 low one, register_same 5 low one) refl
+      rw (into_same home 0 low one, read_same 5 0 low one, register_same 5 low one) refl
   loop_same next counter low high body None bound one two =
       rw (assign_same low next one, assign_same high (next + 4) two) refl
   loop_same next counter low high body (Some home) None one two =

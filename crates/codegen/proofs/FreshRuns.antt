@@ -179,7 +179,7 @@ module _ (z : Setting) where
         same_homes y false q = as_before out x y q
     fresh_runs few (Some home) at =
         let is = z.allocated.allowed x home at in
-        let same = into_same (layout_of z) out variables base home 0 value unread in
+        let same = into_same (layout_of z) out variables home 0 value unread in
         as_code
         (ap (λ h. set_code (layout_of z) None (at_home h (InSlot (variable_offset z.declared x))) value) at
         ∙ sym same)

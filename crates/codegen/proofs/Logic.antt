@@ -13,7 +13,7 @@ pub use Rattle.codegen.proofs.expression_code_lemmas.Events.{by_bounds, by_index
 pub use Rattle.codegen.proofs.expression_code_lemmas.ExpressionRuns.{into_runs}
 pub use Rattle.codegen.proofs.expression_code_lemmas.Frame.{After, base_of, Before, by_option, frame_runs, frame_there}
 pub use Rattle.codegen.proofs.expression_code_lemmas.Frame.{Held, held_regs, HeldAt, layout_of, Runs, seen_by}
-pub use Rattle.codegen.proofs.expression_code_lemmas.Frame.{Setting, setting, Steps}
+pub use Rattle.codegen.proofs.expression_code_lemmas.Frame.{Setting, setting, Steps, terms_at}
 pub use Rattle.codegen.proofs.expression_code_lemmas.Homes.{home_there}
 pub use Rattle.codegen.proofs.expression_code_lemmas.Moves.{computing_within, does, is_free, loading, move_runs}
 pub use Rattle.codegen.proofs.expression_code_lemmas.Moves.{moves_run, none_low, put, register-at, storing, take}

@@ -12,6 +12,7 @@ use Rattle.codegen.proofs.Language.{StraightState, with_variable, with_element, 
 use Rattle.codegen.proofs.Language.{word_as, TermTree, term_nodes, Boolean, WordType, value_in, types_of, IsHeld, Fits}
 use Rattle.codegen.proofs.Language.{Kind, bits_of, Values, TermHasType, TermSuits, Profile}
 use Rattle.codegen.proofs.Logic.{length-set, get_or-set_same, get_or-set_other, set-get_or, All-set, none-some}
+use Rattle.codegen.proofs.Logic.{terms_at}
 use Rattle.codegen.proofs.Logic.{layout_of}
 use Rattle.codegen.proofs.Logic.{same_Some, eqb-true, controls_kept, number_at_apart, number_at-with_number, HeldAt}
 use Rattle.codegen.proofs.Logic.{mask_of, bytes_by, bytes_of, place_of, place_within, ends_before_result, apart_from}
@@ -297,7 +298,7 @@ module _ (z : Setting) where
   pub homed_runs : {e : TermTree} {word : WordType} (home : ℕ) → IsHome z.allocation.count home
       → TermHasType (types_of z.code.profile z.declared) e word
       → base_of z + 4 * slots_to z.allocation.count (height_of e) ≤ z.size
-      → Runs z (16 * term_nodes e) (steps_of e) (into_code z.declared z.allocation (base_of z) home 0 e) (Ready z)
+      → Runs z (16 * term_nodes e) (steps_of e) (into_code (terms_at z (base_of z)) home 0 e) (Ready z)
       (ValuedIn z e (base_of z) home 0)
   homed_runs home is has room =
       cheaper (omega arith)

@@ -28,7 +28,8 @@ pub stored_alike : {A : Type 0} (f : TermTree → A) → ((kind : Kind) (e : Ter
 stored_alike f same a element e =
     stored_by (λ other. f other ≡ f e) (λ kind other is. sym (same kind other) ∙ is) a element e refl
 
-pub stored_height : (a : Allocation) (element : Kind) (e : TermTree) → height_of (stored_value a element e) ≡ height_of e
+pub stored_height : (a : Allocation) (element : Kind) (e : TermTree)
+    → height_of (stored_value a element e) ≡ height_of e
 stored_height a element e = stored_alike height_of (λ kind operand. refl) a element e
 
 pub stored_path : (a : Allocation) (element : Kind) (e : TermTree) (m : Values)
@@ -36,7 +37,8 @@ pub stored_path : (a : Allocation) (element : Kind) (e : TermTree) (m : Values)
 stored_path a element e m = stored_alike (path_in m) (λ kind operand. refl) a element e
 
 -- and there are no more nodes
-pub stored_nodes : (a : Allocation) (element : Kind) (e : TermTree) → term_nodes (stored_value a element e) ≤ term_nodes e
+pub stored_nodes : (a : Allocation) (element : Kind) (e : TermTree)
+    → term_nodes (stored_value a element e) ≤ term_nodes e
 stored_nodes a element e =
     stored_by (λ other. term_nodes other ≤ term_nodes e) (λ kind other few. omega (arith, few)) a element e
     (omega arith)
@@ -62,7 +64,8 @@ cut_alike element kind is v = absurd (false≢true is)
 
 uncut_cut : {types : Types} {e : TermTree} {word : WordType} (element : Kind) → TermHasType types e word
     → IsCutTo types element e (uncut element e)
-uncut_cut {types = types} element (of_conversion {kind = kind} {other = other} {operand = e} {label = label} has number) =
+uncut_cut {types = types} element
+    (of_conversion {kind = kind} {other = other} {operand = e} {label = label} has number) =
     cond_both (cuts element kind) e (convert kind e) (IsCutTo types element (convert kind e))
     (λ is. record {
       word = labelled other label;

@@ -2,22 +2,20 @@
 use Rattle.std.proofs.Common.{ℕ, ◌+◌, ◌*◌, ◌≤◌, length, Option, None, Some, arith, length-append}
 use Rattle.codegen.proofs.Language.{TermTree, term_nodes}
 use Rattle.codegen.proofs.Logic.{into_length, move_length, one_of, store_length}
-use Rattle.codegen.proofs.Machine.{InRegister, InSlot, into_code, Location, Frame, temporaries_offset}
+use Rattle.codegen.proofs.Machine.{InRegister, InSlot, into_code, Location, Frame}
 use Rattle.codegen.specs.private.Words.{assign_code, home_of_term, put_word_code, read_code, stored_code}
 use Rattle.codegen.specs.private.Words.{stored_register, gives_zero, unless_home}
+use Rattle.codegen.specs.expression_code.Layout.{term_layout}
 
 pub value_length : (layout : Frame) (d place : ℕ) (e : TermTree)
-    → length (into_code layout.declared layout.allocation (temporaries_offset layout) d place e) ≤ 16 * term_nodes e
-value_length layout d place e =
-    omega (arith, into_length layout.declared layout.allocation (temporaries_offset layout) d place e)
+    → length (into_code (term_layout layout) d place e) ≤ 16 * term_nodes e
+value_length layout d place e = omega (arith, into_length (term_layout layout) d place e)
 
 pub read_length : (layout : Frame) (register place : ℕ) (e : TermTree)
     → length (read_code layout register place e) ≤ 16 * term_nodes e
 read_length layout register place e = by_home (home_of_term layout.allocation e)
   where
-    by_home : (h : Option ℕ)
-        → length (unless_home h
-        (into_code layout.declared layout.allocation (temporaries_offset layout) register place e))
+    by_home : (h : Option ℕ) → length (unless_home h (into_code (term_layout layout) register place e))
         ≤ 16 * term_nodes e
     by_home None = value_length layout register place e
     by_home (Some home) = omega arith

@@ -16,7 +16,7 @@ use Rattle.codegen.proofs.expression_code_lemmas.Below.{TermTree, types_of, valu
 use Rattle.codegen.proofs.expression_code_lemmas.Below.{variable_offset, weaken, Width, width_of, only_computes}
 use Rattle.codegen.proofs.expression_code_lemmas.Below.{registers_after, word_as, word_of, WordType, working_register}
 use Rattle.codegen.proofs.expression_code_lemmas.Events.{by_index}
-use Rattle.codegen.proofs.expression_code_lemmas.Frame.{Setting, Steps, base_of, by_option, Runs, HeldAt}
+use Rattle.codegen.proofs.expression_code_lemmas.Frame.{Setting, Steps, base_of, by_option, Runs, HeldAt, terms_at}
 use Rattle.codegen.proofs.expression_code_lemmas.WorkRegisters.{place_works, IsFree, ArePair, IsTarget, free_from}
 use Rattle.codegen.proofs.expression_code_lemmas.WorkRegisters.{working_free, operand_apart, operand_not, own_target}
 use Rattle.codegen.proofs.expression_code_lemmas.WorkRegisters.{works_at, low_at, target_works, spare_works}
@@ -54,10 +54,10 @@ module _ (z : Setting) (free : ℕ) (aligned : free % 4 ≡ 0) (above : base_of 
 
   -- the code of an expression at a place, and what fetches it into a spare register
   abbrev placed_at : ℕ → TermTree → List Instr
-  placed_at place e = expr_code z.declared z.allocation free place e
+  placed_at place e = expr_code (terms_at z free) place e
 
   abbrev fetched : ℕ → TermTree → ℕ → List Instr
-  fetched place e spare = fetch_code (operand z.allocation free place e) spare
+  fetched place e spare = fetch_code (operand (terms_at z free) place e) spare
 
   -- what is known of the values that are there
   fits : {e : TermTree} {word : WordType} → Typed slots e word → (env : StraightState) (s : State) → Ready z env s
@@ -192,7 +192,7 @@ module _ (z : Setting) (free : ℕ) (aligned : free % 4 ≡ 0) (above : base_of 
         → Typed slots left one → Typed slots right other → Makes profile (operation_of operator) one other made'
         → HasSlot slots (place + 1) → Lies slots left place → Lies slots right place → Lies slots right (place + 1)
         → Comes (binary source operator width left right) (16 * (1 + term_nodes left + term_nodes right) - 3)
-        (into_code z.declared z.allocation free d place (binary source operator width left right))
+        (into_code (terms_at z free) d place (binary source operator width left right))
     operated_runs source operator width {left = left} {right = right} has more makes room first alone second =
         let e = operands left right right in
         by_option (right_row z.allocation operator right)
@@ -252,7 +252,7 @@ module _ (z : Setting) (free : ℕ) (aligned : free % 4 ≡ 0) (above : base_of 
         → Lies slots condition place → Lies slots accepted (place + 1) → Lies slots otherwise (place + 2)
         → Comes (select condition accepted otherwise)
         (16 * (1 + term_nodes condition + term_nodes accepted + term_nodes otherwise) - 3)
-        (into_code z.declared z.allocation free d place (select condition accepted otherwise))
+        (into_code (terms_at z free) d place (select condition accepted otherwise))
     chosen_runs {condition = condition} {accepted = accepted} {otherwise = otherwise} has chooses more room first
         second third =
         let e = operands condition accepted otherwise in
@@ -308,7 +308,7 @@ module _ (z : Setting) (free : ℕ) (aligned : free % 4 ≡ 0) (above : base_of 
   lies : {e : TermTree} {word : WordType} → Typed slots e word → (place : ℕ)
       → free + 4 * slots_to count (height_of e + place) ≤ z.size
       → ((d : ℕ) → IsTarget count place d → free + 4 * slots_to count (height_of e + place) ≤ z.size
-      → Runs z (16 * term_nodes e - 3) (steps_of e) (into_code z.declared z.allocation free d place e) (Ready z)
+      → Runs z (16 * term_nodes e - 3) (steps_of e) (into_code (terms_at z free) d place e) (Ready z)
       (ValuedIn z e free d place))
       → Lies slots e place
   lies has place room into = placed slots has place room (into _ (own_target count place few) room)
@@ -316,7 +316,7 @@ module _ (z : Setting) (free : ℕ) (aligned : free % 4 ≡ 0) (above : base_of 
   -- Each well-typed expression, into any register that its value may come into.
   pub into_runs : {e : TermTree} {word : WordType} → TermHasType (types_of z.code.profile z.declared) e word
       → (place d : ℕ) → IsTarget count place d → free + 4 * slots_to count (height_of e + place) ≤ z.size
-      → Runs z (16 * term_nodes e - 3) (steps_of e) (into_code z.declared z.allocation free d place e) (Ready z)
+      → Runs z (16 * term_nodes e - 3) (steps_of e) (into_code (terms_at z free) d place e) (Ready z)
       (ValuedIn z e free d place)
   into_runs (of_number {value = value} {kind = kind} below) place d target room =
       constant place d target value (λ m. refl) (kind_fits kind value below)
@@ -397,6 +397,6 @@ module _ (z : Setting) (free : ℕ) (aligned : free % 4 ≡ 0) (above : base_of 
   pub expr_runs : {e : TermTree} {word : WordType} → TermHasType (types_of z.code.profile z.declared) e word →
       (place : ℕ)
       → free + 4 * slots_to count (height_of e + place) ≤ z.size
-      → Runs z (16 * term_nodes e) (steps_of e) (expr_code z.declared z.allocation free place e) (Ready z)
+      → Runs z (16 * term_nodes e) (steps_of e) (expr_code (terms_at z free) place e) (Ready z)
       (Valued z e free place)
   expr_runs has place room = lies has place room (into_runs has place)

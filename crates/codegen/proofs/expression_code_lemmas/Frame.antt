@@ -8,7 +8,7 @@ use Rattle.codegen.proofs.expression_code_lemmas.Below.{Mark, number_at, number_
 use Rattle.codegen.proofs.expression_code_lemmas.Below.{seen-append, Size, State, StraightState, temporaries_offset}
 use Rattle.codegen.proofs.expression_code_lemmas.Below.{with_number, with_number_above, with_number_below}
 use Rattle.codegen.specs.Below.{seen as seen_of}
-use Rattle.codegen.specs.expression_code.Layout.{Frame}
+use Rattle.codegen.specs.expression_code.Layout.{Frame, TermLayout}
 use Rattle.codegen.proofs.program_logic_lemmas.Face as logic
 use Rattle.rv_machine.specs.declared.observation.Event.TheVariants as event
 
@@ -36,6 +36,10 @@ pub record Setting : Type 0 where
 -- how the frame is laid out
 abbrev pub layout_of : Setting → Frame
 layout_of z = record { declared = z.declared; controls = z.controls; depths = z.depths; allocation = z.allocation }
+
+-- what the code of expressions goes by, where the slots of temporaries begin at this offset
+abbrev pub terms_at : Setting → ℕ → TermLayout
+terms_at z free = record { declared = z.declared; allocation = z.allocation; free = free }
 
 -- where the temporaries begin
 abbrev pub base_of : Setting → ℕ

@@ -7,7 +7,7 @@ use Rattle.codegen.proofs.expression_code_lemmas.Below.{TermHasType, height_of, 
 use Rattle.codegen.proofs.expression_code_lemmas.Below.{operand, path_in, quiet, register_of, seq, slot_of, slots_to}
 use Rattle.codegen.proofs.expression_code_lemmas.Below.{State, StraightState, term_nodes, TermTree, types_of, value_in}
 use Rattle.codegen.proofs.expression_code_lemmas.Below.{WordType, working_register}
-use Rattle.codegen.proofs.expression_code_lemmas.Frame.{Setting, base_of, Steps, Before, Runs, HeldAt}
+use Rattle.codegen.proofs.expression_code_lemmas.Frame.{Setting, base_of, Steps, Before, Runs, HeldAt, terms_at}
 use Rattle.codegen.proofs.expression_code_lemmas.WorkRegisters.{IsFree, IsOperand, operand_apart, operand_free}
 use Rattle.codegen.proofs.expression_code_lemmas.WorkRegisters.{operand_not, cases_Option, is_operand, works_in}
 use Rattle.codegen.proofs.expression_code_lemmas.WorkRegisters.{works_at, higher_stays, beside_stays, own_stays}
@@ -66,10 +66,10 @@ module _ (slots : Slots) where
 
   -- the register of an operand
   abbrev pub found : ℕ → TermTree → ℕ → ℕ
-  found place e spare = register_of (operand z.allocation free place e) spare
+  found place e spare = register_of (operand (terms_at z free) place e) spare
 
   pub found_is : (place : ℕ) (e : TermTree) (spare : ℕ) → IsOperand count place spare (found place e spare)
-  found_is place e spare = is_operand z.declared z.allocation z.allocated free place spare e
+  found_is place e spare = is_operand (terms_at z free) z.allocated place spare e
 
   -- that of the operand of a number is a free one, and not the one that another place works in
   pub found_free : (place j : ℕ) (e : TermTree) → j < 3 → IsFree (found (place_by place j) e (29 + j))
@@ -86,7 +86,7 @@ module _ (slots : Slots) where
 
   -- the code of an expression brings its value to where it is found
   abbrev pub Lies : TermTree → ℕ → Type 0
-  Lies e place = Runs z (16 * term_nodes e) (steps_of e) (expr_code z.declared z.allocation free place e) (Ready z)
+  Lies e place = Runs z (16 * term_nodes e) (steps_of e) (expr_code (terms_at z free) place e) (Ready z)
       (Valued z e free place)
 
   -- what is shown stays shown where temporaries change
@@ -101,7 +101,7 @@ module _ (slots : Slots) where
   module _ (place : ℕ) (e : ℕ → TermTree) where
     -- where an operand is
     abbrev pub location : ℕ → Location
-    location j = operand z.allocation free (place_by place j) (e j)
+    location j = operand (terms_at z free) (place_by place j) (e j)
 
     -- of n operands the first k are in their registers, and the others where they are found
     pub record OperandsFetched (k n : ℕ) (env : StraightState) (s t : State) : Type 0 where
@@ -197,7 +197,7 @@ module _ (slots : Slots) where
   -- A value in the register of a place is kept there, where the expression is not at home.
 
   abbrev own_code : ℕ → TermTree → List Instr
-  own_code place e = into_code z.declared z.allocation free (working_register count place 29) place e
+  own_code place e = into_code (terms_at z free) (working_register count place 29) place e
 
   -- so each expression is where it is found, if its code brings its value into the register of a place
   pub placed : {e : TermTree} {word : WordType} → Typed e word → (place : ℕ)
@@ -212,7 +212,7 @@ module _ (slots : Slots) where
             rw found.1 (along (λ env. home_is.quiet env.variables)
             (cheaper {m = 0} (omega arith)
             (idle (λ env s ready.
-            let there : Holds z (operand z.allocation free place e) s (value_in env.variables e) =
+            let there : Holds z (operand (terms_at z free) place e) s (value_in env.variables e) =
             rw found.1 (home_is.there env s ready) in
             assumption))))
         | inr at ↦
@@ -223,7 +223,7 @@ module _ (slots : Slots) where
             let u = done.middle in
             let one = done.first in
             let two = done.second in
-            let there : Holds z (operand z.allocation free place e) t (value_in env.variables e) = rw at two.1 in
+            let there : Holds z (operand (terms_at z free) place e) t (value_in env.variables e) = rw at two.1 in
             assumption (
               kept_then z k s u t one.kept two.2,
               leaves_then (works_in count place) s u t (λ q h. one.lower q (own_stays count place q few h))

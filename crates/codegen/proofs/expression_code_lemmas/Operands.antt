@@ -14,7 +14,7 @@ use Rattle.codegen.specs.Below.{byte_count, Divide, Divu, Makes, Mul, Multiply, 
 use Rattle.codegen.specs.Below.{store_size, StoreOperation, Sw}
 use Rattle.rv_code.specs.declared.instructions.Instr.TheVariants as instr
 use Rattle.codegen.proofs.expression_code_lemmas.Events.{Moves, multiplying, dividing}
-use Rattle.codegen.proofs.expression_code_lemmas.Frame.{Setting, Steps, Before, Runs, HeldAt, held_regs}
+use Rattle.codegen.proofs.expression_code_lemmas.Frame.{Setting, Steps, Before, Runs, HeldAt, held_regs, terms_at}
 use Rattle.codegen.proofs.expression_code_lemmas.WorkRegisters.{IsFree, ArePair, at_operand, not_written}
 use Rattle.codegen.proofs.expression_code_lemmas.Moves.{take, put, Moved, move_runs, is_written, is_left}
 use Rattle.codegen.proofs.expression_code_lemmas.Moves.{computing_within}
@@ -78,9 +78,9 @@ module _ (z : Setting) (free : ℕ) (aligned : free % 4 ≡ 0) (place : ℕ)
   abbrev count : ℕ
   count = z.allocation.count
 
-  pub operand_room : (e : TermTree) → HasRoom z (operand z.allocation free place e)
+  pub operand_room : (e : TermTree) → HasRoom z (operand (terms_at z free) place e)
   operand_room =
-      at_operand z.declared z.allocation z.allocated free place (HasRoom z)
+      at_operand (terms_at z free) z.allocated place (HasRoom z)
       (cond_both (nat_lt place count) (InRegister (5 + place)) (InSlot (slot_of count free place)) (HasRoom z) (λ h. tt)
       (λ h. (omega arith, omega (arith, room, ltb-false _ _ h))))
       (λ home is. tt)

@@ -19,10 +19,10 @@ setting_of e site fit = record {
   frame = site.frame;
   size = site.size;
   counts = [];
-  declared = site.declared;
+  declared = site.layout.declared;
   controls = 0;
   depths = 0;
-  allocation = site.allocation;
+  allocation = site.layout.allocation;
   allocated = fit.allocated;
   even = fit.even;
   ends = fit.ends;
@@ -40,24 +40,24 @@ module _ (e : TermTree) (site : Site) (fit : IsSiteOf e site) where
 
   -- and that it is the same where lower places are kept
   stays : (place top : ℕ) (s t : State) → place < top
-      → Kept (setting_of e site fit) (slot_of site.allocation.count site.free top) s t
-      → Leaves (works_in site.allocation.count top) s t
+      → Kept (setting_of e site fit) (slot_of site.layout.allocation.count site.layout.free top) s t
+      → Leaves (works_in site.layout.allocation.count top) s t
       → temporary_in site t place ≡ temporary_in site s place
   stays place top s t less kept lower =
-      cond_both (nat_lt place site.allocation.count) (InRegister (5 + place))
-      (InSlot (slot_of site.allocation.count site.free place)) (λ l. word_in site t l ≡ word_in site s l)
+      cond_both (nat_lt place site.layout.allocation.count) (InRegister (5 + place))
+      (InSlot (slot_of site.layout.allocation.count site.layout.free place)) (λ l. word_in site t l ≡ word_in site s l)
       (λ h. ap Some
-      (lower (5 + place) (lower_stays site.allocation.count top place less (ltb-true place site.allocation.count h)
-      fit.allocated.few)))
-      (λ h. kept_number (setting_of e site fit) (slot_of site.allocation.count site.free top) s t kept 4
-      (slot_of site.allocation.count site.free place)
-      (omega (arith, less, ltb-false place site.allocation.count h)))
+      (lower (5 + place) (lower_stays site.layout.allocation.count top place less
+      (ltb-true place site.layout.allocation.count h) fit.allocated.few)))
+      (λ h. kept_number (setting_of e site fit) (slot_of site.layout.allocation.count site.layout.free top) s t kept 4
+      (slot_of site.layout.allocation.count site.layout.free place)
+      (omega (arith, less, ltb-false place site.layout.allocation.count h)))
 
 pub expressions_are_computed : (e : TermTree) (word : WordType) (site : Site)
-    → TermHasType (types_of site.code.profile site.declared) e word → IsSiteOf e site → IsComputed e site
+    → TermHasType (types_of site.code.profile site.layout.declared) e word → IsSiteOf e site → IsComputed e site
 expressions_are_computed e word site has fit =
     let z = setting_of e site fit in
-    let piece = (expr_runs z site.free fit.aligned (omega arith) has site.place fit.room).placed_at
+    let piece = (expr_runs z site.layout.free fit.aligned (omega arith) has site.place fit.room).placed_at
     site.start fit.placed in
     record {
       shown = λ path. (piece.leak path).0;
@@ -79,7 +79,7 @@ expressions_are_computed e word site has fit =
             few = run.within;
             inside = rw same at run.inside;
             behind = run.at;
-            value = read e site fit (operand site.allocation site.free site.place e) (value_in m e) run.end
+            value = read e site fit (operand site.layout site.place e) (value_in m e) run.end
                 run.done.there;
             homes = λ x home is. homes_left z site.place s run.end run.done.lower home
                 (fit.allocated.allowed x home is);

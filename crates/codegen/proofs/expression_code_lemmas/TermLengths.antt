@@ -3,7 +3,7 @@
 use Rattle.std.proofs.Common.{◌≡◌, ℕ, ◌+◌, ◌*◌, ◌%◌, ◌<◌, ◌≤◌, ◌==◌, Bool, true, false, cond, nat_lt, List, length}
 use Rattle.std.proofs.Common.{Option, None, Some, ◌-◌, arith, length-append}
 use Rattle.std.proofs.lemmas.Option.{slice_get_within}
-use Rattle.codegen.proofs.expression_code_lemmas.Below.{expr_code, address_code, Allocation, around_code, binary}
+use Rattle.codegen.proofs.expression_code_lemmas.Below.{expr_code, address_code, around_code, binary}
 use Rattle.codegen.proofs.expression_code_lemmas.Below.{BinaryOperator, bits, code_by, chooses_zero, constant_code}
 use Rattle.codegen.proofs.expression_code_lemmas.Below.{convert, convert_code, copy_code, element, fetch_code, Finish}
 use Rattle.codegen.proofs.expression_code_lemmas.Below.{finish_code, FlatVariable, TermHasType, height_of, InRegister}
@@ -21,6 +21,7 @@ use Rattle.codegen.proofs.expression_code_lemmas.Below.{working_register}
 use Rattle.codegen.specs.Below.{Boolean, LogicalAnd, LogicalOr, Multiply, W8}
 use Rattle.codegen.specs.declared.expression_code.numbers.Finish.TheVariants.{Narrowed}
 use Rattle.codegen.specs.declared.expression_code.numbers.NumberStep.TheVariants.{KeepsLow}
+use Rattle.codegen.specs.expression_code.Layout.{TermLayout}
 use Rattle.language.specs.declared.operators.PrefixOperator.TheVariants as prefixes
 
 -- Variables.
@@ -143,19 +144,24 @@ address_length d r kind o =
     simp length-append (omega (arith, scale_length d r kind, raise))
 
 -- at most 16 instructions a node, three fewer where none keep the value in its place
-module _ (declared : List FlatVariable) (a : Allocation) (free : ℕ) where
+module _ (layout : TermLayout) where
   abbrev own : ℕ → ℕ
-  own place = working_register a.count place 29
+  own place = working_register layout.allocation.count place 29
 
   placed_length : (place : ℕ) (e : TermTree)
-      → length (into_code declared a free (own place) place e) ≤ 16 * term_nodes e - 3
-      → length (expr_code declared a free place e) ≤ 16 * term_nodes e
+      → length (into_code layout (own place) place e) ≤ 16 * term_nodes e - 3
+      → length (expr_code layout place e) ≤ 16 * term_nodes e
   placed_length place e few =
-      one_of (is_at_home a e) _ _ _ (omega arith)
-      (simp length-append (omega (arith, few, height e, keep_length (temporary a.count free place))))
+      one_of (is_at_home layout.allocation e) _ _ _ (omega arith)
+      (simp length-append (omega (
+        arith,
+        few,
+        height e,
+        keep_length (temporary layout.allocation.count layout.free place),
+      )))
 
-  into_short : (d place : ℕ) (e : TermTree) → length (into_code declared a free d place e) ≤ 16 * term_nodes e - 3
-  into_short d place (variable x) = omega (arith, copy_length d (variable_location declared a x))
+  into_short : (d place : ℕ) (e : TermTree) → length (into_code layout d place e) ≤ 16 * term_nodes e - 3
+  into_short d place (variable x) = omega (arith, copy_length d (variable_location layout.declared layout.allocation x))
   into_short d place (prefix operator width e) =
       let placed = placed_length place e (into_short (own place) place e) in
       omega (arith, length-append {A = Instr}, placed, fetch_length, prefix_length)
@@ -163,13 +169,13 @@ module _ (declared : List FlatVariable) (a : Allocation) (free : ℕ) where
       let left = placed_length place one (into_short (own place) place one) in
       let right = placed_length place other (into_short (own place) place other) in
       let next = placed_length (place + 1) other (into_short (own (place + 1)) (place + 1) other) in
-      code_length (right_row a operator other) _ _ _
+      code_length (right_row layout.allocation operator other) _ _ _
       (λ row.
-      let made = number_length d (register_of (operand a free place one) 29) width row in
+      let made = number_length d (register_of (operand layout place one) 29) width row in
       omega (arith, length-append {A = Instr}, left, fetch_length, made))
-      (code_length (left_row a operator one) _ _ _
+      (code_length (left_row layout.allocation operator one) _ _ _
       (λ row.
-      let made = number_length d (register_of (operand a free place other) 29) width row in
+      let made = number_length d (register_of (operand layout place other) 29) width row in
       omega (arith, length-append {A = Instr}, right, fetch_length, made))
       (omega (arith, length-append {A = Instr}, left, next, fetch_length, operator_length)))
   into_short d place (rotate width e amount) =
@@ -177,21 +183,21 @@ module _ (declared : List FlatVariable) (a : Allocation) (free : ℕ) where
       omega (arith, length-append {A = Instr}, placed, fetch_length, rotate_length)
   into_short d place (convert kind e) =
       let placed = placed_length place e (into_short (own place) place e) in
-      one_of (keeps_words a kind) _ _ _ (omega (arith, into_short d place e))
+      one_of (keeps_words layout.allocation kind) _ _ _ (omega (arith, into_short d place e))
       (omega (arith, length-append {A = Instr}, placed, fetch_length, convert_length))
   into_short d place (select condition accepted otherwise) =
       let first = placed_length place condition (into_short (own place) place condition) in
       let second = placed_length (place + 1) accepted (into_short (own (place + 1)) (place + 1) accepted) in
       let third = placed_length (place + 2) otherwise (into_short (own (place + 2)) (place + 2) otherwise) in
-      one_of (chooses_zero a otherwise) _ _ _
+      one_of (chooses_zero layout.allocation otherwise) _ _ _
       (omega (arith, length-append {A = Instr}, first, second, fetch_length))
       (omega (arith, length-append {A = Instr}, first, second, third, fetch_length))
   into_short d place (element source x size index) =
       let placed = placed_length place index (into_short (own place) place index) in
-      code_length (near_element declared a x index) _ _ _ (λ o. omega arith)
+      code_length (near_element layout.declared layout.allocation x index) _ _ _ (λ o. omega arith)
       (omega (arith, length-append {A = Instr}, placed, fetch_length, address_length))
   into_short d place e = omega (arith, constant_length)
 
   pub into_length : (d place : ℕ) (e : TermTree)
-      → length (into_code declared a free d place e) + 3 ≤ 16 * term_nodes e
+      → length (into_code layout d place e) + 3 ≤ 16 * term_nodes e
   into_length d place e = omega (arith, into_short d place e, height e)

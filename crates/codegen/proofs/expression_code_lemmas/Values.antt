@@ -10,7 +10,7 @@ use Rattle.codegen.proofs.expression_code_lemmas.Below.{TermTree, types_of, valu
 use Rattle.codegen.proofs.expression_code_lemmas.Below.{with_number_below, WordType}
 use Rattle.std.proofs.lemmas.Bool.{cond_both}
 use Rattle.codegen.specs.Below.{Uint32}
-use Rattle.codegen.proofs.expression_code_lemmas.Frame.{Setting, base_of, HeldAt, Held, layout_of}
+use Rattle.codegen.proofs.expression_code_lemmas.Frame.{Setting, base_of, HeldAt, Held, layout_of, terms_at}
 use Rattle.codegen.proofs.expression_code_lemmas.Arithmetic.{mask_of}
 use Rattle.codegen.proofs.expression_code_lemmas.WorkRegisters.{IsHome, works_in, works_at, home_stays, lower_stays}
 use Rattle.codegen.proofs.expression_code_lemmas.WorkRegisters.{stays_spare, at_operand, cases_Option}
@@ -50,7 +50,7 @@ HomesKept z s t = (r : ℕ) → IsHome z.allocation.count r → t.regs r ≡ s.r
 -- the temporaries from a place on are written, and where the expression is, its value is found
 pub record Valued (z : Setting) (e : TermTree) (free place : ℕ) (env : StraightState) (s t : State) : Type 0 where
   pub held : Held z env t
-  pub there : Holds z (operand z.allocation free place e) t (value_in env.variables e)
+  pub there : Holds z (operand (terms_at z free) place e) t (value_in env.variables e)
   pub kept : Kept z (slot_of z.allocation.count free place) s t
   pub lower : Leaves (works_in z.allocation.count place) s t
 
@@ -223,22 +223,22 @@ module _ (z : Setting) (free less place v : ℕ) (s t : State) where
   operand_stays : (less < count → t.regs (5 + less) ≡ s.regs (5 + less))
       → (count ≤ less → number_at t.bytes 4 (z.frame + slot_of count free less)
       ≡ number_at s.bytes 4 (z.frame + slot_of count free less))
-      → HomesKept z s t → (e : TermTree) → Stays (operand z.allocation free less e)
+      → HomesKept z s t → (e : TermTree) → Stays (operand (terms_at z free) less e)
   operand_stays register slot homes =
-      at_operand z.declared z.allocation z.allocated free less Stays
+      at_operand (terms_at z free) z.allocated less Stays
       (cond_both (nat_lt less count) (InRegister (5 + less)) (InSlot (slot_of count free less)) Stays
       (λ h there. register (ltb-true less count h) ∙ there) (λ h there. slot (ltb-false less count h) ∙ there))
       (λ home is there. homes home is ∙ there)
 
   pub holds_lower : less < place → Kept z (slot_of count free place) s t → Leaves (works_in count place) s t
-      → (e : TermTree) → Stays (operand z.allocation free less e)
+      → (e : TermTree) → Stays (operand (terms_at z free) less e)
   holds_lower below kept lower =
       operand_stays (λ small. lower (5 + less) (lower_stays count place less below small z.allocated.few))
       (λ high. kept_number z (slot_of count free place) s t kept 4 (slot_of count free less) (omega arith))
       (homes_left z place s t lower)
 
   pub holds_still : (spare : ℕ) → 27 < spare → ((q : ℕ) → q ≢ spare → t.regs q ≡ s.regs q) → t.bytes ≡ s.bytes
-      → (e : TermTree) → Stays (operand z.allocation free less e)
+      → (e : TermTree) → Stays (operand (terms_at z free) less e)
   holds_still spare low others same =
       operand_stays (λ small. others (5 + less) (omega arith))
       (λ high. ap (λ (b : ByteMap). number_at b 4 (z.frame + slot_of count free less)) same)

@@ -8,6 +8,7 @@ use Rattle.codegen.proofs.expression_code_lemmas.Below.{Allocation, convert, Fla
 use Rattle.codegen.proofs.expression_code_lemmas.Below.{keeps_words, IsAllocation, Location, lt-ltb, nat_tests, operand}
 use Rattle.codegen.proofs.expression_code_lemmas.Below.{register_of, temporary, TermTree, true≢false, variable}
 use Rattle.codegen.proofs.expression_code_lemmas.Below.{working_register}
+use Rattle.codegen.specs.expression_code.Layout.{TermLayout}
 
 -- a register that code may work on
 pub record IsFree (r : ℕ) : Type 0 where
@@ -156,17 +157,22 @@ home_allowed declared a allocated (convert kind e) home at =
 home_allowed declared a allocated e home at = absurd (none-some home at)
 
 -- Where an expression's value is.
-module _ (declared : List FlatVariable) (a : Allocation) (allocated : IsAllocation declared a) (free place : ℕ) where
+module _ (layout : TermLayout) (allocated : IsAllocation layout.declared layout.allocation) (place : ℕ) where
   -- what is so of the temporary of a place and of each home is so of where any expression is
-  pub at_operand : (P : Location → Type 0) → P (temporary a.count free place)
-      → ((home : ℕ) → IsHome a.count home → P (InRegister home)) → (e : TermTree) → P (operand a free place e)
+  pub at_operand : (P : Location → Type 0) → P (temporary layout.allocation.count layout.free place)
+      → ((home : ℕ) → IsHome layout.allocation.count home → P (InRegister home))
+      → (e : TermTree) → P (operand layout place e)
   at_operand P there at_home e =
-      elim (cases_Option (home_of_term a e)) [
-        | inl found ↦ rw found.1 (at_home found.0 (home_allowed declared a allocated e found.0 found.1))
+      elim (cases_Option (home_of_term layout.allocation e)) [
+        | inl found ↦
+            rw found.1 (at_home found.0
+            (home_allowed layout.declared layout.allocation allocated e found.0 found.1))
         | inr at ↦ rw at there
       ]
 
   pub is_operand : (spare : ℕ) (e : TermTree)
-      → IsOperand a.count place spare (register_of (operand a free place e) spare)
-  is_operand spare e = at_operand (λ location. IsOperand a.count place spare (register_of location spare))
-      (inl (elim (cases_Bool (nat_lt place a.count)) [ inl h ↦ rw h refl | inr h ↦ rw h refl ])) (λ home is. inr is) e
+      → IsOperand layout.allocation.count place spare (register_of (operand layout place e) spare)
+  is_operand spare e =
+      at_operand (λ location. IsOperand layout.allocation.count place spare (register_of location spare))
+      (inl (elim (cases_Bool (nat_lt place layout.allocation.count)) [ inl h ↦ rw h refl | inr h ↦ rw h refl ]))
+      (λ home is. inr is) e

@@ -10,6 +10,7 @@ use Rattle.codegen.specs.Below.{Addi, Andi, array_as, BitAnd, LogicalAnd, LessOr
 use Rattle.codegen.specs.Below.{ShiftLeft, Slli, Sltiu, Srli, Subtract, Uint32, Uint8, Unequal, W32}
 use Rattle.language.specs.declared.signature.Label.TheVariants.{Public}
 use Rattle.language.specs.declared.operators.BinaryOperator.TheVariants.{Add}
+use Rattle.codegen.specs.expression_code.Layout.{TermLayout}
 use Rattle.rv_code.specs.declared.instructions.Instr.TheVariants as instr
 use Rattle.rv_code.specs.declared.operations.RegisterOperation.TheVariants as register
 
@@ -36,8 +37,11 @@ a = variable 0
 abbrev b : TermTree
 b = variable 1
 
+abbrev layout : Allocation → TermLayout
+layout allocation = record { declared = declared; allocation = allocation; free = 100 }
+
 abbrev code : Allocation → TermTree → List Instr
-code allocation e = expr_code declared allocation 100 0 e
+code allocation e = expr_code (layout allocation) 0 e
 
 module _ (place : Place) where
   abbrev sum : TermTree
@@ -53,14 +57,14 @@ module _ (place : Place) where
   sum_plain = refl
 
   -- into the home of one of both
-  sum_into_home : into_code declared both_home 100 13 0 sum ≡ instr.Register register.Add 13 13 14 ∷ []
+  sum_into_home : into_code (layout both_home) 13 0 sum ≡ instr.Register register.Add 13 13 14 ∷ []
   sum_into_home = refl
 
   -- a variable at home is no code, and into another register it is a move
   variable_at_home : code both_home a ≡ []
   variable_at_home = refl
 
-  variable_moved : into_code declared both_home 100 5 0 a ≡ instr.Immediate Addi 5 13 0 ∷ []
+  variable_moved : into_code (layout both_home) 5 0 a ≡ instr.Immediate Addi 5 13 0 ∷ []
   variable_moved = refl
 
   -- what is overwritten are temporaries

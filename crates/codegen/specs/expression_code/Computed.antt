@@ -3,9 +3,9 @@
 -- lower places stay, and what is shown is decided by what the code's observer sees of the path.
 use Rattle.std.specs.Prelude.{◌≡◌, ℕ, ◌+◌, ◌*◌, ◌%◌, ◌^◌, ◌<◌, ◌≤◌, true, List, [], length, Option, None, Some, All}
 use Rattle.std.specs.Prelude.{is_some, slice_get, slice_index}
-use Rattle.codegen.specs.expression_code.Allocation.{Allocation, IsAllocation, home_of, temporary, slots_to}
+use Rattle.codegen.specs.expression_code.Allocation.{IsAllocation, home_of, temporary, slots_to}
 use Rattle.codegen.specs.expression_code.Inside.{IsInside}
-use Rattle.codegen.specs.expression_code.Layout.{bytes_of, place_of, result_offset}
+use Rattle.codegen.specs.expression_code.Layout.{TermLayout, bytes_of, place_of, result_offset}
 use Rattle.codegen.specs.expression_code.Registers.{frame_register}
 use Rattle.codegen.specs.expression_code.TermCode.{expr_code, operand}
 use Rattle.codegen.specs.Below.{AreFine, MachineCode, Fits, FlatVariable, height_of, Instr, Leads, number_at}
@@ -15,31 +15,29 @@ use Rattle.codegen.specs.declared.expression_code.locations.Location.{Location}
 use Rattle.codegen.specs.declared.expression_code.locations.Location.TheVariants.{InRegister, InSlot}
 pub use Rattle.codegen.specs.program_logic.Placed.{Placed}
 
--- where code begins, where the frame lies and how many bytes it has, the variables in it and how registers are given
--- out, where the slots of temporaries begin, and the place that the value comes into
+-- where code begins, where the frame lies and how many bytes it has, what is laid out in it, and the place that the
+-- value comes into
 pub record Site : Type 0 where
   pub code : MachineCode
   pub start : ℕ
   pub frame : ℕ
   pub size : ℕ
-  pub declared : List FlatVariable
-  pub allocation : Allocation
-  pub free : ℕ
+  pub layout : TermLayout
   pub place : ℕ
 
 abbrev pub code_of : Site → TermTree → List Instr
-code_of site e = expr_code site.declared site.allocation site.free site.place e
+code_of site e = expr_code site.layout site.place e
 
 -- the expression's code stands there, and the slots of its temporaries lie in the frame, behind the variables and the
 -- result
 pub record IsSiteOf (e : TermTree) (site : Site) : Type 0 where
   pub placed : Placed site.code site.start (code_of site e)
-  pub allocated : IsAllocation site.declared site.allocation
+  pub allocated : IsAllocation site.layout.declared site.layout.allocation
   pub even : site.frame % 4 ≡ 0
   pub ends : site.frame + site.size < 2 ^ 32
-  pub aligned : site.free % 4 ≡ 0
-  pub above : result_offset site.declared + 4 ≤ site.free
-  pub room : site.free + 4 * slots_to site.allocation.count (height_of e + site.place) ≤ site.size
+  pub aligned : site.layout.free % 4 ≡ 0
+  pub above : result_offset site.layout.declared + 4 ≤ site.layout.free
+  pub room : site.layout.free + 4 * slots_to site.layout.allocation.count (height_of e + site.place) ≤ site.size
 
 -- the word at a location
 abbrev pub word_in : Site → State → Location → Option ℕ
@@ -48,19 +46,19 @@ word_in site s (InSlot offset) = number_at s.bytes 4 (site.frame + offset)
 
 -- the temporary of a place
 abbrev pub temporary_in : Site → State → ℕ → Option ℕ
-temporary_in site s place = word_in site s (temporary site.allocation.count site.free place)
+temporary_in site s place = word_in site s (temporary site.layout.allocation.count site.layout.free place)
 
 -- x2 has the frame's base, the frame's bytes are data, and the variables have these values, which are within their
 -- kinds, in their homes or in the frame
 pub record Has (site : Site) (m : Values) (s : State) : Type 0 where
   pub base : s.regs frame_register ≡ site.frame
   pub data_there : (o : ℕ) → o < site.size → is_some (s.bytes (site.frame + o)) ≡ true
-  pub fits : Fits (types_of site.code.profile site.declared) m
-  pub homes_there : (x home : ℕ) (d : FlatVariable) → slice_get site.declared x ≡ Some d
-      → home_of site.allocation.homes x ≡ Some home → s.regs home ≡ slice_index (m x) 0
-  pub variables_there : (x : ℕ) (d : FlatVariable) (i : ℕ) → slice_get site.declared x ≡ Some d
-      → home_of site.allocation.homes x ≡ None → i < numbers_in d.elements
-      → number_at s.bytes (bytes_of d) (site.frame + place_of site.declared x d i) ≡ Some (slice_index (m x) i)
+  pub fits : Fits (types_of site.code.profile site.layout.declared) m
+  pub homes_there : (x home : ℕ) (d : FlatVariable) → slice_get site.layout.declared x ≡ Some d
+      → home_of site.layout.allocation.homes x ≡ Some home → s.regs home ≡ slice_index (m x) 0
+  pub variables_there : (x : ℕ) (d : FlatVariable) (i : ℕ) → slice_get site.layout.declared x ≡ Some d
+      → home_of site.layout.allocation.homes x ≡ None → i < numbers_in d.elements
+      → number_at s.bytes (bytes_of d) (site.frame + place_of site.layout.declared x d i) ≡ Some (slice_index (m x) i)
 
 -- a run from a state to behind the code, which shows this list
 pub record RunsThrough (e : TermTree) (site : Site) (m : Values) (s : State) (list : List Observation) : Type 0 where
@@ -70,11 +68,11 @@ pub record RunsThrough (e : TermTree) (site : Site) (m : Values) (s : State) (li
   pub few : step_count ≤ 16 * term_nodes e
   pub inside : All (λ (o : Observation). IsInside site.frame site.size o.event) list
   pub behind : end.pc ≡ site.start + 4 * length (code_of site e)
-  pub value : word_in site end (operand site.allocation site.free site.place e) ≡ Some (value_in m e)
-  pub homes : (x home : ℕ) → home_of site.allocation.homes x ≡ Some home → end.regs home ≡ s.regs home
+  pub value : word_in site end (operand site.layout site.place e) ≡ Some (value_in m e)
+  pub homes : (x home : ℕ) → home_of site.layout.allocation.homes x ≡ Some home → end.regs home ≡ s.regs home
   pub lower : (place : ℕ) → place < site.place → temporary_in site end place ≡ temporary_in site s place
   pub base : end.regs frame_register ≡ site.frame
-  pub kept : (o : ℕ) → o < site.free → end.bytes (site.frame + o) ≡ s.bytes (site.frame + o)
+  pub kept : (o : ℕ) → o < site.layout.free → end.bytes (site.frame + o) ≡ s.bytes (site.frame + o)
 
 -- one list for what is seen of each path, whatever the values
 pub record IsComputed (e : TermTree) (site : Site) : Type 0 where

@@ -16,6 +16,13 @@ pub record Frame : Type 0 where
   pub depths : ℕ
   pub allocation : Allocation
 
+-- the part of a layout that the code of expressions goes by: the variables, how registers are given out, and where the
+-- slots of temporaries begin
+pub record TermLayout : Type 0 where
+  pub declared : List FlatVariable
+  pub allocation : Allocation
+  pub free : ℕ
+
 -- a variable, behind all of lower numbers
 abbrev pub variable_offset : List FlatVariable → ℕ → ℕ
 variable_offset declared x = 4 * declared_words (take x declared)
@@ -61,6 +68,14 @@ next_offset layout depth = result_offset layout.declared + 4 + 4 * layout.contro
 -- behind all control values and loops, where the slots of temporaries begin
 abbrev pub temporaries_offset : Frame → ℕ
 temporaries_offset layout = result_offset layout.declared + 4 + 4 * layout.controls + 8 * layout.depths
+
+-- the part of a layout that the code of expressions goes by
+abbrev pub term_layout : Frame → TermLayout
+term_layout layout = record {
+  declared = layout.declared;
+  allocation = layout.allocation;
+  free = temporaries_offset layout;
+}
 
 -- the parameters with their slots, the first at `low`
 abbrev pub slots_from : ℕ → List Param → List Slot

@@ -1,7 +1,7 @@
 -- The instructions that are emitted for slots, numbers, operators and expressions.
 use Rattle.std.specs.Prelude.{ℕ, zero, suc, ◌+◌, ◌-◌, ◌*◌, ◌/◌, ◌%◌, ◌^◌, ◌==◌, ◌<◌, ◌&&◌, Bool, true, false, List, []}
 use Rattle.std.specs.Prelude.{◌∷◌, ◌++◌, nat_lt, Option, None, Some, is_some, if◌then◌else◌}
-use Rattle.codegen.specs.expression_code.Layout.{variable_offset, variable_location}
+use Rattle.codegen.specs.expression_code.Layout.{TermLayout, variable_offset, variable_location}
 use Rattle.codegen.specs.expression_code.Allocation.{register_of, Allocation, home_of, temporary, working_register}
 use Rattle.codegen.specs.expression_code.Allocation.{at_home}
 use Rattle.codegen.specs.expression_code.NumberRows.{number_of, right_row, left_row, chooses_zero}
@@ -304,30 +304,32 @@ abbrev pub is_at_home : Allocation → TermTree → Bool
 is_at_home allocation e = is_some (home_of_term allocation e)
 
 -- where its value is behind its code: in that home, and else in its place
-abbrev pub operand : Allocation → ℕ → ℕ → TermTree → Location
-operand allocation free place e = at_home (home_of_term allocation e) (temporary allocation.count free place)
+abbrev pub operand : TermLayout → ℕ → TermTree → Location
+operand layout place e =
+    at_home (home_of_term layout.allocation e) (temporary layout.allocation.count layout.free place)
 
--- Over these variables, with registers given out so, and the slots of temporaries from an offset on.
-module _ (declared : List FlatVariable) (allocation : Allocation) (free : ℕ) where
+-- In a layout of expressions.
+module _ (layout : TermLayout) where
   -- the registers that the value of a place is computed in, and that of the next one
   abbrev pub own_register : ℕ → ℕ
-  own_register place = working_register allocation.count place first_spare
+  own_register place = working_register layout.allocation.count place first_spare
 
   abbrev pub next_register : ℕ → ℕ
-  next_register place = working_register allocation.count (place + 1) second_spare
+  next_register place = working_register layout.allocation.count (place + 1) second_spare
 
   -- the register that an operand is in, or a spare one
   abbrev pub operand_register : ℕ → TermTree → ℕ → ℕ
-  operand_register place e spare = register_of (operand allocation free place e) spare
+  operand_register place e spare = register_of (operand layout place e) spare
 
   -- an operand into a spare register, where it lies in a slot
   abbrev pub fetch_operand : ℕ → TermTree → ℕ → List Instr
-  fetch_operand place e spare = fetch_code (operand allocation free place e) spare
+  fetch_operand place e spare = fetch_code (operand layout place e) spare
 
   -- code that brings an expression into the register of a place, with which it comes there, unless it is at home
   abbrev pub placed_code : ℕ → TermTree → List Instr → List Instr
   placed_code place e into =
-      if is_at_home allocation e then [] else into ++ keep_code (temporary allocation.count free place)
+      if is_at_home layout.allocation e then []
+      else into ++ keep_code (temporary layout.allocation.count layout.free place)
 
   -- An expression into a register, with its operands in the places from this one on. None is fetched before the code
   -- of all of them is through. Where the instruction holds an operand that is a number, the other one is the only
@@ -335,16 +337,16 @@ module _ (declared : List FlatVariable) (allocation : Allocation) (free : ℕ) w
   abbrev pub into_code : ℕ → ℕ → TermTree → List Instr
   into_code d place (number value kind) = constant_code d value
   into_code d place (truth value) = constant_code d (word_of value)
-  into_code d place (variable x) = copy_code d (variable_location declared allocation x)
+  into_code d place (variable x) = copy_code d (variable_location layout.declared layout.allocation x)
   into_code d place (prefix operator width e) =
       placed_code place e (into_code (own_register place) place e) ++ fetch_operand place e first_spare
       ++ prefix_code d (operand_register place e first_spare) operator width
   into_code d place (binary source operator width left right) =
-      code_by (right_row allocation operator right)
+      code_by (right_row layout.allocation operator right)
       (λ row.
       placed_code place left (into_code (own_register place) place left) ++ fetch_operand place left first_spare
       ++ number_code d (operand_register place left first_spare) width row)
-      (code_by (left_row allocation operator left)
+      (code_by (left_row layout.allocation operator left)
       (λ row.
       placed_code place right (into_code (own_register place) place right) ++ fetch_operand place right first_spare
       ++ number_code d (operand_register place right first_spare) width row)
@@ -353,16 +355,16 @@ module _ (declared : List FlatVariable) (allocation : Allocation) (free : ℕ) w
       ++ fetch_operand place left first_spare ++ fetch_operand (place + 1) right second_spare
       ++ operator_code d (next_register place)
       (operand_register place left first_spare) (operand_register (place + 1) right second_spare)
-      (emitted_operator allocation operator) width))
+      (emitted_operator layout.allocation operator) width))
   into_code d place (rotate width e amount) =
       placed_code place e (into_code (own_register place) place e) ++ fetch_operand place e first_spare
       ++ rotate_code d (operand_register place e first_spare) width amount
   into_code d place (convert kind e) =
-      if keeps_words allocation kind then into_code d place e else
+      if keeps_words layout.allocation kind then into_code d place e else
       placed_code place e (into_code (own_register place) place e) ++ fetch_operand place e first_spare
       ++ convert_code d (operand_register place e first_spare) (width_of kind)
   into_code d place (select condition accepted otherwise) =
-      if chooses_zero allocation otherwise
+      if chooses_zero layout.allocation otherwise
       then placed_code place condition (into_code (own_register place) place condition)
       ++ placed_code (place + 1) accepted (into_code (own_register (place + 1)) (place + 1) accepted)
       ++ fetch_operand place condition first_spare ++ fetch_operand (place + 1) accepted second_spare
@@ -377,9 +379,10 @@ module _ (declared : List FlatVariable) (allocation : Allocation) (free : ℕ) w
       (operand_register place condition first_spare) (operand_register (place + 1) accepted second_spare)
       (operand_register (place + 2) otherwise third_spare)
   into_code d place (element source x size index) =
-      code_by (near_element declared allocation x index) (near_code d (kind_at declared x))
+      code_by (near_element layout.declared layout.allocation x index) (near_code d (kind_at layout.declared x))
       (placed_code place index (into_code (own_register place) place index) ++ fetch_operand place index first_spare
-      ++ element_code d (operand_register place index first_spare) (kind_at declared x) (variable_offset declared x))
+      ++ element_code d (operand_register place index first_spare) (kind_at layout.declared x)
+      (variable_offset layout.declared x))
 
   -- an expression into a place, unless it is at home
   abbrev pub expr_code : ℕ → TermTree → List Instr

@@ -15,7 +15,7 @@ pub use Rattle.codegen.specs.private.Words.{gives_zero, read_register, stored_co
 pub use Rattle.codegen.specs.private.Words.{unless_home}
 use Rattle.codegen.specs.expression_code.Allocation.{is_unread, register_of}
 use Rattle.codegen.specs.expression_code.Layout.{Frame, variable_offset, variable_location, control_location}
-use Rattle.codegen.specs.expression_code.Layout.{temporaries_offset}
+use Rattle.codegen.specs.expression_code.Layout.{term_layout}
 use Rattle.codegen.specs.expression_code.Registers.{zero_register, frame_register, value_register, second_register}
 use Rattle.codegen.specs.expression_code.Registers.{third_register, address_register, first_spare}
 use Rattle.codegen.specs.expression_code.TermCode.{is_near, upper_part, lower_part, load_code, store_code}
@@ -85,8 +85,7 @@ set_under_code value (InSlot offset) control =
 
 -- the value of an expression into a variable; within a control value where that is true, and else the old one
 abbrev pub set_code : Frame → Option ℕ → Location → TermTree → List Instr
-set_code layout None (InRegister home) e =
-    into_code layout.declared layout.allocation (temporaries_offset layout) home 0 e
+set_code layout None (InRegister home) e = into_code (term_layout layout) home 0 e
 set_code layout None (InSlot offset) e = assign_code layout e offset
 set_code layout (Some control) variable e =
     if gives_zero layout.allocation e then erase_under_code variable (control_location layout control)

@@ -7,7 +7,7 @@ use Rattle.codegen.specs.Below.{Addi, array, branch, first, Immediate, Instr, no
 use Rattle.codegen.specs.Below.{Register, repeats, set, Sltiu, Sltu, StraightBlock, StraightTree, take, TermTree}
 use Rattle.codegen.specs.private.Jumps.{again_code, branch_code, loop_code}
 use Rattle.codegen.specs.private.Words.{assign_code, put_word_code, read_code, read_register}
-use Rattle.codegen.specs.expression_code.Layout.{Frame, next_offset, temporaries_offset, variable_location}
+use Rattle.codegen.specs.expression_code.Layout.{Frame, next_offset, term_layout, variable_location}
 use Rattle.codegen.specs.expression_code.Registers.{value_register, second_register}
 use Rattle.codegen.specs.expression_code.TermCode.{into_code, is_near, load_code, move_code, store_code}
 use Rattle.codegen.specs.declared.expression_code.locations.Location.{Location}
@@ -72,7 +72,7 @@ below_word_code home next =
 abbrev pub to_number_code : Frame → ℕ → TermTree → ℕ → List Instr → List Instr
 to_number_code layout home low bound body =
     if is_below bound low
-    then into_code layout.declared layout.allocation (temporaries_offset layout) home 0 low
+    then into_code (term_layout layout) home 0 low
     ++ iterations_code home (below_number_code value_register home bound) body
     else read_code layout value_register 0 low
     ++ (below_number_code second_register (read_register layout.allocation value_register low) bound
@@ -105,7 +105,7 @@ to_word_code next counter body (Some home) =
     test_code next
     ++ guarded_code value_register home second_register (below_word_code home next) body
 
--- A loop.
+-- Loops.
 
 abbrev pub loop_from : Frame → ℕ → Location → TermTree → TermTree → List Instr → Option ℕ → Option ℕ → List Instr
 loop_from layout next counter low high body (Some home) (Some bound) =
@@ -113,8 +113,8 @@ loop_from layout next counter low high body (Some home) (Some bound) =
 loop_from layout next counter low high body home bound =
     bounds_code layout next low high ++ to_word_code next counter body home
 
--- that so many others are around, of a variable from one expression up to another, with the code of its body, which
--- sets the variable or does not
+-- of a loop that so many others are around: its counter goes from one expression up to another, and its body, of which
+-- this is the code, sets the counter or does not
 abbrev pub repeat_code : Frame → ℕ → ℕ → TermTree → TermTree → Bool → List Instr → List Instr
 repeat_code layout depth x low high is_set body =
     loop_from layout (next_offset layout depth) (variable_location layout.declared layout.allocation x) low high body

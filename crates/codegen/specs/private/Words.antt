@@ -1,7 +1,7 @@
 -- The instructions that are emitted for words: an expression's value is read where it is, and put where it belongs.
 use Rattle.std.specs.Prelude.{ℕ, Bool, List, [], ◌++◌, Option, None, Some, if◌then◌else◌}
 use Rattle.codegen.specs.expression_code.Allocation.{Allocation}
-use Rattle.codegen.specs.expression_code.Layout.{Frame, temporaries_offset}
+use Rattle.codegen.specs.expression_code.Layout.{Frame, term_layout}
 use Rattle.codegen.specs.expression_code.NumberRows.{chooses_zero}
 use Rattle.codegen.specs.expression_code.Registers.{zero_register, value_register}
 pub use Rattle.codegen.specs.expression_code.TermCode.{home_of_term}
@@ -25,8 +25,7 @@ home_or (Some home) register = home
 -- in a layout, an expression, with its temporaries in the places from this one on, into a register
 abbrev pub read_code : Frame → ℕ → ℕ → TermTree → List Instr
 read_code layout register place e =
-    unless_home (home_of_term layout.allocation e)
-    (into_code layout.declared layout.allocation (temporaries_offset layout) register place e)
+    unless_home (home_of_term layout.allocation e) (into_code (term_layout layout) register place e)
 
 -- and the register where it is then
 abbrev pub read_register : Allocation → ℕ → TermTree → ℕ

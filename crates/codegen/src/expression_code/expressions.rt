@@ -1,7 +1,7 @@
 // An expression's code, and how many temporaries it has at once.
 
 ghost use Rattle.std.specs.Prelude.{◌≡◌, ◌++◌, ◌+◌, ◌*◌, ◌≤◌, length, OnOk, IfOk};
-ghost use Rattle.codegen.specs.expression_code.Layout.{temporaries_offset};
+ghost use Rattle.codegen.specs.expression_code.Layout.{temporaries_offset, term_layout};
 ghost use Rattle.codegen.specs.expression_code.Allocation.{register_of, slots_to, working_register};
 ghost use Rattle.codegen.specs.expression_code.Registers.{first_spare, second_spare, third_spare};
 ghost use Rattle.codegen.specs.expression_code.TermCode.{into_code, expr_code, operand, fetch_code};
@@ -54,10 +54,10 @@ fn fetched(
     spare: Reg,
 ) -> Result<Reg, AllocError>
     requires { temporaries_offset layout.now + 4 * slots_to layout.now.allocation.count place ≤ 65536 }
-    ensures code { OnOk result (code.new.items ≡ code.old.items ++ fetch_code
-        (operand layout.now.allocation (temporaries_offset layout.now) place (term_tree term.now)) spare) }
-    ensures register { IfOk result (λ r. r ≡ register_of
-        (operand layout.now.allocation (temporaries_offset layout.now) place (term_tree term.now)) spare) }
+    ensures code { OnOk result (code.new.items ≡ code.old.items
+        ++ fetch_code (operand (term_layout layout.now) place (term_tree term.now)) spare) }
+    ensures register { IfOk result (λ r.
+        r ≡ register_of (operand (term_layout layout.now) place (term_tree term.now)) spare) }
 {
     let operand = layout.operand(place, term);
     fetch(code, &operand, spare)?;
@@ -74,20 +74,18 @@ fn fetched_choice(
     otherwise: &Term,
 ) -> Result<ChoiceOperands, AllocError>
     requires { temporaries_offset layout.now + 4 * slots_to layout.now.allocation.count (place + 2) ≤ 65536 }
-    ensures code { let free = temporaries_offset layout.now in
-        let a = layout.now.allocation in
+    ensures code { let terms = term_layout layout.now in
         OnOk result (code.new.items ≡ code.old.items
-        ++ fetch_code (operand a free place (term_tree condition.now)) first_spare
-        ++ fetch_code (operand a free (place + 1) (term_tree accepted.now)) second_spare
-        ++ fetch_code (operand a free (place + 2) (term_tree otherwise.now)) third_spare) }
-    ensures registers { let free = temporaries_offset layout.now in
-        let a = layout.now.allocation in
+        ++ fetch_code (operand terms place (term_tree condition.now)) first_spare
+        ++ fetch_code (operand terms (place + 1) (term_tree accepted.now)) second_spare
+        ++ fetch_code (operand terms (place + 2) (term_tree otherwise.now)) third_spare) }
+    ensures registers { let terms = term_layout layout.now in
         IfOk result (λ registers. registers ≡ record {
-          mask = working_register a.count place first_spare;
-          scratch = working_register a.count (place + 1) second_spare;
-          condition = register_of (operand a free place (term_tree condition.now)) first_spare;
-          accepted = register_of (operand a free (place + 1) (term_tree accepted.now)) second_spare;
-          otherwise = register_of (operand a free (place + 2) (term_tree otherwise.now)) third_spare;
+          mask = working_register terms.allocation.count place first_spare;
+          scratch = working_register terms.allocation.count (place + 1) second_spare;
+          condition = register_of (operand terms place (term_tree condition.now)) first_spare;
+          accepted = register_of (operand terms (place + 1) (term_tree accepted.now)) second_spare;
+          otherwise = register_of (operand terms (place + 2) (term_tree otherwise.now)) third_spare;
         }) }
 {
     let second = layout.place_behind(place, 1);
@@ -114,17 +112,16 @@ fn fetched_operands(
     right: &Term,
 ) -> Result<OperandRegisters, AllocError>
     requires { temporaries_offset layout.now + 4 * slots_to layout.now.allocation.count (place + 1) ≤ 65536 }
-    ensures code { let free = temporaries_offset layout.now in
-        let a = layout.now.allocation in
-        OnOk result (code.new.items ≡ code.old.items ++ fetch_code (operand a free place (term_tree left.now))
-        first_spare ++ fetch_code (operand a free (place + 1) (term_tree right.now)) second_spare) }
-    ensures registers { let free = temporaries_offset layout.now in
-        let a = layout.now.allocation in
+    ensures code { let terms = term_layout layout.now in
+        OnOk result (code.new.items ≡ code.old.items
+        ++ fetch_code (operand terms place (term_tree left.now)) first_spare
+        ++ fetch_code (operand terms (place + 1) (term_tree right.now)) second_spare) }
+    ensures registers { let terms = term_layout layout.now in
         IfOk result (λ registers. registers ≡ record {
           target = target;
-          scratch = working_register a.count (place + 1) second_spare;
-          left = register_of (operand a free place (term_tree left.now)) first_spare;
-          right = register_of (operand a free (place + 1) (term_tree right.now)) second_spare;
+          scratch = working_register terms.allocation.count (place + 1) second_spare;
+          left = register_of (operand terms place (term_tree left.now)) first_spare;
+          right = register_of (operand terms (place + 1) (term_tree right.now)) second_spare;
         }) }
 {
     let next = layout.place_behind(place, 1);
@@ -150,13 +147,12 @@ fn fetched_or_zero(
     accepted: &Term,
 ) -> Result<(), AllocError>
     requires { temporaries_offset layout.now + 4 * slots_to layout.now.allocation.count (place + 1) ≤ 65536 }
-    ensures { let free = temporaries_offset layout.now in
-        let a = layout.now.allocation in
-        let c = operand a free place (term_tree condition.now) in
-        let l = operand a free (place + 1) (term_tree accepted.now) in
+    ensures { let terms = term_layout layout.now in
+        let c = operand terms place (term_tree condition.now) in
+        let l = operand terms (place + 1) (term_tree accepted.now) in
         OnOk result (code.new.items ≡ code.old.items ++ fetch_code c first_spare ++ fetch_code l second_spare
-        ++ choice_or_zero_code target (working_register a.count place first_spare) (register_of c first_spare)
-        (register_of l second_spare)) }
+        ++ choice_or_zero_code target (working_register terms.allocation.count place first_spare)
+        (register_of c first_spare) (register_of l second_spare)) }
 {
     let second = layout.place_behind(place, 1);
     let condition = fetched(layout, code, place, condition, FIRST_SPARE)?;
@@ -176,12 +172,12 @@ fn evaluated(
     requires among { IsAmong (length layout.now.declared) (term_tree term.now) }
     requires room { temporaries_offset layout.now
         + 4 * slots_to layout.now.allocation.count (height_of (term_tree term.now) + place) ≤ 65536 }
-    ensures code { let free = temporaries_offset layout.now in
-        let a = layout.now.allocation in
-        OnOk result (code.new.items ≡ code.old.items ++ expr_code layout.now.declared a free place (term_tree term.now)
-        ++ fetch_code (operand a free place (term_tree term.now)) first_spare) }
-    ensures register { IfOk result (λ r. r ≡ register_of
-        (operand layout.now.allocation (temporaries_offset layout.now) place (term_tree term.now)) first_spare) }
+    ensures code { let terms = term_layout layout.now in
+        OnOk result (code.new.items ≡ code.old.items
+        ++ expr_code terms place (term_tree term.now)
+        ++ fetch_code (operand terms place (term_tree term.now)) first_spare) }
+    ensures register { IfOk result (λ r.
+        r ≡ register_of (operand (term_layout layout.now) place (term_tree term.now)) first_spare) }
 {
     expression(layout, code, place, term)?;
     fetched(layout, code, place, term, FIRST_SPARE)
@@ -201,8 +197,7 @@ pub fn into(
     requires room { temporaries_offset layout.now
         + 4 * slots_to layout.now.allocation.count (height_of (term_tree term.now) + place) ≤ 65536 }
     ensures { OnOk result (code.new.items ≡ code.old.items
-        ++ into_code layout.now.declared layout.now.allocation (temporaries_offset layout.now) target place
-        (term_tree term.now)) }
+        ++ into_code (term_layout layout.now) target place (term_tree term.now)) }
 {
     match term {
         Term::Number(value, _) => emit::constant(code, target, *value),
@@ -278,8 +273,7 @@ pub fn expression(
     requires room { temporaries_offset layout.now
         + 4 * slots_to layout.now.allocation.count (height_of (term_tree term.now) + place) ≤ 65536 }
     ensures { OnOk result (code.new.items ≡ code.old.items
-        ++ expr_code layout.now.declared layout.now.allocation (temporaries_offset layout.now) place
-        (term_tree term.now)) }
+        ++ expr_code (term_layout layout.now) place (term_tree term.now)) }
 {
     if layout.is_at_home(term) {
         return Ok(());

@@ -8,7 +8,8 @@ ghost use Rattle.codegen.specs.Below.{TermHasType, TermTree, types_of, WordType}
 /// is shown is a list that the part of the path which the code's observer sees decides alone. The homes, the
 /// temporaries of lower places and what lies before all temporaries stay.
 pub fn expressions_are_computed()
-    ensures { (e : TermTree) (word : WordType) (site : Site) → TermHasType
-        (types_of site.code.profile site.declared) e word
-        → IsSiteOf e site → IsComputed e site }
+    ensures { (e : TermTree) (word : WordType) (site : Site)
+        → TermHasType (types_of site.code.profile site.layout.declared) e word
+        → IsSiteOf e site
+        → IsComputed e site }
 {}

@@ -3,7 +3,7 @@
 ghost use Rattle.std.specs.Prelude.{◌≡◌, ◌≤◌, ◌<◌, ◌+◌, ◌*◌, length, map, slice_get, unwrap_or, IfOk};
 ghost use Rattle.codegen.specs.expression_code.Layout.{variable_offset, variable_location, result_offset};
 ghost use Rattle.codegen.specs.expression_code.Layout.{control_offset, control_location, word_offset, next_offset};
-ghost use Rattle.codegen.specs.expression_code.Layout.{temporaries_offset, offsets_from, slots_from};
+ghost use Rattle.codegen.specs.expression_code.Layout.{temporaries_offset, term_layout, offsets_from, slots_from};
 ghost use Rattle.codegen.specs.expression_code.Allocation.{is_unread, slots_to, temporary, working_register};
 ghost use Rattle.codegen.specs.expression_code.Registers.{value_register};
 ghost use Rattle.codegen.specs.expression_code.TermCode.{kind_at, near_offset, near_element, is_word, keeps_words};
@@ -297,7 +297,7 @@ impl<'f> Layout<'f> {
     /// Where the value of an expression is behind its code.
     pub fn operand(&self, place: u32, term: &Term) -> Location
         requires { temporaries_offset self.now + 4 * slots_to self.now.allocation.count place ≤ 65536 }
-        ensures { result ≡ operand self.now.allocation (temporaries_offset self.now) place (term_tree term.now) }
+        ensures { result ≡ operand (term_layout self.now) place (term_tree term.now) }
     {
         self.temporary(place).unless_home(self.home_of_term(term))
     }

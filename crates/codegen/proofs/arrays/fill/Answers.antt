@@ -1,4 +1,4 @@
-use Rattle.std.proofs.Common.{◌≡◌, ◌+◌, ◌∷◌, ◌∙◌, ap, drop, length, List, map, subst, sym}
+use Rattle.std.proofs.Common.{◌≡◌, ◌+◌, ◌∷◌, ◌∙◌, ap, drop, List, map, subst, sym}
 use Rattle.std.proofs.lemmas.List.{drop_more}
 use Rattle.codegen.proofs.Language.{Term, term_tree}
 use Rattle.codegen.proofs.Machine.{ArePlacedTerms}
