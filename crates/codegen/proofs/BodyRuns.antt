@@ -8,18 +8,18 @@ use Rattle.codegen.proofs.Language.{Param, WordType}
 use Rattle.codegen.proofs.Logic.{length-map, All-append, option_map, setting as pieces_of, bytes_of, place_of, Setting}
 use Rattle.codegen.proofs.Logic.{seen_by, RunsAt, Steps, Runs, cheaper, All-one, Placed, Placed-left, Placed-right}
 use Rattle.codegen.proofs.Logic.{Halts-after, ecall_halts}
-use Rattle.codegen.specs.Below.{Event, start as start_of, words_of}
+use Rattle.codegen.proofs.expression_code_lemmas.Frame.{frame_kept}
+use Rattle.codegen.specs.Below.{start as start_of, words_of}
 use Rattle.codegen.proofs.Machine.{body_words, Stand, IsPlaced, IsLoaded, RunsBehind, IsFollowedIn, loaded_at}
 use Rattle.codegen.proofs.Machine.{results_in, code_at, depth_in_all, most_words, program_code, image_of, result_slot}
-use Rattle.codegen.proofs.Machine.{HasRoom, variable_offset, slots_from, Instr, word_of, Observation, number_at, Leads}
-use Rattle.codegen.proofs.Machine.{Halts, MachineCode, IsAt, IsInside, AreBases, Allocation, body_of, IsFitting}
-use Rattle.codegen.proofs.Machine.{IsFollowed, IsGenerated, Ecall, type_in, Slot}
+use Rattle.codegen.proofs.Machine.{HasRoom, variable_offset, slots_from, Instr, word_of, Observation, number_at, Halts}
+use Rattle.codegen.proofs.Machine.{MachineCode, IsAt, IsInside, AreBases, Allocation, body_of, IsFitting, IsFollowed}
+use Rattle.codegen.proofs.Machine.{IsGenerated, Ecall, type_in, Slot}
 use Rattle.codegen.proofs.Arguments.{loaded, arrays_are, returned_is}
 use Rattle.codegen.proofs.SetRuns.{steps_of_result}
 use Rattle.codegen.proofs.Standing.{words_alone, body_words_before, placed_alone, leads_among, stand_placed, placed}
-use Rattle.codegen.proofs.Standing.{within_among as words_within_among}
-use Rattle.codegen.proofs.program_logic_lemmas.StepLaws.{leads_kept, still_there}
-use Rattle.codegen.specs.program_logic.MachineSteps.{LeadsWithin}
+use Rattle.codegen.proofs.program_logic_lemmas.StepLaws.{leads_alone, still_there}
+use Rattle.codegen.specs.program_logic.MachineSteps.{at_most, LeadsBy}
 use Rattle.codegen.proofs.FreshRuns.{ProgramEnded, program_runs}
 use Rattle.codegen.specs.private.Fresh.{starts_fresh}
 use Rattle.std.proofs.lemmas.Bool.{and_parts, ltb-true}
@@ -88,7 +88,7 @@ module _ (a : Allocation) (p : StraightProgram) (room : HasRoom p) (fitting : Is
   standing : Stand code start (map word_of (body_code a p))
   standing = subst (λ (ws : List ℕ). Stand code start ws) (body_words-image a p) there.words
 
-  straight : RunsAt (pieces_of setting) start (60 + 32 * p.work) steps (body_code a p) (Laid setting) Finished
+  straight : RunsAt at_most (pieces_of setting) start (60 + 32 * p.work) steps (body_code a p) (Laid setting) Finished
   straight = body_runs.placed_at start (placed_alone p.profile code start (body_code a p) standing)
 
   begins : (args : List Arg) (s : machine.State) → IsLoaded (image_of a p) frame args s → AreWithin p.parameters args
@@ -125,21 +125,13 @@ module _ (a : Allocation) (p : StraightProgram) (room : HasRoom p) (fitting : Is
       )))
 
   -- among the other words of the code
-  among : {n : ℕ} {s t : machine.State} {seen : List Observation} → Leads setting.code n s seen t
-      → Leads code n s seen t
+  among : {n : ℕ} {s t : machine.State} {seen : List Observation}
+      → LeadsBy setting.code (pieces_of setting).Each n s seen t → LeadsBy code (pieces_of setting).Each n s seen t
   among {n} {s} {t} {seen} leads =
       let same : p.profile ≡ code.profile = sym there.observed in
       leads_among code start (map word_of (body_code a p)) standing
-      (subst (λ (profile : Profile). Leads (words_alone profile start (map word_of (body_code a p))) n s seen t)
-      same leads)
-
-  within_among : {Allowed : ℕ → Option Event → Type 0} {n : ℕ} {s t : machine.State} {seen : List Observation}
-      → LeadsWithin setting.code Allowed n s seen t → LeadsWithin code Allowed n s seen t
-  within_among {Allowed} {n} {s} {t} {seen} leads =
-      let same : p.profile ≡ code.profile = sym there.observed in
-      words_within_among code start (map word_of (body_code a p)) standing
       (subst (λ (profile : Profile).
-      LeadsWithin (words_alone profile start (map word_of (body_code a p))) Allowed n s seen t) same leads)
+      LeadsBy (words_alone profile start (map word_of (body_code a p))) (pieces_of setting).Each n s seen t) same leads)
 
   runs_behind : (args : List Arg) (s : machine.State) → s.pc ≡ start → IsLoaded (image_of a p) frame args s
       → AreWithin p.parameters args → AreFine p.iterations (path_of p args)
@@ -148,6 +140,8 @@ module _ (a : Allocation) (p : StraightProgram) (room : HasRoom p) (fitting : Is
   unfolding steps Finished
   runs_behind args s at laid within fine =
       let done = straight.runs (start_of p args) s [] at fine (begins args s laid within) in
+      let all = among done.leads in
+      let kept = frame_kept setting done.leads in
       let same : (straight.leak (seen_by setting (path_of p args) ++ [])).0 ≡ done.seen =
       ap (λ (r : List Observation × Path). r.0) done.shown in
       subst (λ (seen : List Observation). RunsBehind p (image_of a p) code start frame args s seen) (sym same)
@@ -155,14 +149,14 @@ module _ (a : Allocation) (p : StraightProgram) (room : HasRoom p) (fitting : Is
         run = record {
           step_count = done.step_count;
           end = done.end;
-          leads = among (leads_kept done.leads);
-          at_base = within_among (still_there frame (λ t u kept. kept.regs 2 (omega arith)) laid.base done.leads);
+          leads = leads_alone all;
+          at_base = still_there frame (λ t event u each. each.0.regs 2 (omega arith)) laid.base all;
           within_steps = omega (arith, done.within);
-          within_frame = done.inside;
+          within_frame = kept.1;
           behind = done.at ∙ ap (λ n. start + 4 * n) (sym (body_length a p));
           base = done.done.held.base;
-          untouched = λ r is. done.keeps.regs r (omega (arith, is));
-          beside = done.keeps.beside;
+          untouched = λ r is. kept.0.regs r (omega (arith, is));
+          beside = kept.0.beside;
           frame_there = done.done.held.data_there;
         };
         outcome = outcome args s done.end done.done;

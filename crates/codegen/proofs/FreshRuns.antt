@@ -26,7 +26,7 @@ use Rattle.codegen.proofs.Slots.{homed_runs, Laid, suits_fits}
 use Rattle.codegen.proofs.StatementRuns.{statement_runs}
 use Rattle.codegen.specs.private.Fresh.{homes_but, is_fresh, names, names_in, names_in_result, sets_fresh}
 use Rattle.codegen.specs.expression_code.Allocation.{IsAllocation}
-use Rattle.codegen.proofs.program_logic_lemmas.StepLaws.{LeadsKeeping-weaken}
+use Rattle.codegen.proofs.program_logic_lemmas.StepLaws.{LeadsBy-weaken}
 use Rattle.rv_machine.specs.Machine as machine
 use Rattle.codegen.proofs.HomeWords.{with_homes, control_alike, ready_at_home}
 
@@ -91,11 +91,11 @@ module _ (z : Setting) where
                 step_count = e.step_count;
                 end = e.end;
                 seen = e.seen;
-                leads = LeadsKeeping-weaken (λ t u kept. record { regs = kept.regs; beside = kept.beside }) e.leads;
+                leads =
+                    LeadsBy-weaken
+                    (λ t event u each. (record { regs = each.0.regs; beside = each.0.beside }, each.1)) e.leads;
                 within = e.within;
                 shown = e.shown;
-                inside = e.inside;
-                keeps = record { regs = e.keeps.regs; beside = e.keeps.beside };
                 at = e.at;
                 done = e.done;
               };

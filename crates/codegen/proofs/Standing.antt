@@ -3,11 +3,11 @@ use Rattle.std.proofs.Common.{◌≡◌, ℕ, zero, suc, ◌+◌, ◌-◌, ◌*�
 use Rattle.std.proofs.Common.{nat_le, List, [], ◌∷◌, ◌++◌, length, map, Some, slice_get, refl, sym, ap, ◌∙◌}
 use Rattle.std.proofs.Common.{subst, arith, ◌≤◌, length-append, append_assoc, Option}
 use Rattle.codegen.proofs.Language.{Profile}
-use Rattle.codegen.proofs.Machine.{body_words, Stand, Instr, word_of, Observation, Leads, stays, steps_on, State}
-use Rattle.codegen.proofs.Machine.{MachineCode, goes_on, word_at, Step, executes}
+use Rattle.codegen.proofs.Machine.{body_words, Stand, Instr, word_of, Observation, State, MachineCode}
+use Rattle.codegen.proofs.Machine.{goes_on, word_at, Step, executes}
 use Rattle.codegen.proofs.Logic.{nat_tests, none-some, Placed}
 use Rattle.codegen.proofs.expression_code_lemmas.WorkRegisters.{when_some}
-use Rattle.codegen.specs.program_logic.MachineSteps.{LeadsWithin, stays_within, steps_within}
+use Rattle.codegen.specs.program_logic.MachineSteps.{LeadsBy, stays_by, steps_by}
 use Rattle.codegen.specs.Below.{Event}
 
 -- The words of an image.
@@ -116,12 +116,7 @@ module _ (code : MachineCode) (start : ℕ) (words : List ℕ) (there : Stand co
   step_among {s} (executes i even is ok ends) = executes i even (word_among s.pc (word_of i) is) ok ends
 
   -- what words alone lead to, they lead to among others
-  pub leads_among : {n : ℕ} {s t : State} {seen : List Observation}
-      → Leads (words_alone code.profile start words) n s seen t → Leads code n s seen t
-  leads_among stays = stays
-  leads_among (steps_on step rest) = steps_on (step_among step) (leads_among rest)
-
-  pub within_among : {Allowed : ℕ → Option Event → Type 0} {n : ℕ} {s t : State} {seen : List Observation}
-      → LeadsWithin (words_alone code.profile start words) Allowed n s seen t → LeadsWithin code Allowed n s seen t
-  within_among stays_within = stays_within
-  within_among (steps_within step may rest) = steps_within (step_among step) may (within_among rest)
+  pub leads_among : {Each : State → Option Event → State → Type 0} {n : ℕ} {s t : State} {seen : List Observation}
+      → LeadsBy (words_alone code.profile start words) Each n s seen t → LeadsBy code Each n s seen t
+  leads_among stays_by = stays_by
+  leads_among (steps_by step holds rest) = steps_by (step_among step) holds (leads_among rest)

@@ -9,4 +9,5 @@ pub mod Marks
 pub mod Jumps
 pub mod Tests
 pub mod Loops
+pub mod Counted
 pub mod Face

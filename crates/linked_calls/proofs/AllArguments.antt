@@ -4,6 +4,7 @@ use Rattle.std.specs.Prelude.{is_some}
 use Rattle.std.proofs.Common.{◌≡◌, ℕ, ◌+◌, ◌*◌, ◌≤◌, List, [], ◌∷◌, length, map, Some, inl, inr, refl, true}
 use Rattle.std.proofs.Common.{sym, ap, ◌∙◌, subst, arith}
 use Rattle.std.proofs.lemmas.List.{length-map}
+use Rattle.codegen.proofs.program_logic_lemmas.Counted.{no_code, Runs, Setting, then_runs, weaken_runs}
 use Rattle.linked_calls.proofs.Below.{AreData, Arg, argument_code, argument_offset, argument_steps, arguments_code}
 use Rattle.linked_calls.proofs.Below.{arguments_end, Array, array_bytes, ByteMap, CanBeCopied, CanBePut, MachineCode}
 use Rattle.linked_calls.proofs.Below.{Data, element_bytes, elements_at, Fields, FixedArray, Form, frame_room, HasArray}
@@ -18,14 +19,13 @@ use Rattle.linked_calls.proofs.Bytes.{IsOutside, SameData, number_there, numbers
 use Rattle.linked_calls.proofs.Bytes.{is_some-with_numbers}
 use Rattle.linked_calls.proofs.Copies.{array_runs as copies_run}
 use Rattle.linked_calls.proofs.SectionSteps.{arguments_steps}
-use Rattle.linked_calls.proofs.Pieces.{Runs, CallSetting, no_code, then_runs, weaken_runs}
 use Rattle.linked_calls.proofs.Rooms.{RoomNumbers}
 use Rattle.linked_calls.proofs.SameRegisters.{IsNone, same_beside}
 use Rattle.linked_calls.proofs.Staying.{stay_ready}
 use Rattle.linked_calls.proofs.Words.{word_runs}
 
 -- the setting of a call: its code, and the accesses that it may make
-abbrev pub call_setting : Fields → MachineCode → CallSite → CallSetting
+abbrev pub call_setting : Fields → MachineCode → CallSite → Setting
 call_setting image code site = record { code = code; allowed = IsOfCall image site; silent = λ sp. tt }
 
 -- what the code of arguments and arrays writes
@@ -175,7 +175,7 @@ module _ (image : Fields) (site : CallSite) where
   -- One after another.
 
   module _ (code : MachineCode) (numbers : RoomNumbers image site) where
-    abbrev z : CallSetting
+    abbrev z : Setting
     z = call_setting image code site
 
     room : saved_at image site ≤ arguments_end image site
@@ -214,7 +214,7 @@ module _ (image : Fields) (site : CallSite) where
     array_runs i slot known =
         let at = room_base image site + slot.offset in
         weaken_runs z {P' = ArgumentsBegin (λ bytes. IsReady image site bytes i slot FixedArray)}
-        {R' = TakesArguments (λ s. taken s.bytes i slot FixedArray)} (argument_code image i slot FixedArray)
+        {R' = TakesArguments (λ s. taken s.bytes i slot FixedArray)}
         (copies_run image slot (spot_at i) known.can true z (place_allowed i known.place_inside)
         (λ a size lies. inr (known.reads a size lies))
         (λ a size lies. inl (on_stack at (array_bytes slot) (omega arith)
@@ -233,7 +233,7 @@ module _ (image : Fields) (site : CallSite) where
         let under = room in
         let ends = slot_within slot 4 known.inside in
         weaken_runs z {P' = ArgumentsBegin (λ bytes. IsReady image site bytes i slot SingleWord)}
-        {R' = TakesArguments (λ s. taken s.bytes i slot SingleWord)} (argument_code image i slot SingleWord)
+        {R' = TakesArguments (λ s. taken s.bytes i slot SingleWord)}
         (word_runs z image slot (room_base image site) i known.can (place_allowed i known.place_inside)
         (inl ((omega arith, omega arith), omega arith)))
         (λ s begins. record {
@@ -253,10 +253,8 @@ module _ (image : Fields) (site : CallSite) where
     arguments_runs i (slot ∷ slots) count known =
         let form = slot.param.form in
         let under = room in
-        then_runs z (argument_code image i slot form) (arguments_code image (i + 1) slots)
-        (weaken_runs z {P' = ArgumentsBegin (λ bytes. AreReady image site bytes i (slot ∷ slots))}
-        {R' = TakesArguments (λ s. taken s.bytes i slot form)} (argument_code image i slot form)
-        (argument_runs i slot form known.0)
+        then_runs z (weaken_runs z {P' = ArgumentsBegin (λ bytes. AreReady image site bytes i (slot ∷ slots))}
+        {R' = TakesArguments (λ s. taken s.bytes i slot form)} (argument_runs i slot form known.0)
         (λ s begins. record { stack = begins.stack; there = begins.there; ready = begins.ready.0 })
         (λ s t begins takes. takes))
         (arguments_runs (i + 1) slots (omega arith) known.1)

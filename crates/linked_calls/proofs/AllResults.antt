@@ -3,6 +3,7 @@
 use Rattle.std.specs.Prelude.{is_some}
 use Rattle.std.proofs.Common.{◌≡◌, ℕ, ◌+◌, ◌*◌, ◌<◌, ◌≤◌, List, [], ◌∷◌, ◌++◌, length, inl, inr, refl, sym, ap, ap₂}
 use Rattle.std.proofs.Common.{◌∙◌, subst, arith}
+use Rattle.codegen.proofs.program_logic_lemmas.Counted.{no_code, Runs, Setting, then_runs, weaken_runs}
 use Rattle.linked_calls.proofs.Below.{AreData, arguments_end, array_bytes, array_in, arrays_behind, arrays_in, ByteMap}
 use Rattle.linked_calls.proofs.Below.{MachineCode, copy_out_code, element_bytes, elements_at, Fields, FixedArray, Form}
 use Rattle.linked_calls.proofs.Below.{IsBesides, IsOnStack, MutableArray, results_code, room_base, SingleWord, CallSite}
@@ -14,12 +15,11 @@ use Rattle.linked_calls.proofs.Bytes.{IsOutside, SameData, numbers_count, number
 use Rattle.linked_calls.proofs.Bytes.{numbers_same}
 use Rattle.linked_calls.proofs.Copies.{handed_runs as handed_by}
 use Rattle.linked_calls.proofs.SectionSteps.{output_steps, outputs_steps}
-use Rattle.linked_calls.proofs.Pieces.{Runs, CallSetting, no_code, then_runs, weaken_runs}
 use Rattle.linked_calls.proofs.Rooms.{RoomNumbers}
 use Rattle.linked_calls.proofs.Staying.{stay_ready}
 
 module _ (image : Fields) (code : MachineCode) (site : CallSite) (numbers : RoomNumbers image site) where
-  abbrev z : CallSetting
+  abbrev z : Setting
   z = call_setting image code site
 
   abbrev base : ℕ
@@ -53,9 +53,11 @@ module _ (image : Fields) (code : MachineCode) (site : CallSite) (numbers : Room
       (TakesArguments (λ s. handed s.bytes i slot form))
   output_runs i slot MutableArray known =
       weaken_runs z {P' = ArgumentsBegin image site (λ bytes. IsReady image site bytes i slot MutableArray)}
-      {R' = TakesArguments (λ s. handed s.bytes i slot MutableArray)} (copy_out_code image i slot MutableArray)
-      (handed_by image slot (spot_at image site i) known.known.can z (place_allowed image site code numbers i known.known.place_inside)
-      (λ a size lies. inl (longer a size (on_stack image site code numbers (base + slot.offset) (array_bytes slot) (omega arith)
+      {R' = TakesArguments (λ s. handed s.bytes i slot MutableArray)}
+      (handed_by image slot (spot_at image site i) known.known.can z
+      (place_allowed image site code numbers i known.known.place_inside)
+      (λ a size lies.
+      inl (longer a size (on_stack image site code numbers (base + slot.offset) (array_bytes slot) (omega arith)
       (slot_within image site code numbers slot (array_bytes slot) known.known.inside) a size lies)))
       (λ a size lies. inr (known.writes a size lies)))
       (array_begins image site code numbers i slot known.known)
@@ -149,10 +151,9 @@ module _ (image : Fields) (code : MachineCode) (site : CallSite) (numbers : Room
   handed_runs i [] count known = no_code z (λ s begins. record { bytes = refl; others = λ q none. refl })
   handed_runs i (slot ∷ slots) count known =
       let form = slot.param.form in
-      then_runs z (copy_out_code image i slot form) (results_code image (i + 1) slots)
+      then_runs z
       (weaken_runs z {P' = ArgumentsBegin image site (λ bytes. AreReady image site bytes i (slot ∷ slots))}
-      {R' = TakesArguments (λ s. handed s.bytes i slot form)} (copy_out_code image i slot form)
-      (output_runs i slot form known.0)
+      {R' = TakesArguments (λ s. handed s.bytes i slot form)} (output_runs i slot form known.0)
       (λ s begins. record { stack = begins.stack; there = begins.there; ready = begins.ready.0 })
       (λ s t begins takes. takes))
       (handed_runs (i + 1) slots (omega arith) known.1)
@@ -177,7 +178,7 @@ module _ (image : Fields) (code : MachineCode) (site : CallSite) (numbers : Room
       (ArgumentsBegin image site (λ bytes. AreReady image site bytes 0 image.slots))
       (TakesArguments (λ s. with_arrays site s.bytes 0 image.slots (arrays_in base s.bytes image.slots)))
   results_runs known =
-      weaken_runs z (results_code image 0 image.slots) (handed_runs 0 image.slots (omega arith) known)
+      weaken_runs z (handed_runs 0 image.slots (omega arith) known)
       (λ s begins. begins)
       (λ s t begins takes. record {
         bytes = takes.bytes ∙ all_handed_are s.bytes 0 image.slots known;

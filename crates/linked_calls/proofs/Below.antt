@@ -1,17 +1,16 @@
 -- What these proofs take from the layers below and from the specs, in one place.
 pub use Rattle.codegen.proofs.Numbers.{zero_byte}
-pub use Rattle.codegen.proofs.expression_code_lemmas.Arithmetic.{far_address, lower_fits, near_address, parts}
+pub use Rattle.codegen.proofs.expression_code_lemmas.Arithmetic.{far_address, lower_fits, near_address}
 pub use Rattle.codegen.proofs.expression_code_lemmas.Arithmetic.{upper_fits}
 pub use Rattle.codegen.proofs.expression_code_lemmas.Moves.{register-at, unwritten, written}
 pub use Rattle.codegen.proofs.expression_code_lemmas.OperatorCode.{constant_after, constant_plain}
-pub use Rattle.codegen.proofs.program_logic_lemmas.Computing.{after_append, all_straight, no_access, only_computes}
-pub use Rattle.codegen.proofs.program_logic_lemmas.Computing.{plain_append, registers_after, registers_of}
+pub use Rattle.codegen.proofs.program_logic_lemmas.Computing.{after_append, only_computes}
+pub use Rattle.codegen.proofs.program_logic_lemmas.Computing.{plain_append, registers_after}
 pub use Rattle.codegen.proofs.program_logic_lemmas.Face.{after, after_all, are_straight, AreFit, AreMet, both_left}
-pub use Rattle.codegen.proofs.program_logic_lemmas.Face.{both_right, both_within, first_fit, first_met, found}
-pub use Rattle.codegen.proofs.program_logic_lemmas.Face.{LeadsWithin-append, LeadsWithin-weaken, number_or_zero}
-pub use Rattle.codegen.proofs.program_logic_lemmas.Face.{one_within, Placed, Placed-left, Placed-right}
-pub use Rattle.codegen.proofs.program_logic_lemmas.Face.{register_after, register_kept, rest_fit, rest_met}
-pub use Rattle.codegen.proofs.program_logic_lemmas.Face.{shown_allowed, shown_by, stands, straight_code_leads}
+pub use Rattle.codegen.proofs.program_logic_lemmas.Face.{both_right, both_within, found}
+pub use Rattle.codegen.proofs.program_logic_lemmas.Face.{LeadsBy-append, number_or_zero}
+pub use Rattle.codegen.proofs.program_logic_lemmas.Face.{Placed, Placed-left, Placed-right}
+pub use Rattle.codegen.proofs.program_logic_lemmas.Face.{register_kept}
 pub use Rattle.codegen.proofs.program_logic_lemmas.Face.{with_result}
 pub use Rattle.codegen.specs.Anywhere.{body_words, IsLoaded, Stand}
 pub use Rattle.codegen.specs.Bases.{IsInside}
@@ -22,7 +21,7 @@ pub use Rattle.codegen.specs.declared.image_fields.slot.Slot.{Slot}
 pub use Rattle.codegen.specs.expression_code.TermCode.{constant_code, load_code, lower_part, store_code, upper_part}
 pub use Rattle.codegen.specs.image_fields.Fields.{Fields, IsImage}
 pub use Rattle.codegen.specs.program_logic.StraightCode.{IsFit, IsMet}
-pub use Rattle.codegen.specs.program_logic.MachineSteps.{LeadsWithin, stays_within}
+pub use Rattle.codegen.specs.program_logic.MachineSteps.{LeadsWithin}
 pub use Rattle.hepurita.proofs.DataLemmas.{bytes_within}
 pub use Rattle.hepurita.proofs.ElementLemmas.{is_some-with_numbers, number_there, numbers_at-more}
 pub use Rattle.hepurita.specs.Linked.{IsLinked, RunsLinked}
@@ -70,25 +69,23 @@ pub use Rattle.linked_calls.specs.declared.section.Section.TheVariants.{ClearedR
 pub use Rattle.linked_calls.specs.declared.section.Section.TheVariants.{RestoredRegisters, ResultOut, Return}
 pub use Rattle.linked_calls.specs.declared.section.Section.TheVariants.{WipedRoom}
 pub use Rattle.rv_code.specs.declared.instructions.Instr.{Instr}
-pub use Rattle.rv_code.specs.declared.instructions.Instr.TheVariants.{Branch, JumpRegister, Register}
-pub use Rattle.rv_code.specs.declared.operations.BranchTest.TheVariants.{Bne}
+pub use Rattle.rv_code.specs.declared.instructions.Instr.TheVariants.{JumpRegister, Register}
 pub use Rattle.rv_code.specs.declared.operations.LoadOperation.TheVariants.{Lw}
 pub use Rattle.rv_code.specs.declared.operations.RegisterOperation.{RegisterOperation}
 pub use Rattle.rv_code.specs.declared.operations.RegisterOperation.TheVariants.{Add, Sub}
 pub use Rattle.rv_code.specs.declared.operations.ShiftOperation.TheVariants.{Slli, Srli}
 pub use Rattle.rv_code.specs.declared.operations.StoreOperation.TheVariants.{Sw}
 pub use Rattle.rv_code.specs.declared.operations.UpperOperation.TheVariants.{Lui}
-pub use Rattle.rv_machine.proofs.Face.{branch_leads, branch_passes, is_inside, is_outside, is_some-with_number}
+pub use Rattle.rv_machine.proofs.Face.{is_inside, is_outside, is_some-with_number}
 pub use Rattle.rv_machine.proofs.Face.{jump_done, number_at-with_number, number_at_same, place, step_of}
 pub use Rattle.rv_machine.proofs.Face.{with_number-suc, with_number-zero, with_number_inside, with_number_outside}
 pub use Rattle.rv_machine.specs.Bytes.{ByteMap, number_at, with_byte, zeros}
 unfoldable pub use Rattle.rv_machine.specs.Bytes.{with_number}
-pub use Rattle.rv_machine.specs.Effects.{branch_target, difference_of, holds, register_target, register_value}
+pub use Rattle.rv_machine.specs.Effects.{difference_of, register_target, register_value}
 pub use Rattle.rv_machine.specs.Effects.{shift_value, sign_extended, sum_of}
 pub use Rattle.rv_machine.specs.Machine.{MachineCode, goes_on, IsAt, next, observed, State, Step}
 unfoldable pub use Rattle.rv_machine.specs.Machine.{moved_to, with_link}
 pub use Rattle.rv_machine.specs.Registers.{register, with_register}
-pub use Rattle.rv_machine.specs.Sizes.{byte_count}
 pub use Rattle.rv_machine.specs.declared.memory.Size.{Size}
 pub use Rattle.rv_machine.specs.declared.observation.Event.{Event}
 pub use Rattle.rv_machine.specs.declared.observation.Observation.{Observation}

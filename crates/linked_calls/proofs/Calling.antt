@@ -7,7 +7,7 @@ use Rattle.std.proofs.lemmas.List.{map-append}
 use Rattle.std.proofs.lemmas.List.Sums.{sum_by-append}
 use Rattle.linked_calls.proofs.Below.{AreData, Arg, arguments_end, arguments_of, around_steps, both_within, MachineCode}
 use Rattle.linked_calls.proofs.Below.{enter_sections, Event, Fields, IsCalled, IsInside, IsLeft, IsLinked, IsOfCall}
-use Rattle.linked_calls.proofs.Below.{IsSite, LeadsWithin-append, leave_sections, Observation, ProcedureTree}
+use Rattle.linked_calls.proofs.Below.{IsSite, LeadsBy-append, leave_sections, Observation, ProcedureTree}
 use Rattle.linked_calls.proofs.Below.{ProgramTree, Results, results_in, room_base, RunsLinked, saved_registers}
 use Rattle.linked_calls.proofs.Below.{section_steps, CallSite, State}
 use Rattle.linked_calls.specs.Below.{BodyRun, IsBeside, IsPlaced, Load, Store}
@@ -151,13 +151,14 @@ module _ (program : ProgramTree) (p : ProcedureTree) (image : Fields) (code : Ma
   returns_by s called entered body left =
       let args = arguments_of image site s in
       let run = body.run in
-      let body_within = both_within (inside_is_of_call image code site is) run.at_base run.within_frame in
+      let body_within = both_within (λ t event u. inside_is_of_call image code site is (t.regs 2) event) run.at_base
+      run.within_frame in
       record {
         results = results_in (room_base image site) image run.end.bytes;
         means = body.outcome;
         step_count = enter_steps image + (run.step_count + left.step_count);
         end = left.end;
-        leads = LeadsWithin-append entered.leads (LeadsWithin-append body_within left.leads);
+        leads = LeadsBy-append entered.leads (LeadsBy-append body_within left.leads);
         body_steps = run.step_count;
         within_steps = run.within_steps;
         counted = steps_counted (enter_steps image) run.step_count (leave_steps image)

@@ -1,15 +1,16 @@
 -- The code that clears registers, one after another.
 use Rattle.std.specs.Prelude.{not}
 use Rattle.std.proofs.Common.{ℕ, Bool, [], length, refl, ap}
+use Rattle.codegen.proofs.program_logic_lemmas.Counted.{Runs, Setting, silent_runs}
 use Rattle.linked_calls.proofs.Below.{after_all, AreCleared, clear_registers_code, Data, IsSilent, register_kept}
 use Rattle.linked_calls.proofs.Below.{RegistersAreCleared, scratch_registers}
-use Rattle.linked_calls.proofs.Pieces.{Runs, CallSetting, placed, silent_runs}
 use Rattle.linked_calls.proofs.SameRegisters.{all_same, is_none, is_none_of, same_values}
+use Rattle.linked_calls.proofs.Pieces.{does, placed}
 
 abbrev is_scratch : ℕ → Bool
 is_scratch q = not (is_none scratch_registers q)
 
-pub clear_runs : (z : CallSetting) {P : Data → Type 0} → Runs z (length scratch_registers)
+pub clear_runs : (z : Setting) {P : Data → Type 0} → Runs z (length scratch_registers)
     (clear_registers_code scratch_registers) P (AreCleared scratch_registers)
 clear_runs z =
     let is = clear_registers_code scratch_registers in
@@ -23,5 +24,6 @@ clear_runs z =
 
 pub registers_are_cleared : RegistersAreCleared
 registers_are_cleared code start there =
-    clear_runs (record { code = code; allowed = IsSilent; silent = λ sp. refl }) start
-    (placed code start (clear_registers_code scratch_registers) there)
+    let z : Setting = record { code = code; allowed = IsSilent; silent = λ sp. refl } in
+    let is = clear_registers_code scratch_registers in
+    does z start is (placed code start is there) (clear_runs z)

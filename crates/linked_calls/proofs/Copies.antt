@@ -4,6 +4,8 @@ use Rattle.std.specs.Prelude.{◌⊎◌, is_some, unwrap_or}
 use Rattle.std.proofs.Common.{◌≡◌, ◌≢◌, ℕ, suc, ◌+◌, ◌*◌, ◌%◌, ◌^◌, ◌<◌, ◌≤◌, Bool, true, false, List, [], ◌∷◌, ◌++◌}
 use Rattle.std.proofs.Common.{length, map, Some, inl, inr, refl, sym, ap, ap₂, ◌∙◌, subst, arith, append_assoc}
 use Rattle.std.proofs.lemmas.List.{length-map, map-append, map-id}
+use Rattle.codegen.proofs.program_logic_lemmas.Counted.{as_straight, in_steps, loop, makes_on, makes_then, Runs}
+use Rattle.codegen.proofs.program_logic_lemmas.Counted.{Setting, straight_runs, weaken_runs}
 use Rattle.linked_calls.proofs.Below.{Add, AreApart, AreData, argument_code, argument_offset, array_bytes, array_steps}
 use Rattle.linked_calls.proofs.Below.{ArrayIsHandedBack, ArrayIsTaken, bounds_code, ByteMap, CanBeCopied, MachineCode}
 use Rattle.linked_calls.proofs.Below.{constant_code, copy_out_code, Data, element_bytes, element_steps, Fields}
@@ -17,11 +19,9 @@ use Rattle.linked_calls.proofs.CopyElements.{Reached, chosen, copied_code, copie
 use Rattle.linked_calls.proofs.CopyElements.{copy_length, copy_made, copy_met, copy_plain, copy_works, element_even}
 use Rattle.linked_calls.proofs.CopyElements.{element_size}
 use Rattle.linked_calls.proofs.CopyElements.{element_lies, elements_fit, some_bytes, source, target}
-use Rattle.linked_calls.proofs.Loops.{loop}
 use Rattle.linked_calls.proofs.Parts.{load_runs, number_then, same_number}
-use Rattle.linked_calls.proofs.Pieces.{MayAt, Runs, CallSetting, as_straight, in_steps, makes_on, makes_then, placed}
-use Rattle.linked_calls.proofs.Pieces.{straight_runs, weaken_runs}
 use Rattle.linked_calls.specs.Below.{Word}
+use Rattle.linked_calls.proofs.Pieces.{does, MayAt, placed}
 use Rattle.rv_machine.specs.declared.observation.Event.TheVariants as event
 
 -- What holds of both of two, or of the two in both orders, holds of those that are chosen.
@@ -48,7 +48,7 @@ regrouped : (a b c d e : List Instr) → a ++ (b ++ c) ++ (d ++ e) ≡ a ++ b ++
 regrouped a b c d e = simp append_assoc
 
 module _ (image : Fields) (slot : Slot) (spot : Pointed) (can : CanBeCopied image slot spot) (inward : Bool)
-    (z : CallSetting) (place : z.allowed spot.frame (Some (event.Load (place_of image spot) Word)))
+    (z : Setting) (place : z.allowed spot.frame (Some (event.Load (place_of image spot) Word)))
     (loads : MayAt z spot.frame event.Load (chosen inward spot.pointer (slot_of slot spot))
     (chosen inward spot.pointer (slot_of slot spot) + array_bytes slot))
     (stores : MayAt z spot.frame event.Store (chosen inward (slot_of slot spot) spot.pointer)
@@ -264,11 +264,11 @@ module _ (image : Fields) (slot : Slot) (spot : Pointed) (can : CanBeCopied imag
       let load = load_code 5 offset in
       let first = constant_code 6 slot.offset ++ Register Add 6 6 2 ∷ [] in
       let second = constant_code 7 (array_bytes slot) ++ Register Add 7 7 5 ∷ [] in
-      as_straight z (load ++ first ++ second) (bounds_code image spot.index slot)
+      as_straight z
       (regrouped load (constant_code 6 slot.offset) (Register Add 6 6 2 ∷ []) (constant_code 7 (array_bytes slot))
       (Register Add 7 7 5 ∷ []))
-      (makes_on z {P' = λ s. Unit {0}} {f = located} (load ++ first) second
-      (makes_on z {P' = λ s. Unit {0}} {f = λ s. with_result 5 (raw s) s} load first
+      (makes_on z {P' = λ s. Unit {0}} {f = located}
+      (makes_on z {P' = λ s. Unit {0}} {f = λ s. with_result 5 (raw s) s}
       (load_runs z spot.frame offset (omega arith) can.place_ends
       (λ s has. record { stack = has.stack; there = ap is_some has.argument })
       5 (omega arith) (λ e. omega arith) (λ e. omega arith) place)
@@ -301,9 +301,8 @@ module _ (image : Fields) (slot : Slot) (spot : Pointed) (can : CanBeCopied imag
   pub array_runs : Runs z (length (bounds_code image spot.index slot) + element_steps (copied_code inward kind) k)
       (bounds_code image spot.index slot ++ until_equal 5 7 (copied_code inward kind)) (HasArray image slot spot) Copied
   array_runs =
-      makes_then z {P = HasArray image slot spot} {f = bounded} {S = Copied} (bounds_code image spot.index slot)
-      (until_equal 5 7 (copied_code inward kind)) bounds_runs
-      (in_steps z (until_equal 5 7 (copied_code inward kind)) (omega arith) copy_runs) bounds_begin
+      makes_then z {P = HasArray image slot spot} {f = bounded} {S = Copied} bounds_runs
+      (in_steps z (omega arith) copy_runs) bounds_begin
       (λ s u has copies. record {
         bytes = copies.bytes;
         others = λ q g h l m. copies.others q g h m
@@ -313,7 +312,7 @@ module _ (image : Fields) (slot : Slot) (spot : Pointed) (can : CanBeCopied imag
       })
 
 -- from a slot to where the argument points
-pub handed_runs : (image : Fields) (slot : Slot) (spot : Pointed) → CanBeCopied image slot spot → (z : CallSetting)
+pub handed_runs : (image : Fields) (slot : Slot) (spot : Pointed) → CanBeCopied image slot spot → (z : Setting)
     → z.allowed spot.frame (Some (event.Load (place_of image spot) Word))
     → MayAt z spot.frame event.Load (slot_of slot spot) (slot_of slot spot + array_bytes slot)
     → MayAt z spot.frame event.Store spot.pointer (spot.pointer + array_bytes slot)
@@ -321,7 +320,6 @@ pub handed_runs : (image : Fields) (slot : Slot) (spot : Pointed) → CanBeCopie
     (HasArray image slot spot) (IsHandedBack slot spot)
 handed_runs image slot spot can z place loads stores =
     weaken_runs z {P' = HasArray image slot spot} {R' = IsHandedBack slot spot}
-    (copy_out_code image spot.index slot MutableArray)
     (array_runs image slot spot can false z place loads stores) (λ s has. has)
     (λ s t has copied. record {
       bytes = copied.bytes
@@ -330,7 +328,7 @@ handed_runs image slot spot can z place loads stores =
       others = copied.others;
     })
 
-abbrev copying : MachineCode → Fields → Slot → Pointed → ℕ → ℕ → CallSetting
+abbrev copying : MachineCode → Fields → Slot → Pointed → ℕ → ℕ → Setting
 copying code image slot spot from to = record {
   code = code;
   allowed = IsCopying spot.frame (place_of image spot) (array_bytes slot) from to;
@@ -341,14 +339,15 @@ pub array_is_taken : ArrayIsTaken
 array_is_taken code start image slot spot there can =
     let z = copying code image slot spot spot.pointer (slot_of slot spot) in
     let is = argument_code image spot.index slot FixedArray in
-    weaken_runs z {P' = HasArray image slot spot} {R' = IsArrayTaken slot spot} is
+    does z start is (placed code start is there)
+    (weaken_runs z {P' = HasArray image slot spot} {R' = IsArrayTaken slot spot}
     (array_runs image slot spot can true z (inl refl, refl) (λ a size lies. (inr lies, refl))
     (λ a size lies. (lies, refl))) (λ s has. has)
-    (λ s t has copied. record { bytes = copied.bytes; others = copied.others })
-    start (placed code start is there)
+    (λ s t has copied. record { bytes = copied.bytes; others = copied.others }))
 
 pub array_is_handed_back : ArrayIsHandedBack
 array_is_handed_back code start image slot spot there can =
-    handed_runs image slot spot can (copying code image slot spot (slot_of slot spot) spot.pointer) (inl refl, refl)
-    (λ a size lies. (inr lies, refl)) (λ a size lies. (lies, refl))
-    start (placed code start (copy_out_code image spot.index slot MutableArray) there)
+    let z = copying code image slot spot (slot_of slot spot) spot.pointer in
+    let is = copy_out_code image spot.index slot MutableArray in
+    does z start is (placed code start is there)
+    (handed_runs image slot spot can z (inl refl, refl) (λ a size lies. (inr lies, refl)) (λ a size lies. (lies, refl)))

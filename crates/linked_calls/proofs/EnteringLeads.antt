@@ -3,11 +3,12 @@ use Rattle.std.specs.Prelude.{is_some}
 use Rattle.std.proofs.Common.{◌≡◌, ℕ, ◌+◌, ◌-◌, ◌*◌, ◌^◌, ◌<◌, ◌≤◌, Bool, true, false, nat_lt, if◌then◌else◌, []}
 use Rattle.std.proofs.Common.{◌∷◌, ◌++◌, length, map, Some, inl, inr, ⊎_elim, refl, sym, ap, ◌∙◌, subst, arith}
 use Rattle.std.proofs.lemmas.Bool.{cases_lt, ltb-false, ltb-true}
-use Rattle.linked_calls.proofs.Below.{AreData, argument_offset, argument_registers, arguments_code, arguments_end}
-use Rattle.linked_calls.proofs.Below.{arguments_of, at, ByteMap, MachineCode, Data, enter_code, entry_code, Fields}
-use Rattle.linked_calls.proofs.Below.{found, frame_code, frame_room, frame_steps, HasFrame, IsCalled, IsImage, IsLoaded}
-use Rattle.linked_calls.proofs.Below.{IsOfCall, IsSite, IsZeroFrame, LeadsWithin, number_at, number_at_same, room_base}
-use Rattle.linked_calls.proofs.Below.{saved_registers, CallSite, State, word_in, zeros}
+use Rattle.codegen.proofs.program_logic_lemmas.Counted.{in_steps, makes_then, Runs, Setting, then_runs}
+use Rattle.linked_calls.proofs.Below.{AreData, argument_offset, argument_registers, arguments_end, arguments_of, at}
+use Rattle.linked_calls.proofs.Below.{ByteMap, MachineCode, Data, enter_code, entry_code, Fields, found, frame_code}
+use Rattle.linked_calls.proofs.Below.{frame_room, frame_steps, HasFrame, IsCalled, IsImage, IsLoaded, IsOfCall, IsSite}
+use Rattle.linked_calls.proofs.Below.{IsZeroFrame, LeadsWithin, number_at, number_at_same, room_base, saved_registers}
+use Rattle.linked_calls.proofs.Below.{CallSite, State, word_in, zeros}
 use Rattle.linked_calls.proofs.AllArguments.{AreKnown, ArgumentsBegin, TakesArguments, all_taken, all_taken_data}
 use Rattle.linked_calls.proofs.AllArguments.{all_taken_outside, arguments_runs, call_setting, still_base}
 use Rattle.linked_calls.proofs.AllArguments.{taken_registers}
@@ -21,7 +22,7 @@ use Rattle.linked_calls.proofs.KnownArguments.{all_known}
 use Rattle.linked_calls.proofs.LoadedArguments.{all_taken_is}
 use Rattle.linked_calls.proofs.Parts.{same_number}
 use Rattle.linked_calls.proofs.Passed.{StandAsPassed, all_ready, still_passed}
-use Rattle.linked_calls.proofs.Pieces.{Runs, CallSetting, in_steps, makes_then, then_runs}
+use Rattle.linked_calls.proofs.Pieces.{does}
 use Rattle.linked_calls.proofs.Rooms.{RoomNumbers, place_inside, place_stacked, room_numbers}
 use Rattle.linked_calls.proofs.SameRegisters.{AreSame, same_beside, still_same}
 use Rattle.linked_calls.proofs.SavedRegisters.{stored_are_saved, saved_first, saved_one, saved_same, saved_then}
@@ -30,7 +31,7 @@ use Rattle.linked_calls.proofs.Zeros.{zeroed_runs}
 
 module _ (image : Fields) (code : MachineCode) (site : CallSite) (is : IsImage image) (is_site : IsSite image code site)
     (numbers : RoomNumbers image site) where
-  abbrev z : CallSetting
+  abbrev z : Setting
   z = call_setting image code site
 
   abbrev frame : ℕ
@@ -132,7 +133,7 @@ module _ (image : Fields) (code : MachineCode) (site : CallSite) (is : IsImage i
   }
 
   framed_part : Runs z (21 + frame_steps room) (entry_code ++ frame_code room) Called IsFramed
-  framed_part = makes_then z {f = entered above} entry_code (frame_code room) entry_part frame_part frame_begins framed
+  framed_part = makes_then z {f = entered above} entry_part frame_part frame_begins framed
 
   -- The arguments.
 
@@ -203,8 +204,7 @@ module _ (image : Fields) (code : MachineCode) (site : CallSite) (is : IsImage i
   enter_part : Runs z (21 + frame_steps room + arguments_steps image 0 image.slots) (enter_code image) Called
       (λ d t. IsEntered image site (at_call d) (at (body_at image site) t))
   enter_part =
-      then_runs z {S = λ d t. IsEntered image site (at_call d) (at (body_at image site) t)}
-      (entry_code ++ frame_code room) (arguments_code image 0 image.slots) framed_part
+      then_runs z {S = λ d t. IsEntered image site (at_call d) (at (body_at image site) t)} framed_part
       (arguments_runs image site code numbers 0 image.slots (omega arith) known)
       taking_begins is_entered
 
@@ -216,9 +216,10 @@ at_own site image s called = ap (λ p. at p (record { regs = s.regs; bytes = s.b
 
 pub enters : EnteringLeads
 enters image code site is is_site =
-    let part = in_steps (call_setting image code site) (enter_code image) (sym (enter_steps_are image))
-    (enter_part image code site is is_site (room_numbers image code site is_site)) site.entry
-    (enter_placed image code site is_site) in
+    let z = call_setting image code site in
+    let part = does z site.entry (enter_code image) (enter_placed image code site is_site)
+    (in_steps z (sym (enter_steps_are image))
+    (enter_part image code site is is_site (room_numbers image code site is_site))) in
     record {
       shown = part.shown;
       runs = λ s called.

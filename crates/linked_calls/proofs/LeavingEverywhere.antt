@@ -5,6 +5,8 @@ use Rattle.std.specs.Option.{option_map}
 use Rattle.std.proofs.Common.{◌≡◌, ℕ, suc, ◌+◌, ◌-◌, ◌*◌, ◌<◌, ◌≤◌, ◌==◌, List, [], ◌∷◌, ◌++◌, length, Option}
 use Rattle.std.proofs.Common.{Some, None, drop, inl, refl, sym, ap, ◌∙◌, subst, arith, length-append, append_assoc}
 use Rattle.std.proofs.lemmas.List.Elements.{All-head}
+use Rattle.codegen.proofs.program_logic_lemmas.Counted.{as_code, computes_runs, makes_then, Runs, Setting, then_runs}
+use Rattle.codegen.proofs.program_logic_lemmas.Counted.{weaken_runs}
 use Rattle.linked_calls.proofs.Below.{Add, AreZeroed, arguments_end, arrays_in, at, block_steps, ByteMap}
 use Rattle.linked_calls.proofs.Below.{clear_registers_code, MachineCode, constant_code, Data, Fields, frame_room}
 use Rattle.linked_calls.proofs.Below.{function_words, Instr, IsAt, IsImage, IsLeft, IsOfCall, IsSite, JumpRegister}
@@ -20,9 +22,9 @@ use Rattle.linked_calls.proofs.Between.{saved_at, untouched_registers}
 use Rattle.linked_calls.proofs.GoingBack.{goes_back}
 use Rattle.linked_calls.proofs.KnownArguments.{all_known}
 use Rattle.linked_calls.proofs.SectionSteps.{outputs_steps, leave_steps_are}
-use Rattle.linked_calls.proofs.Parts.{computes_runs, load_runs, same_number}
+use Rattle.linked_calls.proofs.Parts.{load_runs, same_number}
 use Rattle.linked_calls.proofs.Bytes.{number_there}
-use Rattle.linked_calls.proofs.Pieces.{Runs, CallSetting, as_code, makes_then, then_runs, weaken_runs}
+use Rattle.linked_calls.proofs.Pieces.{does}
 use Rattle.linked_calls.proofs.Restoring.{lasts_run}
 use Rattle.linked_calls.proofs.Rooms.{RoomNumbers, room_numbers}
 use Rattle.linked_calls.proofs.SameRegisters.{IsNone, all_same, same_beside, same_then, still_same}
@@ -48,7 +50,7 @@ grouped x r w c = simp append_assoc
 
 module _ (image : Fields) (code : MachineCode) (site : CallSite) (is : IsImage image) (at_site : IsSite image code site)
     (numbers : RoomNumbers image site) where
-  abbrev z : CallSetting
+  abbrev z : Setting
   z = call_setting image code site
 
   abbrev base : ℕ
@@ -77,8 +79,7 @@ module _ (image : Fields) (code : MachineCode) (site : CallSite) (is : IsImage i
   result_runs None low slot inside =
       computes_runs z (λ q. q == 10) (result_code None) (λ regs. with_register regs 10 0) refl (λ regs. refl)
   result_runs (Some slot) low is_slot inside =
-      weaken_runs z (result_code (Some slot))
-      (load_runs z base slot.offset (omega arith) (omega arith)
+      weaken_runs z (load_runs z base slot.offset (omega arith) (omega arith)
       (λ s begins. record {
         stack = begins.stack;
         there = number_there s.bytes 4 (base + slot.offset) (λ x l h. begins.there x (omega arith) (omega arith));
@@ -106,7 +107,6 @@ module _ (image : Fields) (code : MachineCode) (site : CallSite) (is : IsImage i
       (result_code image.returned ++ results_code image 0 image.slots) Starts Handed
   handed_runs =
       makes_then z {P = Starts} {f = λ s. with_result 10 (result_of s.bytes image.returned) s} {S = Handed}
-      (result_code image.returned) (results_code image 0 image.slots)
       (result_runs image.returned (slots_end 0 image.slots) is.returned is.returned_inside)
       (results_runs image code site numbers known)
       (λ s begins. record { stack = begins.stack; there = begins.there; ready = begins.ready })
@@ -141,9 +141,8 @@ module _ (image : Fields) (code : MachineCode) (site : CallSite) (is : IsImage i
       let room = frame_room image in
       let first = result_code image.returned ++ results_code image 0 image.slots in
       let rest = restore_code room ++ wipe_code ++ clear_registers_code scratch_registers in
-      as_code z (first ++ rest) (front image)
-      (grouped first (restore_code room) wipe_code (clear_registers_code scratch_registers))
-      (then_runs z {P = Starts} {S = LeavesAll} first rest handed_runs
+      as_code z (grouped first (restore_code room) wipe_code (clear_registers_code scratch_registers))
+      (then_runs z {P = Starts} {S = LeavesAll} handed_runs
       (lasts_run z base room numbers.even numbers.whole (omega arith)
       (λ x low high. inl ((omega arith, omega arith), omega arith))
       (λ sp x low high above. inl ((omega arith, omega arith), above)))
@@ -189,9 +188,9 @@ module _ (image : Fields) (code : MachineCode) (site : CallSite) (is : IsImage i
 
   leaves_here : Leaves image code site
   leaves_here =
-      let one = front_runs (leave_at image site)
+      let one = does z (leave_at image site) (front image)
       (Placed-left code (leave_at image site) (front image) (JumpRegister 0 1 0 ∷ [])
-      (leave_placed image code site at_site)) in
+      (leave_placed image code site at_site)) front_runs in
       record {
         shown = one.shown;
         runs = λ regs s can.

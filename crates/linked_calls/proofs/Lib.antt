@@ -1,7 +1,5 @@
 mod Below
-pub mod Within
 pub mod Pieces
-pub mod Loops
 pub mod Bytes
 pub mod Parts
 pub mod Zeros

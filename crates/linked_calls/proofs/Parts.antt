@@ -7,39 +7,26 @@ use Rattle.std.proofs.Common.{eq-eqb, ne_eqb, if◌then◌else◌}
 use Rattle.std.proofs.Math.Path.{fun_ext}
 use Rattle.std.proofs.lemmas.Bool.{eqb-false, false≢true, lt-ltb, ltb-true}
 use Rattle.std.proofs.lemmas.Bool.Decides.{nat_tests}
-use Rattle.linked_calls.proofs.Below.{Add, after, after_all, after_append, all_straight, are_straight, AreData}
+use Rattle.codegen.proofs.program_logic_lemmas.Counted.{computes_runs, having, Runs, Setting}
+use Rattle.codegen.proofs.program_logic_lemmas.Counted.{straight_runs}
+use Rattle.linked_calls.proofs.Below.{Add, after, after_all, after_append, are_straight, AreData}
 use Rattle.linked_calls.proofs.Below.{AreFit, AreMet, both_left, both_right, constant_after, constant_code}
 use Rattle.linked_calls.proofs.Below.{constant_plain, Data, far_address, Instr, is_some-with_number, IsMet, load_code}
-use Rattle.linked_calls.proofs.Below.{loads_code, lower_fits, lower_part, Lui, Lw, near_address, no_access, number_at}
-use Rattle.linked_calls.proofs.Below.{number_or_zero, only_computes, plain_append, Register, register, register-at}
-use Rattle.linked_calls.proofs.Below.{register_kept, register_value, RegisterOperation, registers_after, registers_of}
+use Rattle.linked_calls.proofs.Below.{loads_code, lower_fits, lower_part, Lui, Lw, near_address, number_at}
+use Rattle.linked_calls.proofs.Below.{number_or_zero, plain_append, Register, register, register-at}
+use Rattle.linked_calls.proofs.Below.{register_kept, register_value, RegisterOperation, registers_after}
 use Rattle.linked_calls.proofs.Below.{sign_extended, store_code, stores_code, sum_of, Sw, unwritten, upper_fits}
 use Rattle.linked_calls.proofs.Below.{upper_part, with_number, with_numbers, with_register, with_result, written}
 use Rattle.linked_calls.specs.Below.{Upper, Word}
 use Rattle.rv_code.specs.declared.instructions.Instr.TheVariants.{Load, Store}
 use Rattle.rv_machine.specs.declared.observation.Event.TheVariants as event
 use Rattle.linked_calls.proofs.Bytes.{number_there}
-use Rattle.linked_calls.proofs.Pieces.{IsNone, CallSetting, Runs, silent_runs, straight_runs}
-
--- a state with other registers
-abbrev pub having : (ℕ → ℕ) → Data → Data
-having regs s = record { regs = regs; bytes = s.bytes }
-
--- Code that only computes, with what it makes of the registers.
-pub computes_runs : (z : CallSetting) {P : Data → Type 0} (works : ℕ → Bool) (is : List Instr)
-    (made : (ℕ → ℕ) → ℕ → ℕ) → only_computes works is ≡ true
-    → ((regs : ℕ → ℕ) → registers_after is regs ≡ made regs)
-    → Runs z (length is) is P (λ s t. t ≡ having (made s.regs) s)
-computes_runs z works is made plain same =
-    let access = no_access works IsNone is plain in
-    silent_runs z works is [] (all_straight works is plain) access.0 (λ s given. access.1 s)
-    (λ s given. registers_of works is s plain ∙ ap (λ (regs : ℕ → ℕ). having regs s) (same s.regs))
 
 pub overwritten : (regs : ℕ → ℕ) (r u v : ℕ) → with_register (with_register regs r u) r v ≡ with_register regs r v
 overwritten regs r u v = fun_ext (λ q. grind (arith, nat_tests))
 
 -- a number in a register, and then an operation into the same
-pub number_then : (z : CallSetting) {P : Data → Type 0} (r n : ℕ) → r < 32 → r ≢ 0 → n < 2 ^ 32
+pub number_then : (z : Setting) {P : Data → Type 0} (r n : ℕ) → r < 32 → r ≢ 0 → n < 2 ^ 32
     → (operation : RegisterOperation) (a b : ℕ) → a < 32 → b < 32
     → Runs z (length (constant_code r n ++ Register operation r a b ∷ []))
     (constant_code r n ++ Register operation r a b ∷ []) P
@@ -59,7 +46,7 @@ number_then z r n few nonzero below operation a b a_few b_few =
     ∙ overwritten regs r n (value regs))
 
 -- one of two codes, by whether a number fits an immediate
-by_near : (z : CallSetting) {P : Data → Type 0} {R : Data → Data → Type 0} (n : ℕ) (near far : List Instr)
+by_near : (z : Setting) {P : Data → Type 0} {R : Data → Data → Type 0} (n : ℕ) (near far : List Instr)
     → (n < 2048 → Runs z (length near) near P R) → Runs z (length far) far P R
     → Runs z (length (if nat_lt n 2048 then near else far)) (if nat_lt n 2048 then near else far) P R
 by_near z {P = P} {R = R} n near far one other = by (nat_lt n 2048) refl
@@ -89,7 +76,7 @@ raised_over regs r offset v =
     let one = with_register regs r (upper_part offset * 2 ^ 12) in
     overwritten one r (sum_of (register one r) (register one 2)) v ∙ overwritten regs r (upper_part offset * 2 ^ 12) v
 
-module _ (z : CallSetting) (base offset : ℕ) (even : (base + offset) % 4 ≡ 0) (below : base + offset < 2 ^ 32)
+module _ (z : Setting) (base offset : ℕ) (even : (base + offset) % 4 ≡ 0) (below : base + offset < 2 ^ 32)
     {P : Data → Type 0} (has : (s : Data) → P s → HasWord base offset s) where
   near_met : offset < 2048 → (s : Data) → HasWord base offset s → IsMet 4 2 offset (base + offset) s
   near_met near s has = record {
@@ -167,10 +154,10 @@ module _ (z : CallSetting) (base offset : ℕ) (even : (base + offset) % 4 ≡ 0
 -- Lists of registers, in words one after another.
 
 -- loads and stores of words at every place of a stretch, where x2 is there
-abbrev pub MayLoad : CallSetting → ℕ → ℕ → ℕ → Type 0
+abbrev pub MayLoad : Setting → ℕ → ℕ → ℕ → Type 0
 MayLoad z sp low high = (x : ℕ) → low ≤ x → x + 4 ≤ high → z.allowed sp (Some (event.Load x Word))
 
-abbrev pub MayStore : CallSetting → ℕ → ℕ → ℕ → Type 0
+abbrev pub MayStore : Setting → ℕ → ℕ → ℕ → Type 0
 MayStore z sp low high = (x : ℕ) → low ≤ x → x + 4 ≤ high → z.allowed sp (Some (event.Store x Word))
 
 -- the words' addresses
@@ -191,7 +178,7 @@ stores_plain offset (r ∷ rs) registers near =
     rw (both_left (nat_lt r 32) (are_registers rs) registers, lt-ltb offset 4096 (omega arith))
     (stores_plain (offset + 4) rs (both_right (nat_lt r 32) (are_registers rs) registers) (omega arith))
 
-stores_fit : (z : CallSetting) (sp offset a : ℕ) (rs : List ℕ) → a % 4 ≡ 0 → MayStore z sp a (a + 4 * length rs)
+stores_fit : (z : Setting) (sp offset a : ℕ) (rs : List ℕ) → a % 4 ≡ 0 → MayStore z sp a (a + 4 * length rs)
     → AreFit (z.allowed sp) (stores_code 2 offset rs) (words_at a rs)
 stores_fit z sp offset a [] even may = tt
 stores_fit z sp offset a (r ∷ rs) even may = (
@@ -219,7 +206,7 @@ stores_made : (offset a : ℕ) (rs : List ℕ) (d : Data)
 stores_made offset a [] d = refl
 stores_made offset a (r ∷ rs) d = stores_made (offset + 4) (a + 4) rs (after (Store Sw r 2 offset) a d)
 
-pub stores_runs : (z : CallSetting) {P : Data → Type 0} (a : ℕ) (rs : List ℕ) → are_registers rs ≡ true → a % 4 ≡ 0
+pub stores_runs : (z : Setting) {P : Data → Type 0} (a : ℕ) (rs : List ℕ) → are_registers rs ≡ true → a % 4 ≡ 0
     → 4 * length rs ≤ 2048 → a + 4 * length rs ≤ 2 ^ 32 → MayStore z a a (a + 4 * length rs)
     → ((s : Data) → P s → (s.regs 2 ≡ a) × AreData a (a + 4 * length rs) s.bytes)
     → Runs z (length (stores_code 2 0 rs)) (stores_code 2 0 rs) P (λ s t. t ≡ stored a rs s)
@@ -237,7 +224,7 @@ abbrev pub are_others : List ℕ → Bool
 are_others [] = true
 are_others (r ∷ rs) = cond (5 == r) false (are_others rs)
 
-loads_fit : (z : CallSetting) (sp offset a : ℕ) (rs : List ℕ) → a % 4 ≡ 0 → MayLoad z sp a (a + 4 * length rs)
+loads_fit : (z : Setting) (sp offset a : ℕ) (rs : List ℕ) → a % 4 ≡ 0 → MayLoad z sp a (a + 4 * length rs)
     → AreFit (z.allowed sp) (loads_code 5 offset rs) (words_at a rs)
 loads_fit z sp offset a [] even may = tt
 loads_fit z sp offset a (r ∷ rs) even may = (
@@ -267,7 +254,7 @@ loads_met offset a (r ∷ rs) d others root near below there =
     )
 
 -- registers but x2 from words
-pub loads_runs : (z : CallSetting) {P : Data → Type 0} (sp a : ℕ) (rs : List ℕ)
+pub loads_runs : (z : Setting) {P : Data → Type 0} (sp a : ℕ) (rs : List ℕ)
     → are_straight (λ q. not (q == 2)) (loads_code 5 0 rs) ≡ true → are_others rs ≡ true → a % 4 ≡ 0
     → 4 * length rs ≤ 2048 → a + 4 * length rs ≤ 2 ^ 32 → MayLoad z sp a (a + 4 * length rs)
     → ((s : Data) → P s → s.regs 2 ≡ sp)

@@ -1,14 +1,14 @@
 -- The last of a call: the caller's registers restored, all the room wiped, and the other registers cleared.
 use Rattle.std.proofs.Common.{◌≡◌, ℕ, ◌+◌, ◌%◌, ◌^◌, ◌<◌, ◌==◌, List, [], ◌∷◌, ◌++◌, length, All, refl, sym}
 use Rattle.std.proofs.Common.{◌∙◌, subst, arith, append_assoc}
+use Rattle.codegen.proofs.program_logic_lemmas.Counted.{as_code, computes_runs, makes_then, Runs, Setting, then_runs}
 use Rattle.linked_calls.proofs.Below.{Add, added, after_all, AreCleared, AreData, AreZeroed, block_steps, ByteMap}
 use Rattle.linked_calls.proofs.Below.{clear_registers_code, constant_code, Data, Instr, IsWiped, loads_code, Register}
 use Rattle.linked_calls.proofs.Below.{restore_code, saved_registers, scratch_registers, sum_of, wipe_code}
 use Rattle.linked_calls.proofs.Below.{with_register, with_result}
 use Rattle.linked_calls.proofs.Between.{AreSaved}
 use Rattle.linked_calls.proofs.Cleared.{clear_runs}
-use Rattle.linked_calls.proofs.Parts.{MayLoad, computes_runs, loads_runs, number_then, words_at}
-use Rattle.linked_calls.proofs.Pieces.{Runs, CallSetting, as_code, makes_then, then_runs}
+use Rattle.linked_calls.proofs.Parts.{loads_runs, MayLoad, number_then, words_at}
 use Rattle.linked_calls.proofs.SameRegisters.{AreSame, IsNone, all_differ, same_beside, still_same}
 use Rattle.linked_calls.proofs.SavedRegisters.{saved_values}
 use Rattle.linked_calls.proofs.Zeros.{MayZero, up_runs}
@@ -21,7 +21,7 @@ others_still = 1 ∷ 3 ∷ 4 ∷ 10 ∷ []
 abbrev AreBack : ℕ → Data → Data → Type 0
 AreBack a s t = (regs : ℕ → ℕ) → AreSaved s.bytes regs a saved_registers → AreSame t.regs regs saved_registers
 
-module _ (z : CallSetting) (frame room : ℕ) (even : frame % 16 ≡ 0) (whole : room % 16 ≡ 0)
+module _ (z : Setting) (frame room : ℕ) (even : frame % 16 ≡ 0) (whole : room % 16 ≡ 0)
     (below : frame + (room + 80) < 2 ^ 32)
     (may : MayLoad z frame (frame + room) (frame + room + 48))
     (stores : MayZero z frame (frame + (room + 80)))
@@ -56,10 +56,8 @@ module _ (z : CallSetting) (frame room : ℕ) (even : frame % 16 ≡ 0) (whole :
     restored_runs =
         let top = constant_code 5 room ++ Register Add 5 5 2 ∷ [] in
         makes_then z {P = BeginsLast} {P' = λ s. Unit {0}} {f = loaded}
-        (constant_code 5 room ++ Register Add 5 5 2 ∷ loads) (added 5 80 ∷ [])
-        (as_code z (top ++ loads) (constant_code 5 room ++ Register Add 5 5 2 ∷ loads)
-        (append_assoc (constant_code 5 room) (Register Add 5 5 2 ∷ []) loads)
-        (makes_then z {P = BeginsLast} {f = located} top loads
+        (as_code z (append_assoc (constant_code 5 room) (Register Add 5 5 2 ∷ []) loads)
+        (makes_then z {P = BeginsLast} {f = located}
         (number_then z 5 room (omega arith) (λ e. omega arith) (omega arith) Add 5 2 (omega arith) (omega arith))
         (loads_runs z {P = AtSaved} frame (frame + room) saved_registers refl refl (omega arith) (omega arith)
         (omega arith) may (λ s at. at.stack) (λ s at. (at.root, at.there)))
@@ -77,7 +75,7 @@ module _ (z : CallSetting) (frame room : ℕ) (even : frame % 16 ≡ 0) (whole :
     wiped_runs : Runs z (length (constant_code 5 room ++ Register Add 5 5 2 ∷ []) + 12 + 1 + block_steps (room + 80))
         (restore_code room ++ wipe_code) BeginsLast (λ s t. IsWiped frame (room + 80) (restored s) t)
     wiped_runs =
-        makes_then z {P = BeginsLast} {f = restored} (restore_code room) wipe_code restored_runs
+        makes_then z {P = BeginsLast} {f = restored} restored_runs
         (up_runs z frame (room + 80) even (omega arith) (omega arith) below stores)
         (λ s begins. record { stack = begins.stack; top = omega (arith, begins.stack); there = begins.there })
         (λ s u begins wiped. wiped)
@@ -95,7 +93,7 @@ module _ (z : CallSetting) (frame room : ℕ) (even : frame % 16 ≡ 0) (whole :
         (restore_code room ++ wipe_code ++ clear_registers_code scratch_registers) BeginsLast Lasts
     lasts_run =
         then_runs z {P = BeginsLast} {P' = λ s. Unit {0}} {R' = AreCleared scratch_registers} {S = Lasts}
-        (restore_code room ++ wipe_code) (clear_registers_code scratch_registers) wiped_runs
+        wiped_runs
         (clear_runs z)
         (λ s t begins wiped. tt)
         (λ s t u begins wiped clears.

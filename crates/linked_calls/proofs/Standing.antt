@@ -6,8 +6,8 @@ use Rattle.std.proofs.lemmas.List.{length-map}
 use Rattle.linked_calls.proofs.Below.{body_words, MachineCode, enter_code, Fields, function_words, IsSite, leave_code}
 use Rattle.linked_calls.proofs.Below.{Placed, CallSite, Stand}
 use Rattle.linked_calls.proofs.Between.{body_at, leave_at}
-use Rattle.linked_calls.proofs.Pieces.{placed}
 use Rattle.linked_calls.specs.Below.{word_of}
+use Rattle.linked_calls.proofs.Pieces.{placed}
 
 -- Words, one list after another.
 

@@ -1,21 +1,22 @@
 -- The code that takes a word: a load, what it means, and a store; and the code that hands a result back.
 use Rattle.std.specs.Prelude.{bit_and}
-use Rattle.std.proofs.Common.{◌≡◌, ℕ, ◌+◌, ◌%◌, ◌^◌, ◌==◌, nat_lt, true, ◌++◌, Some, refl, sym, ap, ◌∙◌, arith}
+use Rattle.std.proofs.Common.{◌≡◌, ℕ, ◌+◌, ◌%◌, ◌^◌, ◌==◌, nat_lt, true, Some, refl, sym, ap, ◌∙◌, arith}
 use Rattle.std.proofs.Math.Path.{fun_ext}
 use Rattle.std.proofs.lemmas.Bool.Decides.{nat_tests}
 use Rattle.std.proofs.lemmas.Nat.{and_mask}
+use Rattle.codegen.proofs.program_logic_lemmas.Counted.{computes_runs, makes_on, Runs, Setting, weaken_runs}
 use Rattle.linked_calls.proofs.Below.{argument_code, argument_offset, argument_steps, Boolean, ByteMap, CanBePut}
 use Rattle.linked_calls.proofs.Below.{Data, Fields, HasResultSlot, HasWordArgument, IsLoadOf, IsArgumentPut, IsPutting}
 use Rattle.linked_calls.proofs.Below.{IsReturned, Kind, load_code, meant, meant_code, number_at, number_or_zero}
 use Rattle.linked_calls.proofs.Below.{only_computes, registers_after, ResultIsHandedBack, shift_value, SingleWord}
-use Rattle.linked_calls.proofs.Below.{Slli, Slot, Srli, store_code, Uint16, Uint32, Uint8, unwritten, with_number}
+use Rattle.linked_calls.proofs.Below.{Slli, Slot, Srli, Uint16, Uint32, Uint8, unwritten, with_number}
 use Rattle.linked_calls.proofs.Below.{with_register, with_result, WordIsTaken}
 use Rattle.linked_calls.specs.Below.{Word}
 use Rattle.rv_machine.specs.declared.observation.Event.TheVariants as event
 use Rattle.word.specs.Operators.{word_of}
 use Rattle.linked_calls.proofs.Bytes.{number_there, same_truth, with_number_cut}
-use Rattle.linked_calls.proofs.Parts.{computes_runs, load_runs, overwritten, same_number, store_runs}
-use Rattle.linked_calls.proofs.Pieces.{Runs, CallSetting, makes_on, placed, weaken_runs}
+use Rattle.linked_calls.proofs.Parts.{load_runs, overwritten, same_number, store_runs}
+use Rattle.linked_calls.proofs.Pieces.{does, placed}
 
 -- What a word is made by the code of its kind: the number that is put as a word is the same.
 
@@ -45,7 +46,7 @@ meant_made Uint16 regs = overwritten regs 5 (shift_value Slli (regs 5) 16) (cut 
 meant_made Uint32 regs = fun_ext (λ q. grind (arith, nat_tests))
 meant_made kind regs = refl
 
-pub word_runs : (z : CallSetting) (image : Fields) (slot : Slot) (frame i : ℕ) → CanBePut image slot frame i
+pub word_runs : (z : Setting) (image : Fields) (slot : Slot) (frame i : ℕ) → CanBePut image slot frame i
     → z.allowed frame (Some (event.Load (frame + argument_offset image i) Word))
     → z.allowed frame (Some (event.Store (frame + slot.offset) Word))
     → Runs z (argument_steps image i slot SingleWord) (argument_code image i slot SingleWord)
@@ -59,9 +60,8 @@ word_runs z image slot frame i can loads stores =
     let means = meant_code 5 kind in
     let raw = λ (s : Data). number_or_zero (number_at s.bytes 4 place) in
     makes_on z {P = HasWordArgument image slot frame i} {P' = HasWordArgument image slot frame i}
-    {f = λ s. with_result 5 (cut kind (raw s)) s} {S = IsArgumentPut image slot frame i} (load ++ means)
-    (store_code 5 slot.offset)
-    (makes_on z {P' = λ s. Unit {0}} {f = λ s. with_result 5 (raw s) s} load means
+    {f = λ s. with_result 5 (cut kind (raw s)) s} {S = IsArgumentPut image slot frame i}
+    (makes_on z {P' = λ s. Unit {0}} {f = λ s. with_result 5 (raw s) s}
     (load_runs z frame offset (omega arith) can.place_ends
     (λ s has. record { stack = has.stack; there = number_there s.bytes 4 place has.argument_there })
     5 (omega arith) (λ e. omega arith) (λ e. omega arith) loads)
@@ -81,18 +81,21 @@ word_runs z image slot frame i can loads stores =
 
 pub word_is_taken : WordIsTaken
 word_is_taken code start image slot frame i there can =
-    let z : CallSetting = record {
+    let z : Setting = record {
       code = code;
       allowed = IsPutting (frame + argument_offset image i) (frame + slot.offset);
       silent = λ sp. tt;
     } in
-    word_runs z image slot frame i can (refl, refl, omega arith) (refl, refl, omega arith) start
-    (placed code start (argument_code image i slot SingleWord) there)
+    let is = argument_code image i slot SingleWord in
+    does z start is (placed code start is there)
+    (word_runs z image slot frame i can (refl, refl, omega arith) (refl, refl, omega arith))
 
 pub result_is_handed_back : ResultIsHandedBack
 result_is_handed_back code start slot frame there even below =
-    let z : CallSetting = record { code = code; allowed = IsLoadOf (frame + slot.offset); silent = λ sp. tt } in
-    weaken_runs z {R' = IsReturned slot frame} (load_code 10 slot.offset)
+    let z : Setting = record { code = code; allowed = IsLoadOf (frame + slot.offset); silent = λ sp. tt } in
+    let is = load_code 10 slot.offset in
+    does z start is (placed code start is there)
+    (weaken_runs z {R' = IsReturned slot frame}
     (load_runs z frame slot.offset even below {P = HasResultSlot slot frame}
     (λ s has. record { stack = has.stack; there = number_there s.bytes 4 (frame + slot.offset) has.slot_there })
     10 (omega arith) (λ e. omega arith) (λ e. omega arith) (refl, refl, omega arith))
@@ -102,5 +105,4 @@ result_is_handed_back code start slot frame there even below =
       others = λ q h. ap (λ (d : Data). d.regs q) made
           ∙ unwritten s.regs 10 (number_or_zero (number_at s.bytes 4 (frame + slot.offset))) q h;
       bytes = ap (λ (d : Data). d.bytes) made;
-    })
-    start (placed code start (load_code 10 slot.offset) there)
+    }))

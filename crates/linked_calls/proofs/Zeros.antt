@@ -4,6 +4,8 @@ use Rattle.std.proofs.Common.{◌≡◌, ◌≢◌, ℕ, suc, ◌+◌, ◌-◌, 
 use Rattle.std.proofs.Common.{[], ◌∷◌, ◌++◌, length, Some, refl, sym, ap, ◌∙◌, subst, arith, append_assoc}
 use Rattle.std.proofs.Common.{length-append, if◌then◌else◌}
 use Rattle.std.proofs.lemmas.Bool.{eqb-false, eqb-true}
+use Rattle.codegen.proofs.program_logic_lemmas.Counted.{as_code, computes_runs, in_steps, loop, makes_then, no_code}
+use Rattle.codegen.proofs.program_logic_lemmas.Counted.{Runs, Setting, weaken_runs}
 use Rattle.linked_calls.proofs.Below.{added, AreData, AreZeroed, block_steps, ByteMap, MachineCode, constant_code, Data}
 use Rattle.linked_calls.proofs.Below.{difference_of, frame_code, frame_steps, FrameIsZeroed, HasFrame, HasRoomBounds}
 use Rattle.linked_calls.proofs.Below.{Instr, IsStoreIn, IsWiped, IsZeroFrame, Register, RoomIsWiped, Sub, sum_of}
@@ -11,9 +13,8 @@ use Rattle.linked_calls.proofs.Below.{until_equal, unwritten, wipe_code, with_nu
 use Rattle.linked_calls.proofs.Below.{zeros_code}
 use Rattle.linked_calls.proofs.Bytes.{no_zeros, is_some-with_numbers, zeroed_words, zeros_down, zeros_of, zeros_up}
 use Rattle.linked_calls.specs.Below.{Store, Word}
-use Rattle.linked_calls.proofs.Loops.{loop}
-use Rattle.linked_calls.proofs.Parts.{computes_runs, number_then, stored, stores_runs}
-use Rattle.linked_calls.proofs.Pieces.{Runs, CallSetting, as_code, in_steps, makes_then, no_code, placed, weaken_runs}
+use Rattle.linked_calls.proofs.Parts.{number_then, stored, stores_runs}
+use Rattle.linked_calls.proofs.Pieces.{does, placed}
 
 abbrev down_code : List Instr
 down_code = added 2 (4096 - 16) ∷ zeros_code
@@ -25,14 +26,14 @@ up_code = zeros_code ++ added 2 16 ∷ []
 abbrev some_frame : ℕ → List Instr
 some_frame room = constant_code 5 room ++ Register Sub 5 2 5 ∷ until_equal 2 5 down_code
 
-abbrev storing : MachineCode → ℕ → ℕ → CallSetting
+abbrev storing : MachineCode → ℕ → ℕ → Setting
 storing code bottom room = record { code = code; allowed = IsStoreIn bottom (bottom + room); silent = λ sp. tt }
 
 -- words are stored in a stretch, not below the stack pointer
-abbrev pub MayZero : CallSetting → ℕ → ℕ → Type 0
+abbrev pub MayZero : Setting → ℕ → ℕ → Type 0
 MayZero z low high = (sp x : ℕ) → low ≤ x → x + 4 ≤ high → sp ≤ x → z.allowed sp (Some (Store x Word))
 
-module _ (z : CallSetting) (bottom room : ℕ) (even : bottom % 16 ≡ 0) (whole : room % 16 ≡ 0) (positive : 0 < room)
+module _ (z : Setting) (bottom room : ℕ) (even : bottom % 16 ≡ 0) (whole : room % 16 ≡ 0) (positive : 0 < room)
     (below : bottom + room < 2 ^ 32) (may : MayZero z bottom (bottom + room)) where
   abbrev top : ℕ
   top = bottom + room
@@ -57,7 +58,6 @@ module _ (z : CallSetting) (bottom room : ℕ) (even : bottom % 16 ≡ 0) (whole
       → Runs z 5 down_code (HasBlock x a) (λ s t. t ≡ block a a s)
   block_down x a next aligned from to =
       makes_then z {P = HasBlock x a} {f = λ s. with_result 2 (sum_of (s.regs 2) 4294967280) s}
-      (added 2 (4096 - 16) ∷ []) zeros_code
       (computes_runs z (λ q. q == 2) (added 2 (4096 - 16) ∷ [])
       (λ regs. with_register regs 2 (sum_of (regs 2) 4294967280)) refl (λ regs. refl))
       (zeros_run a aligned from to)
@@ -69,8 +69,8 @@ module _ (z : CallSetting) (bottom room : ℕ) (even : bottom % 16 ≡ 0) (whole
   block_up : (a next : ℕ) → a + 16 ≡ next → a % 16 ≡ 0 → bottom ≤ a → a + 16 ≤ top
       → Runs z 5 up_code (HasBlock a a) (λ s t. t ≡ block a next s)
   block_up a next is aligned from to =
-      makes_then z {P = HasBlock a a} {P' = λ s. Unit {0}} {f = stored a (0 ∷ 0 ∷ 0 ∷ 0 ∷ [])} zeros_code
-      (added 2 16 ∷ []) (zeros_run a aligned from to)
+      makes_then z {P = HasBlock a a} {P' = λ s. Unit {0}} {f = stored a (0 ∷ 0 ∷ 0 ∷ 0 ∷ [])}
+      (zeros_run a aligned from to)
       (computes_runs z (λ q. q == 2) (added 2 16 ∷ []) (λ regs. with_register regs 2 (sum_of (regs 2) 16)) refl
       (λ regs. refl))
       (λ s has. tt)
@@ -125,10 +125,10 @@ module _ (z : CallSetting) (bottom room : ℕ) (even : bottom % 16 ≡ 0) (whole
 
     blocks_run : Runs z (block_steps room) (until_equal 2 5 body) (BeginsBlocks (x 0) stop) (Zeroed blocks)
     blocks_run =
-        in_steps z (until_equal 2 5 body) (omega arith)
+        in_steps z (omega arith)
         (loop z 2 5 (omega arith, omega arith) body (omega arith) (omega arith) blocks Zeroed
         (λ i few.
-        weaken_runs z body (block_runs i few)
+        weaken_runs z (block_runs i few)
         (λ d given. record { stack = given.1.stack; there = here i few given.0 d given.1 })
         (λ d t given made s held.
         subst (λ (u : Data). Zeroed (suc i) s u) (sym made) (one_more i few s d held)))
@@ -166,7 +166,7 @@ module _ (z : CallSetting) (bottom room : ℕ) (even : bottom % 16 ≡ 0) (whole
   pub up_runs : Runs z (block_steps room) (until_equal 2 5 up_code) (HasRoomBounds bottom room) (IsWiped bottom room)
   up_runs =
       let end : up_at blocks ≡ top = omega arith in
-      weaken_runs z (until_equal 2 5 up_code)
+      weaken_runs z
       (blocks_run up_code refl top up_at up_at (λ i. bottom) up_at (λ i few. (omega arith, omega arith))
       (λ i few. block_up (up_at i) (up_at (suc i)) (omega arith) (omega arith) (omega arith) (omega arith))
       (λ i one two three few zeroed more.
@@ -189,10 +189,10 @@ module _ (z : CallSetting) (bottom room : ℕ) (even : bottom % 16 ≡ 0) (whole
   frame_runs =
       let base = constant_code 5 room ++ Register Sub 5 2 5 ∷ [] in
       let end : down_at blocks ≡ bottom = omega arith in
-      in_steps z (base ++ until_equal 2 5 down_code)
+      in_steps z
       (ap (λ n. n + block_steps room) (length-append (constant_code 5 room) (Register Sub 5 2 5 ∷ [])))
       (makes_then z {P = HasFrame bottom room} {f = λ s. with_result 5 (difference_of (s.regs 2) room) s}
-      {S = IsZeroFrame bottom room} base (until_equal 2 5 down_code)
+      {S = IsZeroFrame bottom room}
       (number_then z 5 room (omega arith) (λ e. omega arith) (omega arith) Sub 2 5 (omega arith) (omega arith))
       down_runs
       (λ s has. record { stack = has.stack ∙ omega arith; last = omega (arith, has.stack); there = has.there })
@@ -203,7 +203,7 @@ module _ (z : CallSetting) (bottom room : ℕ) (even : bottom % 16 ≡ 0) (whole
       }))
 
 -- the code of a frame, which is none where the frame has no room
-pub zeroed_runs : (z : CallSetting) (bottom room : ℕ) → bottom % 16 ≡ 0 → room % 16 ≡ 0 → bottom + room < 2 ^ 32
+pub zeroed_runs : (z : Setting) (bottom room : ℕ) → bottom % 16 ≡ 0 → room % 16 ≡ 0 → bottom + room < 2 ^ 32
     → MayZero z bottom (bottom + room)
     → Runs z (frame_steps room) (frame_code room) (HasFrame bottom room) (IsZeroFrame bottom room)
 zeroed_runs z bottom room even whole below may = by (room == 0) refl
@@ -221,16 +221,17 @@ zeroed_runs z bottom room even whole below may = by (room == 0) refl
         })
     by false some =
         let differ = eqb-false room 0 some in
-        as_code z ((constant_code 5 room ++ Register Sub 5 2 5 ∷ []) ++ until_equal 2 5 down_code) (some_frame room)
-        (append_assoc (constant_code 5 room) (Register Sub 5 2 5 ∷ []) (until_equal 2 5 down_code))
+        as_code z (append_assoc (constant_code 5 room) (Register Sub 5 2 5 ∷ []) (until_equal 2 5 down_code))
         (frame_runs z bottom room even whole (omega arith) below may)
 
 pub frame_is_zeroed : FrameIsZeroed
 frame_is_zeroed code start bottom room there even whole below =
-    zeroed_runs (storing code bottom room) bottom room even whole below (λ sp x low high above. ((low, high), above))
-    start (placed code start (frame_code room) there)
+    let z = storing code bottom room in
+    does z start (frame_code room) (placed code start (frame_code room) there)
+    (zeroed_runs z bottom room even whole below (λ sp x low high above. ((low, high), above)))
 
 pub room_is_wiped : RoomIsWiped
 room_is_wiped code start bottom room there even whole positive below =
-    up_runs (storing code bottom room) bottom room even whole positive below
-    (λ sp x low high above. ((low, high), above)) start (placed code start wipe_code there)
+    let z = storing code bottom room in
+    does z start wipe_code (placed code start wipe_code there)
+    (up_runs z bottom room even whole positive below (λ sp x low high above. ((low, high), above)))

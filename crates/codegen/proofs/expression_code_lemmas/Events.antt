@@ -144,12 +144,13 @@ module _ (z : Setting) where
               let first = register-at s.regs l one.nonzero ∙ (operands env s fit).0 in
               let second = register-at s.regs r other.nonzero ∙ (operands env s fit).1 in
               step_ends _ (shows (left env) (right env)) (with_value s d v) at
-              (leads s (stands z.code p i [] placed ok s at)) (ap₂ shows first second)
-              (inside (left env) (right env))
-              (record {
-                regs = λ q low. is_left s.regs d v (with_value-regs s d v) q (omega arith);
-                beside = λ a apart. ap (λ (b : ByteMap). b a) (with_value-bytes s d v);
-              })
+              (leads s (stands z.code p i [] placed ok s at)) (ap₂ shows first second) (
+                record {
+                  regs = λ q low. is_left s.regs d v (with_value-regs s d v) q (omega arith);
+                  beside = λ a apart. ap (λ (b : ByteMap). b a) (with_value-bytes s d v);
+                },
+                inside (left env) (right env),
+              )
               (shown p env s rest fit) (omega (arith, at, placed.1, with_value-pc s d v)) (record {
                 there = is_written s.regs d v (with_value-regs s d v) target.nonzero ∙ ap₂ made first second;
                 others = is_left s.regs d v (with_value-regs s d v);

@@ -1,12 +1,13 @@
 -- Where code and frame lie: the setting of all pieces of code here. They are run beside a state of straight code, the
 -- marks of a path are those of the inlined program, and all accesses stay inside the frame.
 use Rattle.std.proofs.Common.{◌≡◌, ◌⊎◌, inl, inr, ℕ, zero, suc, ◌+◌, ◌%◌, ◌^◌, ◌<◌, ◌≤◌, Bool, true, false, ◌&&◌, List}
-use Rattle.std.proofs.Common.{[], ◌∷◌, ◌++◌, length, Option, Some, None, is_some, refl, ap, ◌∙◌, arith}
+use Rattle.std.proofs.Common.{[], ◌∷◌, ◌++◌, length, All, Option, Some, None, is_some, refl, ap, ◌∙◌, arith}
 use Rattle.codegen.proofs.expression_code_lemmas.Below.{Allocation, AreFine, byte_count, ByteMap, MachineCode}
 use Rattle.codegen.proofs.expression_code_lemmas.Below.{FlatVariable, Instr, code_by, IsAllocation, IsInside, joined}
-use Rattle.codegen.proofs.expression_code_lemmas.Below.{Mark, number_at, number_at-suc, number_at-zero, Path}
-use Rattle.codegen.proofs.expression_code_lemmas.Below.{seen-append, Size, State, StraightState, temporaries_offset}
-use Rattle.codegen.proofs.expression_code_lemmas.Below.{with_number, with_number_above, with_number_below}
+use Rattle.codegen.proofs.expression_code_lemmas.Below.{Mark, number_at, number_at-suc, number_at-zero, Observation}
+use Rattle.codegen.proofs.expression_code_lemmas.Below.{Path, seen-append, Size, State, StraightState}
+use Rattle.codegen.proofs.expression_code_lemmas.Below.{temporaries_offset, with_number, with_number_above}
+use Rattle.codegen.proofs.expression_code_lemmas.Below.{with_number_below}
 use Rattle.codegen.specs.Below.{seen as seen_of}
 use Rattle.codegen.specs.expression_code.Layout.{Frame, TermLayout}
 use Rattle.codegen.proofs.program_logic_lemmas.Face as logic
@@ -64,20 +65,18 @@ pub record Keeps (z : Setting) (s t : State) : Type 0 where
   pub regs : (r : ℕ) → r < 5 → t.regs r ≡ s.regs r
   pub beside : (a : ℕ) → (a < z.frame) ⊎ (z.frame + z.size ≤ a) → t.bytes a ≡ s.bytes a
 
+-- each step keeps that, and its access is inside the frame
 abbrev pub setting : Setting → logic.PieceSetting
 setting z = record {
   code = z.code;
-  Allows = λ e. IsInside z.frame z.size e;
-  silence = tt;
-  Keeps = Keeps z;
-  keeps_still = λ s t still. record {
-    regs = λ r low. ap (λ (f : ℕ → ℕ). f r) still.regs;
-    beside = λ a apart. ap (λ (b : ByteMap). b a) still.bytes;
-  };
-  keeps_then = λ s t u one other. record {
-    regs = λ r low. other.regs r low ∙ one.regs r low;
-    beside = λ a apart. other.beside a apart ∙ one.beside a apart;
-  };
+  Each = λ s event t. Keeps z s t × IsInside z.frame z.size event;
+  each_still = λ s t still. (
+    record {
+      regs = λ r low. ap (λ (f : ℕ → ℕ). f r) still.regs;
+      beside = λ a apart. ap (λ (b : ByteMap). b a) still.bytes;
+    },
+    tt,
+  );
   Beside = StraightState;
   Mark = Mark;
   seen = λ path. seen_of z.code.profile path;
@@ -88,6 +87,20 @@ setting z = record {
   fine_left = fine_left z.counts;
   fine_right = fine_right z.counts;
 }
+
+-- so all steps keep it, and so are all accesses
+pub frame_kept : (z : Setting) {n : ℕ} {s t : State} {seen : List Observation}
+    → logic.LeadsBy z.code (setting z).Each n s seen t
+    → Keeps z s t × All (λ (o : Observation). IsInside z.frame z.size o.event) seen
+frame_kept z leads = (
+  logic.all_keep {Keeps = Keeps z} (λ s. record { regs = λ r low. refl; beside = λ a apart. refl })
+      (λ s t u one other. record {
+        regs = λ r low. other.regs r low ∙ one.regs r low;
+        beside = λ a apart. other.beside a apart ∙ one.beside a apart;
+      })
+      (λ s event t each. each.0) leads,
+  logic.all_show (λ event. IsInside z.frame z.size event) (λ s event t each. each.1) leads,
+)
 
 abbrev pub Before : Type 1
 Before = StraightState → State → Type 0
@@ -100,7 +113,7 @@ Steps = StraightState → Path
 
 -- instructions run wherever they stand, at most so many steps
 abbrev pub Runs : Setting → ℕ → Steps → List Instr → Before → After → Type 0
-Runs z cost steps is P Q = logic.Runs (setting z) cost steps is P Q
+Runs z cost steps is P Q = logic.Runs logic.at_most (setting z) cost steps is P Q
 
 -- the code for what there is, and else other code
 pub by_option : {z : Setting} {T : Type 0} {n : ℕ} {steps : Steps} {code : T → List Instr} {other : List Instr}
@@ -166,27 +179,29 @@ pub frame_runs : (z : Setting) {P : Before} (works : ℕ → Bool) (is : List In
     → ((env : StraightState) (s : State) → P env s → HeldAt z s × logic.AreMet is places (logic.contents_of s))
     → Runs z (length is) logic.none is P (λ env s t. HeldAt z t × logic.Became is places s t)
 frame_runs z works is places plain none_low fit met =
-    let kept : (s t : State) → logic.Became is places s t → Keeps z s t = λ s t became. record {
-      regs = λ r low. ap (λ (regs : ℕ → ℕ). regs r) became.regs
-          ∙ logic.register_kept works is places (logic.contents_of s) r plain (none_low r low);
-      beside = λ a apart. ap (λ (b : ByteMap). b a) became.bytes
-          ∙ logic.byte_kept _ a (store_beside z a apart) is places (logic.contents_of s) fit;
-    } in
     logic.gives
     (λ env s t fine given became.
+    let c = logic.contents_of s in
     let held = (met env s given).0 in (
       record {
-        base = (kept s t became).regs 2 (omega arith) ∙ held.base;
+        base = ap (λ (regs : ℕ → ℕ). regs 2) became.regs
+            ∙ logic.register_kept works is places c 2 plain (none_low 2 (omega arith)) ∙ held.base;
         data_there = λ o below.
             ap (λ (b : ByteMap). is_some (b (z.frame + o))) became.bytes
-            ∙ (logic.data_kept is places (logic.contents_of s) (z.frame + o) (met env s given).1
+            ∙ (logic.data_kept is places c (z.frame + o) (met env s given).1
             ∙ held.data_there o below);
       },
       became,
     ))
-    (logic.by_symbols works is places plain fit (λ env s given. (met env s given).1)
-    (λ i a p c F ok may. record {
-      regs = λ r low. logic.register_after works i a c r ok (none_low r low);
-      beside = λ x apart. logic.byte_after _ x (store_beside z x apart) i a c F may;
-    })
-    (λ env s t given became. kept s t became))
+    (logic.by_symbols (setting z) works (λ event. IsInside z.frame z.size event) (λ c. Unit {0})
+    (λ i a p c F ok may here. (
+      (
+        record {
+          regs = λ r low. logic.register_after works i a c r ok (none_low r low);
+          beside = λ x apart. logic.byte_after _ x (store_beside z x apart) i a c F may;
+        },
+        logic.one_allowed (λ event. IsInside z.frame z.size event) tt i a F may,
+      ),
+      tt,
+    ))
+    is places plain fit (λ env s given. ((met env s given).1, tt)))

@@ -6,11 +6,11 @@ use Rattle.codegen.proofs.expression_code_lemmas.Below.{slot_of, State, Straight
 use Rattle.codegen.proofs.expression_code_lemmas.Below.{Values, word_in, WordType, ends_on}
 use Rattle.codegen.specs.expression_code.Computed.{temporary_in}
 use Rattle.std.proofs.lemmas.Bool.{cond_both}
-use Rattle.codegen.proofs.expression_code_lemmas.Frame.{Setting, seen_by}
+use Rattle.codegen.proofs.expression_code_lemmas.Frame.{frame_kept, Setting, seen_by}
 use Rattle.codegen.proofs.expression_code_lemmas.WorkRegisters.{works_in, lower_stays}
 use Rattle.codegen.proofs.expression_code_lemmas.Values.{Ready, Kept, Leaves, Holds, homes_left, kept_number}
 use Rattle.codegen.proofs.expression_code_lemmas.ExpressionRuns.{expr_runs}
-use Rattle.codegen.proofs.program_logic_lemmas.StepLaws.{leads_kept}
+use Rattle.codegen.proofs.program_logic_lemmas.StepLaws.{leads_alone}
 
 -- no control value and no loop
 abbrev setting_of : (e : TermTree) (site : Site) → IsSiteOf e site → Setting
@@ -75,9 +75,9 @@ expressions_are_computed e word site has fit =
           record {
             step_count = run.step_count;
             end = run.end;
-            leads = rw same at (leads_kept run.leads);
+            leads = rw same at (leads_alone run.leads);
             few = run.within;
-            inside = rw same at run.inside;
+            inside = rw same at (frame_kept z run.leads).1;
             behind = run.at;
             value = read e site fit (operand site.layout site.place e) (value_in m e) run.end
                 run.done.there;

@@ -3,19 +3,19 @@ pub use Rattle.codegen.proofs.program_logic_lemmas.Jumps.{branching_at}
 pub use Rattle.codegen.proofs.program_logic_lemmas.Loops.{looping}
 pub use Rattle.codegen.proofs.program_logic_lemmas.Marks.{MarkKind, MarkKnown, by_mark}
 pub use Rattle.codegen.proofs.program_logic_lemmas.Pieces.{All-one, along, along_fit, as_code, beside, by_test, cheaper}
-pub use Rattle.codegen.proofs.program_logic_lemmas.Pieces.{ends_on, gives, idle, never, quiet, quietly, seq, step_ends}
-pub use Rattle.codegen.proofs.program_logic_lemmas.Pieces.{weaken}
+pub use Rattle.codegen.proofs.program_logic_lemmas.Pieces.{counting, ends_on, gives, idle, never, no_code}
+pub use Rattle.codegen.proofs.program_logic_lemmas.Pieces.{quiet, quietly, seq, step_ends, weaken}
 pub use Rattle.codegen.proofs.program_logic_lemmas.PlacedLaws.{Placed-left, Placed-right, stands}
-pub use Rattle.codegen.proofs.program_logic_lemmas.StraightRuns.{both_left, both_right, found, shown_allowed}
+pub use Rattle.codegen.proofs.program_logic_lemmas.StraightRuns.{both_left, both_right, found, one_allowed}
 pub use Rattle.codegen.proofs.program_logic_lemmas.StraightRuns.{straight_code_leads}
 pub use Rattle.codegen.proofs.program_logic_lemmas.StraightRuns.{first_fit, first_met, rest_fit, rest_met}
 pub use Rattle.codegen.proofs.program_logic_lemmas.Symbols.{by_symbols, byte_after, byte_kept, data_kept}
 pub use Rattle.codegen.proofs.program_logic_lemmas.Symbols.{register_after, register_kept}
-pub use Rattle.codegen.proofs.program_logic_lemmas.StepLaws.{LeadsKeeping-append, LeadsKeeping-weaken, leads_kept}
-pub use Rattle.codegen.proofs.program_logic_lemmas.StepLaws.{still_there, LeadsWithin-append, LeadsWithin-weaken}
-pub use Rattle.codegen.proofs.program_logic_lemmas.StepLaws.{one_within, both_within}
+pub use Rattle.codegen.proofs.program_logic_lemmas.StepLaws.{all_keep, all_show, both_within, leads_alone}
+pub use Rattle.codegen.proofs.program_logic_lemmas.StepLaws.{LeadsBy-append, LeadsBy-weaken, one_by, still_there}
 pub use Rattle.codegen.specs.program_logic.Pieces.{Became, Runs, PieceSetting, Still, RunsAt, Then, always, none}
 pub use Rattle.codegen.specs.program_logic.Placed.{Placed}
 pub use Rattle.codegen.specs.program_logic.StraightCode.{AreFit, AreMet, Contents, IsFit, IsMet, after, after_all}
 pub use Rattle.codegen.specs.program_logic.StraightCode.{are_straight, contents_of, number_or_zero, shown_by}
 pub use Rattle.codegen.specs.program_logic.StraightCode.{with_result}
+pub use Rattle.codegen.specs.program_logic.MachineSteps.{at_most, Bound, exactly, LeadsBy, LeadsWithin}

@@ -1,73 +1,79 @@
 -- Steps of which more is known: one after another, and what follows of each.
-use Rattle.std.proofs.Common.{◌≡◌, ℕ, ◌+◌, List, [], ◌∷◌, ◌++◌, All, Option, ◌∙◌, suc-add, zero-add}
-use Rattle.std.proofs.lemmas.List.Elements.{All-head, All-tail}
-use Rattle.codegen.specs.program_logic.MachineSteps.{LeadsKeeping, stays_kept, steps_kept, LeadsWithin, stays_within}
-use Rattle.codegen.specs.program_logic.MachineSteps.{steps_within}
+use Rattle.std.proofs.Common.{◌≡◌, ℕ, ◌+◌, List, [], ◌∷◌, ◌++◌, All, Option, ◌∙◌, suc-add, zero-add, arith}
+use Rattle.std.proofs.lemmas.List.Elements.{All-cons, All-head, All-nil, All-tail}
+use Rattle.codegen.specs.program_logic.MachineSteps.{at_most, Bound, exactly, IsCounted, LeadsBy, LeadsWithin, stays_by}
+use Rattle.codegen.specs.program_logic.MachineSteps.{steps_by}
 use Rattle.codegen.specs.Below.{MachineCode, Event, Leads, Observation, State, stays, steps_on}
 
--- What each keeps.
+module _ {code : MachineCode} {Each : State → Option Event → State → Type 0} where
+  pub LeadsBy-append : {m n : ℕ} {s t u : State} {seen more : List Observation} → LeadsBy code Each m s seen t
+      → LeadsBy code Each n t more u → LeadsBy code Each (m + n) s (seen ++ more) u
+  LeadsBy-append stays_by then = rw zero-add then
+  LeadsBy-append (steps_by first holds rest) then = rw suc-add (steps_by first holds (LeadsBy-append rest then))
 
-pub LeadsKeeping-append : {code : MachineCode} {Keeps : State → State → Type 0} {m n : ℕ} {s t u : State}
-    {seen more : List Observation} → LeadsKeeping code Keeps m s seen t → LeadsKeeping code Keeps n t more u
-    → LeadsKeeping code Keeps (m + n) s (seen ++ more) u
-LeadsKeeping-append stays_kept then = rw zero-add then
-LeadsKeeping-append (steps_kept first keeps rest) then =
-    rw suc-add (steps_kept first keeps (LeadsKeeping-append rest then))
+  pub LeadsBy-weaken : {Less : State → Option Event → State → Type 0} {n : ℕ} {s t : State} {seen : List Observation}
+      → ((s : State) (event : Option Event) (t : State) → Each s event t → Less s event t)
+      → LeadsBy code Each n s seen t → LeadsBy code Less n s seen t
+  LeadsBy-weaken less stays_by = stays_by
+  LeadsBy-weaken less (steps_by first holds rest) = steps_by first (less _ _ _ holds) (LeadsBy-weaken less rest)
 
-pub LeadsKeeping-weaken : {code : MachineCode} {Keeps Leaves : State → State → Type 0} {n : ℕ} {s t : State}
-    {seen : List Observation} → ((s t : State) → Keeps s t → Leaves s t)
-    → LeadsKeeping code Keeps n s seen t → LeadsKeeping code Leaves n s seen t
-LeadsKeeping-weaken less stays_kept = stays_kept
-LeadsKeeping-weaken less (steps_kept first keeps rest) =
-    steps_kept first (less _ _ keeps) (LeadsKeeping-weaken less rest)
+  -- one step
+  pub one_by : {s t : State} {o : Observation} → Leads code 1 s (o ∷ []) t → Each s o.event t
+      → LeadsBy code Each 1 s (o ∷ []) t
+  one_by (steps_on first stays) holds = steps_by first holds stays_by
 
--- one step
-pub one_kept : {code : MachineCode} {Keeps : State → State → Type 0} {s t : State} {o : Observation}
-    → Leads code 1 s (o ∷ []) t → Keeps s t → LeadsKeeping code Keeps 1 s (o ∷ []) t
-one_kept (steps_on first stays) keeps = steps_kept first keeps stays_kept
+  -- the steps alone
+  pub leads_alone : {n : ℕ} {s t : State} {seen : List Observation} → LeadsBy code Each n s seen t
+      → Leads code n s seen t
+  leads_alone stays_by = stays
+  leads_alone (steps_by first holds rest) = steps_on first (leads_alone rest)
 
--- the steps alone
-pub leads_kept : {code : MachineCode} {Keeps : State → State → Type 0} {n : ℕ} {s t : State} {seen : List Observation}
-    → LeadsKeeping code Keeps n s seen t → Leads code n s seen t
-leads_kept stays_kept = stays
-leads_kept (steps_kept first keeps rest) = steps_on first (leads_kept rest)
+  -- what each keeps, all keep
+  pub all_keep : {Keeps : State → State → Type 0} {n : ℕ} {s t : State} {seen : List Observation}
+      → ((s : State) → Keeps s s) → ((s t u : State) → Keeps s t → Keeps t u → Keeps s u)
+      → ((s : State) (event : Option Event) (t : State) → Each s event t → Keeps s t)
+      → LeadsBy code Each n s seen t → Keeps s t
+  all_keep same more keeps stays_by = same _
+  all_keep same more keeps (steps_by first holds rest) =
+      more _ _ _ (keeps _ _ _ holds) (all_keep same more keeps rest)
 
--- where each keeps x2, it stays where it was
-pub still_there : {code : MachineCode} {Keeps : State → State → Type 0} {n : ℕ} {s t : State} {seen : List Observation}
-    (sp : ℕ) → ((s t : State) → Keeps s t → t.regs 2 ≡ s.regs 2) → s.regs 2 ≡ sp
-    → LeadsKeeping code Keeps n s seen t → LeadsWithin code (λ x event. x ≡ sp) n s seen t
-still_there sp same there stays_kept = stays_within
-still_there sp same there (steps_kept first keeps rest) =
-    steps_within first there (still_there sp same (same _ _ keeps ∙ there) rest)
+  -- what holds of what each shows, holds of all the list
+  pub all_show : (Shows : Option Event → Type 0) {n : ℕ} {s t : State} {seen : List Observation}
+      → ((s : State) (event : Option Event) (t : State) → Each s event t → Shows event)
+      → LeadsBy code Each n s seen t → All (λ (o : Observation). Shows o.event) seen
+  all_show Shows shows stays_by = All-nil (λ (o : Observation). Shows o.event)
+  all_show Shows shows (steps_by first holds rest) =
+      All-cons (λ (o : Observation). Shows o.event) _ _ (shows _ _ _ holds) (all_show Shows shows rest)
 
--- What each shows.
+  -- what is known of the list as well
+  pub both_within : {Shows : Option Event → Type 0} {Both : State → Option Event → State → Type 0} {n : ℕ} {s t : State}
+      {seen : List Observation}
+      → ((s : State) (event : Option Event) (t : State) → Each s event t → Shows event → Both s event t)
+      → LeadsBy code Each n s seen t → All (λ (o : Observation). Shows o.event) seen → LeadsBy code Both n s seen t
+  both_within may stays_by all = stays_by
+  both_within {Shows = Shows} may (steps_by {o = o} {seen = seen} first one rest) all =
+      steps_by first (may _ _ _ one (All-head (λ (o : Observation). Shows o.event) o seen all))
+      (both_within may rest (All-tail (λ (o : Observation). Shows o.event) o seen all))
 
-pub LeadsWithin-append : {code : MachineCode} {Allowed : ℕ → Option Event → Type 0} {m n : ℕ} {s t u : State}
-    {seen more : List Observation} → LeadsWithin code Allowed m s seen t → LeadsWithin code Allowed n t more u
-    → LeadsWithin code Allowed (m + n) s (seen ++ more) u
-LeadsWithin-append stays_within then = rw zero-add then
-LeadsWithin-append (steps_within first may rest) then =
-    rw suc-add (steps_within first may (LeadsWithin-append rest then))
+  -- where each keeps x2, it stays where it was
+  pub still_there : {n : ℕ} {s t : State} {seen : List Observation} (sp : ℕ)
+      → ((s : State) (event : Option Event) (t : State) → Each s event t → t.regs 2 ≡ s.regs 2) → s.regs 2 ≡ sp
+      → LeadsBy code Each n s seen t → LeadsWithin code (λ x event. x ≡ sp) n s seen t
+  still_there sp same there stays_by = stays_by
+  still_there sp same there (steps_by first holds rest) =
+      steps_by first there (still_there sp same (same _ _ _ holds ∙ there) rest)
 
-pub LeadsWithin-weaken : {code : MachineCode} {Allowed May : ℕ → Option Event → Type 0} {n : ℕ} {s t : State}
-    {seen : List Observation} → ((sp : ℕ) (event : Option Event) → Allowed sp event → May sp event)
-    → LeadsWithin code Allowed n s seen t → LeadsWithin code May n s seen t
-LeadsWithin-weaken may stays_within = stays_within
-LeadsWithin-weaken may (steps_within first one rest) =
-    steps_within first (may _ _ one) (LeadsWithin-weaken may rest)
+-- How steps are counted.
 
--- one step
-pub one_within : {code : MachineCode} {Allowed : ℕ → Option Event → Type 0} {s t : State} {o : Observation}
-    → Leads code 1 s (o ∷ []) t → Allowed (s.regs 2) o.event → LeadsWithin code Allowed 1 s (o ∷ []) t
-one_within (steps_on first stays) may = steps_within first may stays_within
+pub counted : {m n : ℕ} (bound : Bound) → m ≡ n → IsCounted bound m n
+counted exactly same = same
+counted at_most same = omega arith
 
--- what is known of the list as well
-pub both_within : {code : MachineCode} {Allowed May : ℕ → Option Event → Type 0} {Shows : Option Event → Type 0} {n : ℕ}
-    {s t : State} {seen : List Observation}
-    → ((sp : ℕ) (event : Option Event) → Allowed sp event → Shows event → May sp event)
-    → LeadsWithin code Allowed n s seen t → All (λ (o : Observation). Shows o.event) seen
-    → LeadsWithin code May n s seen t
-both_within may stays_within all = stays_within
-both_within {Shows = Shows} may (steps_within {o = o} {seen = seen} first one rest) all =
-    steps_within first (may _ _ one (All-head (λ (o : Observation). Shows o.event) o seen all))
-    (both_within may rest (All-tail (λ (o : Observation). Shows o.event) o seen all))
+pub counted_then : (bound : Bound) (k m n : ℕ) → IsCounted bound k m → IsCounted bound m n → IsCounted bound k n
+counted_then exactly k m n one other = one ∙ other
+counted_then at_most k m n one other = omega arith
+
+pub counted_both : (bound : Bound) (k l m n : ℕ) → IsCounted bound k m → IsCounted bound l n
+    → IsCounted bound (k + l) (m + n)
+counted_both exactly k l m n one other = omega arith
+counted_both at_most k l m n one other = omega arith

@@ -11,6 +11,7 @@ use Rattle.codegen.specs.program_logic.Jumps.{skip, over, back, branch_code}
 use Rattle.codegen.specs.program_logic.Pieces.{PieceSetting, Before, After, Steps, Leak, always, both, Ends, Runs}
 use Rattle.codegen.specs.program_logic.Pieces.{Still}
 use Rattle.codegen.specs.program_logic.Placed.{Placed}
+use Rattle.codegen.specs.program_logic.MachineSteps.{at_most, Bound}
 use Rattle.codegen.specs.Below.{Bne, branch_target, BranchTest, holds, Instr, IsInstr, jump_target, moved_to, next}
 use Rattle.codegen.specs.Below.{Observation, register, State, with_link, with_register}
 use Rattle.rv_code.specs.declared.instructions.Instr.TheVariants as instr
@@ -50,14 +51,14 @@ pub record Way (z : PieceSetting) (p k l : ℕ) (goes : State → Type 0) (code 
   pub into : Leak z
   pub out : Leak z
   pub enters : (s : State) (rest : List z.Mark) → s.pc ≡ p → goes s
-      → Ends z k start into rest rest (λ t. Still s t) s
+      → Ends at_most z k start into rest rest (λ t. Still s t) s
   pub leaves : (u : State) (rest : List z.Mark) → u.pc ≡ start + 4 * length xs
-      → Ends z l (p + 4 * length code) out rest rest (Back u) u
+      → Ends at_most z l (p + 4 * length code) out rest rest (Back u) u
 
-module _ {z : PieceSetting} where
+module _ {bound : Bound} {z : PieceSetting} where
   jump_ends : (p halves target : ℕ) (rest : List z.Mark) → Placed z.code p (instr.Jump 0 halves ∷ [])
       → halves < 2 ^ 20 → jump_target p halves ≡ target → target % 4 ≡ 0
-      → (s : State) → s.pc ≡ p → Ends z 1 target (always (shown_at p)) rest rest (λ t. Still s t) s
+      → (s : State) → s.pc ≡ p → Ends bound z 1 target (always (shown_at p)) rest rest (λ t. Still s t) s
   jump_ends p halves target rest placed small to even s at =
       let there : jump_target s.pc halves ≡ target = ap (λ q. jump_target q halves) at ∙ to in
       let t = with_link s 0 (jump_target s.pc halves) in
@@ -67,19 +68,19 @@ module _ {z : PieceSetting} where
       } in
       step_ends None None t at
       (jump_leads z.code s 0 halves (stands z.code p _ [] placed (omega arith, small) s at) (ap (λ q. q % 4) there
-      ∙ even)) refl z.silence (z.keeps_still s t still) refl
+      ∙ even)) refl (z.each_still s t still) refl
       (with_link-pc s 0 (jump_target s.pc halves) ∙ there) still
 
   -- over so many instructions
   pub over_ends : (p n : ℕ) (rest : List z.Mark) → Placed z.code p (over n ∷ []) → 2 * n + 2 < 2 ^ 19
       → p + 4 + 4 * n < 2 ^ 32
-      → (s : State) → s.pc ≡ p → Ends z 1 (p + 4 + 4 * n) (always (shown_at p)) rest rest (λ t. Still s t) s
+      → (s : State) → s.pc ≡ p → Ends bound z 1 (p + 4 + 4 * n) (always (shown_at p)) rest rest (λ t. Still s t) s
   over_ends p n rest placed near below s at =
       jump_ends p (2 * n + 2) (p + 4 + 4 * n) rest placed (omega arith) (forward p n near below) (omega arith) s at
 
   pub back_ends : (p n q : ℕ) (rest : List z.Mark) → Placed z.code q (back n ∷ []) → 0 < n → 2 * n ≤ 2 ^ 19
       → q ≡ p + 4 * n
-      → (s : State) → s.pc ≡ q → Ends z 1 p (always (shown_at q)) rest rest (λ t. Still s t) s
+      → (s : State) → s.pc ≡ q → Ends bound z 1 p (always (shown_at q)) rest rest (λ t. Still s t) s
   back_ends p n q rest placed some near is s at =
       let to : q - 4 * n ≡ p = omega arith in
       jump_ends q (2 ^ 20 - 2 * n) p rest placed (omega arith)
@@ -91,22 +92,23 @@ module _ {z : PieceSetting} where
       (rest : List z.Mark) (s : State) (at : s.pc ≡ p) where
     pub taken_ends : (target : ℕ) → branch_target p halves ≡ target → target % 4 ≡ 0
         → holds test (register s.regs l) (register s.regs r) ≡ true
-        → Ends z 1 target (always (shown_at p)) rest rest (λ t. Still s t) s
+        → Ends bound z 1 target (always (shown_at p)) rest rest (λ t. Still s t) s
     taken_ends target to even passed =
         let there : branch_target s.pc halves ≡ target = ap (λ q. branch_target q halves) at ∙ to in
         step_ends None None (moved_to s (branch_target s.pc halves)) at
         (branch_leads z.code s test l r halves (stands z.code p _ [] placed fields s at) passed
-        (ap (λ q. q % 4) there ∙ even)) refl z.silence (z.keeps_still s _ (moved_still s _)) refl
+        (ap (λ q. q % 4) there ∙ even)) refl (z.each_still s _ (moved_still s _)) refl
         (moved_to-pc s (branch_target s.pc halves) ∙ there) (moved_still s _)
 
     pub untaken_ends : holds test (register s.regs l) (register s.regs r) ≡ false
-        → Ends z 1 (p + 4) (always (shown_at p)) rest rest (λ t. Still s t) s
+        → Ends bound z 1 (p + 4) (always (shown_at p)) rest rest (λ t. Still s t) s
     untaken_ends failed =
         let to : next s ≡ p + 4 = omega arith in
         step_ends None None (moved_to s (next s)) at
-        (branch_passes z.code s test l r halves (stands z.code p _ [] placed fields s at) failed) refl z.silence
-        (z.keeps_still s _ (moved_still s _)) refl (moved_to-pc s (next s) ∙ to) (moved_still s _)
+        (branch_passes z.code s test l r halves (stands z.code p _ [] placed fields s at) failed) refl
+        (z.each_still s _ (moved_still s _)) refl (moved_to-pc s (next s) ∙ to) (moved_still s _)
 
+module _ {z : PieceSetting} where
   -- an arm's code, from states that go to its piece
   pub arm_runs : {k m l : ℕ} {a : Steps z} {code xs : List Instr} {P P' : Before z} {Q S : After z}
       {goes : State → Type 0} {Back : State → State → Type 0}
@@ -114,7 +116,7 @@ module _ {z : PieceSetting} where
       → ((env : z.Beside) (s : State) → P env s → goes s)
       → ((env : z.Beside) (s t : State) → P env s → Still s t → P' env t)
       → ((env : z.Beside) (s t u v : State) → P env s → Still s t → Q env t u → Back u v → S env s v)
-      → Runs z m a xs P' Q → Runs z (k + (m + l)) a code P S
+      → Runs at_most z m a xs P' Q → Runs at_most z (k + (m + l)) a code P S
   arm_runs {a = a} way tested before after one = record {
     placed_at = λ p placed.
         let w = way p placed in
@@ -133,9 +135,9 @@ module _ {z : PieceSetting} where
   -- where a value is known, the steps of one arm or those of the other
   pub by_known : {n : ℕ} {a b : Steps z} {is : List Instr} {P : Before z} {S : After z} (value : z.Beside → ℕ) (v : ℕ)
       → ((env : z.Beside) (s : State) → P env s → value env ≡ v)
-      → (((env : z.Beside) (s : State) → P env s → value env ≢ 0) → Runs z n a is P S)
-      → (((env : z.Beside) (s : State) → P env s → value env ≡ 0) → Runs z n b is P S)
-      → Runs z n (λ env. if value env == 0 then b env else a env) is P S
+      → (((env : z.Beside) (s : State) → P env s → value env ≢ 0) → Runs at_most z n a is P S)
+      → (((env : z.Beside) (s : State) → P env s → value env ≡ 0) → Runs at_most z n b is P S)
+      → Runs at_most z n (λ env. if value env == 0 then b env else a env) is P S
   by_known {P = P} value v known some none' =
       elim (cases_eq v 0) [
         | inl zero' ↦ along_fit (λ env s fit. rw (eq-eqb (value env) 0 (known env s fit ∙ zero')))
@@ -150,7 +152,7 @@ module _ {z : PieceSetting} where
     -- the register is not 0, so the next instruction is not run
     pub skip_ends : (p : ℕ) (rest : List z.Mark) → Placed z.code p (skip r ∷ []) → p + 8 < 2 ^ 32 → (s : State)
         → s.pc ≡ p → s.regs r ≢ 0
-        → Ends z 1 (p + 4 + 4) (always (shown_at p)) rest rest (λ t. Still s t) s
+        → Ends at_most z 1 (p + 4 + 4) (always (shown_at p)) rest rest (λ t. Still s t) s
     skip_ends p rest placed below s at some =
         taken_ends Bne r 0 4 p (small, omega arith, omega arith) placed rest s at (p + 4 + 4) (omega arith)
         (omega arith) (some_in s.regs r nonzero some)
@@ -158,7 +160,7 @@ module _ {z : PieceSetting} where
     -- the register is 0
     pub pass_ends : (p : ℕ) (rest : List z.Mark) → Placed z.code p (skip r ∷ []) → (s : State) → s.pc ≡ p
         → s.regs r ≡ 0
-        → Ends z 1 (p + 4) (always (shown_at p)) rest rest (λ t. Still s t) s
+        → Ends at_most z 1 (p + 4) (always (shown_at p)) rest rest (λ t. Still s t) s
     pass_ends p rest placed s at zero' =
         untaken_ends Bne r 0 4 p (small, omega arith, omega arith) placed rest s at (none_in s.regs r nonzero zero')
 
@@ -173,7 +175,7 @@ module _ {z : PieceSetting} where
         → S env s v)
         (rejects : (env : z.Beside) (s t : State) → value env ≡ 0 → P env s → Still s t → P2 env t)
         (rejected : (env : z.Beside) (s t u : State) → value env ≡ 0 → P env s → Still s t → R env t u → S env s u)
-        (one : Runs z m a xs P1 Q) (two : Runs z n b ys P2 R) where
+        (one : Runs at_most z m a xs P1 Q) (two : Runs at_most z n b ys P2 R) where
       module _ (p : ℕ) (placed : Placed z.code p (branch_code r xs ys)) where
         -- where the second jump stands
         abbrev middle : ℕ
@@ -222,7 +224,7 @@ module _ {z : PieceSetting} where
 
       -- where the value is known to be 0
       pub second_runs : ((env : z.Beside) (s : State) → P env s → value env ≡ 0)
-          → Runs z (2 + m + n) b (branch_code r xs ys) P S
+          → Runs at_most z (2 + m + n) b (branch_code r xs ys) P S
       second_runs none' =
           cheaper (omega arith)
           (arm_runs second_way (λ env s fit. tested env s fit ∙ none' env s fit)
@@ -232,7 +234,7 @@ module _ {z : PieceSetting} where
 
       -- or known not to be
       pub first_runs : ((env : z.Beside) (s : State) → P env s → value env ≢ 0)
-          → Runs z (2 + m + n) a (branch_code r xs ys) P S
+          → Runs at_most z (2 + m + n) a (branch_code r xs ys) P S
       first_runs some =
           cheaper (omega arith)
           (arm_runs first_way (λ env s fit e. some env s fit (sym (tested env s fit) ∙ e))
@@ -241,5 +243,5 @@ module _ {z : PieceSetting} where
 
       -- where the value is known, the first piece where it is not 0, and else the second
       pub branching_at : (v : ℕ) → ((env : z.Beside) (s : State) → P env s → value env ≡ v)
-          → Runs z (2 + m + n) (λ env. if value env == 0 then b env else a env) (branch_code r xs ys) P S
+          → Runs at_most z (2 + m + n) (λ env. if value env == 0 then b env else a env) (branch_code r xs ys) P S
       branching_at v is = by_known value v is first_runs second_runs

@@ -7,10 +7,12 @@ use Rattle.codegen.proofs.program_logic_lemmas.Jumps.{shown_at, over_ends, back_
 use Rattle.codegen.proofs.program_logic_lemmas.Jumps.{untaken_ends}
 use Rattle.codegen.proofs.program_logic_lemmas.Pieces.{seen_then, seen_nothing, then_ends, ends_as, ends_to, ends_on}
 use Rattle.codegen.proofs.program_logic_lemmas.PlacedLaws.{Placed-left, Placed-right}
+use Rattle.codegen.proofs.program_logic_lemmas.StepLaws.{counted}
 use Rattle.codegen.specs.program_logic.Jumps.{skip, over, back, loop_code, again_code}
 use Rattle.codegen.specs.program_logic.Pieces.{PieceSetting, Before, After, Steps, none, Leak, always, both, Ends}
 use Rattle.codegen.specs.program_logic.Pieces.{RunsAt, Runs, Still, iterations_after, iterations_path}
 use Rattle.codegen.specs.program_logic.Placed.{Placed}
+use Rattle.codegen.specs.program_logic.MachineSteps.{at_most, Bound}
 use Rattle.codegen.specs.Below.{Bne, branch_target, Instr, IsInstr, register, State}
 use Rattle.rv_code.specs.declared.instructions.Instr.TheVariants as instr
 
@@ -31,8 +33,8 @@ module _ {z : PieceSetting} (r : ℕ) (small : r < 32) (nonzero : r ≢ 0) {m n 
     (iterated : (left i : ℕ) (env : z.Beside) (o s t u v w : State) → Inv (suc left) i env o s → B (suc left) i env s t
     → Still t u → D left i env u v → Still v w → Inv left (i + 1) (iteration i env) o w)
     (leaves : (i : ℕ) (env : z.Beside) (o s t u : State) → Inv 0 i env o s → B 0 i env s t → Still t u → Over env o u)
-    (tests : (left i : ℕ) → Runs z m none test (A left i) (B left i))
-    (bodies : (left i : ℕ) → Runs z n (path i) body (C left i) (D left i)) where
+    (tests : (left i : ℕ) → Runs at_most z m none test (A left i) (B left i))
+    (bodies : (left i : ℕ) → Runs at_most z n (path i) body (C left i) (D left i)) where
   module _ (p : ℕ) (placed : Placed z.code p (loop_code r test body)) where
     -- where the test has ended
     abbrev tested_at : ℕ
@@ -58,10 +60,10 @@ module _ {z : PieceSetting} (r : ℕ) (small : r < 32) (nonzero : r ≢ 0) {m n 
     ended : back_at + 4 ≡ p + 4 * length (loop_code r test body)
     ended = omega (arith, length-append test behind_test, length-append body jump)
 
-    test_at : (left i : ℕ) → RunsAt z p m none test (A left i) (B left i)
+    test_at : (left i : ℕ) → RunsAt at_most z p m none test (A left i) (B left i)
     test_at left i = (tests left i).placed_at p (Placed-left z.code p test behind_test placed)
 
-    body_at : (left i : ℕ) → RunsAt z (tested_at + 4 + 4) n (path i) body (C left i) (D left i)
+    body_at : (left i : ℕ) → RunsAt at_most z (tested_at + 4 + 4) n (path i) body (C left i) (D left i)
     body_at left i =
         (bodies left i).placed_at (tested_at + 4 + 4) (Placed-left z.code (tested_at + 4 + 4) body jump from_skip.3.3)
 
@@ -73,12 +75,12 @@ module _ {z : PieceSetting} (r : ℕ) (small : r < 32) (nonzero : r ≢ 0) {m n 
 
     -- the test on a path that it puts nothing on
     test_ends : (left i : ℕ) (env : z.Beside) (s : State) (rest : List z.Mark) → s.pc ≡ p → A left i env s
-        → Ends z m tested_at (test_at left i).leak rest rest (B left i env s) s
+        → Ends at_most z m tested_at (test_at left i).leak rest rest (B left i env s) s
     test_ends left i env s rest at fit =
         ends_on ((test_at left i).runs env s rest at z.fine_none fit) (sym (seen_nothing z rest))
 
     last_ends : (i : ℕ) (env : z.Beside) (o s : State) (rest : List z.Mark) → s.pc ≡ p → Inv 0 i env o s
-        → Ends z (m + n + 2) (p + 4 * length (loop_code r test body)) (leak_at 0 i) rest rest (Over env o) s
+        → Ends at_most z (m + n + 2) (p + 4 * length (loop_code r test body)) (leak_at 0 i) rest rest (Over env o) s
     unfolding leak_at
     last_ends i env o s rest at inv =
         let past : tested_at + 4 + 4 + 4 * (length body + 1) ≡ back_at + 4 = omega arith in
@@ -98,7 +100,7 @@ module _ {z : PieceSetting} (r : ℕ) (small : r < 32) (nonzero : r ≢ 0) {m n 
 
     runs_at : (left i : ℕ) (env : z.Beside) (o s : State) (rest : List z.Mark) → s.pc ≡ p
         → z.Fine (iterations_path left i iteration path env) → Inv left i env o s
-        → Ends z ((left + 1) * (m + n + 2)) (p + 4 * length (loop_code r test body)) (leak_at left i)
+        → Ends at_most z ((left + 1) * (m + n + 2)) (p + 4 * length (loop_code r test body)) (leak_at left i)
         (z.seen (iterations_path left i iteration path env) ++ rest) rest
         (Over (iterations_after left i iteration env) o) s
     unfolding leak_at
@@ -132,7 +134,8 @@ module _ {z : PieceSetting} (r : ℕ) (small : r < 32) (nonzero : r ≢ 0) {m n 
 
   -- so many iterations, the first at this number
   pub looping : (left i : ℕ)
-      → Runs z ((left + 1) * (m + n + 2)) (λ env. iterations_path left i iteration path env) (loop_code r test body)
+      → Runs at_most z ((left + 1) * (m + n + 2)) (λ env. iterations_path left i iteration path env)
+      (loop_code r test body)
       (λ env s. Inv left i env s s) (λ env s t. Over (iterations_after left i iteration env) s t)
   looping left i = record {
     placed_at = λ p placed. record {
@@ -147,8 +150,8 @@ back_target : (p n : ℕ) → 0 < n → 2 * n ≤ 2 ^ 11 → 4 * n ≤ p → p <
     → branch_target p (2 ^ 12 - 2 * n) ≡ p - 4 * n
 back_target p n some near low below = grind (arith, nat_tests)
 
-module _ {z : PieceSetting} (r q : ℕ) (small : r < 32) (small' : q < 32) {n : ℕ} {body : List Instr} {C : ℕ → ℕ
-    → Before z} {D : ℕ → ℕ → After z}
+module _ {bound : Bound} {z : PieceSetting} (r q : ℕ) (small : r < 32) (small' : q < 32) {n : ℕ}
+    {body : List Instr} {C : ℕ → ℕ → Before z} {D : ℕ → ℕ → After z}
     (path : ℕ → Steps z) (iteration : ℕ → z.Beside → z.Beside)
     (Inv : ℕ → ℕ → z.Beside → State → State → Type 0)
     (Over : z.Beside → State → State → Type 0)
@@ -162,7 +165,7 @@ module _ {z : PieceSetting} (r q : ℕ) (small : r < 32) (small' : q < 32) {n : 
     → Still t u → Inv left (i + 1) (iteration i env) o u)
     (leaves : (i : ℕ) (env : z.Beside) (o s t u : State) → Inv 0 i env o s → D 0 i env s t → Still t u
     → Over (iteration i env) o u)
-    (bodies : (left i : ℕ) → Runs z n (path i) body (C left i) (D left i)) where
+    (bodies : (left i : ℕ) → Runs bound z n (path i) body (C left i) (D left i)) where
   module _ (p : ℕ) (placed : Placed z.code p (again_code r q body)) where
     -- where the branch stands
     abbrev branch_at : ℕ
@@ -177,7 +180,7 @@ module _ {z : PieceSetting} (r q : ℕ) (small : r < 32) (small' : q < 32) {n : 
     behind : branch_at + 4 ≡ p + 4 * length (again_code r q body)
     behind = omega (arith, length-append body (branch ∷ []))
 
-    round_at : (left i : ℕ) → RunsAt z p n (path i) body (C left i) (D left i)
+    round_at : (left i : ℕ) → RunsAt bound z p n (path i) body (C left i) (D left i)
     round_at left i = (bodies left i).placed_at p (Placed-left z.code p body (branch ∷ []) placed)
 
     fields : IsInstr branch
@@ -194,7 +197,7 @@ module _ {z : PieceSetting} (r q : ℕ) (small : r < 32) (small' : q < 32) {n : 
 
     again_at : (left i : ℕ) (env : z.Beside) (o s : State) (rest : List z.Mark) → s.pc ≡ p
         → z.Fine (iterations_path (suc left) i iteration path env) → Inv left i env o s
-        → Ends z ((left + 1) * (n + 1)) (p + 4 * length (again_code r q body)) (again_leak left i)
+        → Ends bound z ((left + 1) * (n + 1)) (p + 4 * length (again_code r q body)) (again_leak left i)
         (z.seen (iterations_path (suc left) i iteration path env) ++ rest) rest
         (Over (iterations_after (suc left) i iteration env) o) s
     unfolding again_leak
@@ -208,7 +211,7 @@ module _ {z : PieceSetting} (r q : ℕ) (small : r < 32) (small' : q < 32) {n : 
         (ap not (eq-eqb _ _ (ends' i env o s t inv done)))) behind
         (λ u still. leaves i env o s t u inv done still)))
         (ap (λ (marks : List z.Mark). z.seen marks ++ rest) (append-nil (path i env))))
-        (omega arith) refl (λ t done. done)
+        (counted bound (omega arith)) refl (λ t done. done)
     again_at (suc left) i env o s rest at fine inv =
         let tail = iterations_path (suc left) (i + 1) iteration path (iteration i env) in
         let more = z.seen tail ++ rest in
@@ -223,11 +226,12 @@ module _ {z : PieceSetting} (r q : ℕ) (small : r < 32) (small' : q < 32) {n : 
         (λ w there still. again_at left (i + 1) (iteration i env) o w rest there (z.fine_right (path i env) tail fine)
         (iterated left i env o s t w inv done still))))
         (seen_then z (path i env) tail rest))
-        (omega arith) refl (λ t done. done)
+        (counted bound (omega arith)) refl (λ t done. done)
 
   -- one iteration more than so many, the first at this number
   pub repeating : (left i : ℕ)
-      → Runs z ((left + 1) * (n + 1)) (λ env. iterations_path (suc left) i iteration path env) (again_code r q body)
+      → Runs bound z ((left + 1) * (n + 1)) (λ env. iterations_path (suc left) i iteration path env)
+      (again_code r q body)
       (λ env s. Inv left i env s s) (λ env s t. Over (iterations_after (suc left) i iteration env) s t)
   repeating left i = record {
     placed_at = λ p placed. record {

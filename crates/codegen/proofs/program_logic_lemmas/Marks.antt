@@ -2,6 +2,7 @@
 use Rattle.std.proofs.Common.{◌≡◌, ℕ, List, [], ◌∷◌, ◌++◌, Option, Some, None, refl, ap, ◌∙◌}
 use Rattle.codegen.proofs.program_logic_lemmas.Pieces.{ends_by}
 use Rattle.codegen.specs.program_logic.Pieces.{PieceSetting, Steps, Before, After, Runs}
+use Rattle.codegen.specs.program_logic.MachineSteps.{Bound}
 use Rattle.codegen.specs.Below.{Instr, Observation, State}
 
 -- a kind of marks that the observer sees, with what they carry, and what is known of that where the path is fine
@@ -29,11 +30,11 @@ abbrev by_mark_leak : {A M : Type 0} → (M → Option A) → (A → List M → 
 by_mark_leak read leak [] = ([], [])
 by_mark_leak read leak (mark ∷ rest) = by_value leak rest (read mark)
 
-module _ {z : PieceSetting} {A : Type 0} {Good : A → Type 0} (kind : MarkKind z A Good) where
+module _ {bound : Bound} {z : PieceSetting} {A : Type 0} {Good : A → Type 0} (kind : MarkKind z A Good) where
   -- code for each thing that the mark may carry
   pub by_mark : {n : ℕ} {steps : Steps z} {is : List Instr} {P : Before z} {Q : After z} (value : z.Beside → A)
-      → ((x : A) → Runs z n steps is (MarkKnown z A Good P value x) Q)
-      → Runs z n (λ env. kind.mark (value env) ∷ steps env) is P Q
+      → ((x : A) → Runs bound z n steps is (MarkKnown z A Good P value x) Q)
+      → Runs bound z n (λ env. kind.mark (value env) ∷ steps env) is P Q
   by_mark {steps = steps} value each = record {
     placed_at = λ p placed. record {
       leak = by_mark_leak kind.read (λ x. ((each x).placed_at p placed).leak);

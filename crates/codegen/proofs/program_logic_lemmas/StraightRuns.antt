@@ -1,19 +1,17 @@
 -- The machine leads from any state through placed straight-line code to the state that the code is run to by symbols,
 -- and shows the list that is read off the code and the addresses of its accesses.
 use Rattle.std.specs.Prelude.{is_some}
-use Rattle.std.proofs.Common.{◌≡◌, ℕ, suc, ◌+◌, ◌*◌, ◌%◌, ◌^◌, ◌<◌, Bool, true, ◌&&◌, List, [], ◌∷◌, length, All}
+use Rattle.std.proofs.Common.{◌≡◌, ℕ, suc, ◌+◌, ◌*◌, ◌%◌, ◌^◌, ◌<◌, Bool, true, ◌&&◌, List, [], ◌∷◌, length}
 use Rattle.std.proofs.Common.{Option, Some, None, refl, ap, ◌∙◌, subst, arith}
 use Rattle.std.proofs.lemmas.Bool.{and_parts, false≢true}
 use Rattle.std.proofs.lemmas.Bool.Decides.{nat_tests}
-use Rattle.std.proofs.lemmas.List.Elements.{All-cons, All-nil}
 use Rattle.codegen.specs.program_logic.Placed.{Placed}
 use Rattle.codegen.specs.program_logic.StraightCode.{Contents, state_at, is_straight, are_straight, next_of, left_by}
 use Rattle.codegen.specs.program_logic.StraightCode.{with_result, number_or_zero, after, after_all, event_of, shown_by}
 use Rattle.codegen.specs.program_logic.StraightCode.{fit_and, AreFit, IsMet, met_and, AreMet}
 use Rattle.codegen.specs.Below.{address_of, byte_count, MachineCode, Event, Immediate, Instr, IsAt, IsInstr, Leads}
-use Rattle.codegen.specs.Below.{Load, load_size, loaded_value, LoadOperation, Lui, number_at, Observation, Register}
-use Rattle.codegen.specs.Below.{register, Shift, State, stays, Store, store_size, StoreOperation, Upper, with_number}
-use Rattle.codegen.specs.Below.{with_stored}
+use Rattle.codegen.specs.Below.{Load, load_size, loaded_value, LoadOperation, Lui, number_at, Register, register, Shift}
+use Rattle.codegen.specs.Below.{State, stays, Store, store_size, StoreOperation, Upper, with_number, with_stored}
 use Rattle.codegen.proofs.program_logic_lemmas.Below.{Leads-append, upper_leads, immediate_leads, shift_leads}
 use Rattle.codegen.proofs.program_logic_lemmas.Below.{register_leads, load_leads, store_leads}
 use Rattle.rv_machine.specs.Machine.{with_value}
@@ -154,20 +152,9 @@ straight_code_leads works Allows code p (i ∷ is) places c plain placed fit met
     let count : 1 + length is ≡ suc (length is) = omega arith in
     rw (behind, count) at (Leads-append one more)
 
--- What it shows is allowed.
-
-one_allowed : (Allows : Option Event → Type 0) → Allows None → (i : Instr) (a : ℕ) (F : Type 0)
+-- What an instruction shows is allowed.
+pub one_allowed : (Allows : Option Event → Type 0) → Allows None → (i : Instr) (a : ℕ) (F : Type 0)
     → fit_and Allows i a F → Allows (event_of i a)
 one_allowed Allows silence (Load operation rd rs1 offset) a F fit = fit.0.allowed
 one_allowed Allows silence (Store operation rs2 rs1 offset) a F fit = fit.0.allowed
 one_allowed Allows silence i a F fit = silence
-
-pub shown_allowed : (works : ℕ → Bool) (Allows : Option Event → Type 0) → Allows None
-    → (p : ℕ) (is : List Instr) (places : List ℕ) → are_straight works is ≡ true → AreFit Allows is places
-    → All (λ (o : Observation). Allows o.event) (shown_by p is places)
-shown_allowed works Allows silence p [] places plain fit = All-nil (λ (o : Observation). Allows o.event)
-shown_allowed works Allows silence p (i ∷ is) places plain fit =
-    let a = next_of places in
-    All-cons (λ (o : Observation). Allows o.event) _ _ (one_allowed Allows silence i a _ fit)
-    (shown_allowed works Allows silence (p + 4) is (left_by i places) (both_right _ _ plain)
-    (rest_fit Allows i a _ fit))

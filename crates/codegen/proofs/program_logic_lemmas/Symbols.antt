@@ -4,75 +4,69 @@ use Rattle.std.proofs.Common.{◌≡◌, ℕ, suc, ◌+◌, ◌*◌, Bool, true,
 use Rattle.std.proofs.Common.{◌∙◌, subst, arith}
 use Rattle.std.proofs.lemmas.Bool.Decides.{nat_tests}
 use Rattle.codegen.proofs.program_logic_lemmas.Pieces.{seen_nothing, ends_on}
-use Rattle.codegen.proofs.program_logic_lemmas.StraightRuns.{straight_code_leads, shown_allowed, rest_fit, rest_met}
+use Rattle.codegen.proofs.program_logic_lemmas.StraightRuns.{straight_code_leads, rest_fit, rest_met}
 use Rattle.codegen.proofs.program_logic_lemmas.StraightRuns.{both_left, both_right, first_fit, first_met}
-use Rattle.codegen.proofs.program_logic_lemmas.StepLaws.{LeadsKeeping-append, one_kept}
+use Rattle.codegen.proofs.program_logic_lemmas.StepLaws.{counted, LeadsBy-append, one_by}
 use Rattle.codegen.specs.program_logic.Placed.{Placed}
 use Rattle.codegen.specs.program_logic.Pieces.{PieceSetting, Before, none, always, Runs, Became}
 use Rattle.codegen.specs.program_logic.StraightCode.{Contents, contents_of, state_at, is_straight, are_straight}
-use Rattle.codegen.specs.program_logic.StraightCode.{next_of, left_by, after, after_all, shown_by, fit_and, AreFit}
-use Rattle.codegen.specs.program_logic.StraightCode.{met_and, AreMet}
-use Rattle.codegen.specs.program_logic.MachineSteps.{LeadsKeeping, stays_kept}
+use Rattle.codegen.specs.program_logic.StraightCode.{event_of, next_of, left_by, after, after_all, shown_by, fit_and}
+use Rattle.codegen.specs.program_logic.StraightCode.{AreFit, met_and, AreMet}
+use Rattle.codegen.specs.program_logic.MachineSteps.{Bound, LeadsBy, stays_by}
 use Rattle.codegen.specs.Below.{byte_count, ByteMap, Event, Instr, register, State, Store, store_size, with_number}
 use Rattle.codegen.proofs.program_logic_lemmas.Below.{is_some-with_number}
 use Rattle.rv_machine.specs.declared.memory.Size.{Size}
 use Rattle.rv_machine.specs.declared.observation.Event.TheVariants as event
 
--- each instruction that writes such registers, with an allowed access, keeps what is to be kept
-abbrev pub EachKeeps : PieceSetting → (ℕ → Bool) → Type 1
-EachKeeps z works =
-    (i : Instr) (a p : ℕ) (c : Contents) (F : Type 0) → is_straight works i ≡ true → fit_and z.Allows i a F
-    → z.Keeps (state_at p c) (state_at (p + 4) (after i a c))
+-- Straight-line code whose accesses are allowed: each of its instructions holds to what is to hold of a step, in
+-- registers and bytes of which something holds, and it holds of those that the instruction leaves.
+module _ (z : PieceSetting) (works : ℕ → Bool) (Allows : Option Event → Type 0) (Here : Contents → Type 0)
+    (each : (i : Instr) (a p : ℕ) (c : Contents) (F : Type 0) → is_straight works i ≡ true → fit_and Allows i a F
+    → Here c → z.Each (state_at p c) (event_of i a) (state_at (p + 4) (after i a c)) × Here (after i a c)) where
+  -- so such code leads on, step by step
+  straight_each : (p : ℕ) (is : List Instr) (places : List ℕ) (c : Contents) → are_straight works is ≡ true
+      → Placed z.code p is → AreFit Allows is places → AreMet is places c → Here c
+      → LeadsBy z.code z.Each (length is) (state_at p c) (shown_by p is places)
+      (state_at (p + 4 * length is) (after_all is places c))
+  straight_each p [] places c plain placed fit met here =
+      let e : p ≡ p + 4 * 0 = omega arith in
+      subst (λ q. LeadsBy z.code z.Each 0 (state_at p c) [] (state_at q c)) e stays_by
+  straight_each p (i ∷ is) places c plain placed fit met here =
+      let behind : p + 4 + 4 * length is ≡ p + 4 * suc (length is) = omega arith in
+      let count : 1 + length is ≡ suc (length is) = omega arith in
+      let ok = both_left (is_straight works i) (are_straight works is) plain in
+      let a = next_of places in
+      let holds = each i a p c _ ok fit here in
+      let one = one_by
+      (straight_code_leads works Allows z.code p (i ∷ []) places c (rw ok refl)
+      (placed.0, placed.1, placed.2, tt) (first_fit Allows i a _ fit) (first_met i a c _ met)) holds.0 in
+      let more = straight_each (p + 4) is (left_by i places) (after i a c)
+      (both_right (is_straight works i) (are_straight works is) plain) placed.3 (rest_fit Allows i a _ fit)
+      (rest_met i a c _ met) holds.1 in
+      rw (behind, count) at (LeadsBy-append one more)
 
--- so straight-line code leads on, step by step
-straight_keeps : (z : PieceSetting) (works : ℕ → Bool) (p : ℕ) (is : List Instr) (places : List ℕ) (c : Contents)
-    → are_straight works is ≡ true → EachKeeps z works → Placed z.code p is → AreFit z.Allows is places
-    → AreMet is places c
-    → LeadsKeeping z.code z.Keeps (length is) (state_at p c) (shown_by p is places)
-    (state_at (p + 4 * length is) (after_all is places c))
-straight_keeps z works p [] places c plain each placed fit met =
-    let e : p ≡ p + 4 * 0 = omega arith in
-    subst (λ q. LeadsKeeping z.code z.Keeps 0 (state_at p c) [] (state_at q c)) e stays_kept
-straight_keeps z works p (i ∷ is) places c plain each placed fit met =
-    let ok = both_left (is_straight works i) (are_straight works is) plain in
-    let a = next_of places in
-    let one = one_kept
-    (straight_code_leads works z.Allows z.code p (i ∷ []) places c (rw ok refl)
-    (placed.0, placed.1, placed.2, tt) (first_fit z.Allows i a _ fit) (first_met i a c _ met))
-    (each i a p c _ ok fit) in
-    let more = straight_keeps z works (p + 4) is (left_by i places) (after i a c)
-    (both_right (is_straight works i) (are_straight works is) plain) each placed.3 (rest_fit z.Allows i a _ fit)
-    (rest_met i a c _ met) in
-    let behind : p + 4 + 4 * length is ≡ p + 4 * suc (length is) = omega arith in
-    let count : 1 + length is ≡ suc (length is) = omega arith in
-    rw (behind, count) at (LeadsKeeping-append one more)
-
-module _ {z : PieceSetting} where
-  -- straight-line code with accesses at these addresses
-  pub by_symbols : {P : Before z} (works : ℕ → Bool) (is : List Instr) (places : List ℕ)
-      → are_straight works is ≡ true → AreFit z.Allows is places
-      → ((env : z.Beside) (s : State) → P env s → AreMet is places (contents_of s))
-      → EachKeeps z works
-      → ((env : z.Beside) (s t : State) → P env s → Became is places s t → z.Keeps s t)
-      → Runs z (length is) none is P (λ env s t. Became is places s t)
-  by_symbols works is places plain fit met each keeps = record {
+  -- with accesses at these addresses
+  pub by_symbols : {bound : Bound} {P : Before z} (is : List Instr) (places : List ℕ) → are_straight works is ≡ true
+      → AreFit Allows is places
+      → ((env : z.Beside) (s : State) → P env s → AreMet is places (contents_of s) × Here (contents_of s))
+      → Runs bound z (length is) none is P (λ env s t. Became is places s t)
+  by_symbols {bound = bound} is places plain fit met = record {
     placed_at = λ p placed. record {
       leak = always (shown_by p is places);
       runs = λ env s rest at fine given.
           let c = contents_of s in
+          let fits = met env s given in
           ends_on
           (record {
             step_count = length is;
             end = state_at (p + 4 * length is) (after_all is places c);
             seen = shown_by p is places;
             leads =
-                subst (λ q. LeadsKeeping z.code z.Keeps (length is) (state_at q c) (shown_by p is places)
+                subst (λ q. LeadsBy z.code z.Each (length is) (state_at q c) (shown_by p is places)
                 (state_at (p + 4 * length is) (after_all is places c))) (sym at)
-                (straight_keeps z works p is places c plain each placed fit (met env s given));
-            within = omega arith;
+                (straight_each p is places c plain placed fit fits.0 fits.1);
+            within = counted bound refl;
             shown = refl;
-            inside = shown_allowed works z.Allows z.silence p is places plain fit;
-            keeps = keeps env s _ given (record { regs = refl; bytes = refl });
             at = refl;
             done = record { regs = refl; bytes = refl };
           })

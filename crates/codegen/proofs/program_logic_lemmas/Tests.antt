@@ -4,11 +4,12 @@ use Rattle.std.proofs.Common.{length, refl, sym, subst, ◌∙◌, arith, length
 use Rattle.std.proofs.lemmas.Bool.Decides.{nat_tests}
 use Rattle.codegen.proofs.program_logic_lemmas.Jumps.{Way, arm_runs, by_known, over_ends, shown_at, taken_ends}
 use Rattle.codegen.proofs.program_logic_lemmas.Jumps.{untaken_ends}
-use Rattle.codegen.proofs.program_logic_lemmas.Pieces.{cheaper, ends_to, stop_here}
+use Rattle.codegen.proofs.program_logic_lemmas.Pieces.{cheaper, ends_as, ends_to, stop_here}
 use Rattle.codegen.proofs.program_logic_lemmas.PlacedLaws.{Placed-below, Placed-left, Placed-right}
 use Rattle.codegen.specs.program_logic.Tests.{leave, unless_code}
 use Rattle.codegen.specs.program_logic.Pieces.{After, Before, Ends, Runs, PieceSetting, Steps, Still, always}
 use Rattle.codegen.specs.program_logic.Placed.{Placed}
+use Rattle.codegen.specs.program_logic.MachineSteps.{at_most}
 use Rattle.codegen.specs.Below.{branch_target, BranchTest, holds, Instr, IsInstr, Observation, register, State}
 use Rattle.rv_code.specs.declared.instructions.Instr.TheVariants as instr
 
@@ -24,8 +25,9 @@ module _ {z : PieceSetting} where
   leave_ends : (ys : List Instr) (q : ℕ) (rest : List z.Mark) → Placed z.code q (leave ys ++ ys)
       → 2 * length ys + 2 < 2 ^ 19
       → (s : State) → s.pc ≡ q
-      → Ends z 1 (q + 4 * length (leave ys ++ ys)) (leave_leak q ys) rest rest (λ t. Still s t) s
-  leave_ends [] q rest placed near s at = stop_here s (omega arith) (record { regs = refl; bytes = refl })
+      → Ends at_most z 1 (q + 4 * length (leave ys ++ ys)) (leave_leak q ys) rest rest (λ t. Still s t) s
+  leave_ends [] q rest placed near s at =
+      ends_as (stop_here s refl (record { regs = refl; bytes = refl })) (omega arith) (omega arith) (λ t still. still)
   leave_ends (y ∷ ys) q rest placed near s at =
       ends_to
       (over_ends q (length (y ∷ ys)) rest (placed.0, placed.1, placed.2, tt) near
@@ -45,7 +47,7 @@ module _ {z : PieceSetting} where
         → S env s v)
         (rejects : (env : z.Beside) (s t : State) → value env ≡ 0 → P env s → Still s t → P2 env t)
         (rejected : (env : z.Beside) (s t u : State) → value env ≡ 0 → P env s → Still s t → R env t u → S env s u)
-        (one : Runs z m a xs P1 Q) (two : Runs z n b ys P2 R) where
+        (one : Runs at_most z m a xs P1 Q) (two : Runs at_most z n b ys P2 R) where
       abbrev count : ℕ
       count = length xs + length (leave ys)
 
@@ -106,7 +108,7 @@ module _ {z : PieceSetting} where
 
       -- where the value is known, the first piece where it is not 0, and else the second
       pub unless_at : (v : ℕ) → ((env : z.Beside) (s : State) → P env s → value env ≡ v)
-          → Runs z (2 + m + n) (λ env. if value env == 0 then b env else a env) (unless_code test l r xs ys) P S
+          → Runs at_most z (2 + m + n) (λ env. if value env == 0 then b env else a env) (unless_code test l r xs ys) P S
       unless_at v is =
           by_known value v is
           (λ some. cheaper (omega arith)

@@ -1,15 +1,16 @@
--- Pieces of code. A piece has a cost, the steps that it takes at most, and what it shows is read off the part of a
--- path that the observer sees, before any state is given: it reads what it puts there and hands on the rest. So a
--- piece that follows another reads on where that one has ended, and nobody has to say where the path is cut. A branch
--- and a loop look at the next mark and choose by it. Each piece may count on it that its part of the path is fine.
+-- Pieces of code. A piece has a cost, the steps that it takes, exactly or at most, and what it shows is read off the
+-- part of a path that the observer sees, before any state is given: it reads what it puts there and hands on the rest.
+-- So a piece that follows another reads on where that one has ended, and nobody has to say where the path is cut. A
+-- branch and a loop look at the next mark and choose by it. Each piece may count on it that its part of the path is
+-- fine.
 --
--- What a path's marks are, and what pieces are run beside (a state of the program that the code is for), is left
--- open.
-use Rattle.std.specs.Prelude.{◌≡◌, ℕ, ◌+◌, ◌*◌, ◌≤◌, List, [], ◌++◌, length, All, Option, None}
+-- What a path's marks are, what holds of each step, and what pieces are run beside (a state of the program that the
+-- code is for), is left open.
+use Rattle.std.specs.Prelude.{◌≡◌, ℕ, ◌+◌, ◌*◌, List, [], ◌++◌, length, Option, None}
 use Rattle.std.proofs.Common.{zero, suc}
 use Rattle.codegen.specs.program_logic.Placed.{Placed}
 use Rattle.codegen.specs.program_logic.StraightCode.{contents_of, after_all}
-use Rattle.codegen.specs.program_logic.MachineSteps.{LeadsKeeping}
+use Rattle.codegen.specs.program_logic.MachineSteps.{Bound, IsCounted, LeadsBy}
 use Rattle.codegen.specs.Below.{MachineCode, Event, Instr, Observation, State}
 
 -- only the program counter has changed
@@ -17,15 +18,12 @@ pub record Still (s t : State) : Type 0 where
   pub regs : t.regs ≡ s.regs
   pub bytes : t.bytes ≡ s.bytes
 
--- where pieces stand, which events they may show, what they all leave alone, what they are run beside, and the marks
--- of paths: what the observer sees of a path, and when one is fine
+-- where pieces stand, what holds of each of their steps, what they are run beside, and the marks of paths: what the
+-- observer sees of a path, and when one is fine
 pub record PieceSetting : Type 1 where
   pub code : MachineCode
-  pub Allows : Option Event → Type 0
-  pub silence : Allows None
-  pub Keeps : State → State → Type 0
-  pub keeps_still : (s t : State) → Still s t → Keeps s t
-  pub keeps_then : (s t u : State) → Keeps s t → Keeps t u → Keeps s u
+  pub Each : State → Option Event → State → Type 0
+  pub each_still : (s t : State) → Still s t → Each s None t
   pub Beside : Type 0
   pub Mark : Type 0
   pub seen : List Mark → List Mark
@@ -61,31 +59,29 @@ abbrev pub both : {M : Type 0} → (List M → List Observation × List M) → (
     → List Observation × List M
 both one two path = ((one path).0 ++ (two (one path).1).0, (two (one path).1).1)
 
--- at most so many steps to an address, on a path of which the rest is left, and the state after them
-pub record Ends (z : PieceSetting) (cost q : ℕ) (leak : Leak z) (path rest : List z.Mark) (Q : State
+-- so many steps to an address, on a path of which the rest is left, and the state after them
+pub record Ends (bound : Bound) (z : PieceSetting) (cost q : ℕ) (leak : Leak z) (path rest : List z.Mark) (Q : State
     → Type 0) (s : State) : Type 0 where
   pub step_count : ℕ
   pub end : State
   pub seen : List Observation
-  pub leads : LeadsKeeping z.code z.Keeps step_count s seen end
-  pub within : step_count ≤ cost
+  pub leads : LeadsBy z.code z.Each step_count s seen end
+  pub within : IsCounted bound step_count cost
   pub shown : leak path ≡ (seen, rest)
-  pub inside : All (λ (o : Observation). z.Allows o.event) seen
-  pub keeps : z.Keeps s end
   pub at : end.pc ≡ q
   pub done : Q end
 
 -- instructions at an address, run from any state that is fit for them
-pub record RunsAt (z : PieceSetting) (p cost : ℕ) (steps : Steps z) (is : List Instr) (P : Before z) (Q : After z) :
-    Type 0 where
+pub record RunsAt (bound : Bound) (z : PieceSetting) (p cost : ℕ) (steps : Steps z) (is : List Instr) (P : Before z)
+    (Q : After z) : Type 0 where
   pub leak : Leak z
   pub runs : (env : z.Beside) (s : State) (rest : List z.Mark) → s.pc ≡ p → z.Fine (steps env) → P env s
-      → Ends z cost (p + 4 * length is) leak (z.seen (steps env) ++ rest) rest (Q env s) s
+      → Ends bound z cost (p + 4 * length is) leak (z.seen (steps env) ++ rest) rest (Q env s) s
 
--- instructions run wherever they stand, at most so many steps
-pub record Runs (z : PieceSetting) (cost : ℕ) (steps : Steps z) (is : List Instr) (P : Before z) (Q : After z) :
-    Type 0 where
-  pub placed_at : (p : ℕ) → Placed z.code p is → RunsAt z p cost steps is P Q
+-- instructions run wherever they stand
+pub record Runs (bound : Bound) (z : PieceSetting) (cost : ℕ) (steps : Steps z) (is : List Instr) (P : Before z)
+    (Q : After z) : Type 0 where
+  pub placed_at : (p : ℕ) → Placed z.code p is → RunsAt bound z p cost steps is P Q
 
 -- one change, and then another
 pub record Then (z : PieceSetting) (Q R : After z) (env : z.Beside) (s u : State) : Type 0 where
