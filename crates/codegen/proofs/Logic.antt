@@ -45,7 +45,7 @@ pub use Rattle.rv_machine.proofs.ByteLaws.{number_at-suc, number_at-with_number,
 pub use Rattle.rv_machine.proofs.ByteLaws.{number_at_same, with_byte_other, with_byte_same, with_number-suc}
 pub use Rattle.rv_machine.proofs.ByteLaws.{with_number-zero, with_number_above, with_number_below}
 pub use Rattle.rv_machine.proofs.RunLaws.{Halts-after}
-pub use Rattle.rv_machine.proofs.StepLaws.{ecall_halts}
+pub use Rattle.rv_machine.proofs.InstructionSteps.{ecall_halts}
 pub use Rattle.std.proofs.lemmas.Bool.{and_from, cases_eq, cases_lt, eq-eqb, eqb-false, eqb-true, le-leb, lt-ltb}
 pub use Rattle.std.proofs.lemmas.Bool.Decides.{nat_tests}
 pub use Rattle.std.proofs.lemmas.List.{get_or-set_other, get_or-set_same, length-map, length-replicate, length-set}

@@ -13,7 +13,7 @@ pub handed_on : {A E : Type 0} (P : E → Type 0) (answer : Result A E) {fault :
 handed_on P answer is h = rw (err_is answer is) h
 
 -- and what holds of each fault that it may be made into, such as out of memory
-pub swapped_on : {A E : Type 0} {P Q : E → Type 0} (answer : Result A E) → IsErrAnd answer Q → ((e : E) → Q e → P e)
+pub converted_on : {A E : Type 0} {P Q : E → Type 0} (answer : Result A E) → IsErrAnd answer Q → ((e : E) → Q e → P e)
     → IfErr answer P
-swapped_on (Ok done) is h = absurd is
-swapped_on (Err e) is h = h e is
+converted_on (Ok done) is h = absurd is
+converted_on (Err e) is h = h e is

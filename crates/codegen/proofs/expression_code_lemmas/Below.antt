@@ -64,8 +64,8 @@ pub use Rattle.rv_code.specs.declared.operations.MultiplyOperation.{MultiplyOper
 pub use Rattle.rv_code.specs.declared.operations.StoreOperation.{StoreOperation}
 pub use Rattle.rv_machine.proofs.ByteLaws.{number_at-suc, number_at-with_number, number_at-zero, number_at_same}
 pub use Rattle.rv_machine.proofs.ByteLaws.{with_number_above, with_number_below}
-pub use Rattle.rv_machine.proofs.StepLaws.{divide_leads, multiply_leads, with_value-bytes, with_value-pc}
-pub use Rattle.rv_machine.proofs.StepLaws.{with_value-regs}
+pub use Rattle.rv_machine.proofs.InstructionSteps.{divide_leads, multiply_leads, with_value-bytes, with_value-pc}
+pub use Rattle.rv_machine.proofs.InstructionSteps.{with_value-regs}
 pub use Rattle.rv_machine.specs.Bytes.{ByteMap, joined, number_at, with_number}
 pub use Rattle.rv_machine.specs.Effects.{address_of, divide_value, immediate_value, load_size, loaded_value}
 pub use Rattle.rv_machine.specs.Effects.{multiply_value, register_value, shift_value, sign_extended, store_size, sum_of}

@@ -1,6 +1,6 @@
--- Pieces in an exact number of iterations, wherever they stand, that hang on registers and bytes alone. They are run
+-- Pieces in an exact number of steps, wherever they stand, that hang on registers and bytes alone. They are run
 -- beside nothing and put nothing on a path, so what they show is one list for all states that they may begin in, which
--- is equal leakage; each iteration shows what is allowed where x2 is then.
+-- is equal leakage; each step shows what is allowed where x2 is then.
 use Rattle.std.proofs.Common.{◌≡◌, ◌≢◌, ℕ, suc, zero, ◌+◌, ◌-◌, ◌*◌, ◌<◌, Bool, true, false, List, [], ◌++◌}
 use Rattle.std.proofs.Common.{length, Option, None, inl, inr, refl, sym, ap, ap₂, ◌∙◌, subst, arith, length-append}
 use Rattle.std.proofs.lemmas.Bool.{cases_lt}
@@ -146,7 +146,7 @@ module _ (z : Setting) where
       then_runs one two (λ s t given made. subst P' (sym made) (link s given))
       (λ s t u given made more. both s u given (subst (λ (x : Contents). R x u) made more))
 
-  -- straight code, in as many iterations as both have instructions
+  -- straight code, in as many steps as both have instructions
   pub makes_on : {P P' : Before} {f : Contents → Contents} {R S : After} {xs ys : List Instr}
       → Runs z (length xs) xs P (λ s t. t ≡ f s) → Runs z (length ys) ys P' R
       → ((s : Contents) → P s → P' (f s)) → ((s u : Contents) → P s → R (f s) u → S s u)
@@ -163,9 +163,9 @@ module _ (z : Setting) where
         (λ env s t fine given done. behind (contents_of s) (contents_of t) given done) one.piece;
   }
 
-  -- in as many iterations, otherwise written
-  pub in_iterations : {P : Before} {R : After} {m n : ℕ} {is : List Instr} → m ≡ n → Runs z m is P R → Runs z n is P R
-  in_iterations {P = P} {R = R} {is = is} iterations one = subst (λ k. Runs z k is P R) iterations one
+  -- in as many steps, otherwise written
+  pub in_steps : {P : Before} {R : After} {m n : ℕ} {is : List Instr} → m ≡ n → Runs z m is P R → Runs z n is P R
+  in_steps {P = P} {R = R} {is = is} counts one = subst (λ k. Runs z k is P R) counts one
 
   -- the same code, otherwise written
   pub as_code : {P : Before} {R : After} {n : ℕ} {is js : List Instr} → is ≡ js → Runs z n is P R → Runs z n js P R
