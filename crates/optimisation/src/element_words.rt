@@ -2,8 +2,9 @@
 // lie in registers. It may stand in the place of the code that it is made of: the outcome is the same, and what is
 // public stays public. Stands on `inline` and `branch_removal`.
 //
-// `Words::of` chooses arrays that are no parameters, have at most 64 elements and are used only at constant indices
-// within the array, in order, as long as there is room for their words, 256 at most; `Words::apply` makes the code.
+// `ElementWords::of` chooses arrays that are no parameters, have at most 64 elements and are used only at constant
+// indices within the array, in order, as long as there is room for their words, 256 at most; `ElementWords::apply`
+// makes the code.
 
 mod narrowing;
 mod parts;
