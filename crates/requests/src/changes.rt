@@ -16,7 +16,7 @@ use std::fmt;
 #[derive(Drop)]
 pub enum BytesAnswer {
     /// They spell no image.
-    RequestsFault(ImageFault),
+    Fault(ImageFault),
     /// They spell one, and its run on zeros stops so.
     Stop(Stop),
 }
