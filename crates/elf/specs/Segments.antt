@@ -1,0 +1,105 @@
+-- Segments: the program headers of type PT_LOAD (gABI, chapter 5, "Program Header": `Elf32_Phdr`), which say what the
+-- memory holds at the start.
+use Rattle.std.specs.Prelude.{ℕ, zero, suc, ◌+◌, ◌/◌, ◌%◌, ◌^◌, Bool, not, ◌||◌, List, [], ◌∷◌, ◌++◌}
+use Rattle.std.specs.Prelude.{nat_le, ◌==◌, if◌then◌else◌}
+use Rattle.elf.specs.Checks.{Check, check, is_inside}
+use Rattle.elf.specs.Header.{program_header_count, program_headers_place}
+use Rattle.elf.specs.Numbers.{part, word_at}
+use Rattle.elf.specs.declared.fault.ElfRule.TheVariants as rules
+use Rattle.elf.specs.declared.segment.Access.{Access}
+use Rattle.elf.specs.declared.program_header.ProgramHeader.{ProgramHeader}
+use Rattle.elf.specs.declared.program_header.Taken.{Taken}
+
+-- the program header at a place
+unfoldable pub program_header_at : ℕ → List ℕ → ProgramHeader
+program_header_at place file =
+    record {
+      place = place;
+      kind = word_at place file;
+      offset = word_at (place + 4) file;
+      address = word_at (place + 8) file;
+      file_size = word_at (place + 16) file;
+      memory_size = word_at (place + 20) file;
+      flags = word_at (place + 24) file;
+    }
+
+-- so many from a place on
+abbrev pub program_headers_from : ℕ → ℕ → List ℕ → List ProgramHeader
+program_headers_from zero place file = []
+program_headers_from (suc n) place file =
+    program_header_at place file ∷ program_headers_from n (place + 32) file
+
+abbrev pub program_headers : List ℕ → List ProgramHeader
+program_headers file = program_headers_from (program_header_count file) (program_headers_place file) file
+
+-- PT_LOAD
+abbrev pub is_load : ProgramHeader → Bool
+is_load header = header.kind == 1
+
+-- PT_DYNAMIC and PT_INTERP: a program that is linked when it is started
+abbrev pub is_dynamic : ProgramHeader → Bool
+is_dynamic header = (header.kind == 2) || (header.kind == 3)
+
+-- the most bytes of memory that the segments have together, 16 MiB
+abbrev pub most_memory : ℕ
+most_memory = 2 ^ 24
+
+-- What the segments before take. Their addresses ascend: so a segment that does not begin before the end of the last
+-- one overlaps none.
+abbrev pub nothing_taken : Taken
+nothing_taken = record { end = 0; size = 0 }
+
+abbrev pub taken_with : Taken → ProgramHeader → Taken
+taken_with taken header =
+    record { end = header.address + header.memory_size; size = taken.size + header.memory_size }
+
+abbrev pub load_checks : List ℕ → Taken → ProgramHeader → List Check
+load_checks file taken header =
+    check rules.Truncated (header.place + 4) (is_inside header.offset header.file_size file)
+    ∷ check rules.Ranges (header.place + 8) (nat_le taken.end header.address)
+    ∷ check rules.Ranges (header.place + 8) (nat_le (header.address + header.memory_size) (2 ^ 32))
+    ∷ check rules.NotProgram (header.place + 16) (nat_le header.file_size header.memory_size)
+    ∷ check rules.Ranges (header.place + 20) (nat_le (taken.size + header.memory_size) most_memory)
+    ∷ []
+
+abbrev pub other_checks : ProgramHeader → List Check
+other_checks header = check rules.NotProgram header.place (not (is_dynamic header)) ∷ []
+
+abbrev pub checks_from : List ℕ → Taken → List ProgramHeader → List Check
+checks_from file taken [] = []
+checks_from file taken (header ∷ headers) =
+    if is_load header
+    then load_checks file taken header ++ checks_from file (taken_with taken header) headers
+    else other_checks header ++ checks_from file taken headers
+
+unfoldable pub segment_checks : List ℕ → List Check
+segment_checks file = checks_from file nothing_taken (program_headers file)
+
+-- A segment: its first address, the bytes that the file has of it, how many it has in memory, and what may be done with
+-- them (PF_R, PF_W and PF_X: bits 2, 1 and 0). Those that the file does not have are 0.
+pub record LoadedSegment : Type 0 where
+  pub address : ℕ
+  pub bytes : List ℕ
+  pub size : ℕ
+  pub access : Access
+
+abbrev pub access_of : ℕ → Access
+access_of flags =
+    record { readable = flags / 4 % 2 == 1; writable = flags / 2 % 2 == 1; executable = flags % 2 == 1 }
+
+abbrev pub segment_of : List ℕ → ProgramHeader → LoadedSegment
+segment_of file header =
+    record {
+      address = header.address;
+      bytes = part header.offset header.file_size file;
+      size = header.memory_size;
+      access = access_of header.flags;
+    }
+
+abbrev pub segments_from : List ℕ → List ProgramHeader → List LoadedSegment
+segments_from file [] = []
+segments_from file (header ∷ headers) =
+    if is_load header then segment_of file header ∷ segments_from file headers else segments_from file headers
+
+unfoldable pub segments_of : List ℕ → List LoadedSegment
+segments_of file = segments_from file (program_headers file)
