@@ -1,18 +1,18 @@
 #include <stdint.h>
 
-static uint32_t rotated(uint32_t word, int by) {
+static uint32_t turned(uint32_t word, int by) {
     return word << by | word >> (32 - by);
 }
 
 static void quarter_round(uint32_t x[16], int a, int b, int c, int d) {
     x[a] += x[b];
-    x[d] = rotated(x[d] ^ x[a], 16);
+    x[d] = turned(x[d] ^ x[a], 16);
     x[c] += x[d];
-    x[b] = rotated(x[b] ^ x[c], 12);
+    x[b] = turned(x[b] ^ x[c], 12);
     x[a] += x[b];
-    x[d] = rotated(x[d] ^ x[a], 8);
+    x[d] = turned(x[d] ^ x[a], 8);
     x[c] += x[d];
-    x[b] = rotated(x[b] ^ x[c], 7);
+    x[b] = turned(x[b] ^ x[c], 7);
 }
 
 // The block function of ChaCha20, as in examples/chacha20_block.fact: 64 bytes of key stream, as 16 words.
