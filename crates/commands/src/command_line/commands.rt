@@ -209,7 +209,7 @@ pub(crate) static COMMANDS: [CommandRow; 15] = [
         about: "Runs several images side by side on one memory, and lists what an observer sees of each",
         words: &[CommandWord::Path(
             "FILE",
-            "Lines `hart IMAGE ARG..`, one for each image, then `turns K N` for N turns of hart K, counted from 0, \
+            "Lines `hart PATH ARG ..`, one for each image, then `turns K N` for N turns of hart K, counted from 0, \
              and `round N` for N times one turn of each",
         )],
     },

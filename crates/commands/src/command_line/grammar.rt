@@ -10,8 +10,8 @@ pub fn factc<'a>(alloc: Global) -> Result<Command<'a>, AllocError> {
     let mut factc = Command::new(alloc, "factc")
         .version("0.1.0")
         .about(
-            "Compiles a core of FaCT, a language for code whose timing does not depend on secrets, to RISC-V (RV32IM), \
-             runs what it compiled, and shows what an observer sees of the run",
+            "Compiles a core of FaCT, a language for code that shows an observer no secrets, to RISC-V (RV32IM), runs \
+             what it compiled, and shows what an observer sees of the run: addresses, and operands of divisions",
         )
         .subcommand_required(true);
     for row in &COMMANDS {
@@ -72,8 +72,8 @@ fn profile<'a>(alloc: Global) -> Arg<'a> {
         .value_parser(PROFILES.as_slice())
         .default_value("1")
         .help(
-            "From whom secrets are kept: from an observer to whom multiplications show nothing of their operands \
-             (1), or from one who sees the operands of multiplications too (2)",
+            "The observer from whom secrets are kept: one to whom multiplications show nothing of their operands (1), \
+             or one who sees the operands of multiplications too (2)",
         )
 }
 

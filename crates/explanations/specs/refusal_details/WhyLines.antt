@@ -80,11 +80,11 @@ returned_line given = codes "  the value is " ++ (type_text true given ++ codes 
 abbrev pub missing_line : WordType → List ℕ
 missing_line result = codes "  the result is " ++ (type_text true (Word result) ++ codes ", and there is no `return`\n")
 
--- T8: for which two parameters an array is given
+-- T8: for which two parameters an array is passed
 abbrev pub shared_line : List ℕ → SharedArray → List ℕ
 shared_line source s =
     codes "  `"
-    ++ (name_at source s.array ++ (codes "` is given for the parameters `"
+    ++ (name_at source s.array ++ (codes "` is passed for the parameters `"
     ++ (name_at source s.one ++ (codes "` and `" ++ (name_at source s.other ++ codes "`\n")))))
 
 -- T9: how many elements an array has, and how many values its list

@@ -139,14 +139,14 @@ fn missing_line(alloc: Global, missing: WordType) -> Result<String, AllocError>
     format!(in alloc; "  the result is {wanted}, and there is no `return`\n")
 }
 
-/// For which two parameters an array is given.
+/// For which two parameters an array is passed.
 fn shared_line(alloc: Global, source: &str, shared: SharedArray) -> Result<String, AllocError>
     ensures { IfOk result (λ line. string_bytes line ≡ shared_line source.now shared) }
 {
     let array = name_at(source, shared.array);
     let one = name_at(source, shared.one);
     let other = name_at(source, shared.other);
-    format!(in alloc; "  `{array}` is given for the parameters `{one}` and `{other}`\n")
+    format!(in alloc; "  `{array}` is passed for the parameters `{one}` and `{other}`\n")
 }
 
 /// How many elements an array has, and how many values its list.

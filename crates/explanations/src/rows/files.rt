@@ -37,9 +37,9 @@ pub const B6: &str =
     to it.";
 
 pub const A1: &str =
-    "There must be one argument for each parameter of the export; for `pair` two, first those of the one\n\
-    run and then those of the other. An array is one argument: its numbers, separated by `,` without\n\
-    spaces.";
+    "There must be one argument for each parameter of the export; for `pair`, and for a `picture` of two\n\
+    runs, two: first those of the one run, then those of the other. An array is one argument: its\n\
+    numbers, separated by `,` without spaces.";
 
 pub const A2: &str =
     "The argument is not a number, or does not have as many numbers as the parameter has elements. A\n\
@@ -67,8 +67,8 @@ pub const H4: &str =
 
 pub const V1: &str =
     "A line of a file of vectors is `NAME: ARG .. = OUTCOME ..`: the name ends at the first `:`, and the\n\
-    arguments end at the first `=` after it. A line that begins with `#` is a comment, and an empty line\n\
-    is skipped.";
+    arguments end at the first `=` after it. A line that begins with `#` is a comment, and a line that is\n\
+    empty or only spaces is skipped.";
 
 pub const C1: &str =
     "The file of code is empty, its length is not a multiple of 4 bytes, or it has more than 192064\n\
@@ -84,8 +84,8 @@ pub const C3: &str =
 
 pub const F1: &str =
     "The name of the export becomes the name of a function in C and in the assembly file, and it cannot\n\
-    be this one: it is a keyword or a type of C or C++, a register such as `x5` or `a0`, or a name that\n\
-    C reserves, such as one that begins with `__`. Give the export another name.";
+    be this one: it is `main`, a keyword or a type of C or C++, a register such as `x5` or `a0`, or a\n\
+    name that C reserves, such as one that begins with `__`. Give the export another name.";
 
 const ROWS: [Explanation; 18] = [
     Explanation {

@@ -48,12 +48,12 @@ pub const T4: &str =
     "A call has one argument for each parameter of the called procedure, no more and no fewer.";
 
 pub const T5: &str =
-    "An array that is given as an argument must have the element type, the length and the label of the\n\
+    "An array that is passed as an argument must have the element type, the length and the label of the\n\
     parameter. `public` for `secret` is refused too, since both names stand for one array. Declare both\n\
     alike, or copy the elements in a loop into an array of the parameter's type.";
 
 pub const T6: &str =
-    "Only what was declared with `mut` can be assigned to, and only such an array can be given for a\n\
+    "Only what was declared with `mut` can be assigned to, and only such an array can be passed for a\n\
     `mut` parameter. A word parameter and the counter of a loop can never be assigned to: copy them into\n\
     a `mut` variable.";
 
@@ -63,7 +63,7 @@ pub const T7: &str =
     and return that.";
 
 pub const T8: &str =
-    "One array is given for two parameters of a call, and at least one of them is `mut`. Two names would\n\
+    "One array is passed for two parameters of a call, and at least one of them is `mut`. Two names would\n\
     then stand for one array that changes. Copy it into another array before the call.";
 
 pub const T9: &str =
