@@ -1,18 +1,18 @@
 -- Segments lie apart where no check of the program headers is broken.
-use Rattle.std.proofs.Common.{◌≡◌, ℕ, ◌+◌, ◌≤◌, ◌^◌, Bool, true, false, cond, List, [], ◌∷◌, ◌++◌, length, drop, nat_le}
+use Rattle.std.proofs.Common.{◌≡◌, ℕ, ◌+◌, ◌≤◌, ◌^◌, Bool, true, false, cond, List, [], ◌∷◌, ◌++◌, drop, nat_le}
 use Rattle.std.proofs.Common.{Option, None, Some, arith, refl}
 use Rattle.std.proofs.lemmas.Bool.Decides.{nat_tests}
-use Rattle.std.proofs.lemmas.List.{length-take}
+use Rattle.std.proofs.lemmas.List.{append-nil, length-take}
+use Rattle.std.specs.List.{list_all}
 use Rattle.elf.specs.Checks.{Check, first_broken, is_inside, told_by}
 use Rattle.elf.specs.Header.{header_checks}
 use Rattle.elf.specs.Layout.{AreApart}
 use Rattle.elf.specs.Reading.{fault_of, program_of}
-use Rattle.elf.specs.Segments.{checks_from, is_load, load_checks, most_memory, nothing_taken, other_checks}
-use Rattle.elf.specs.Segments.{program_headers, segment_checks, segments_from, segments_of, taken_with}
+use Rattle.elf.specs.Segments.{LoadedSegment, checks_from, is_load, lies_apart, load_checks, memory_of, most_memory}
+use Rattle.elf.specs.Segments.{other_checks, program_headers, segment_checks, segment_of, segments_in, segments_of}
 use Rattle.elf.specs.Symbols.{symbol_checks}
 use Rattle.elf.specs.declared.fault.Broken.{Broken}
 use Rattle.elf.specs.declared.program_header.ProgramHeader.{ProgramHeader}
-use Rattle.elf.specs.declared.program_header.Taken.{Taken}
 
 at_most : (a b : ℕ) → nat_le a b ≡ true → a ≤ b
 at_most a b h = grind (arith, nat_tests)
@@ -43,35 +43,37 @@ middle a b c d e f g h i j all =
     let s = split d i (cond e None (Some j)) r.1 in
     (q.0, r.0, s.0)
 
-apart_at : (file : List ℕ) (taken : Taken) (header : ProgramHeader) (headers : List ProgramHeader) (kind : Bool)
-    → is_load header ≡ kind → first_broken (checks_from file taken (header ∷ headers)) ≡ None
-    → ((t : Taken) → first_broken (checks_from file t headers) ≡ None → AreApart t.end (segments_from file headers))
-    → AreApart taken.end (segments_from file (header ∷ headers))
-apart_at file taken header headers true is h later =
+apart_at : (file : List ℕ) (before : List LoadedSegment) (header : ProgramHeader) (headers : List ProgramHeader)
+    (kind : Bool)
+    → is_load header ≡ kind → first_broken (checks_from file before (header ∷ headers)) ≡ None
+    → ((more : List LoadedSegment) → first_broken (checks_from file more headers) ≡ None
+    → AreApart more (segments_in file headers))
+    → AreApart before (segments_in file (header ∷ headers))
+apart_at file before header headers true is h later =
     let both =
-    parts (load_checks file taken header) (checks_from file (taken_with taken header) headers) (rw is at h) in
+    parts (load_checks file before header)
+    (checks_from file (before ++ segment_of file header ∷ []) headers) (rw is at h) in
     let facts =
-    middle (is_inside header.offset header.file_size file) (nat_le taken.end header.address)
+    middle (is_inside header.offset header.file_size file) (list_all (lies_apart (segment_of file header)) before)
     (nat_le (header.address + header.memory_size) (2 ^ 32)) (nat_le header.file_size header.memory_size)
-    (nat_le (taken.size + header.memory_size) most_memory) _ _ _ _ _ both.0 in
-    let low = at_most taken.end header.address facts.0 in
+    (nat_le (memory_of before + header.memory_size) most_memory) _ _ _ _ _ both.0 in
     let high = at_most (header.address + header.memory_size) (2 ^ 32) facts.1 in
     let fits = at_most header.file_size header.memory_size facts.2 in
     let short = length-take header.file_size (drop header.offset file) in
-    rw is (low, high, omega (arith, short, fits), later (taken_with taken header) both.1)
-apart_at file taken header headers false is h later =
-    let both = parts (other_checks header) (checks_from file taken headers) (rw is at h) in
-    rw is (later taken both.1)
+    rw is (facts.0, (high, omega (arith, short, fits)), later (before ++ segment_of file header ∷ []) both.1)
+apart_at file before header headers false is h later =
+    let both = parts (other_checks header) (checks_from file (before ++ []) headers) (rw is at h) in
+    rw is (later before (rw append-nil at both.1))
 
-apart : (file : List ℕ) (taken : Taken) (headers : List ProgramHeader)
-    → first_broken (checks_from file taken headers) ≡ None → AreApart taken.end (segments_from file headers)
-apart file taken [] h = tt
-apart file taken (header ∷ headers) h =
-    apart_at file taken header headers (is_load header) refl h (λ t. apart file t headers)
+apart : (file : List ℕ) (before : List LoadedSegment) (headers : List ProgramHeader)
+    → first_broken (checks_from file before headers) ≡ None → AreApart before (segments_in file headers)
+apart file before [] h = tt
+apart file before (header ∷ headers) h =
+    apart_at file before header headers (is_load header) refl h (λ more. apart file more headers)
 
-pub segments_apart : (file : List ℕ) → fault_of file ≡ None → AreApart 0 (program_of file).segments
+pub segments_apart : (file : List ℕ) → fault_of file ≡ None → AreApart [] (program_of file).segments
 unfolding fault_of program_of segment_checks segments_of
 segments_apart file h =
     let front = parts (header_checks file ++ segment_checks file) (symbol_checks file) h in
     let middle_ones = parts (header_checks file) (segment_checks file) front.0 in
-    apart file nothing_taken (program_headers file) middle_ones.1
+    apart file [] (program_headers file) middle_ones.1

@@ -1,57 +1,57 @@
 -- The checks of the program headers, and the segments, one header at a time.
-use Rattle.std.proofs.Common.{◌≡◌, ◌+◌, ◌-◌, ◌∙◌, true, false, ℕ, List, [], ◌∷◌, ◌++◌, None, Some, refl}
-use Rattle.std.proofs.Common.{ap, append_assoc, arith}
-use Rattle.elf.specs.Checks.{first_broken}
+use Rattle.std.proofs.Common.{◌≡◌, ◌+◌, ◌-◌, ◌∙◌, Bool, true, false, ℕ, List, [], ◌∷◌, ◌++◌, None, refl}
+use Rattle.std.proofs.Common.{Result, Ok, Err, IfErr, ap, append_assoc, arith}
+use Rattle.std.proofs.lemmas.List.{append-nil}
+use Rattle.std.specs.Result.{IsErrAnd}
+use Rattle.elf.specs.Checks.{IsTold, first_broken}
 use Rattle.elf.specs.Header.{program_header_count, program_headers_place}
-use Rattle.elf.specs.Segments.{LoadedSegment, checks_from, is_load, load_checks, nothing_taken, other_checks}
-use Rattle.elf.specs.Segments.{program_headers, program_headers_from, segment_checks, segment_of, segments_from}
-use Rattle.elf.specs.Segments.{segments_of, taken_with}
+use Rattle.elf.specs.Segments.{LoadedSegment, checks_at, checks_from, is_load, program_headers, program_headers_from}
+use Rattle.elf.specs.Segments.{segment_checks, segments_in, segments_of}
 use Rattle.elf.specs.declared.fault.Broken.{Broken}
+use Rattle.elf.specs.declared.fault.ElfFault.{ElfFault}
+use Rattle.elf.specs.declared.fault.ElfFault.TheVariants.{File, Memory}
 use Rattle.elf.specs.declared.program_header.ProgramHeader.{ProgramHeader}
-use Rattle.elf.specs.declared.program_header.Taken.{Taken}
 use Rattle.elf.proofs.Broken.{broken_before, held_before}
 
-pub load_held : (file : List ℕ) (taken : Taken) (header : ProgramHeader) (headers : List ProgramHeader)
-    → is_load header ≡ true → first_broken (load_checks file taken header) ≡ None
-    → first_broken (checks_from file taken (header ∷ headers))
-    ≡ first_broken (checks_from file (taken_with taken header) headers)
-load_held file taken header headers passes h =
-    rw passes (held_before (load_checks file taken header) (checks_from file (taken_with taken header) headers) h)
+pub header_held : (file : List ℕ) (before : List LoadedSegment) (header : ProgramHeader)
+    (headers : List ProgramHeader)
+    → first_broken (checks_at file before header) ≡ None
+    → first_broken (checks_from file before (header ∷ headers))
+    ≡ first_broken (checks_from file (before ++ segments_in file (header ∷ [])) headers)
+header_held file before header headers h =
+    held_before (checks_at file before header)
+    (checks_from file (before ++ segments_in file (header ∷ [])) headers) h
 
-pub load_broken : (file : List ℕ) (taken : Taken) (header : ProgramHeader) (headers : List ProgramHeader)
-    (broken : Broken)
-    → is_load header ≡ true → first_broken (load_checks file taken header) ≡ Some broken
-    → first_broken (checks_from file taken (header ∷ headers)) ≡ Some broken
-load_broken file taken header headers broken passes h =
-    rw passes
-    (broken_before (load_checks file taken header) (checks_from file (taken_with taken header) headers) broken h)
+-- what is handed on of the fault that a header tells
+pub header_told : {A : Type 0} (result : Result A ElfFault) (fault : ElfFault) (file : List ℕ)
+    (before : List LoadedSegment) (header : ProgramHeader) (headers : List ProgramHeader)
+    → IsErrAnd result (λ e. e ≡ fault) → IsTold fault (checks_at file before header)
+    → first_broken (segment_checks file) ≡ first_broken (checks_from file before (header ∷ headers))
+    → IfErr result (λ e. IsTold e (segment_checks file))
+header_told (Ok x) fault file before header headers h is from = absurd h
+header_told (Err e) Memory file before header headers h is from = rw h tt
+header_told (Err e) (File rule at) file before header headers h is from =
+    let broken : Broken = record { rule = rule; at = at } in
+    rw h
+    (from
+    ∙ broken_before (checks_at file before header)
+    (checks_from file (before ++ segments_in file (header ∷ [])) headers) broken is)
 
-pub other_held : (file : List ℕ) (taken : Taken) (header : ProgramHeader) (headers : List ProgramHeader)
-    → is_load header ≡ false → first_broken (other_checks header) ≡ None
-    → first_broken (checks_from file taken (header ∷ headers)) ≡ first_broken (checks_from file taken headers)
-other_held file taken header headers misses h =
-    rw misses (held_before (other_checks header) (checks_from file taken headers) h)
+one_by : (file : List ℕ) (header : ProgramHeader) (headers : List ProgramHeader) (items : List LoadedSegment)
+    (kind : Bool)
+    → is_load header ≡ kind
+    → items ++ segments_in file (header ∷ headers)
+    ≡ (items ++ segments_in file (header ∷ [])) ++ segments_in file headers
+one_by file header headers items true is = rw (is, append_assoc) refl
+one_by file header headers items false is = rw (is, append-nil) refl
 
-pub other_broken : (file : List ℕ) (taken : Taken) (header : ProgramHeader) (headers : List ProgramHeader)
-    (broken : Broken)
-    → is_load header ≡ false → first_broken (other_checks header) ≡ Some broken
-    → first_broken (checks_from file taken (header ∷ headers)) ≡ Some broken
-other_broken file taken header headers broken misses h =
-    rw misses (broken_before (other_checks header) (checks_from file taken headers) broken h)
-
-pub one_more : (file : List ℕ) (header : ProgramHeader) (headers rest : List ProgramHeader)
-    (items : List LoadedSegment) (segment : LoadedSegment)
-    → headers ≡ header ∷ rest → is_load header ≡ true → segment ≡ segment_of file header
-    → items ++ segments_from file headers ≡ (items ++ segment ∷ []) ++ segments_from file rest
-one_more file header headers rest items segment step passes is = rw (step, passes, is, append_assoc) refl
-
-pub not_loaded : (file : List ℕ) (header : ProgramHeader) (headers rest : List ProgramHeader)
-    → headers ≡ header ∷ rest → is_load header ≡ false
-    → segments_from file headers ≡ segments_from file rest
-not_loaded file header headers rest step misses = rw (step, misses) refl
+pub one_more : (file : List ℕ) (header : ProgramHeader) (headers : List ProgramHeader) (items : List LoadedSegment)
+    → items ++ segments_in file (header ∷ headers)
+    ≡ (items ++ segments_in file (header ∷ [])) ++ segments_in file headers
+one_more file header headers items = one_by file header headers items (is_load header) refl
 
 -- where a loop over them begins
-at_start : (file : List ℕ) (count start : ℕ) → count ≡ program_header_count file → start ≡ program_headers_place file
+pub at_start : (file : List ℕ) (count start : ℕ) → count ≡ program_header_count file → start ≡ program_headers_place file
     → program_headers file ≡ program_headers_from (count - 0) (start + 0) file
 at_start file count start many place =
     let n : program_header_count file ≡ count - 0 = omega arith in
@@ -59,17 +59,17 @@ at_start file count start many place =
     ap (λ m. program_headers_from m (program_headers_place file) file) n
     ∙ ap (λ m. program_headers_from (count - 0) m file) p
 
-pub first_checks : (file : List ℕ) (count start : ℕ)
-    → count ≡ program_header_count file → start ≡ program_headers_place file
+pub first_checks : (file : List ℕ) (count start : ℕ) (items : List LoadedSegment)
+    → count ≡ program_header_count file → start ≡ program_headers_place file → items ≡ []
     → first_broken (segment_checks file)
-    ≡ first_broken (checks_from file nothing_taken (program_headers_from (count - 0) (start + 0) file))
+    ≡ first_broken (checks_from file items (program_headers_from (count - 0) (start + 0) file))
 unfolding segment_checks
-first_checks file count start many place =
-    ap (λ headers. first_broken (checks_from file nothing_taken headers)) (at_start file count start many place)
+first_checks file count start items many place none =
+    rw none (ap (λ headers. first_broken (checks_from file [] headers)) (at_start file count start many place))
 
 pub first_segments : (file : List ℕ) (count start : ℕ) (items : List LoadedSegment)
     → count ≡ program_header_count file → start ≡ program_headers_place file → items ≡ []
-    → segments_of file ≡ items ++ segments_from file (program_headers_from (count - 0) (start + 0) file)
+    → segments_of file ≡ items ++ segments_in file (program_headers_from (count - 0) (start + 0) file)
 unfolding segments_of
 first_segments file count start items many place none =
-    rw none (ap (segments_from file) (at_start file count start many place))
+    rw none (ap (segments_in file) (at_start file count start many place))

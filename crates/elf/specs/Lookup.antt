@@ -1,5 +1,5 @@
 -- Which symbol a name means, and which function an address lies in (gABI, chapter 4, "Symbol Table": STB_LOCAL,
--- STT_OBJECT, STT_FUNC, SHN_UNDEF).
+-- STT_NOTYPE, STT_OBJECT, STT_FUNC, SHN_UNDEF).
 use Rattle.std.specs.Prelude.{ℕ, ◌+◌, ◌-◌, ◌/◌, ◌%◌, Bool, not, ◌&&◌, List, [], ◌∷◌, ◌++◌, drop, Option, None, Some}
 use Rattle.std.specs.Prelude.{find, nat_eq, nat_le, nat_lt, ◌==◌, if◌then◌else◌}
 use Rattle.std.specs.List.{starts_with}
@@ -19,8 +19,13 @@ is_function symbol = not (symbol.section == 0) && (symbol.info % 16 == 2)
 abbrev pub is_object : Symbol → Bool
 is_object symbol = not (symbol.section == 0) && (symbol.info % 16 == 1) && nat_lt 0 symbol.size
 
+-- it is defined in this file, and names an address: its type is STT_NOTYPE, STT_OBJECT or STT_FUNC
+abbrev pub is_address : Symbol → Bool
+is_address symbol = not (symbol.section == 0) && nat_le (symbol.info % 16) 2
+
 -- it is of the kind that a look-up by name is after
 abbrev pub is_wanted : Wanted → Symbol → Bool
+is_wanted wanted.Address symbol = is_address symbol
 is_wanted wanted.Function symbol = is_function symbol
 is_wanted wanted.Object symbol = is_object symbol
 
@@ -49,6 +54,11 @@ address_in (Some symbol) = Some symbol.value
 abbrev pub function_named : Executable → List ℕ → Option ℕ
 function_named program name =
     address_in (preferred (fits wanted.Function program.strings name) program.symbols)
+
+-- the address of a name, whatever it is the name of
+abbrev pub address_named : Executable → List ℕ → Option ℕ
+address_named program name =
+    address_in (preferred (fits wanted.Address program.strings name) program.symbols)
 
 abbrev pub object_in : Option Symbol → Option Object
 object_in None = None

@@ -9,8 +9,8 @@ use Rattle.elf.specs.declared.fault.ElfFault.{ElfFault}
 use Rattle.elf.specs.declared.fault.ElfFault.TheVariants.{File, Memory}
 use Rattle.elf.specs.declared.symbol.Symbol.{Symbol}
 
--- A program: where it begins, whether its code may have instructions of 16 bits, its segments by address, its symbols,
--- and the strings that have their names.
+-- A program: where it begins, whether its code may have instructions of 16 bits, its segments, its symbols, and the
+-- strings that have their names.
 pub record Executable : Type 0 where
   pub entry : ℕ
   pub compressed : Bool

@@ -1,14 +1,14 @@
 -- Segments: the program headers of type PT_LOAD (gABI, chapter 5, "Program Header": `Elf32_Phdr`), which say what the
 -- memory holds at the start.
-use Rattle.std.specs.Prelude.{ℕ, zero, suc, ◌+◌, ◌/◌, ◌%◌, ◌^◌, Bool, not, ◌||◌, List, [], ◌∷◌, ◌++◌}
+use Rattle.std.specs.Prelude.{ℕ, zero, suc, ◌+◌, ◌/◌, ◌%◌, ◌^◌, Bool, not, ◌||◌, List, [], ◌∷◌, ◌++◌, map, filter}
 use Rattle.std.specs.Prelude.{nat_le, ◌==◌, if◌then◌else◌}
+use Rattle.std.specs.List.{list_all, sum_by}
 use Rattle.elf.specs.Checks.{Check, check, is_inside}
 use Rattle.elf.specs.Header.{program_header_count, program_headers_place}
 use Rattle.elf.specs.Numbers.{part, word_at}
 use Rattle.elf.specs.declared.fault.ElfRule.TheVariants as rules
 use Rattle.elf.specs.declared.segment.Access.{Access}
 use Rattle.elf.specs.declared.program_header.ProgramHeader.{ProgramHeader}
-use Rattle.elf.specs.declared.program_header.Taken.{Taken}
 
 -- the program header at a place
 unfoldable pub program_header_at : ℕ → List ℕ → ProgramHeader
@@ -40,41 +40,6 @@ is_load header = header.kind == 1
 abbrev pub is_dynamic : ProgramHeader → Bool
 is_dynamic header = (header.kind == 2) || (header.kind == 3)
 
--- the most bytes of memory that the segments have together, 16 MiB
-abbrev pub most_memory : ℕ
-most_memory = 2 ^ 24
-
--- What the segments before take. Their addresses ascend: so a segment that does not begin before the end of the last
--- one overlaps none.
-abbrev pub nothing_taken : Taken
-nothing_taken = record { end = 0; size = 0 }
-
-abbrev pub taken_with : Taken → ProgramHeader → Taken
-taken_with taken header =
-    record { end = header.address + header.memory_size; size = taken.size + header.memory_size }
-
-abbrev pub load_checks : List ℕ → Taken → ProgramHeader → List Check
-load_checks file taken header =
-    check rules.Truncated (header.place + 4) (is_inside header.offset header.file_size file)
-    ∷ check rules.Ranges (header.place + 8) (nat_le taken.end header.address)
-    ∷ check rules.Ranges (header.place + 8) (nat_le (header.address + header.memory_size) (2 ^ 32))
-    ∷ check rules.NotProgram (header.place + 16) (nat_le header.file_size header.memory_size)
-    ∷ check rules.Ranges (header.place + 20) (nat_le (taken.size + header.memory_size) most_memory)
-    ∷ []
-
-abbrev pub other_checks : ProgramHeader → List Check
-other_checks header = check rules.NotProgram header.place (not (is_dynamic header)) ∷ []
-
-abbrev pub checks_from : List ℕ → Taken → List ProgramHeader → List Check
-checks_from file taken [] = []
-checks_from file taken (header ∷ headers) =
-    if is_load header
-    then load_checks file taken header ++ checks_from file (taken_with taken header) headers
-    else other_checks header ++ checks_from file taken headers
-
-unfoldable pub segment_checks : List ℕ → List Check
-segment_checks file = checks_from file nothing_taken (program_headers file)
-
 -- A segment: its first address, the bytes that the file has of it, how many it has in memory, and what may be done with
 -- them (PF_R, PF_W and PF_X: bits 2, 1 and 0). Those that the file does not have are 0.
 pub record LoadedSegment : Type 0 where
@@ -96,10 +61,45 @@ segment_of file header =
       access = access_of header.flags;
     }
 
-abbrev pub segments_from : List ℕ → List ProgramHeader → List LoadedSegment
-segments_from file [] = []
-segments_from file (header ∷ headers) =
-    if is_load header then segment_of file header ∷ segments_from file headers else segments_from file headers
+-- the segments of program headers, in their order
+abbrev pub segments_in : List ℕ → List ProgramHeader → List LoadedSegment
+segments_in file headers = map (segment_of file) (filter is_load headers)
 
 unfoldable pub segments_of : List ℕ → List LoadedSegment
-segments_of file = segments_from file (program_headers file)
+segments_of file = segments_in file (program_headers file)
+
+-- no address is in both: one ends where the other begins, or before
+abbrev pub lies_apart : LoadedSegment → LoadedSegment → Bool
+lies_apart a b = nat_le (a.address + a.size) b.address || nat_le (b.address + b.size) a.address
+
+-- how many bytes of memory segments have together
+abbrev pub memory_of : List LoadedSegment → ℕ
+memory_of segments = sum_by (λ segment. segment.size) segments
+
+-- the most that they may have, 16 MiB
+abbrev pub most_memory : ℕ
+most_memory = 2 ^ 24
+
+-- what has to hold of a header, by the segments of those before
+abbrev pub load_checks : List ℕ → List LoadedSegment → ProgramHeader → List Check
+load_checks file before header =
+    check rules.Truncated (header.place + 4) (is_inside header.offset header.file_size file)
+    ∷ check rules.Ranges (header.place + 8) (list_all (lies_apart (segment_of file header)) before)
+    ∷ check rules.Ranges (header.place + 8) (nat_le (header.address + header.memory_size) (2 ^ 32))
+    ∷ check rules.NotProgram (header.place + 16) (nat_le header.file_size header.memory_size)
+    ∷ check rules.Ranges (header.place + 20) (nat_le (memory_of before + header.memory_size) most_memory)
+    ∷ []
+
+abbrev pub other_checks : ProgramHeader → List Check
+other_checks header = check rules.NotProgram header.place (not (is_dynamic header)) ∷ []
+
+abbrev pub checks_at : List ℕ → List LoadedSegment → ProgramHeader → List Check
+checks_at file before header = if is_load header then load_checks file before header else other_checks header
+
+abbrev pub checks_from : List ℕ → List LoadedSegment → List ProgramHeader → List Check
+checks_from file before [] = []
+checks_from file before (header ∷ headers) =
+    checks_at file before header ++ checks_from file (before ++ segments_in file (header ∷ [])) headers
+
+unfoldable pub segment_checks : List ℕ → List Check
+segment_checks file = checks_from file [] (program_headers file)

@@ -12,6 +12,7 @@ pub(crate) const SYMBOL_BYTES: usize = 16;
 /// What a look-up by name is after.
 #[derive(Clone, Copy)]
 pub enum Wanted {
+    Address,
     Function,
     Object,
 }
@@ -22,6 +23,7 @@ impl Wanted {
         ensures { result ≡ is_wanted self symbol.now }
     {
         match self {
+            Wanted::Address => symbol.is_address(),
             Wanted::Function => symbol.is_function(),
             Wanted::Object => symbol.is_object(),
         }

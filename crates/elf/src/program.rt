@@ -36,7 +36,7 @@ impl<'a> Model for Program<'a> {
 }
 
 impl<'a> Program<'a> {
-    ghost use Rattle.elf.specs.Lookup.{function_at, function_named, object_named, position_of};
+    ghost use Rattle.elf.specs.Lookup.{address_named, function_at, function_named, object_named, position_of};
     ghost use Rattle.elf.specs.Symbols.{symbols_of};
 
     /// The program of these.
@@ -61,7 +61,7 @@ impl<'a> Program<'a> {
         }
     }
 
-    /// Its segments, by ascending addresses.
+    /// Its segments, in the order of the file. No two have an address in common.
     pub fn segments(&self) -> &[Segment<'a>]
         ensures { result.now ≡ self.now.segments }
     {
@@ -87,6 +87,14 @@ impl<'a> Program<'a> {
         ensures { result ≡ function_named self.now name.now }
     {
         let symbol = preferred(self.symbols, self.strings, Wanted::Function, name)?;
+        Some(symbol.value)
+    }
+
+    /// The address that this is a name of, whatever lies there: of those that are not local the first, else the first.
+    pub fn address(&self, name: &[u8]) -> Option<u32>
+        ensures { result ≡ address_named self.now name.now }
+    {
+        let symbol = preferred(self.symbols, self.strings, Wanted::Address, name)?;
         Some(symbol.value)
     }
 

@@ -1,12 +1,12 @@
 // Program headers: what each says, and what is checked of it.
 
-ghost use Rattle.std.specs.Prelude.{◌≡◌, ◌+◌, ◌<◌, ◌^◌, IfOk};
-ghost use Rattle.elf.specs.Checks.{Passes};
-ghost use Rattle.elf.specs.Segments.{is_dynamic, is_load, load_checks, other_checks};
-ghost use Rattle.elf.specs.Segments.{program_header_at, segment_of, taken_with};
+ghost use Rattle.std.specs.Prelude.{◌≡◌, ◌+◌, ◌<◌, ◌≤◌, ◌^◌, [], ◌∷◌, ◌++◌, None, IfOk, IfErr, OnOk};
+ghost use Rattle.elf.specs.Checks.{IsTold, Passes, first_broken};
+ghost use Rattle.elf.specs.Segments.{checks_at, is_load, load_checks, memory_of, other_checks};
+ghost use Rattle.elf.specs.Segments.{program_header_at, segment_of, segments_in};
 
 use crate::checks::{is_inside, require};
-use crate::fault::{Broken, ElfRule};
+use crate::fault::{Broken, ElfFault, ElfRule};
 use crate::numbers::{part, word_at};
 use crate::segment::{Access, Segment};
 
@@ -30,18 +30,6 @@ pub struct ProgramHeader {
     pub file_size: u32,
     pub memory_size: u32,
     pub flags: u32,
-}
-
-/// What the segments before take: where the last one ends, and how many bytes they have together.
-#[derive(Clone, Copy)]
-pub struct Taken {
-    pub end: u64,
-    pub size: u32,
-}
-
-impl Taken {
-    /// What none takes.
-    pub(crate) const NOTHING: Taken = Taken { end: 0, size: 0 };
 }
 
 impl ProgramHeader {
@@ -71,30 +59,25 @@ impl ProgramHeader {
     }
 
     /// Checks a header that says nothing of the memory.
-    pub(crate) fn check_other(&self) -> Result<(), Broken>
+    fn check_other(&self) -> Result<(), Broken>
         ensures { Passes result (other_checks self.now) }
     {
         let is_dynamic = self.kind == DYNAMIC || self.kind == INTERPRETER;
         require(ElfRule::NotProgram, self.place, !is_dynamic)
     }
 
-    /// Where its segment ends.
-    fn end(&self) -> u64
-        ensures { result ≡ self.now.address + self.now.memory_size }
-    {
-        u64::from(self.address) + u64::from(self.memory_size)
-    }
-
-    /// The segment that it describes, and what is taken with it.
-    pub(crate) fn load<'a>(
+    /// The segment that it describes, where those before have so many bytes of memory together.
+    fn load<'a>(
         &self,
         bytes: &'a [u8],
-        taken: Taken,
-    ) -> Result<(Segment<'a>, Taken), Broken>
-        requires { self.now.place < 2 ^ 40 }
-        ensures checks { Passes result (load_checks bytes.now taken self.now) }
-        ensures segment { IfOk result (λ loaded. loaded.0 ≡ segment_of bytes.now self.now) }
-        ensures taken { IfOk result (λ loaded. loaded.1 ≡ taken_with taken self.now) }
+        before: &[Segment<'a>],
+        taken: u32,
+    ) -> Result<Segment<'a>, Broken>
+        requires place { self.now.place < 2 ^ 40 }
+        requires taken { taken ≡ memory_of before.now }
+        ensures checks { Passes result (load_checks bytes.now before.now self.now) }
+        ensures segment { IfOk result (λ segment. segment ≡ segment_of bytes.now self.now) }
+        ensures size { IfOk result (λ segment. taken + segment.size ≤ 2 ^ 24) }
     {
         let offset = self.offset as usize;
         let size = self.file_size as usize;
@@ -104,29 +87,47 @@ impl ProgramHeader {
             place + 4,
             is_inside(bytes, offset, size),
         )?;
-        require(
-            ElfRule::Ranges,
-            place + 8,
-            taken.end <= u64::from(self.address),
-        )?;
-        require(ElfRule::Ranges, place + 8, self.end() <= 1 << 32)?;
-        require(
-            ElfRule::NotProgram,
-            place + 16,
-            self.file_size <= self.memory_size,
-        )?;
-        let together = u64::from(taken.size) + u64::from(self.memory_size);
-        require(ElfRule::Ranges, place + 20, together <= MOST_MEMORY)?;
         let segment = Segment::new(
             self.address,
             part(bytes, offset, size),
             self.memory_size,
             Access::of(self.flags),
         );
-        let taken = Taken {
-            end: self.end(),
-            size: together as u32,
-        };
-        Ok((segment, taken))
+        require(ElfRule::Ranges, place + 8, segment.lies_apart_from(before))?;
+        require(ElfRule::Ranges, place + 8, segment.end() <= 1 << 32)?;
+        require(
+            ElfRule::NotProgram,
+            place + 16,
+            self.file_size <= self.memory_size,
+        )?;
+        let together = u64::from(taken) + u64::from(self.memory_size);
+        require(ElfRule::Ranges, place + 20, together <= MOST_MEMORY)?;
+        Ok(segment)
+    }
+
+    /// Puts the segment that it describes behind those before, if it describes one. Gives how many bytes of memory they
+    /// have together, which was `taken` before.
+    pub(crate) fn put<'a>(
+        &self,
+        bytes: &'a [u8],
+        segments: &mut Vec<Segment<'a>>,
+        taken: u32,
+    ) -> Result<u32, ElfFault>
+        requires place { self.now.place < 2 ^ 40 }
+        requires taken { taken ≡ memory_of segments.old.items }
+        ensures passed { IfOk result (λ _. first_broken (checks_at bytes.now segments.old.items self.now) ≡ None) }
+        ensures fault { IfErr result (λ fault. IsTold fault (checks_at bytes.now segments.old.items self.now)) }
+        ensures segments { OnOk result (segments.new.items
+            ≡ segments.old.items ++ segments_in bytes.now (self.now ∷ [])) }
+        ensures taken { IfOk result (λ taken. taken ≡ memory_of segments.new.items) }
+    {
+        if !self.is_load() {
+            self.check_other()?;
+            return Ok(taken);
+        }
+        let segment = self.load(bytes, segments, taken)?;
+        let size = segment.size();
+        segments.push(segment)?;
+        Ok(taken + size)
     }
 }

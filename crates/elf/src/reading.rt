@@ -10,7 +10,7 @@ use crate::header::{
     check_header, entry_of, is_compressed, program_header_count, program_headers_place,
 };
 use crate::program::Program;
-use crate::program_header::{ProgramHeader, Taken};
+use crate::program_header::ProgramHeader;
 use crate::section::read_table;
 use crate::segment::Segment;
 use std::alloc::Global;
@@ -24,16 +24,10 @@ fn segments_of(alloc: Global, bytes: &[u8]) -> Result<Vec<Segment<'_>>, ElfFault
     let start = program_headers_place(bytes) as usize;
     let count = program_header_count(bytes);
     let mut segments = Vec::new(alloc);
-    let mut taken = Taken::NOTHING;
+    let mut taken = 0;
     'headers: for k in 0..count {
         let header = ProgramHeader::at(bytes, start + 32 * usize::from(k));
-        if !header.is_load() {
-            header.check_other()?;
-            continue;
-        }
-        let (segment, with) = header.load(bytes, taken)?;
-        segments.push(segment)?;
-        taken = with;
+        taken = header.put(bytes, &mut segments, taken)?;
     }
     Ok(segments)
 }

@@ -44,7 +44,9 @@ impl<'a> Model for Segment<'a> {
 }
 
 impl<'a> Segment<'a> {
-    ghost use Rattle.elf.specs.Segments.{LoadedSegment};
+    ghost use Rattle.std.specs.Prelude.{◌+◌};
+    ghost use Rattle.std.specs.List.{list_all};
+    ghost use Rattle.elf.specs.Segments.{LoadedSegment, lies_apart};
 
     /// The segment of these.
     pub(crate) fn new(address: u32, bytes: &'a [u8], size: u32, access: Access) -> Segment<'a>
@@ -80,6 +82,27 @@ impl<'a> Segment<'a> {
         ensures { result ≡ self.now.size }
     {
         self.size
+    }
+
+    /// The first address behind it.
+    pub(crate) fn end(&self) -> u64
+        ensures { result ≡ self.now.address + self.now.size }
+    {
+        u64::from(self.address) + u64::from(self.size)
+    }
+
+    /// Whether it and the other have no address in common.
+    pub(crate) fn lies_apart(&self, other: &Segment<'_>) -> bool
+        ensures { result ≡ lies_apart self.now other.now }
+    {
+        self.end() <= u64::from(other.address) || other.end() <= u64::from(self.address)
+    }
+
+    /// Whether it has no address in common with one of the others.
+    pub(crate) fn lies_apart_from(&self, others: &[Segment<'_>]) -> bool
+        ensures { result ≡ list_all (lies_apart self.now) others.now }
+    {
+        others.iter().all(|other| self.lies_apart(other))
     }
 
     /// What may be done with them.

@@ -1,7 +1,7 @@
 // Symbols: names of addresses.
 
 ghost use Rattle.std.specs.Prelude.{◌≡◌, ◌<◌, ◌^◌};
-ghost use Rattle.elf.specs.Lookup.{covers, is_function, is_named, is_object, is_shared};
+ghost use Rattle.elf.specs.Lookup.{covers, is_address, is_function, is_named, is_object, is_shared};
 ghost use Rattle.elf.specs.Symbols.{symbol_at};
 
 use crate::names::is_name;
@@ -50,6 +50,13 @@ impl Symbol {
             info: byte_at(table, place + 12),
             section: half_at(table, place + 14),
         }
+    }
+
+    /// Whether it names an address of the program.
+    pub(crate) fn is_address(&self) -> bool
+        ensures { result ≡ is_address self.now }
+    {
+        self.section != 0 && self.info % 16 <= FUNCTION
     }
 
     /// Whether it is a function of the program.

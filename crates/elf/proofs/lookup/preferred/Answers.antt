@@ -1,5 +1,5 @@
-use Rattle.std.proofs.Common.{◌≡◌, ◌+◌, ◌-◌, ◌*◌, ◌/◌, ◌∙◌, ◌∷◌, true, false, length, ap, sym}
-use Rattle.elf.specs.Lookup.{fits, is_shared, preferred}
+use Rattle.std.proofs.Common.{◌≡◌, ◌+◌, ◌-◌, ◌*◌, ◌/◌, ◌∙◌, ◌∷◌, length, ap, sym}
+use Rattle.elf.specs.Lookup.{fits, preferred}
 use Rattle.elf.specs.Symbols.{symbols_from}
 use Rattle.elf.proofs.Preference.{local, none_left, other, preferred_after, shared}
 use Rattle.elf.proofs.Walks.{first_symbol, no_symbol, symbol_step}
