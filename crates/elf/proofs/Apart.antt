@@ -71,9 +71,13 @@ apart file before [] h = tt
 apart file before (header ∷ headers) h =
     apart_at file before header headers (is_load header) refl h (λ more. apart file more headers)
 
+pub checked_apart : (file : List ℕ) → first_broken (segment_checks file) ≡ None → AreApart [] (segments_of file)
+unfolding segment_checks segments_of
+checked_apart file h = apart file [] (program_headers file) h
+
 pub segments_apart : (file : List ℕ) → fault_of file ≡ None → AreApart [] (program_of file).segments
-unfolding fault_of program_of segment_checks segments_of
+unfolding fault_of program_of
 segments_apart file h =
     let front = parts (header_checks file ++ segment_checks file) (symbol_checks file) h in
     let middle_ones = parts (header_checks file) (segment_checks file) front.0 in
-    apart file [] (program_headers file) middle_ones.1
+    checked_apart file middle_ones.1

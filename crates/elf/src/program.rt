@@ -1,6 +1,7 @@
 // A program, and what its symbols name.
 
-ghost use Rattle.std.specs.Prelude.{◌≡◌};
+ghost use Rattle.std.specs.Prelude.{◌≡◌, []};
+ghost use Rattle.elf.specs.Layout.{AreApart};
 
 use crate::lookup::{Wanted, covering, preferred};
 use crate::names::first_name;
@@ -21,6 +22,8 @@ pub struct Program<'a> {
 }
 
 impl<'a> Model for Program<'a> {
+    ghost use Rattle.std.specs.Prelude.{[]};
+    ghost use Rattle.elf.specs.Layout.{AreApart};
     ghost use Rattle.elf.specs.Reading.{Executable};
     ghost use Rattle.elf.specs.Symbols.{symbols_of};
 
@@ -33,6 +36,8 @@ impl<'a> Model for Program<'a> {
       symbols = symbols_of p.symbols.now;
       strings = p.strings.now;
     } };
+
+    ghost invariant = { λ p. AreApart [] p.segments.items };
 }
 
 impl<'a> Program<'a> {
@@ -46,6 +51,7 @@ impl<'a> Program<'a> {
         segments: Vec<Segment<'a>>,
         table: Table<'a>,
     ) -> Program<'a>
+        requires { AreApart [] segments.items }
         ensures entry { result.entry ≡ entry }
         ensures compressed { result.compressed ≡ compressed }
         ensures segments { result.segments ≡ segments.entry.items }
@@ -63,7 +69,8 @@ impl<'a> Program<'a> {
 
     /// Its segments, in the order of the file. No two have an address in common.
     pub fn segments(&self) -> &[Segment<'a>]
-        ensures { result.now ≡ self.now.segments }
+        ensures segments { result.now ≡ self.now.segments }
+        ensures apart { AreApart [] result.now }
     {
         &self.segments
     }

@@ -1,5 +1,6 @@
 use Rattle.std.proofs.Common.{◌∙◌, ap}
 use Rattle.elf.specs.Symbols.{symbols_of}
+use Rattle.elf.proofs.Apart.{checked_apart}
 use Rattle.elf.proofs.Answering.{accepted, header_refused, segment_refused, symbol_refused}
 use Rattle.elf.proofs.reading.read.Goals as goal
 
@@ -27,3 +28,7 @@ returns c =
     (c.new.ensures.segments ∙ c.in_ok-segments.ensures.segments)
     (c.new.ensures.symbols ∙ ap symbols_of c.in_ok-table.ensures.symbols)
     (c.new.ensures.strings ∙ c.in_ok-table.ensures.strings)
+
+pub new-requires : goal.new-requires
+new-requires c =
+    rw c.in_ok-segments.ensures.segments (checked_apart c.args.bytes.now c.in_ok-segments.ensures.passed)
