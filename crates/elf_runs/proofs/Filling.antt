@@ -1,0 +1,78 @@
+-- Lists that are filled or changed one item after another.
+use Rattle.std.proofs.Common.{◌≡◌, ◌<◌, ◌≤◌, ◌+◌, ◌-◌, ◌*◌, ◌++◌, ◌∙◌, [], ◌∷◌, ℕ, List, ap, arith, drop, length, map, refl}
+use Rattle.std.proofs.Common.{append_assoc, false, get_or, replicate, slice_index, slice_set, sym, take, true, w32}
+use Rattle.std.proofs.lemmas.Grind.{common_steps}
+use Rattle.std.proofs.lemmas.List.{length-append, length-map, length-replicate, map-set, take_all}
+use Rattle.std.specs.Int.{to_le_bytes}
+use Rattle.std.specs.List.{flat_map}
+use Rattle.std.proofs.Math.ListN.{get_or-map}
+use Rattle.std.proofs.lemmas.List.Edits.{map_over_more}
+use Rattle.elf_runs.specs.Arguments.{rounded, stack_begin}
+use Rattle.elf_runs.specs.Memory.{RangeState, on_stack, range_of, stack_range}
+use Rattle.elf_runs.specs.declared.memory.MemoryRange.{MemoryRange}
+use Rattle.elf_runs.specs.declared.words.Word.{Word}
+
+pub below_more : (values : List ℕ) (f : ℕ → ℕ) (r v : ℕ) → r < length values
+    → ((j : ℕ) → j < r → slice_index values j ≡ f j) → v ≡ f r
+    → (j : ℕ) → j < r + 1 → slice_index (slice_set values r v) j ≡ f j
+below_more values f r v lt below is j less = grind (arith, common_steps, below, is)
+
+-- one range changed, and those before it
+pub one_changed : (f : RangeState → RangeState) (old : List RangeState) (items : List MemoryRange) (k : ℕ)
+    (x y : MemoryRange)
+    → k < length old → map range_of items ≡ map f (take k old) ++ drop k old → x ≡ get_or items k x
+    → range_of y ≡ f (range_of x)
+    → map range_of (slice_set items k y) ≡ map f (take (k + 1) old) ++ drop (k + 1) old
+one_changed f old items k x y lt before is changed =
+    map-set range_of items k y
+    ∙ ap (slice_set (map range_of items) k) changed
+    ∙ map_over_more f old (map range_of items) k (range_of x) lt before
+    (ap range_of is ∙ sym (get_or-map range_of items k x))
+
+length_bytes : (words : List ℕ) → length (flat_map (to_le_bytes w32) words) ≡ 4 * length words
+length_bytes [] = refl
+length_bytes (word ∷ words) =
+    length-append (to_le_bytes w32 word) (flat_map (to_le_bytes w32) words)
+    ∙ ap (λ n. 4 + n) (length_bytes words)
+    ∙ omega arith
+
+all_filled : (size byte : ℕ) (words items : List ℕ) → rounded (4 * length words) ≤ size
+    → items ≡ replicate (size - rounded (4 * length words)) byte ++ flat_map (to_le_bytes w32) words
+    → take size items ++ replicate (size - length items) byte ≡ on_stack size byte words
+all_filled size byte words items fits is =
+    let front = replicate (size - rounded (4 * length words)) byte in
+    let back = flat_map (to_le_bytes w32) words in
+    let first = length-replicate (size - rounded (4 * length words)) byte in
+    let second = length_bytes words in
+    let both = ap length is ∙ length-append front back in
+    let count : length items ≡ size - rounded (4 * length words) + 4 * length words =
+    omega (arith, both, first, second) in
+    let whole = take_all size items (omega (arith, count, fits)) in
+    let left : size - length items ≡ rounded (4 * length words) - 4 * length words = omega (arith, count, fits) in
+    rw (whole, left, is, append_assoc) refl
+
+-- the bytes of words, filled up
+pub filled : (size byte : ℕ) (f : Word → ℕ) (words : List Word) (i n : ℕ) (items : List ℕ)
+    → rounded (4 * length words) ≤ size → length words ≤ i
+    → items
+    ≡ replicate (size - rounded (4 * length words)) byte ++ flat_map (to_le_bytes w32) (map f (take i words))
+    → n ≡ length items → take size items ++ replicate (size - n) byte ≡ on_stack size byte (map f words)
+filled size byte f words i n items fits all is counted =
+    let every = take_all i words all in
+    let same = length-map words f in
+    rw counted
+    (all_filled size byte (map f words) items (rw same fits)
+    (rw same (is ∙ ap (λ some. replicate (size - rounded (4 * length words)) byte
+    ++ flat_map (to_le_bytes w32) (map f some)) every)))
+
+pub stack_is : (size : ℕ) (words : List Word) (bytes unknown : List ℕ)
+    → bytes ≡ on_stack size 0 (map (λ word. word.value) words)
+    → unknown ≡ on_stack size 255 (map (λ word. word.unknown) words)
+    → record {
+      address = stack_begin size;
+      bytes = bytes;
+      unknown = unknown;
+      access = record { readable = true; writable = true; executable = false };
+    }
+    ≡ stack_range size words
+stack_is size words bytes unknown is hidden = rw (is, hidden) refl

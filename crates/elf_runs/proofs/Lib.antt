@@ -1,0 +1,4 @@
+pub mod Meeting
+pub mod Filling
+pub mod Answering
+pub mod CodeWords

@@ -1,0 +1,119 @@
+// The stack, and what it has to be.
+
+ghost use Rattle.std.specs.Prelude.{◌≡◌, ◌*◌, ◌+◌, ◌<◌, ◌≤◌, ◌^◌, length, IfOk, nat_le};
+ghost use Rattle.std.specs.List.{list_all};
+ghost use Rattle.elf_runs.specs.Arguments.{pushed_size, rounded, stack_begin, stack_end, stack_pointer};
+ghost use Rattle.elf_runs.specs.Below.{memory_of, most_memory};
+ghost use Rattle.elf_runs.specs.Memory.{range_of, stack_range};
+ghost use Rattle.elf_runs.specs.Needs.{Meets, ends_by, stack_needs};
+
+use crate::asked::Asked;
+use crate::fault::{Part, Unmet};
+use crate::memory::MemoryRange;
+use crate::needs::require;
+use crate::words::Word;
+use elf::{Access, ElfRule, Program, Segment};
+use std::alloc::{AllocError, Global};
+
+/// Where the stack ends. This is fixed, so that the addresses that a run shows do not depend on the other segments. It
+/// is high, since RAM, flash and ROM are below it.
+const STACK_END: u32 = 0xffff_fff0;
+
+/// The address that the function returns to. It lies behind the stack, where no segment is: so a run that comes to it
+/// stops there.
+pub(crate) const RETURN_ADDRESS: u32 = 0xffff_fff8;
+
+/// The most bytes of memory that the segments and the stack have together.
+const MOST_MEMORY: u32 = 1 << 24;
+
+/// The next multiple of 16.
+fn rounded(n: u64) -> u64
+    requires { n < 2 ^ 60 }
+    ensures { result ≡ rounded n }
+{
+    n.div_ceil(16) * 16
+}
+
+/// Where the stack pointer stands before a function with so many arguments.
+pub(crate) fn stack_pointer(count: usize) -> u32
+    requires { pushed_size count ≤ 2 ^ 24 }
+    ensures { result ≡ stack_pointer count }
+{
+    STACK_END - rounded(4 * count.saturating_sub(8) as u64) as u32
+}
+
+/// Whether segments and a stack are not too large together.
+fn fits(segments: &[Segment<'_>], stack: u32) -> bool
+    ensures { result ≡ nat_le (memory_of segments.now + stack) most_memory }
+{
+    if stack > MOST_MEMORY {
+        return false;
+    }
+    let mut room = MOST_MEMORY - stack;
+    'segments: for segment in segments {
+        if segment.size() > room {
+            return false;
+        }
+        room -= segment.size();
+    }
+    true
+}
+
+/// Whether the segment ends at this address or before.
+fn ends_by(address: u64, segment: &Segment<'_>) -> bool
+    ensures { result ≡ ends_by address segment.now }
+{
+    u64::from(segment.address()) + u64::from(segment.size()) <= address
+}
+
+/// Whether each segment ends before a stack of this size begins.
+fn leave_room(segments: &[Segment<'_>], stack: u32) -> bool
+    ensures { result ≡ list_all (ends_by (stack_begin stack)) segments.now }
+{
+    let begin = u64::from(STACK_END.saturating_sub(stack));
+    segments.iter().all(|segment| ends_by(begin, segment))
+}
+
+/// Checks the stack.
+pub(crate) fn check_stack(program: &Program<'_>, asked: &Asked) -> Result<(), Unmet>
+    ensures { Meets result (stack_needs program.now asked.now) }
+{
+    let size = asked.stack;
+    let segments = program.segments();
+    let pushed = asked.arguments.len().saturating_sub(8);
+    require(ElfRule::Argument, Part::Stack, size % 16 == 0)?;
+    require(ElfRule::Argument, Part::Stack, pushed <= size as usize / 4)?;
+    require(ElfRule::Ranges, Part::Stack, fits(segments, size))?;
+    require(ElfRule::Ranges, Part::Stack, leave_room(segments, size))
+}
+
+/// The stack of this size, with these arguments.
+pub(crate) fn stack_range(
+    alloc: Global,
+    size: u32,
+    words: &[Word],
+) -> Result<MemoryRange, AllocError>
+    requires size { size ≤ 2 ^ 24 }
+    requires room { rounded (4 * length words.now) ≤ size }
+    ensures { IfOk result (λ range. range_of range ≡ stack_range size words.now) }
+{
+    let below = size as usize - rounded(4 * words.len() as u64) as usize;
+    let mut bytes = vec![in alloc; 0u8; below]?;
+    let mut unknown = vec![in alloc; 255u8; below]?;
+    'words: for word in words {
+        bytes.extend_from_slice(&word.value.to_le_bytes())?;
+        unknown.extend_from_slice(&word.unknown.to_le_bytes())?;
+    }
+    bytes.resize(size as usize, 0)?;
+    unknown.resize(size as usize, 255)?;
+    Ok(MemoryRange {
+        address: STACK_END - size,
+        bytes,
+        unknown,
+        access: Access {
+            readable: true,
+            writable: true,
+            executable: false,
+        },
+    })
+}
