@@ -1,6 +1,6 @@
 -- Lists that are filled or changed one item after another.
 use Rattle.std.proofs.Common.{◌≡◌, ◌<◌, ◌≤◌, ◌+◌, ◌-◌, ◌*◌, ◌++◌, ◌∙◌, [], ◌∷◌, ℕ, List, ap, arith, drop, length, map, refl}
-use Rattle.std.proofs.Common.{append_assoc, false, get_or, replicate, slice_index, slice_set, sym, take, true, w32}
+use Rattle.std.proofs.Common.{append_assoc, false, get_or, replicate, suc, zero, slice_index, slice_set, sym, take, true, w32}
 use Rattle.std.proofs.lemmas.Grind.{common_steps}
 use Rattle.std.proofs.lemmas.List.{length-append, length-map, length-replicate, map-set, take_all}
 use Rattle.std.specs.Int.{to_le_bytes}
@@ -8,8 +8,9 @@ use Rattle.std.specs.List.{flat_map}
 use Rattle.std.proofs.Math.ListN.{get_or-map}
 use Rattle.std.proofs.lemmas.List.Edits.{map_over_more}
 use Rattle.elf_runs.specs.Arguments.{rounded, stack_begin}
+use Rattle.elf_runs.specs.Below.{AreApart, IsWithin, LoadedSegment}
 use Rattle.elf_runs.specs.Memory.{RangeState, on_stack, range_of, stack_range}
-use Rattle.elf_runs.specs.declared.memory.MemoryRange.{MemoryRange}
+use Rattle.elf_runs.specs.declared.memory_range.MemoryRange.{MemoryRange}
 use Rattle.elf_runs.specs.declared.words.Word.{Word}
 
 pub below_more : (values : List ℕ) (f : ℕ → ℕ) (r v : ℕ) → r < length values
@@ -76,3 +77,11 @@ pub stack_is : (size : ℕ) (words : List Word) (bytes unknown : List ℕ)
     }
     ≡ stack_range size words
 stack_is size words bytes unknown is hidden = rw (is, hidden) refl
+
+-- a segment of a program ends at 2 ^ 32 or before
+pub within_at : (before segments : List LoadedSegment) (i : ℕ) (d : LoadedSegment) → AreApart before segments
+    → i < length segments → IsWithin (get_or segments i d)
+within_at before [] i d apart lt = absurd (omega (arith, lt))
+within_at before (segment ∷ segments) zero d apart lt = apart.1
+within_at before (segment ∷ segments) (suc i) d apart lt =
+    within_at (before ++ segment ∷ []) segments i d apart.2 (omega (arith, lt))

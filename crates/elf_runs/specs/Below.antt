@@ -1,4 +1,5 @@
 -- What is taken from the crates below.
+pub use Rattle.elf.specs.Layout.{AreApart, IsWithin}
 pub use Rattle.elf.specs.Lookup.{address_named, function_named, object_named}
 pub use Rattle.elf.specs.Numbers.{word_at}
 pub use Rattle.elf.specs.Reading.{Executable}

@@ -10,7 +10,7 @@ use Rattle.elf_runs.specs.Objects.{object_of}
 use Rattle.elf_runs.specs.declared.asked.Asked.{Asked}
 use Rattle.elf_runs.specs.declared.asked.Secret.{Secret}
 use Rattle.elf_runs.specs.declared.asked.Setting.{Setting}
-use Rattle.elf_runs.specs.declared.memory.MemoryRange.{MemoryRange}
+use Rattle.elf_runs.specs.declared.memory_range.MemoryRange.{MemoryRange}
 use Rattle.elf_runs.specs.declared.words.Word.{Word}
 
 -- a range of memory: its first address, its bytes, a mask for each that has the bits that are not known, and what may

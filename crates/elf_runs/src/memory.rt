@@ -1,25 +1,18 @@
 // What the memory holds when a run begins.
 
-ghost use Rattle.std.specs.Prelude.{◌≡◌, ◌+◌, ◌<◌, ◌≤◌, ◌^◌, length, map, IfOk, OnOk};
+ghost use Rattle.std.specs.Prelude.{◌≡◌, ◌+◌, ◌≤◌, ◌^◌, [], length, map, vec_len, IfOk, OnOk};
+ghost use Rattle.elf_runs.specs.Below.{AreApart};
 ghost use Rattle.elf_runs.specs.Memory.{loaded, range_of, with_bytes, with_object, with_secret};
 
-use elf::{Access, Object, Segment};
+use crate::memory_range::MemoryRange;
+use elf::{Object, Segment};
 use std::alloc::{AllocError, Global};
-
-/// A range of memory: its first address, its bytes, for each of these a mask of its bits that are not known, and what
-/// may be done with them. What a bit that is not known is in the bytes means nothing.
-#[derive(Debug, Drop)]
-pub struct MemoryRange {
-    pub address: u32,
-    pub bytes: Vec<u8>,
-    pub unknown: Vec<u8>,
-    pub access: Access,
-}
 
 /// Puts a part at an object's address, if the items, which begin at an address, have the object.
 fn put(items: &mut Vec<u8>, address: u32, object: Object, part: &[u8])
     requires { length part.now ≤ object.size }
-    ensures { items.new.items ≡ with_object address object part.now items.old.items }
+    ensures items { items.new.items ≡ with_object address object part.now items.old.items }
+    ensures count { vec_len items.new ≡ vec_len items.old }
 {
     let begin = u64::from(address);
     let place = u64::from(object.address);
@@ -59,6 +52,7 @@ pub(crate) fn hide_object(
 
 /// A segment: what the file has of it, and zeros behind that.
 fn loaded(alloc: Global, segment: &Segment<'_>) -> Result<MemoryRange, AllocError>
+    requires { segment.now.address + segment.now.size ≤ 2 ^ 32 }
     ensures { IfOk result (λ range. range_of range ≡ loaded segment.now) }
 {
     let size = segment.size() as usize;
@@ -78,6 +72,7 @@ pub(crate) fn loaded_segments(
     alloc: Global,
     segments: &[Segment<'_>],
 ) -> Result<Vec<MemoryRange>, AllocError>
+    requires { AreApart [] segments.now }
     ensures { IfOk result (λ ranges. map range_of ranges.items ≡ map loaded segments.now) }
 {
     let mut ranges = Vec::new(alloc);

@@ -8,7 +8,8 @@ ghost use Rattle.elf_runs.specs.Objects.{object_of};
 
 use crate::asked::{Secret, Setting};
 use crate::fault::{Part, StartFault, Unmet};
-use crate::memory::{MemoryRange, hide_object, set_object};
+use crate::memory::{hide_object, set_object};
+use crate::memory_range::MemoryRange;
 use crate::objects::object_of;
 use elf::{ElfRule, Object, Program};
 use std::alloc::Global;

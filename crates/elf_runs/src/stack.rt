@@ -9,7 +9,7 @@ ghost use Rattle.elf_runs.specs.Needs.{Meets, ends_by, stack_needs};
 
 use crate::asked::Asked;
 use crate::fault::{Part, Unmet};
-use crate::memory::MemoryRange;
+use crate::memory_range::MemoryRange;
 use crate::needs::require;
 use crate::words::Word;
 use elf::{Access, ElfRule, Program, Segment};

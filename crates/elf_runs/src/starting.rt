@@ -10,7 +10,8 @@ ghost use Rattle.elf_runs.specs.Needs.{IsTold, Meets, first_unmet, function_need
 use crate::arguments::words_of;
 use crate::asked::Asked;
 use crate::fault::{Part, StartFault, Unmet};
-use crate::memory::{MemoryRange, loaded_segments};
+use crate::memory::loaded_segments;
+use crate::memory_range::MemoryRange;
 use crate::registers::{Registers, global_pointer};
 use crate::settings::{hide_secrets, set_objects};
 use crate::stack::{check_stack, stack_range};

@@ -16,7 +16,7 @@ each-preserved c =
       changed =
           one_changed (with_secret c.args.object) old items c.each.k c.index_mut-range.result.now _
           (omega (arith, counted, before.all, c.each-test.true)) before.changed c.index_mut-range.ensures.value
-          (rw (c.put.ensures, c.deref.ensures.value, all) refl);
+          (rw (c.put.ensures.items, c.deref.ensures.value, all) refl);
       count = before.count;
       all = before.all;
     }

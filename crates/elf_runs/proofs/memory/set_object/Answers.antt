@@ -14,7 +14,7 @@ each-preserved c =
       changed =
           one_changed (with_bytes c.args.object c.args.bytes.now) old items c.each.k c.index_mut-range.result.now _
           (omega (arith, counted, before.all, c.each-test.true)) before.changed c.index_mut-range.ensures.value
-          (rw c.put.ensures refl);
+          (rw c.put.ensures.items refl);
       count = before.count;
       all = before.all;
     }
