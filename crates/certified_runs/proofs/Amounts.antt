@@ -6,11 +6,13 @@ use Rattle.certified_runs.specs.Below.{not_code, Observation, pc_misaligned, Pro
 use Rattle.certified_runs.specs.Below.{stops, Step}
 use Rattle.certified_runs.proofs.Below.{goes_on-determined, goes_on≢stops, step_of_state}
 use Rattle.certified_runs.specs.Amounts.{is_shift, amounts_of, ShiftsBy, spent, halts, steps_on}
-use Rattle.certified_runs.specs.Known.{KnownState, knows, Covers}
+use Rattle.certified_runs.specs.Known.{KnownState, part, Covers}
+use Rattle.certified_runs.specs.Bits.{is_known_amount}
 use Rattle.certified_runs.specs.Certified as certified
 use Rattle.certified_runs.specs.Certified.{decides, known_after, KnownStep, leads_on, decided, same, CertifiedRun}
 use Rattle.certified_runs.specs.declared.shifts.Shifts.TheVariants.{Seen}
 use Rattle.certified_runs.proofs.KnownSteps.{one_instruction}
+use Rattle.certified_runs.proofs.Rows.{same_amount}
 use Rattle.certified_runs.proofs.Runs.{leads_kept, stop_kept}
 
 -- A run has one list of amounts.
@@ -48,18 +50,18 @@ some_amounts code (suc n) s = amounts_from code n s (λ t. some_amounts code n t
 
 -- Where shifts are seen, what decides an instruction decides its amount.
 
-amount_same : (shift known : Bool) (a a' : ℕ) → (not shift || known) ≡ true → (known ≡ true → a' ≡ a)
+amount_same : (shift known : Bool) (a a' : ℕ) → (not shift || known) ≡ true → (known ≡ true → a' % 32 ≡ a % 32)
     → ◌≡◌ {A = List ℕ} (if shift then a' % 32 ∷ [] else []) (if shift then a % 32 ∷ [] else [])
 amount_same true known a a' sure value = rw (value sure)
 amount_same false known a a' sure value = refl
 
 module _ (k : KnownState) (s : State) (covers : Covers k s) where
-  amounts_same : (profile : Profile) (i : Instr) → decides profile Seen i k.registers ≡ true
+  amounts_same : (profile : Profile) (i : Instr) → k.shifts ≡ Seen → decides profile i k ≡ true
       → amounts_of i s.regs ≡ amounts_of i k.state.regs
-  amounts_same profile (Register operation rd rs1 rs2) sure =
-      amount_same (is_shift operation) (knows k.registers rs2) (register k.state.regs rs2) (register s.regs rs2) sure
-      (covers.registers rs2)
-  amounts_same profile _ sure = refl
+  amounts_same profile (Register operation rd rs1 rs2) seen sure =
+      amount_same (is_shift operation) (is_known_amount (part k rs2)) (register k.state.regs rs2)
+      (register s.regs rs2) (rw seen at sure) (same_amount (covers.registers rs2))
+  amounts_same profile _ seen sure = refl
 
 -- So all covered states shift by the amounts of one list.
 
@@ -74,7 +76,7 @@ all_step {code} {k = k} {o = o} shown (decided {t = t} i at sure step) rest = (
   λ s covers.
       let first = leads_kept code k s covers o (known_after i k t) (decided i at sure step) in
       let there : IsAt code s.pc i = rw covers.pc at in
-      rw (sym (amounts_same k s covers code.profile i (rw shown at sure)))
+      rw (sym (amounts_same k s covers code.profile i shown sure))
       (steps_on i there first.1 (rest first.0 first.2)),
 )
 

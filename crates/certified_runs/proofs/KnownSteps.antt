@@ -13,8 +13,8 @@ use Rattle.certified_runs.specs.Certified as certified
 use Rattle.certified_runs.specs.Certified.{decides, registers_after, bytes_after, KnownStep, decided, ends}
 use Rattle.certified_runs.specs.Known.{KnownState}
 use Rattle.certified_runs.specs.declared.shifts.Shifts.{Shifts}
-use Rattle.certified_runs.proofs.Covering.{number_extent}
-use Rattle.certified_runs.specs.private.Changes.{accessed, StoresData}
+use Rattle.certified_runs.proofs.Numbers.{number_extent}
+use Rattle.certified_runs.specs.private.Changes.{StoresData}
 use Rattle.certified_runs.specs.private.Stepped.{HaveOneExtent, HasStepped}
 use Rattle.certified_runs.specs.declared.steps.StepEnd.TheVariants.{LeadsOn, Ends}
 
@@ -43,7 +43,7 @@ stored_there profile operation a v s t o goes =
 -- where a step goes on, what it stores is data, and has marks
 stores_data : (marks : ByteMap) (profile : Profile) (i : Instr) (s t : State) (o : Observation)
     → HaveOneExtent marks s.bytes → ending_of profile (effect_of i s.pc s.regs) s ≡ goes_on o t
-    → StoresData marks i (accessed i s.regs)
+    → StoresData marks i s.regs
 stores_data marks profile (Store operation rs2 rs1 offset) s t o extent goes =
     let a = address_of s.regs rs1 offset in
     number_extent s.bytes marks extent (byte_count (store_size operation)) a
@@ -75,15 +75,15 @@ stopped_so step stopped calm = step
 stopped_so step (refused shows) calm = absurd (calm refl)
 
 -- what is known is its parts
-same_known : (t : State) {r r' b b' : ℕ → Bool} {w w' : Shifts} → r ≡ r' → b ≡ b' → w ≡ w'
+same_known : (t : State) {r r' : ℕ → ℕ} {b b' : ByteMap} {w w' : Shifts} → r ≡ r' → b ≡ b' → w ≡ w'
     → ◌≡◌ {A = KnownState} (record { state = t; registers = r; bytes = b; shifts = w })
     (record { state = t; registers = r'; bytes = b'; shifts = w' })
 same_known t same_registers same_bytes same_shifts = cc
 
 module _ (code : MachineCode) (k : KnownState) (i : Instr) (at : IsAt code k.state.pc i)
-    (sure : decides code.profile k.shifts i k.registers ≡ true) where
+    (sure : decides code.profile i k ≡ true) where
   -- the step went on, and the change of its instruction was made
-  pub has_led : {t : State} {registers bytes : ℕ → Bool} {shifts : Shifts} {ending : StepEnding}
+  pub has_led : {t : State} {registers : ℕ → ℕ} {bytes : ByteMap} {shifts : Shifts} {ending : StepEnding}
       {seen : List Observation}
       {entries : ℕ} → Step code k.state ending → Done k.state ending None t seen
       → registers ≡ registers_after i k → bytes ≡ bytes_after i k → shifts ≡ k.shifts
@@ -108,7 +108,7 @@ module _ (code : MachineCode) (k : KnownState) (i : Instr) (at : IsAt code k.sta
   -- what is stored where the step goes on is data
   pub led_stores : (marks : ByteMap) {t : State} {ending : StepEnding} {seen : List Observation}
       → HaveOneExtent marks k.state.bytes → Step code k.state ending → Done k.state ending None t seen
-      → StoresData marks i (accessed i k.state.regs)
+      → StoresData marks i k.state.regs
   led_stores marks {t = t} extent step (went_on {o = o}) =
       stores_data marks code.profile i k.state t o extent
       (Step-determined (executes i at.aligned at.word at.in_range refl) step)

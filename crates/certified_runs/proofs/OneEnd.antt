@@ -13,7 +13,7 @@ use Rattle.certified_runs.proofs.KnownSteps.{one_instruction}
 
 -- what decides an instruction at the program counter is known or not
 unsure : {code : MachineCode} (k : KnownState) {i j : Instr} → IsAt code k.state.pc i → IsAt code k.state.pc j
-    → decides code.profile k.shifts i k.registers ≡ true → decides code.profile k.shifts j k.registers ≡ false → ⊥
+    → decides code.profile i k ≡ true → decides code.profile j k ≡ false → ⊥
 unsure k at at' sure unknown = both_ways _ (rw (sym (one_instruction at at')) at unknown) sure
 
 -- what is known has one step
@@ -59,13 +59,13 @@ one_end (steps_on {next = next} {o = o} step rest) (steps_on {next = next'} {o =
 -- Every certified run has an end.
 
 module _ (code : MachineCode) (k : KnownState) where
-  step_made : (i : Instr) → IsAt code k.state.pc i → decides code.profile k.shifts i k.registers ≡ true
+  step_made : (i : Instr) → IsAt code k.state.pc i → decides code.profile i k ≡ true
       → (ending : StepEnding) → Step code k.state ending → (e : KnownEnding) × KnownStep code k e
   step_made i at sure (goes_on o t) step = (leads_on o (known_after i k t), decided i at sure step)
   step_made i at sure (stops seen stop) step =
       (ends seen stop, stopped (λ j there. rw (one_instruction there at) sure) step)
 
-  step_asked : (i : Instr) → IsAt code k.state.pc i → (b : Bool) → decides code.profile k.shifts i k.registers ≡ b
+  step_asked : (i : Instr) → IsAt code k.state.pc i → (b : Bool) → decides code.profile i k ≡ b
       → (ending : StepEnding) → Step code k.state ending → (e : KnownEnding) × KnownStep code k e
   step_asked i at true sure ending step = step_made i at sure ending step
   step_asked i at false unknown ending step = (depends, undecided i at unknown)
@@ -80,7 +80,7 @@ module _ (code : MachineCode) (k : KnownState) where
         (no_instruction even is misfit),
   )
   step_from {ending} (executes i even is ok end) =
-      step_asked i (record { aligned = even; word = is; in_range = ok }) (decides code.profile k.shifts i k.registers)
+      step_asked i (record { aligned = even; word = is; in_range = ok }) (decides code.profile i k)
       refl ending (executes i even is ok end)
 
   pub some_step : (e : KnownEnding) × KnownStep code k e

@@ -8,11 +8,7 @@ use Rattle.certified_runs.specs.Known.{KnownState, Covers}
 use Rattle.certified_runs.specs.Certified as certified
 use Rattle.certified_runs.specs.Certified.{known_after, KnownStep, CertifiedRun, decided, leads_on, ends, same}
 use Rattle.certified_runs.specs.Certified.{may_differ}
-use Rattle.certified_runs.proofs.Covering.{StaysCovered, goes_alike, stops_alike, step_kept}
-
--- the state itself is covered
-pub itself : (k : KnownState) → Covers k k.state
-itself k = record { pc = refl; registers = λ r h. refl; extent = λ a. refl; bytes = λ a h. refl }
+use Rattle.certified_runs.proofs.Covering.{StaysCovered, goes_alike, stops_alike, itself, step_kept}
 
 module _ (code : MachineCode) (k : KnownState) (s : State) (covers : Covers k s) where
   -- the step of an instruction at the program counter
@@ -38,13 +34,13 @@ module _ (code : MachineCode) (k : KnownState) (s : State) (covers : Covers k s)
       → (t : State) × Step code s (goes_on o t) × Covers next t
   leads_kept o next (decided i at known step) =
       goes_on_kept (step_at i at)
-      (rw (Step-determined (is_step i at) step) at (step_kept k s covers code.profile i known))
+      (rw (Step-determined (is_step i at) step) at (step_kept k s covers code.profile i at.in_range known))
 
   pub stop_kept : (seen : List Observation) (stop : Stop) → KnownStep code k (ends seen stop)
       → Step code s (stops seen stop)
   stop_kept seen stop (certified.stopped known (executes i even word ok is)) =
       let at : IsAt code k.state.pc i = record { aligned = even; word = word; in_range = ok } in
-      stops_kept (step_at i at) (rw (sym is) at (step_kept k s covers code.profile i (known i at)))
+      stops_kept (step_at i at) (rw (sym is) at (step_kept k s covers code.profile i ok (known i at)))
   stop_kept seen stop (certified.stopped known (pc_misaligned odd)) =
       pc_misaligned (λ even. odd (rw covers.pc at even))
   stop_kept seen stop (certified.stopped known (not_code even none)) =

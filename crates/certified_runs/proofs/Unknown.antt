@@ -1,28 +1,61 @@
 -- How a certified run ends depends on what is known alone.
-use Rattle.std.proofs.Common.{◌≡◌, ℕ, true, List, refl, sym, subst}
-use Rattle.certified_runs.specs.Below.{MachineCode, Instr, IsAt, Load, Observation, Profile, State, Store}
-use Rattle.certified_runs.specs.Known.{KnownState, Covers}
+use Rattle.std.specs.Prelude.{◌&&◌, ◌||◌, nat_eq}
+use Rattle.std.proofs.Common.{◌≡◌, ℕ, true, List, refl, sym, subst, ap, ap₂, ◌∙◌}
+use Rattle.std.proofs.lemmas.Bool.{eqb-true}
+use Rattle.certified_runs.specs.Below.{Branch, Immediate, Instr, IsAt, Load, MachineCode, Multiply, Observation, Profile}
+use Rattle.certified_runs.specs.Below.{Register, register, sign_extended, State, Store}
+use Rattle.certified_runs.specs.Bits.{Agree, cancels, decides_branch, immediate_unknown, multiply_unknown, partly}
+use Rattle.certified_runs.specs.Bits.{register_unknown, unless}
+use Rattle.certified_runs.specs.Known.{KnownState, knows, Covers, part, unknown, with_register_unknown}
 use Rattle.certified_runs.specs.Certified.{decides, registers_after, bytes_after, known_after, KnownStep, leads_on}
 use Rattle.certified_runs.specs.Certified.{decided, stopped, undecided, RunEnding, CertifiedRun, spent, halts, cut}
 use Rattle.certified_runs.specs.Certified.{steps_on}
+use Rattle.certified_runs.specs.declared.bits.PartialWord.{PartialWord}
+use Rattle.certified_runs.proofs.Agreeing.{same_greatest, same_known}
 use Rattle.certified_runs.proofs.Runs.{leads_kept, stop_kept}
 
 -- as much is known, of another state
 abbrev pub of_state : State → KnownState → KnownState
 of_state s k = record { state = s; registers = k.registers; bytes = k.bytes; shifts = k.shifts }
 
+abbrev whole : ℕ → ℕ → PartialWord
+whole mask greatest = record { greatest = greatest; unknown = mask }
+
 module _ (k : KnownState) (s : State) (covers : Covers k s) where
-  registers_same : (profile : Profile) (i : Instr) → decides profile k.shifts i k.registers ≡ true
+  part_same : (r : ℕ) → part (of_state s k) r ≡ part k r
+  part_same r =
+      ap (whole (unknown k.registers r)) (same_greatest (covers.registers r))
+
+  register_same : (r : ℕ) → knows k r ≡ true → register s.regs r ≡ register k.state.regs r
+  register_same r sure =
+      same_known (subst (λ m. Agree m (register k.state.regs r) (register s.regs r))
+      (eqb-true (unknown k.registers r) 0 sure) (covers.registers r))
+
+  decides_same : (profile : Profile) (i : Instr) → decides profile i (of_state s k) ≡ decides profile i k
+  decides_same profile (Branch test rs1 rs2 offset) =
+      ap₂ (λ a b. nat_eq rs1 rs2 || decides_branch test a b) (part_same rs1) (part_same rs2)
+  decides_same profile _ = refl
+
+  registers_same : (profile : Profile) (i : Instr) → decides profile i k ≡ true
       → registers_after i (of_state s k) ≡ registers_after i k
-  registers_same profile (Load operation rd rs1 offset) sure = rw (covers.registers rs1 sure)
+  registers_same profile (Load operation rd rs1 offset) sure = rw (register_same rs1 sure)
+  registers_same profile (Immediate operation rd rs1 immediate) sure =
+      ap (λ a. with_register_unknown k.registers rd
+      (immediate_unknown operation a (partly 0 (sign_extended 12 immediate)))) (part_same rs1)
+  registers_same profile (Register operation rd rs1 rs2) sure =
+      ap₂ (λ a b. with_register_unknown k.registers rd
+      (unless (nat_eq rs1 rs2 && cancels operation) (register_unknown operation a b))) (part_same rs1) (part_same rs2)
+  registers_same profile (Multiply operation rd rs1 rs2) sure =
+      ap₂ (λ a b. with_register_unknown k.registers rd (multiply_unknown operation a b)) (part_same rs1)
+      (part_same rs2)
   registers_same profile _ sure = refl
 
-  bytes_same : (profile : Profile) (i : Instr) → decides profile k.shifts i k.registers ≡ true
+  bytes_same : (profile : Profile) (i : Instr) → decides profile i k ≡ true
       → bytes_after i (of_state s k) ≡ bytes_after i k
-  bytes_same profile (Store operation rs2 rs1 offset) sure = rw (covers.registers rs1 sure)
+  bytes_same profile (Store operation rs2 rs1 offset) sure = rw (register_same rs1 sure)
   bytes_same profile _ sure = refl
 
-  after_same : (profile : Profile) (i : Instr) (t u : State) → decides profile k.shifts i k.registers ≡ true
+  after_same : (profile : Profile) (i : Instr) (t u : State) → decides profile i k ≡ true
       → of_state u (known_after i k t) ≡ known_after i (of_state s k) u
   after_same profile i t u sure =
       let registers = registers_same profile i sure in
@@ -40,7 +73,7 @@ module _ (k : KnownState) (s : State) (covers : Covers k s) where
   leads_alike {code} {o} (decided {t = t} i at sure step) =
       let there = leads_kept code k s covers o (known_after i k t) (decided i at sure step) in (
         there.0,
-        rw (after_same code.profile i t there.0 sure) (decided i (moved code i at) sure there.1),
+        rw (after_same code.profile i t there.0 sure) (decided i (moved code i at) (decides_same code.profile i ∙ sure) there.1),
         there.2,
       )
 
@@ -49,10 +82,10 @@ pub run_alike : {code : MachineCode} {budget : ℕ} {k : KnownState} {s : State}
     → CertifiedRun code budget k seen ending → Covers k s → CertifiedRun code budget (of_state s k) seen ending
 run_alike spent covers = spent
 run_alike {code} {s = s} (halts {k = k} {seen = seen} {stop = stop} (stopped known step)) covers =
-    halts (stopped (λ i at. known i (moved_back k s covers code i at))
+    halts (stopped (λ i at. decides_same k s covers code.profile i ∙ known i (moved_back k s covers code i at))
     (stop_kept code k s covers seen stop (stopped known step)))
 run_alike {code} {s = s} (cut {k = k} (undecided i at unknown)) covers =
-    rw (sym covers.pc) (cut (undecided i (moved k s covers code i at) unknown))
+    rw (sym covers.pc) (cut (undecided i (moved k s covers code i at) (decides_same k s covers code.profile i ∙ unknown)))
 run_alike {s = s} (steps_on {k = k} step rest) covers =
     let first = leads_alike k s covers step in
     steps_on first.1 (run_alike rest first.2)

@@ -1,6 +1,7 @@
 -- What this crate takes from the specs of the crates below, in one place.
 pub use Rattle.word.specs.declared.profile.Profile.{Profile}
 pub use Rattle.word.specs.declared.profile.Profile.TheVariants.{P1, P2}
+pub use Rattle.rv_code.specs.Words.{IsInstr}
 unfoldable pub use Rattle.rv_code.specs.Words.{word_of}
 pub use Rattle.rv_code.specs.declared.instructions.Instr.{Instr}
 pub use Rattle.rv_code.specs.declared.instructions.Instr.TheVariants.{Branch, Divide, Ebreak, Ecall, Fence, Immediate}
@@ -10,7 +11,8 @@ pub use Rattle.rv_code.specs.declared.operations.StoreOperation.{StoreOperation}
 pub use Rattle.rv_machine.specs.Bytes.{ByteMap, joined}
 unfoldable pub use Rattle.rv_machine.specs.Bytes.{number_at, with_number}
 pub use Rattle.rv_machine.specs.Effects.{address_of, branch_target, effect_of, holds, jump_target, load_size}
-pub use Rattle.rv_machine.specs.Effects.{loaded_value, multiply_value, register_target, store_size}
+pub use Rattle.rv_machine.specs.Effects.{loaded_value, multiply_value, register_target, shift_value, sign_extended}
+pub use Rattle.rv_machine.specs.Effects.{store_size}
 pub use Rattle.rv_machine.specs.Entries.{entries_of, Entry, events_of, program_counter}
 pub use Rattle.rv_machine.specs.Harts.{pc_of, regs_of, state_of}
 pub use Rattle.rv_machine.specs.Leakage.{Done, followed_by, Leads, refused, RunsWithin, spent, stays, stopped, steps_on}

@@ -1,65 +1,73 @@
 -- A step and a run of what is known of a state. What instructions compute, and how steps end, is the machine's own.
-use Rattle.std.specs.Prelude.{◌≡◌, ℕ, Bool, true, false, List, [], ◌∷◌}
+use Rattle.std.specs.Prelude.{◌≡◌, ℕ, ◌==◌, ◌&&◌, ◌||◌, Bool, true, false, List, [], ◌∷◌}
 use Rattle.std.proofs.Common.{zero, suc}
-use Rattle.certified_runs.specs.Below.{address_of, Branch, Budget, byte_count, MachineCode, Divide, Ebreak, Ecall}
-use Rattle.certified_runs.specs.Below.{Fence, goes_on, Immediate, Instr, IsAt, Jump, JumpRegister, Load, load_size}
-use Rattle.certified_runs.specs.Below.{Multiply, Observation, P1, P2, Profile, Register, Shift, State, Stop, stops}
-use Rattle.certified_runs.specs.Below.{Store, store_size, Step, Upper}
+use Rattle.certified_runs.specs.Below.{address_of, Branch, Budget, byte_count, ByteMap, MachineCode, Divide, Ebreak}
+use Rattle.certified_runs.specs.Below.{Ecall, Fence, goes_on, Immediate, Instr, IsAt, Jump, JumpRegister, Load}
+use Rattle.certified_runs.specs.Below.{load_size, loaded_value, Multiply, number_at, Observation, P1, P2, Profile}
+use Rattle.certified_runs.specs.Below.{Register, Shift, shift_value, sign_extended, State, Stop, stops, Store}
+use Rattle.certified_runs.specs.Below.{store_size, Step, Upper, with_number}
 use Rattle.certified_runs.specs.Amounts.{decides_amount}
-use Rattle.certified_runs.specs.declared.shifts.Shifts.{Shifts}
-use Rattle.certified_runs.specs.Known.{KnownState, knows, knows_both, knows_bytes, with_register_known}
-use Rattle.certified_runs.specs.Known.{with_bytes_known}
+use Rattle.certified_runs.specs.Bits.{are_known, cancels, decides_branch, divide_unknown, immediate_unknown}
+use Rattle.certified_runs.specs.Bits.{is_known_amount, multiply_unknown, partly, register_unknown, unless}
+use Rattle.certified_runs.specs.Known.{KnownState, knows, number_unknown, part, unknown, with_register_unknown}
 
 -- whether a product is known as far as the observer of this profile sees it
 abbrev pub decides_product : Profile → Bool → Bool
 decides_product P1 known = true
 decides_product P2 known = known
 
--- whether what an instruction shows, and where it leads, is decided by what is known of the registers: what a branch
--- compares, a jump goes by, an access is addressed by, a division is of, and, where its operands are seen, a product;
--- and by what a register is shifted, where that is seen
-abbrev pub decides : Profile → Shifts → Instr → (ℕ → Bool) → Bool
-decides profile shifts (Upper operation rd immediate) known = true
-decides profile shifts (Jump rd offset) known = true
-decides profile shifts (JumpRegister rd rs1 offset) known = knows known rs1
-decides profile shifts (Branch test rs1 rs2 offset) known = knows_both known rs1 rs2
-decides profile shifts (Load operation rd rs1 offset) known = knows known rs1
-decides profile shifts (Store operation rs2 rs1 offset) known = knows known rs1
-decides profile shifts (Immediate operation rd rs1 immediate) known = true
-decides profile shifts (Shift operation rd rs1 amount) known = true
-decides profile shifts (Register operation rd rs1 rs2) known = decides_amount shifts operation (knows known rs2)
-decides profile shifts (Multiply operation rd rs1 rs2) known = decides_product profile (knows_both known rs1 rs2)
-decides profile shifts (Divide operation rd rs1 rs2) known = knows_both known rs1 rs2
-decides profile shifts (Fence mode before after rs1 rd) known = true
-decides profile shifts Ecall known = true
-decides profile shifts Ebreak known = true
+-- whether what an instruction shows, and where it leads, is decided by what is known: what a branch compares, as far as
+-- it goes by it, a jump goes by, an access is addressed by, a division is of, and, where its operands are seen, a
+-- product; and by what a register is shifted, where that is seen
+abbrev pub decides : Profile → Instr → KnownState → Bool
+decides profile (Upper operation rd immediate) k = true
+decides profile (Jump rd offset) k = true
+decides profile (JumpRegister rd rs1 offset) k = knows k rs1
+decides profile (Branch test rs1 rs2 offset) k = rs1 == rs2 || decides_branch test (part k rs1) (part k rs2)
+decides profile (Load operation rd rs1 offset) k = knows k rs1
+decides profile (Store operation rs2 rs1 offset) k = knows k rs1
+decides profile (Immediate operation rd rs1 immediate) k = true
+decides profile (Shift operation rd rs1 amount) k = true
+decides profile (Register operation rd rs1 rs2) k = decides_amount k.shifts operation (is_known_amount (part k rs2))
+decides profile (Multiply operation rd rs1 rs2) k = decides_product profile (are_known (part k rs1) (part k rs2))
+decides profile (Divide operation rd rs1 rs2) k = are_known (part k rs1) (part k rs2)
+decides profile (Fence mode before after rs1 rd) k = true
+decides profile Ecall k = true
+decides profile Ebreak k = true
 
--- the known registers after an instruction: what it gave a register is known where all that it is made of is
-abbrev pub registers_after : Instr → KnownState → ℕ → Bool
-registers_after (Upper operation rd immediate) k = with_register_known k.registers rd true
-registers_after (Jump rd offset) k = with_register_known k.registers rd true
-registers_after (JumpRegister rd rs1 offset) k = with_register_known k.registers rd true
+-- the unknown bits of the registers after an instruction: those of what it gave a register are as its operation's row
+-- says
+abbrev pub registers_after : Instr → KnownState → ℕ → ℕ
+registers_after (Upper operation rd immediate) k = with_register_unknown k.registers rd 0
+registers_after (Jump rd offset) k = with_register_unknown k.registers rd 0
+registers_after (JumpRegister rd rs1 offset) k = with_register_unknown k.registers rd 0
 registers_after (Branch test rs1 rs2 offset) k = k.registers
 registers_after (Load operation rd rs1 offset) k =
-    with_register_known k.registers rd
-    (knows_bytes k.bytes (byte_count (load_size operation)) (address_of k.state.regs rs1 offset))
+    let a = address_of k.state.regs rs1 offset in
+    with_register_unknown k.registers rd
+    (loaded_value operation (number_unknown (number_at k.bytes (byte_count (load_size operation)) a)))
 registers_after (Store operation rs2 rs1 offset) k = k.registers
-registers_after (Immediate operation rd rs1 immediate) k = with_register_known k.registers rd (knows k.registers rs1)
-registers_after (Shift operation rd rs1 amount) k = with_register_known k.registers rd (knows k.registers rs1)
+registers_after (Immediate operation rd rs1 immediate) k =
+    with_register_unknown k.registers rd
+    (immediate_unknown operation (part k rs1) (partly 0 (sign_extended 12 immediate)))
+registers_after (Shift operation rd rs1 amount) k =
+    with_register_unknown k.registers rd (shift_value operation (unknown k.registers rs1) amount)
 registers_after (Register operation rd rs1 rs2) k =
-    with_register_known k.registers rd (knows_both k.registers rs1 rs2)
+    with_register_unknown k.registers rd
+    (unless (rs1 == rs2 && cancels operation) (register_unknown operation (part k rs1) (part k rs2)))
 registers_after (Multiply operation rd rs1 rs2) k =
-    with_register_known k.registers rd (knows_both k.registers rs1 rs2)
-registers_after (Divide operation rd rs1 rs2) k = with_register_known k.registers rd (knows_both k.registers rs1 rs2)
+    with_register_unknown k.registers rd (multiply_unknown operation (part k rs1) (part k rs2))
+registers_after (Divide operation rd rs1 rs2) k =
+    with_register_unknown k.registers rd (divide_unknown operation (part k rs1) (part k rs2))
 registers_after (Fence mode before after rs1 rd) k = k.registers
 registers_after Ecall k = k.registers
 registers_after Ebreak k = k.registers
 
--- the known bytes after an instruction: those that it stored are known where the register is
-abbrev pub bytes_after : Instr → KnownState → ℕ → Bool
+-- the unknown bits of the bytes after an instruction: those that it stored have the register's
+abbrev pub bytes_after : Instr → KnownState → ByteMap
 bytes_after (Store operation rs2 rs1 offset) k =
-    with_bytes_known k.bytes (byte_count (store_size operation)) (address_of k.state.regs rs1 offset)
-    (knows k.registers rs2)
+    with_number k.bytes (byte_count (store_size operation)) (address_of k.state.regs rs1 offset)
+    (unknown k.registers rs2)
 bytes_after _ k = k.bytes
 
 -- what is known after an instruction that leads to this state
@@ -76,12 +84,12 @@ pub data KnownEnding : Type 0 where
 -- one step of what is known
 pub data KnownStep (code : MachineCode) (k : KnownState) : KnownEnding → Type 0 where
   decided : {o : Observation} {t : State} (i : Instr) → IsAt code k.state.pc i
-      → decides code.profile k.shifts i k.registers ≡ true → Step code k.state (goes_on o t)
+      → decides code.profile i k ≡ true → Step code k.state (goes_on o t)
       → KnownStep code k (leads_on o (known_after i k t))
   stopped : {seen : List Observation} {stop : Stop}
-      → ((i : Instr) → IsAt code k.state.pc i → decides code.profile k.shifts i k.registers ≡ true)
+      → ((i : Instr) → IsAt code k.state.pc i → decides code.profile i k ≡ true)
       → Step code k.state (stops seen stop) → KnownStep code k (ends seen stop)
-  undecided : (i : Instr) → IsAt code k.state.pc i → decides code.profile k.shifts i k.registers ≡ false
+  undecided : (i : Instr) → IsAt code k.state.pc i → decides code.profile i k ≡ false
       → KnownStep code k depends
 
 -- how a run ends: it is the same for all that is unknown and stops so, or the step at this program counter may depend

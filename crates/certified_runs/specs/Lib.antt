@@ -1,9 +1,11 @@
 -- What this crate defines, by file.
--- Known: abstract states: each register and each byte is known or unknown.
+-- Bits: words of which some bits are unknown; a row for each operation.
+-- Known: abstract states: some bits of each register and of each byte are unknown.
 -- Certified: a step and a run of such states; Amounts: by how much registers are shifted.
--- Parts: what flags and marks say is known; End: the answer of a run.
+-- Parts: what masks and marks say is known; End: the answer of a run.
 -- private: how the code follows them; for contracts of private functions alone.
 pub mod Amounts
+pub mod Bits
 pub mod Certified
 pub mod End
 pub mod Known

@@ -1,9 +1,10 @@
-// Certified runs: one run of any code in which some registers and bytes are unknown, so that what it shows holds of all
-// their values at once.
+// Certified runs: one run of any code in which some bits of registers and bytes are unknown, so that what it shows
+// holds of all their values at once.
 //
 // `certify` makes such a run and answers how it ends: alike whatever the unknown parts hold, or at a step that may go
 // by them. It asks of each instruction whether what decides it is known (`changes`), and has the machine make the step
-// (`steps`), so what instructions compute is the table of `rv_machine` alone, on which this stands.
+// (`steps`), so what instructions compute is the table of `rv_machine` alone, on which this stands. Which bits of that
+// are unknown is a table beside it, with a row for each operation (`bits`).
 //
 // The laws say that a step of what is known keeps covering each state that it covered, and shows what that state's step
 // shows, or says that this may depend on what is unknown; and so do runs (`specs/Known.antt`, `specs/Certified.antt`).
@@ -11,6 +12,7 @@
 // (`specs/Amounts.antt`).
 #![tactic(auto)]
 
+mod bits;
 mod certifying;
 mod changes;
 mod known_parts;

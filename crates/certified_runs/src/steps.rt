@@ -6,7 +6,7 @@ ghost use Rattle.certified_runs.specs.Below.{pc_of, state_of, Step};
 ghost use Rattle.certified_runs.specs.Parts.{known_of};
 ghost use Rattle.certified_runs.specs.private.Stepped.{HaveOneExtent, HasStepped};
 
-use crate::changes::{accessed, change, decides};
+use crate::changes::{change, decides};
 use crate::known_parts::KnownParts;
 use rv_machine::{CodeRegion, Hart, Memory, Observation, Stop, entry_count, step_unrecorded};
 
@@ -70,16 +70,15 @@ pub(crate) fn known_step<M: Memory>(
         let (entries, stop) = halt(code, hart, memory);
         return StepEnd::Ends(entries, stop);
     };
-    if !decides(code.profile(), instr, known) {
+    if !decides(code.profile(), instr, hart, known) {
         return StepEnd::Depends;
     }
-    // The step may change the register that the address is made of.
-    let a = accessed(instr, hart);
+    // What is known afterwards is made of what the registers hold before. Where the step stops, it is of no use.
+    change(instr, hart, known);
     let (seen, stop) = step_unrecorded(hart, code, memory);
     let entries = entries_in(seen);
-    if let Some(stop) = stop {
-        return StepEnd::Ends(entries, stop);
+    match stop {
+        Some(stop) => StepEnd::Ends(entries, stop),
+        None => StepEnd::LeadsOn(entries),
     }
-    change(instr, a, known);
-    StepEnd::LeadsOn(entries)
 }

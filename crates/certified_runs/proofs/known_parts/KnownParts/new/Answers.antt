@@ -1,6 +1,6 @@
--- Each flag is set.
-use Rattle.certified_runs.proofs.Marks.{all_flags}
+-- Each mask is 0.
+use Rattle.certified_runs.proofs.Marks.{zero_masks}
 use Rattle.certified_runs.proofs.known_parts.KnownParts.new.Goals as goal
 
 pub returns-clause-registers : goal.returns-clause-registers
-returns-clause-registers g c = all_flags 32
+returns-clause-registers g c = zero_masks 32
