@@ -1,0 +1,5 @@
+pub mod Calls
+pub mod Guards
+pub mod Images
+pub mod Loading
+pub mod RunLaws

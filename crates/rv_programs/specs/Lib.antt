@@ -1,0 +1,10 @@
+-- What this crate defines, by file.
+-- Programs: what a program is, and its steps; Runs: whole runs of it, and what they show.
+-- Loaded: the program that segments of code and ranges that may be stored to make; Ranged: the bytes of its memory.
+-- private: what the code of a step goes by; for contracts of private functions alone.
+pub mod Below
+pub mod Programs
+pub mod Runs
+pub mod Loaded
+pub mod Ranged
+pub mod private
