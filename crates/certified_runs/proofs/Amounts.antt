@@ -1,9 +1,8 @@
 -- By how much covered states shift: where the amounts are seen, by what is known.
 use Rattle.std.specs.Prelude.{◌||◌, not, if◌then◌else◌}
-use Rattle.std.proofs.Common.{◌≡◌, ℕ, zero, suc, ◌%◌, Bool, true, false, List, [], ◌∷◌, ◌++◌, refl, sym, ap₂, ◌∙◌}
-use Rattle.certified_runs.specs.Below.{MachineCode, StepEnding, executes, goes_on, Instr, IsAt, no_instruction}
-use Rattle.certified_runs.specs.Below.{not_code, Observation, pc_misaligned, Profile, Register, register, State, Stop}
-use Rattle.certified_runs.specs.Below.{stops, Step}
+use Rattle.std.proofs.Common.{◌≡◌, ℕ, zero, suc, ◌%◌, Bool, true, false, List, [], ◌∷◌, ◌++◌, refl, sym, ap₂, ◌∙◌, inl, inr}
+use Rattle.certified_runs.specs.Below.{goes_on, Instr, MachineProgram, Observation, Profile, ProgramStep, Register}
+use Rattle.certified_runs.specs.Below.{register, StandsAt, State, StepEnding, Stop, stops}
 use Rattle.certified_runs.proofs.Below.{goes_on-determined, goes_on≢stops, step_of_state}
 use Rattle.certified_runs.specs.Amounts.{is_shift, amounts_of, ShiftsBy, spent, halts, steps_on}
 use Rattle.certified_runs.specs.Known.{KnownState, part, Covers}
@@ -11,14 +10,14 @@ use Rattle.certified_runs.specs.Bits.{is_known_amount}
 use Rattle.certified_runs.specs.Certified as certified
 use Rattle.certified_runs.specs.Certified.{decides, known_after, KnownStep, leads_on, decided, same, CertifiedRun}
 use Rattle.certified_runs.specs.declared.shifts.Shifts.TheVariants.{Seen}
-use Rattle.certified_runs.proofs.KnownSteps.{one_instruction}
+use Rattle.certified_runs.proofs.KnownSteps.{one_instruction, standing}
 use Rattle.certified_runs.proofs.Rows.{same_amount}
 use Rattle.certified_runs.proofs.Runs.{leads_kept, stop_kept}
 
 -- A run has one list of amounts.
 
-pub amounts_determined : {code : MachineCode} {budget : ℕ} {s : State} {amounts others : List ℕ}
-    → ShiftsBy code budget s amounts → ShiftsBy code budget s others → amounts ≡ others
+pub amounts_determined : {program : MachineProgram} {budget : ℕ} {s : State} {amounts others : List ℕ}
+    → ShiftsBy program budget s amounts → ShiftsBy program budget s others → amounts ≡ others
 amounts_determined spent spent = refl
 amounts_determined (halts step) (halts step') = refl
 amounts_determined (halts step) (steps_on i at step' rest) = absurd (goes_on≢stops step' step)
@@ -29,24 +28,24 @@ amounts_determined {s = s} (steps_on i at step rest) (steps_on j at' step' rest'
 
 -- Each run has such a list.
 
-abbrev pub HasAmounts : MachineCode → ℕ → State → Type 0
-HasAmounts code n s = (amounts : List ℕ) × ShiftsBy code n s amounts
+abbrev pub HasAmounts : MachineProgram → ℕ → State → Type 0
+HasAmounts program n s = (amounts : List ℕ) × ShiftsBy program n s amounts
 
-module _ (code : MachineCode) (n : ℕ) (s : State) (after : (t : State) → HasAmounts code n t) where
-  executed : (ending : StepEnding) (i : Instr) → IsAt code s.pc i → Step code s ending → HasAmounts code (suc n) s
+module _ (program : MachineProgram) (n : ℕ) (s : State) (after : (t : State) → HasAmounts program n t) where
+  executed : (ending : StepEnding) (i : Instr) → StandsAt program s.pc i → ProgramStep program s ending
+      → HasAmounts program (suc n) s
   executed (goes_on o t) i at step = let rest = after t in (amounts_of i s.regs ++ rest.0, steps_on i at step rest.1)
   executed (stops seen stop) i at step = ([], halts step)
 
-  amounts_from : {ending : StepEnding} → Step code s ending → HasAmounts code (suc n) s
-  amounts_from (pc_misaligned odd) = ([], halts (pc_misaligned odd))
-  amounts_from (not_code even none) = ([], halts (not_code even none))
-  amounts_from (no_instruction even is misfit) = ([], halts (no_instruction even is misfit))
-  amounts_from {ending} (executes i even is ok end) =
-      executed ending i (record { aligned = even; word = is; in_range = ok }) (executes i even is ok end)
+  amounts_from : {ending : StepEnding} → ProgramStep program s ending → HasAmounts program (suc n) s
+  amounts_from {ending} step = elim (standing program s step) [
+    | inl there ↦ executed ending there.0 there.1 step
+    | inr nowhere ↦ ([], halts (rw nowhere.3 at step))
+  ]
 
-pub some_amounts : (code : MachineCode) (budget : ℕ) (s : State) → HasAmounts code budget s
-some_amounts code zero s = ([], spent)
-some_amounts code (suc n) s = amounts_from code n s (λ t. some_amounts code n t) (step_of_state code s).1
+pub some_amounts : (program : MachineProgram) (budget : ℕ) (s : State) → HasAmounts program budget s
+some_amounts program zero s = ([], spent)
+some_amounts program (suc n) s = amounts_from program n s (λ t. some_amounts program n t) (step_of_state program s).1
 
 -- Where shifts are seen, what decides an instruction decides its amount.
 
@@ -65,40 +64,40 @@ module _ (k : KnownState) (s : State) (covers : Covers k s) where
 
 -- So all covered states shift by the amounts of one list.
 
-abbrev pub AllShiftBy : MachineCode → ℕ → KnownState → List ℕ → Type 0
-AllShiftBy code budget k amounts = (s : State) → Covers k s → ShiftsBy code budget s amounts
+abbrev pub AllShiftBy : MachineProgram → ℕ → KnownState → List ℕ → Type 0
+AllShiftBy program budget k amounts = (s : State) → Covers k s → ShiftsBy program budget s amounts
 
-all_step : {code : MachineCode} {n : ℕ} {k next : KnownState} {o : Observation} {amounts : List ℕ} → k.shifts ≡ Seen
-    → KnownStep code k (leads_on o next) → AllShiftBy code n next amounts
-    → (more : List ℕ) × AllShiftBy code (suc n) k (more ++ amounts)
-all_step {code} {k = k} {o = o} shown (decided {t = t} i at sure step) rest = (
+all_step : {program : MachineProgram} {n : ℕ} {k next : KnownState} {o : Observation} {amounts : List ℕ} → k.shifts ≡ Seen
+    → KnownStep program k (leads_on o next) → AllShiftBy program n next amounts
+    → (more : List ℕ) × AllShiftBy program (suc n) k (more ++ amounts)
+all_step {program} {k = k} {o = o} shown (decided {t = t} i at sure step) rest = (
   amounts_of i k.state.regs,
   λ s covers.
-      let first = leads_kept code k s covers o (known_after i k t) (decided i at sure step) in
-      let there : IsAt code s.pc i = rw covers.pc at in
-      rw (sym (amounts_same k s covers code.profile i shown sure))
+      let first = leads_kept program k s covers o (known_after i k t) (decided i at sure step) in
+      let there : StandsAt program s.pc i = rw covers.pc at in
+      rw (sym (amounts_same k s covers (program.code k.state.pc).profile i shown sure))
       (steps_on i there first.1 (rest first.0 first.2)),
 )
 
-kept_shifts : {code : MachineCode} {k next : KnownState} {o : Observation} → KnownStep code k (leads_on o next)
+kept_shifts : {program : MachineProgram} {k next : KnownState} {o : Observation} → KnownStep program k (leads_on o next)
     → next.shifts ≡ k.shifts
 kept_shifts (decided i at sure step) = refl
 
-pub all_shift_alike : {code : MachineCode} {budget : ℕ} {k : KnownState} {seen : List Observation} {stop : Stop}
-    → CertifiedRun code budget k seen (same stop) → k.shifts ≡ Seen
-    → (amounts : List ℕ) × AllShiftBy code budget k amounts
+pub all_shift_alike : {program : MachineProgram} {budget : ℕ} {k : KnownState} {seen : List Observation} {stop : Stop}
+    → CertifiedRun program budget k seen (same stop) → k.shifts ≡ Seen
+    → (amounts : List ℕ) × AllShiftBy program budget k amounts
 all_shift_alike certified.spent shown = ([], λ s covers. spent)
-all_shift_alike {code} (certified.halts {k = k} {seen = seen} {stop = stop} step) shown =
-    ([], λ s covers. halts (stop_kept code k s covers seen stop step))
+all_shift_alike {program} (certified.halts {k = k} {seen = seen} {stop = stop} step) shown =
+    ([], λ s covers. halts (stop_kept program k s covers seen stop step))
 all_shift_alike (certified.steps_on step rest) shown =
     let after = all_shift_alike rest (kept_shifts step ∙ shown) in
     let first = all_step shown step after.1 in
     (first.0 ++ after.0, first.1)
 
-pub shifts_agree : {code : MachineCode} {budget : ℕ} {k : KnownState} {s t : State} {seen : List Observation}
+pub shifts_agree : {program : MachineProgram} {budget : ℕ} {k : KnownState} {s t : State} {seen : List Observation}
     {stop : Stop}
-    {amounts others : List ℕ} → CertifiedRun code budget k seen (same stop) → k.shifts ≡ Seen → Covers k s
-    → Covers k t → ShiftsBy code budget s amounts → ShiftsBy code budget t others → amounts ≡ others
+    {amounts others : List ℕ} → CertifiedRun program budget k seen (same stop) → k.shifts ≡ Seen → Covers k s
+    → Covers k t → ShiftsBy program budget s amounts → ShiftsBy program budget t others → amounts ≡ others
 shifts_agree {s = s} {t = t} run shown covers covers' by by' =
     let all = (all_shift_alike run shown).1 in
     amounts_determined by (all s covers) ∙ amounts_determined (all t covers') by'

@@ -1,7 +1,7 @@
 -- Certified runs in progress: steps that have been made, and how the run ends after them.
 use Rattle.std.proofs.Common.{◌≡◌, ℕ, suc, ◌+◌, ◌-◌, ◌<◌, ◌≤◌, List, [], ◌∷◌, ◌++◌, length, zero-add, suc-add, refl}
 use Rattle.std.proofs.Common.{sym, ap, arith}
-use Rattle.certified_runs.specs.Below.{Budget, MachineCode, entries_of, Observation, Stop}
+use Rattle.certified_runs.specs.Below.{Budget, entries_of, MachineProgram, Observation, Stop}
 use Rattle.certified_runs.proofs.Below.{entry_count-append}
 use Rattle.certified_runs.specs.Certified.{KnownStep, leads_on, ends, depends, RunEnding, same, may_differ}
 use Rattle.certified_runs.specs.Certified.{CertifiedRun, spent, halts, cut, steps_on, KnownEnding, KnownLeads, stays}
@@ -13,32 +13,32 @@ use Rattle.certified_runs.specs.declared.certifying.CertifiedEnd.{CertifiedEnd}
 use Rattle.certified_runs.specs.declared.certifying.CertifiedEnd.TheVariants.{Same, MayDiffer}
 
 -- steps that lead on, and then a run
-pub run_after : {code : MachineCode} {m n budget : ℕ} {k now : KnownState} {seen more : List Observation}
+pub run_after : {program : MachineProgram} {m n budget : ℕ} {k now : KnownState} {seen more : List Observation}
     {ending : RunEnding}
-    → KnownLeads code m k seen now → CertifiedRun code n now more ending → m + n ≡ budget
-    → CertifiedRun code budget k (seen ++ more) ending
+    → KnownLeads program m k seen now → CertifiedRun program n now more ending → m + n ≡ budget
+    → CertifiedRun program budget k (seen ++ more) ending
 run_after stays run all = rw (sym all, zero-add) run
 run_after (leads first rest) run all = rw (sym all, suc-add) (steps_on first (run_after rest run refl))
 
 -- how the certified run is answered
-abbrev pub IsEnd : MachineCode → ℕ → KnownState → CertifiedEnd → Type 0
-IsEnd code m k answer =
-    (seen : List Observation) × (ending : RunEnding) × CertifiedRun code m k seen ending
+abbrev pub IsEnd : MachineProgram → ℕ → KnownState → CertifiedEnd → Type 0
+IsEnd program m k answer =
+    (seen : List Observation) × (ending : RunEnding) × CertifiedRun program m k seen ending
     × (answer ≡ end_of seen ending)
 
 -- so many steps, of as many as this and those that are left, have shown so many entries
-abbrev pub HasMade : MachineCode → ℕ → KnownState → ℕ → KnownState → ℕ → Type 0
-HasMade code m k left now entries =
-    (n : ℕ) × (seen : List Observation) × KnownLeads code n k seen now × (n + left ≡ m)
+abbrev pub HasMade : MachineProgram → ℕ → KnownState → ℕ → KnownState → ℕ → Type 0
+HasMade program m k left now entries =
+    (n : ℕ) × (seen : List Observation) × KnownLeads program n k seen now × (n + left ≡ m)
     × (length (entries_of seen) ≡ entries)
 
-pub none_made : (code : MachineCode) (m : ℕ) (k : KnownState) → HasMade code m k m k 0
-none_made code m k = (0, [], stays, omega arith, refl)
+pub none_made : (program : MachineProgram) (m : ℕ) (k : KnownState) → HasMade program m k m k 0
+none_made program m k = (0, [], stays, omega arith, refl)
 
-module _ {code : MachineCode} {m : ℕ} {k : KnownState} {left : ℕ} {now : KnownState} {entries : ℕ}
-    (made : HasMade code m k left now entries) where
-  pub ends_by : {more : List Observation} {stop : Stop} (others : ℕ) → 0 < left → KnownStep code now (ends more stop)
-      → length (entries_of more) ≡ others → IsEnd code m k (Same stop (entries + others))
+module _ {program : MachineProgram} {m : ℕ} {k : KnownState} {left : ℕ} {now : KnownState} {entries : ℕ}
+    (made : HasMade program m k left now entries) where
+  pub ends_by : {more : List Observation} {stop : Stop} (others : ℕ) → 0 < left → KnownStep program now (ends more stop)
+      → length (entries_of more) ≡ others → IsEnd program m k (Same stop (entries + others))
   ends_by {more} {stop} others some step many = (
     made.1 ++ more,
     same stop,
@@ -46,7 +46,7 @@ module _ {code : MachineCode} {m : ℕ} {k : KnownState} {left : ℕ} {now : Kno
     ap (Same stop) (omega (arith, entry_count-append made.1 more, made.4, many)),
   )
 
-  pub ends_open : 0 < left → KnownStep code now depends → IsEnd code m k (MayDiffer (entries + 1) now.state.pc)
+  pub ends_open : 0 < left → KnownStep program now depends → IsEnd program m k (MayDiffer (entries + 1) now.state.pc)
   ends_open some step = (
     made.1 ++ [],
     may_differ now.state.pc,
@@ -54,7 +54,7 @@ module _ {code : MachineCode} {m : ℕ} {k : KnownState} {left : ℕ} {now : Kno
     ap (λ j. MayDiffer j now.state.pc) (omega (arith, entry_count-append made.1 [], made.4)),
   )
 
-  pub ends_at_last : left ≡ 0 → IsEnd code m k (Same Budget entries)
+  pub ends_at_last : left ≡ 0 → IsEnd program m k (Same Budget entries)
   ends_at_last none = (
     made.1 ++ [],
     same Budget,
@@ -63,16 +63,16 @@ module _ {code : MachineCode} {m : ℕ} {k : KnownState} {left : ℕ} {now : Kno
   )
 
 -- one more step
-pub KnownLeads-more : {code : MachineCode} {n : ℕ} {k now next : KnownState} {seen : List Observation} {o : Observation}
-    → KnownLeads code n k seen now → KnownStep code now (leads_on o next)
-    → KnownLeads code (suc n) k (seen ++ o ∷ []) next
+pub KnownLeads-more : {program : MachineProgram} {n : ℕ} {k now next : KnownState} {seen : List Observation} {o : Observation}
+    → KnownLeads program n k seen now → KnownStep program now (leads_on o next)
+    → KnownLeads program (suc n) k (seen ++ o ∷ []) next
 KnownLeads-more stays step = leads step stays
 KnownLeads-more (leads first rest) step = leads first (KnownLeads-more rest step)
 
-pub one_more_made : {code : MachineCode} {m left left' entries : ℕ} {k now next : KnownState} {o : Observation}
+pub one_more_made : {program : MachineProgram} {m left left' entries : ℕ} {k now next : KnownState} {o : Observation}
     (more : ℕ)
-    → HasMade code m k left now entries → suc left' ≡ left → KnownStep code now (leads_on o next)
-    → length (entries_of (o ∷ [])) ≡ more → HasMade code m k left' next (entries + more)
+    → HasMade program m k left now entries → suc left' ≡ left → KnownStep program now (leads_on o next)
+    → length (entries_of (o ∷ [])) ≡ more → HasMade program m k left' next (entries + more)
 one_more_made {entries = entries} {o = o} more made fewer step many = (
   suc made.0,
   made.1 ++ o ∷ [],
@@ -82,9 +82,9 @@ one_more_made {entries = entries} {o = o} more made fewer step many = (
 )
 
 -- all of them
-pub all_made : {code : MachineCode} {m left entries : ℕ} {k now : KnownState} → HasMade code m k left now entries
+pub all_made : {program : MachineProgram} {m left entries : ℕ} {k now : KnownState} → HasMade program m k left now entries
     → left ≡ 0
-    → (seen : List Observation) × KnownLeads code m k seen now
+    → (seen : List Observation) × KnownLeads program m k seen now
     × (Same Budget entries ≡ Same Budget (length (entries_of seen)))
 all_made {m = m} made none =
     let all : made.0 ≡ m = omega (arith, made.3, none) in
@@ -96,8 +96,8 @@ IsLast (leads_on o next) = ⊥
 IsLast (ends seen stop) = Unit {0}
 IsLast depends = Unit {0}
 
-no_longer : {code : MachineCode} {m n : ℕ} {k now later : KnownState} {seen more : List Observation} {e : KnownEnding}
-    → KnownLeads code m k seen now → KnownStep code now e → IsLast e → KnownLeads code n k more later → n ≤ m
+no_longer : {program : MachineProgram} {m n : ℕ} {k now later : KnownState} {seen more : List Observation} {e : KnownEnding}
+    → KnownLeads program m k seen now → KnownStep program now e → IsLast e → KnownLeads program n k more later → n ≤ m
 no_longer first end last stays = omega arith
 no_longer stays end last (leads other rest) = absurd (rw (KnownStep-determined end other) at last)
 no_longer (leads {next = next} first rest) end last (leads {next = next'} other then) =
@@ -105,8 +105,8 @@ no_longer (leads {next = next} first rest) end last (leads {next = next'} other 
     let same : next' ≡ next = cc in
     omega (arith, no_longer rest end last (rw same at then))
 
-pub not_all : {code : MachineCode} {m left entries : ℕ} {k now later : KnownState} {seen : List Observation}
+pub not_all : {program : MachineProgram} {m left entries : ℕ} {k now later : KnownState} {seen : List Observation}
     {e : KnownEnding}
-    → HasMade code m k left now entries → 0 < left → KnownStep code now e → IsLast e
-    → KnownLeads code m k seen later → ⊥
+    → HasMade program m k left now entries → 0 < left → KnownStep program now e → IsLast e
+    → KnownLeads program m k seen later → ⊥
 not_all made some end last all = omega (arith, made.3, some, no_longer made.2 end last all)

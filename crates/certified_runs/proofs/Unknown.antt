@@ -2,12 +2,12 @@
 use Rattle.std.specs.Prelude.{◌&&◌, ◌||◌, nat_eq}
 use Rattle.std.proofs.Common.{◌≡◌, ℕ, true, List, refl, sym, subst, ap, ap₂, ◌∙◌}
 use Rattle.std.proofs.lemmas.Bool.{eqb-true}
-use Rattle.certified_runs.specs.Below.{Branch, Immediate, Instr, IsAt, Load, MachineCode, Multiply, Observation, Profile}
-use Rattle.certified_runs.specs.Below.{Register, register, sign_extended, State, Store}
+use Rattle.certified_runs.specs.Below.{Branch, Immediate, Instr, Load, MachineProgram, Multiply, Observation, Profile}
+use Rattle.certified_runs.specs.Below.{Register, register, sign_extended, StandsAt, State, Store}
 use Rattle.certified_runs.specs.Bits.{Agree, cancels, decides_branch, immediate_unknown, multiply_unknown, partly}
 use Rattle.certified_runs.specs.Bits.{register_unknown, unless}
 use Rattle.certified_runs.specs.Known.{KnownState, knows, Covers, part, unknown, with_register_unknown}
-use Rattle.certified_runs.specs.Certified.{decides, registers_after, bytes_after, known_after, KnownStep, leads_on}
+use Rattle.certified_runs.specs.Certified.{decides, is_decided, registers_after, bytes_after, known_after, KnownStep, leads_on}
 use Rattle.certified_runs.specs.Certified.{decided, stopped, undecided, RunEnding, CertifiedRun, spent, halts, cut}
 use Rattle.certified_runs.specs.Certified.{steps_on}
 use Rattle.certified_runs.specs.declared.bits.PartialWord.{PartialWord}
@@ -62,39 +62,46 @@ module _ (k : KnownState) (s : State) (covers : Covers k s) where
       let bytes = bytes_same profile i sure in
       cc
 
-  moved : (code : MachineCode) (i : Instr) → IsAt code k.state.pc i → IsAt code s.pc i
-  moved code i = subst (λ pc. IsAt code pc i) (sym covers.pc)
+  moved : (program : MachineProgram) (i : Instr) → StandsAt program k.state.pc i → StandsAt program s.pc i
+  moved program i = subst (λ pc. StandsAt program pc i) (sym covers.pc)
 
-  moved_back : (code : MachineCode) (i : Instr) → IsAt code s.pc i → IsAt code k.state.pc i
-  moved_back code i = subst (λ pc. IsAt code pc i) covers.pc
+  moved_back : (program : MachineProgram) (i : Instr) → StandsAt program s.pc i → StandsAt program k.state.pc i
+  moved_back program i = subst (λ pc. StandsAt program pc i) covers.pc
 
-  leads_alike : {code : MachineCode} {o : Observation} {next : KnownState} → KnownStep code k (leads_on o next)
-      → (u : State) × KnownStep code (of_state s k) (leads_on o (of_state u next)) × Covers next u
-  leads_alike {code} {o} (decided {t = t} i at sure step) =
-      let there = leads_kept code k s covers o (known_after i k t) (decided i at sure step) in (
+  decided_same : (program : MachineProgram) (i : Instr)
+      → is_decided program (of_state s k) i ≡ is_decided program k i
+  decided_same program i =
+      ap (λ pc. decides (program.code pc).profile i (of_state s k)) covers.pc
+      ∙ decides_same (program.code k.state.pc).profile i
+
+  leads_alike : {program : MachineProgram} {o : Observation} {next : KnownState} → KnownStep program k (leads_on o next)
+      → (u : State) × KnownStep program (of_state s k) (leads_on o (of_state u next)) × Covers next u
+  leads_alike {program} {o} (decided {t = t} i at sure step) =
+      let there = leads_kept program k s covers o (known_after i k t) (decided i at sure step) in (
         there.0,
-        rw (after_same code.profile i t there.0 sure) (decided i (moved code i at) (decides_same code.profile i ∙ sure) there.1),
+        rw (after_same (program.code k.state.pc).profile i t there.0 sure)
+            (decided i (moved program i at) (decided_same program i ∙ sure) there.1),
         there.2,
       )
 
-pub run_alike : {code : MachineCode} {budget : ℕ} {k : KnownState} {s : State} {seen : List Observation}
+pub run_alike : {program : MachineProgram} {budget : ℕ} {k : KnownState} {s : State} {seen : List Observation}
     {ending : RunEnding}
-    → CertifiedRun code budget k seen ending → Covers k s → CertifiedRun code budget (of_state s k) seen ending
+    → CertifiedRun program budget k seen ending → Covers k s → CertifiedRun program budget (of_state s k) seen ending
 run_alike spent covers = spent
-run_alike {code} {s = s} (halts {k = k} {seen = seen} {stop = stop} (stopped known step)) covers =
-    halts (stopped (λ i at. decides_same k s covers code.profile i ∙ known i (moved_back k s covers code i at))
-    (stop_kept code k s covers seen stop (stopped known step)))
-run_alike {code} {s = s} (cut {k = k} (undecided i at unknown)) covers =
-    rw (sym covers.pc) (cut (undecided i (moved k s covers code i at) (decides_same k s covers code.profile i ∙ unknown)))
+run_alike {program} {s = s} (halts {k = k} {seen = seen} {stop = stop} (stopped known step)) covers =
+    halts (stopped (λ i at. decided_same k s covers program i ∙ known i (moved_back k s covers program i at))
+    (stop_kept program k s covers seen stop (stopped known step)))
+run_alike {program} {s = s} (cut {k = k} (undecided i at unknown)) covers =
+    rw (sym covers.pc) (cut (undecided i (moved k s covers program i at) (decided_same k s covers program i ∙ unknown)))
 run_alike {s = s} (steps_on {k = k} step rest) covers =
     let first = leads_alike k s covers step in
     steps_on first.1 (run_alike rest first.2)
 
 -- of two states of which the same is known
-pub known_alone : {code : MachineCode} {budget : ℕ} {k other : KnownState} {seen : List Observation}
+pub known_alone : {program : MachineProgram} {budget : ℕ} {k other : KnownState} {seen : List Observation}
     {ending : RunEnding}
-    → CertifiedRun code budget k seen ending → Covers k other.state → other.registers ≡ k.registers
-    → other.bytes ≡ k.bytes → other.shifts ≡ k.shifts → CertifiedRun code budget other seen ending
+    → CertifiedRun program budget k seen ending → Covers k other.state → other.registers ≡ k.registers
+    → other.bytes ≡ k.bytes → other.shifts ≡ k.shifts → CertifiedRun program budget other seen ending
 known_alone {k = k} {other = other} run covers registers bytes shifts =
     let is : of_state other.state k ≡ other = rw (sym registers, sym bytes, sym shifts) in
     rw is at (run_alike run covers)

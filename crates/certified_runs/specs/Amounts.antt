@@ -1,7 +1,7 @@
 -- By how much registers are shifted: of an instruction, and of a whole run.
 use Rattle.std.specs.Prelude.{ℕ, zero, suc, ◌%◌, ◌||◌, Bool, true, false, not, List, [], ◌∷◌, ◌++◌, if◌then◌else◌}
-use Rattle.certified_runs.specs.Below.{MachineCode, goes_on, Instr, IsAt, Observation, Register, register, State, Stop}
-use Rattle.certified_runs.specs.Below.{stops, Step}
+use Rattle.certified_runs.specs.Below.{goes_on, Instr, MachineProgram, Observation, ProgramStep, Register, register}
+use Rattle.certified_runs.specs.Below.{StandsAt, State, Stop, stops}
 use Rattle.rv_code.specs.declared.operations.RegisterOperation.{RegisterOperation}
 use Rattle.rv_code.specs.declared.operations.RegisterOperation.TheVariants.{Sll, Srl, Sra}
 use Rattle.certified_runs.specs.declared.shifts.Shifts.{Shifts}
@@ -26,10 +26,10 @@ amounts_of _ regs = []
 
 -- in a run of at most so many steps that no recorder cuts short, the shifts by registers go by these amounts, one
 -- after another
-pub data ShiftsBy (code : MachineCode) : ℕ → State → List ℕ → Type 0 where
-  spent : {s : State} → ShiftsBy code zero s []
-  halts : {n : ℕ} {s : State} {seen : List Observation} {stop : Stop} → Step code s (stops seen stop)
-      → ShiftsBy code (suc n) s []
-  steps_on : {n : ℕ} {s t : State} {o : Observation} {amounts : List ℕ} (i : Instr) → IsAt code s.pc i
-      → Step code s (goes_on o t) → ShiftsBy code n t amounts
-      → ShiftsBy code (suc n) s (amounts_of i s.regs ++ amounts)
+pub data ShiftsBy (program : MachineProgram) : ℕ → State → List ℕ → Type 0 where
+  spent : {s : State} → ShiftsBy program zero s []
+  halts : {n : ℕ} {s : State} {seen : List Observation} {stop : Stop} → ProgramStep program s (stops seen stop)
+      → ShiftsBy program (suc n) s []
+  steps_on : {n : ℕ} {s t : State} {o : Observation} {amounts : List ℕ} (i : Instr) → StandsAt program s.pc i
+      → ProgramStep program s (goes_on o t) → ShiftsBy program n t amounts
+      → ShiftsBy program (suc n) s (amounts_of i s.regs ++ amounts)

@@ -15,10 +15,10 @@ pub use Rattle.rv_machine.specs.Effects.{loaded_value, multiply_value, register_
 pub use Rattle.rv_machine.specs.Effects.{store_size}
 pub use Rattle.rv_machine.specs.Entries.{entries_of, Entry, events_of, program_counter}
 pub use Rattle.rv_machine.specs.Harts.{pc_of, regs_of, state_of}
-pub use Rattle.rv_machine.specs.Leakage.{Done, followed_by, Leads, refused, RunsWithin, spent, stays, stopped, steps_on}
-pub use Rattle.rv_machine.specs.Leakage.{went_on}
-pub use Rattle.rv_machine.specs.Machine.{MachineCode, StepEnding, executes, goes_on, IsAt, loaded, next, no_instruction}
-pub use Rattle.rv_machine.specs.Machine.{not_code, observed, pc_misaligned, product_shown, State, stops, stored, Step}
+pub use Rattle.rv_machine.specs.Leakage.{Done, followed_by, refused, stopped, went_on}
+pub use Rattle.rv_machine.specs.Machine.{MachineCode, StepEnding, executes, goes_on, here, IsAt, loaded, next}
+pub use Rattle.rv_machine.specs.Machine.{no_instruction, not_code, observed, pc_misaligned, product_shown, State}
+pub use Rattle.rv_machine.specs.Machine.{stops, stored, Step}
 unfoldable pub use Rattle.rv_machine.specs.Machine.{ending_of, moved_to, with_link, with_stored, with_value}
 pub use Rattle.rv_machine.specs.Regions.{code_of}
 pub use Rattle.rv_machine.specs.Registers.{register}
@@ -26,4 +26,6 @@ pub use Rattle.rv_machine.specs.Sizes.{byte_count}
 pub use Rattle.rv_machine.specs.declared.effects.Effect.TheVariants.{Branches, Passes, Stores}
 pub use Rattle.rv_machine.specs.declared.observation.Observation.{Observation}
 pub use Rattle.rv_machine.specs.declared.stops.Stop.{Stop}
-pub use Rattle.rv_machine.specs.declared.stops.Stop.TheVariants.{Budget, RecorderRefused}
+pub use Rattle.rv_machine.specs.declared.stops.Stop.TheVariants.{AccessFault, Budget, RecorderRefused}
+pub use Rattle.rv_programs.specs.Programs.{allows_shown, guarded, MachineProgram, ProgramStep, StandsAt}
+pub use Rattle.rv_programs.specs.Runs.{ProgramLeads, ProgramRuns, spent, stays, steps_on}

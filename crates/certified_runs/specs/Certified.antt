@@ -1,11 +1,11 @@
 -- A step and a run of what is known of a state. What instructions compute, and how steps end, is the machine's own.
 use Rattle.std.specs.Prelude.{◌≡◌, ℕ, ◌==◌, ◌&&◌, ◌||◌, Bool, true, false, List, [], ◌∷◌}
 use Rattle.std.proofs.Common.{zero, suc}
-use Rattle.certified_runs.specs.Below.{address_of, Branch, Budget, byte_count, ByteMap, MachineCode, Divide, Ebreak}
-use Rattle.certified_runs.specs.Below.{Ecall, Fence, goes_on, Immediate, Instr, IsAt, Jump, JumpRegister, Load}
-use Rattle.certified_runs.specs.Below.{load_size, loaded_value, Multiply, number_at, Observation, P1, P2, Profile}
-use Rattle.certified_runs.specs.Below.{Register, Shift, shift_value, sign_extended, State, Stop, stops, Store}
-use Rattle.certified_runs.specs.Below.{store_size, Step, Upper, with_number}
+use Rattle.certified_runs.specs.Below.{address_of, Branch, Budget, byte_count, ByteMap, Divide, Ebreak, Ecall, Fence}
+use Rattle.certified_runs.specs.Below.{goes_on, Immediate, Instr, Jump, JumpRegister, Load, load_size, loaded_value}
+use Rattle.certified_runs.specs.Below.{MachineProgram, Multiply, number_at, Observation, P1, P2, Profile, ProgramStep}
+use Rattle.certified_runs.specs.Below.{Register, Shift, shift_value, sign_extended, StandsAt, State, Stop, stops}
+use Rattle.certified_runs.specs.Below.{Store, store_size, Upper, with_number}
 use Rattle.certified_runs.specs.Amounts.{decides_amount}
 use Rattle.certified_runs.specs.Bits.{are_known, cancels, decides_branch, divide_unknown, immediate_unknown}
 use Rattle.certified_runs.specs.Bits.{is_known_amount, multiply_unknown, partly, register_unknown, unless}
@@ -74,6 +74,10 @@ bytes_after _ k = k.bytes
 abbrev pub known_after : Instr → KnownState → State → KnownState
 known_after i k t = record { state = t; registers = registers_after i k; bytes = bytes_after i k; shifts = k.shifts }
 
+-- the same of an instruction at the program counter of a program
+abbrev pub is_decided : MachineProgram → KnownState → Instr → Bool
+is_decided program k i = decides (program.code k.state.pc).profile i k
+
 -- how a step ends: it shows an observation and goes on, or it stops, having shown at most one, or what it shows may
 -- depend on what is unknown
 pub data KnownEnding : Type 0 where
@@ -82,15 +86,15 @@ pub data KnownEnding : Type 0 where
   depends : KnownEnding
 
 -- one step of what is known
-pub data KnownStep (code : MachineCode) (k : KnownState) : KnownEnding → Type 0 where
-  decided : {o : Observation} {t : State} (i : Instr) → IsAt code k.state.pc i
-      → decides code.profile i k ≡ true → Step code k.state (goes_on o t)
-      → KnownStep code k (leads_on o (known_after i k t))
+pub data KnownStep (program : MachineProgram) (k : KnownState) : KnownEnding → Type 0 where
+  decided : {o : Observation} {t : State} (i : Instr) → StandsAt program k.state.pc i
+      → is_decided program k i ≡ true → ProgramStep program k.state (goes_on o t)
+      → KnownStep program k (leads_on o (known_after i k t))
   stopped : {seen : List Observation} {stop : Stop}
-      → ((i : Instr) → IsAt code k.state.pc i → decides code.profile i k ≡ true)
-      → Step code k.state (stops seen stop) → KnownStep code k (ends seen stop)
-  undecided : (i : Instr) → IsAt code k.state.pc i → decides code.profile i k ≡ false
-      → KnownStep code k depends
+      → ((i : Instr) → StandsAt program k.state.pc i → is_decided program k i ≡ true)
+      → ProgramStep program k.state (stops seen stop) → KnownStep program k (ends seen stop)
+  undecided : (i : Instr) → StandsAt program k.state.pc i → is_decided program k i ≡ false
+      → KnownStep program k depends
 
 -- how a run ends: it is the same for all that is unknown and stops so, or the step at this program counter may depend
 -- on it
@@ -99,18 +103,19 @@ pub data RunEnding : Type 0 where
   may_differ : ℕ → RunEnding
 
 -- steps until one stops or depends, or as many as the budget; what they show
-pub data CertifiedRun (code : MachineCode) : ℕ → KnownState → List Observation → RunEnding → Type 0 where
-  spent : {k : KnownState} → CertifiedRun code zero k [] (same Budget)
-  halts : {n : ℕ} {k : KnownState} {seen : List Observation} {stop : Stop} → KnownStep code k (ends seen stop)
-      → CertifiedRun code (suc n) k seen (same stop)
-  cut : {n : ℕ} {k : KnownState} → KnownStep code k depends → CertifiedRun code (suc n) k [] (may_differ k.state.pc)
+pub data CertifiedRun (program : MachineProgram) : ℕ → KnownState → List Observation → RunEnding → Type 0 where
+  spent : {k : KnownState} → CertifiedRun program zero k [] (same Budget)
+  halts : {n : ℕ} {k : KnownState} {seen : List Observation} {stop : Stop} → KnownStep program k (ends seen stop)
+      → CertifiedRun program (suc n) k seen (same stop)
+  cut : {n : ℕ} {k : KnownState} → KnownStep program k depends
+      → CertifiedRun program (suc n) k [] (may_differ k.state.pc)
   steps_on : {n : ℕ} {k next : KnownState} {o : Observation} {seen : List Observation} {ending : RunEnding}
-      → KnownStep code k (leads_on o next) → CertifiedRun code n next seen ending
-      → CertifiedRun code (suc n) k (o ∷ seen) ending
+      → KnownStep program k (leads_on o next) → CertifiedRun program n next seen ending
+      → CertifiedRun program (suc n) k (o ∷ seen) ending
 
 -- so many steps of what is known, of which none stops or depends, lead to what is known then; what they show
-pub data KnownLeads (code : MachineCode) : ℕ → KnownState → List Observation → KnownState → Type 0 where
-  stays : {k : KnownState} → KnownLeads code zero k [] k
+pub data KnownLeads (program : MachineProgram) : ℕ → KnownState → List Observation → KnownState → Type 0 where
+  stays : {k : KnownState} → KnownLeads program zero k [] k
   leads : {n : ℕ} {k next later : KnownState} {o : Observation} {seen : List Observation}
-      → KnownStep code k (leads_on o next) → KnownLeads code n next seen later
-      → KnownLeads code (suc n) k (o ∷ seen) later
+      → KnownStep program k (leads_on o next) → KnownLeads program n next seen later
+      → KnownLeads program (suc n) k (o ∷ seen) later

@@ -1,7 +1,7 @@
 // Certified runs: steps of what is known until one stops, or may depend on what is unknown.
 
 ghost use Rattle.std.specs.Prelude.{◌≡◌, ℕ, ◌<◌, ◌^◌, List, length, is_some};
-ghost use Rattle.certified_runs.specs.Below.{code_of, entries_of, Observation, state_of};
+ghost use Rattle.certified_runs.specs.Below.{entries_of, Observation, state_of};
 ghost use Rattle.certified_runs.specs.Certified.{RunEnding, CertifiedRun, KnownLeads};
 ghost use Rattle.certified_runs.specs.End.{end_of};
 ghost use Rattle.certified_runs.specs.Known.{KnownState};
@@ -9,7 +9,8 @@ ghost use Rattle.certified_runs.specs.Parts.{known_of};
 
 use crate::known_parts::KnownParts;
 use crate::steps::{StepEnd, known_step};
-use rv_machine::{CodeRegion, Memory, Running, Stop};
+use rv_machine::{Memory, Running, Stop};
+use rv_programs::Program;
 
 /// How a certified run ends. Entries are what an observer sees, one by one: each program counter, and
 /// after it what that step loads, stores, divides or multiplies.
@@ -28,21 +29,21 @@ pub enum CertifiedEnd {
 /// A run of which no step is left can be given more of them, and goes on from there.
 // It is never compiled in line: beside a caller's own values, those of the steps do not fit the registers.
 #[inline(never)]
-pub fn certify<M: Memory>(
-    code: &CodeRegion,
+pub fn certify<P: Program, M: Memory>(
+    program: &P,
     run: &mut Running<M>,
     known: &mut KnownParts<M>,
 ) -> CertifiedEnd
     requires few { run.old.steps_left < 2 ^ 63 }
     requires extent { (a : ℕ) → is_some (M.bytes known.old.marks a) ≡ is_some (M.bytes run.old.memory a) }
     ensures certified { (seen : List Observation) × (ending : RunEnding)
-        × CertifiedRun (code_of code.now) run.old.steps_left
+        × CertifiedRun (P.program program.now) run.old.steps_left
         (known_of (state_of run.old.hart (M.bytes run.old.memory)) known.old.registers (M.bytes known.old.marks)
         known.old.shifts) seen ending
         × (result ≡ end_of seen ending) }
     ensures spent { run.new.steps_left ≡ 0
         → (seen : List Observation)
-        × KnownLeads (code_of code.now) run.old.steps_left
+        × KnownLeads (P.program program.now) run.old.steps_left
         (known_of (state_of run.old.hart (M.bytes run.old.memory)) known.old.registers (M.bytes known.old.marks)
         known.old.shifts) seen
         (known_of (state_of run.new.hart (M.bytes run.new.memory)) known.new.registers (M.bytes known.new.marks)
@@ -50,7 +51,7 @@ pub fn certify<M: Memory>(
         × (result ≡ CertifiedEnd.Same Stop.Budget (length (entries_of seen))) }
     ensures ended { (seen : List Observation) (later : KnownState)
         → 0 < run.new.steps_left
-        → KnownLeads (code_of code.now) run.old.steps_left
+        → KnownLeads (P.program program.now) run.old.steps_left
         (known_of (state_of run.old.hart (M.bytes run.old.memory)) known.old.registers (M.bytes known.old.marks)
         known.old.shifts) seen later
         → ⊥ }
@@ -58,7 +59,7 @@ pub fn certify<M: Memory>(
 {
     let mut entries = 0;
     while run.steps_left > 0 {
-        match known_step(code, &mut run.hart, &mut run.memory, known) {
+        match known_step(program, &mut run.hart, &mut run.memory, known) {
             StepEnd::LeadsOn(more) => entries += more,
             StepEnd::Ends(more, stop) => {
                 return CertifiedEnd::Same {

@@ -1,14 +1,15 @@
 // One step of what is known: it is asked what decides it, and then made by the machine.
 
 ghost use Rattle.std.specs.Prelude.{◌≡◌, [], List, length};
-ghost use Rattle.certified_runs.specs.Below.{code_of, StepEnding, entries_of, followed_by, Instr, IsAt, Observation};
-ghost use Rattle.certified_runs.specs.Below.{pc_of, state_of, Step};
+ghost use Rattle.certified_runs.specs.Below.{StepEnding, entries_of, followed_by, Instr, Observation, pc_of};
+ghost use Rattle.certified_runs.specs.Below.{ProgramStep, StandsAt, state_of};
 ghost use Rattle.certified_runs.specs.Parts.{known_of};
 ghost use Rattle.certified_runs.specs.private.Stepped.{HaveOneExtent, HasStepped};
 
 use crate::changes::{change, decides};
 use crate::known_parts::KnownParts;
-use rv_machine::{CodeRegion, Hart, Memory, Observation, Stop, entry_count, step_unrecorded};
+use rv_machine::{Hart, Memory, Observation, Stop, entry_count};
+use rv_programs::{Program, step_unrecorded};
 
 /// How a step of what is known ends.
 #[derive(Clone, Copy)]
@@ -36,14 +37,14 @@ fn entries_in(seen: Option<Observation>) -> u64
 // why it stops. It is apart, so that the other steps need not ask again whether an instruction does.
 #[cold]
 #[inline(never)]
-fn halt<M: Memory>(code: &CodeRegion, hart: &mut Hart, memory: &mut M) -> (u64, Stop)
-    requires { (i : Instr) → ¬ IsAt (code_of code.now) (pc_of hart.old) i }
+fn halt<P: Program, M: Memory>(program: &P, hart: &mut Hart, memory: &mut M) -> (u64, Stop)
+    requires { (i : Instr) → ¬ StandsAt (P.program program.now) (pc_of hart.old) i }
     ensures stops { (seen : List Observation)
-        × Step (code_of code.now) (state_of hart.old (M.bytes memory.old)) (StepEnding.stops seen result.1)
+        × ProgramStep (P.program program.now) (state_of hart.old (M.bytes memory.old)) (StepEnding.stops seen result.1)
         × (length (entries_of seen) ≡ result.0) }
     ensures extent { HaveOneExtent (M.bytes memory.new) (M.bytes memory.old) }
 {
-    let (seen, stop) = step_unrecorded(hart, code, memory);
+    let (seen, stop) = step_unrecorded(hart, program, memory);
     match stop {
         Some(stop) => (entries_in(seen), stop),
         None => unreachable!(),
@@ -52,22 +53,24 @@ fn halt<M: Memory>(code: &CodeRegion, hart: &mut Hart, memory: &mut M) -> (u64, 
 
 /// Makes the next step of what is known, unless what it shows may depend on what is unknown.
 #[inline(always)]
-pub(crate) fn known_step<M: Memory>(
-    code: &CodeRegion,
+pub(crate) fn known_step<P: Program, M: Memory>(
+    program: &P,
     hart: &mut Hart,
     memory: &mut M,
     known: &mut KnownParts<M>,
 ) -> StepEnd
     requires { HaveOneExtent (M.bytes known.old.marks) (M.bytes memory.old) }
-    ensures stepped { HasStepped (code_of code.now)
+    ensures stepped { HasStepped (P.program program.now)
         (known_of (state_of hart.old (M.bytes memory.old)) known.old.registers (M.bytes known.old.marks)
         known.old.shifts) result
         (known_of (state_of hart.new (M.bytes memory.new)) known.new.registers (M.bytes known.new.marks)
         known.new.shifts) }
     ensures extent { HaveOneExtent (M.bytes known.new.marks) (M.bytes memory.new) }
 {
-    let Some(instr) = code.instruction_at(hart.pc()) else {
-        let (entries, stop) = halt(code, hart, memory);
+    let pc = hart.pc();
+    let code = program.code_at(pc);
+    let Some(instr) = code.instruction_at(pc) else {
+        let (entries, stop) = halt(program, hart, memory);
         return StepEnd::Ends(entries, stop);
     };
     if !decides(code.profile(), instr, hart, known) {
@@ -75,7 +78,7 @@ pub(crate) fn known_step<M: Memory>(
     }
     // What is known afterwards is made of what the registers hold before. Where the step stops, it is of no use.
     change(instr, hart, known);
-    let (seen, stop) = step_unrecorded(hart, code, memory);
+    let (seen, stop) = step_unrecorded(hart, program, memory);
     let entries = entries_in(seen);
     match stop {
         Some(stop) => StepEnd::Ends(entries, stop),

@@ -15,6 +15,7 @@ pub use Rattle.rv_machine.specs.declared.observation.Event.{Event}
 pub use Rattle.rv_machine.specs.declared.observation.Observation.{Observation}
 pub use Rattle.rv_machine.specs.declared.stops.Stop.{Stop}
 pub use Rattle.rv_machine.specs.declared.stops.Stop.TheVariants.{Budget, RecorderRefused}
+pub use Rattle.rv_programs.specs.Programs.{MachineProgram}
 pub use Rattle.certified_runs.specs.Certified.{CertifiedRun, cut, KnownLeads, leads, may_differ, RunEnding, same}
 pub use Rattle.certified_runs.specs.End.{end_of}
 pub use Rattle.certified_runs.specs.Known.{KnownState}

@@ -1,14 +1,15 @@
 // A certified run in pieces.
 
 ghost use Rattle.std.specs.Prelude.{◌≡◌, ℕ, ◌+◌, ◌^◌, ◌<◌, List, IsTrue, is_some};
-ghost use Rattle.run_reports.specs.Below.{CertifiedRun, code_of, collected, end_of, known_of, Observation, RunEnding};
+ghost use Rattle.run_reports.specs.Below.{CertifiedRun, collected, end_of, known_of, Observation, RunEnding};
 ghost use Rattle.run_reports.specs.Below.{state_of};
 ghost use Rattle.run_reports.specs.progress.Certified.{GoesOnKnown, entries_at, end_behind};
 ghost use Rattle.run_reports.specs.progress.GoingOn.{HasLines, IsTold};
 
 use crate::progress::lines::{ProgressLines, STEPS_A_LINE};
 use certified_runs::{CertifiedEnd, KnownParts, certify};
-use rv_machine::{CodeRegion, Memory, Running};
+use rv_machine::{Memory, Running};
+use rv_programs::Program;
 use streams::Sink;
 
 /// How many entries are counted where a run ends so.
@@ -40,8 +41,8 @@ fn end_behind(before: u64, end: CertifiedEnd) -> CertifiedEnd
 
 /// Makes steps of a run of which these parts are known, as `certify` does. A line goes out behind each `STEPS_A_LINE`
 /// steps after which the run goes on.
-pub fn certify_in_pieces<M: Memory, E: Sink>(
-    code: &CodeRegion,
+pub fn certify_in_pieces<P: Program, M: Memory, E: Sink>(
+    program: &P,
     run: &mut Running<M>,
     known: &mut KnownParts<M>,
     err: &mut E,
@@ -49,13 +50,13 @@ pub fn certify_in_pieces<M: Memory, E: Sink>(
     requires few { run.old.steps_left < 2 ^ 62 }
     requires extent { (a : ℕ) → is_some (M.bytes known.old.marks a) ≡ is_some (M.bytes run.old.memory a) }
     ensures certified { (seen : List Observation) × (ending : RunEnding)
-        × CertifiedRun (code_of code.now) run.old.steps_left
+        × CertifiedRun (P.program program.now) run.old.steps_left
         (known_of (state_of run.old.hart (M.bytes run.old.memory)) known.old.registers (M.bytes known.old.marks)
         known.old.shifts) seen ending
         × (result ≡ end_of seen ending) }
     ensures told { IsTrue E.TELLS
         → IsTold HasLines
-        (GoesOnKnown (code_of code.now) run.old.steps_left
+        (GoesOnKnown (P.program program.now) run.old.steps_left
         (known_of (state_of run.old.hart (M.bytes run.old.memory)) known.old.registers (M.bytes known.old.marks)
         known.old.shifts))
         (collected (E.taken err.old) (E.failures err.old))
@@ -66,7 +67,7 @@ pub fn certify_in_pieces<M: Memory, E: Sink>(
     let mut left = run.steps_left;
     while left > STEPS_A_LINE {
         run.steps_left = STEPS_A_LINE;
-        let end = certify(code, run, known);
+        let end = certify(program, run, known);
         if run.steps_left > 0 {
             return end_behind(entries, end);
         }
@@ -75,6 +76,6 @@ pub fn certify_in_pieces<M: Memory, E: Sink>(
         lines.tell(err);
     }
     run.steps_left = left;
-    let end = certify(code, run, known);
+    let end = certify(program, run, known);
     end_behind(entries, end)
 }

@@ -1,7 +1,7 @@
 -- So many pieces were made, all of which lead on, and a line went out behind each.
 use Rattle.std.proofs.Common.{◌≡◌, ℕ, ◌+◌, ◌*◌, ◌<◌, ◌⊎◌, List, length, IsTrue}
 use Rattle.std.specs.Prelude.{is_some}
-use Rattle.run_reports.specs.Below.{code_of, collected, entries_of, known_of, KnownLeads, Observation, state_of}
+use Rattle.run_reports.specs.Below.{collected, entries_of, known_of, KnownLeads, Observation, state_of}
 use Rattle.run_reports.specs.progress.Lines.{steps_a_line, WentOut}
 use Rattle.run_reports.proofs.progress.certifying.certify_in_pieces.Given as goal
 
@@ -12,7 +12,7 @@ invariant-loop-left g l =
       made : l.lines.count * steps_a_line + l.left ≡ l.fn.run.steps_left;
       more : (l.lines.count ≡ 0) ⊎ (0 < l.left);
       led : (seen : List Observation)
-          × KnownLeads (code_of l.code) (l.lines.count * steps_a_line)
+          × KnownLeads (g.P.Program.program l.program) (l.lines.count * steps_a_line)
           (known_of (state_of l.fn.run.hart (bytes l.fn.run.memory)) l.fn.known.registers (bytes l.fn.known.marks)
           l.fn.known.shifts) seen
           (known_of (state_of l.run.hart (bytes l.run.memory)) l.known.registers (bytes l.known.marks)
