@@ -92,6 +92,12 @@ extent_kept step went_on = led_extent step
 extent_kept step stopped = λ a. refl
 extent_kept step (refused shows) = λ a. refl
 
+-- where the run stops by it, all stays
+pub state_kept : {s t : State} {ending : StepEnding} {stop : Stop} {seen : List Observation}
+    → Done s ending (Some stop) t seen → t ≡ s
+state_kept stopped = refl
+state_kept (refused shows) = refl
+
 -- a step that is not refused stops where it is said to
 pub stopped_so : {program : MachineProgram} {s t : State} {ending : StepEnding} {stop : Stop} {seen : List Observation}
     → ProgramStep program s ending → Done s ending (Some stop) t seen → Some stop ≢ Some RecorderRefused
@@ -122,12 +128,13 @@ module _ (program : MachineProgram) (k : KnownState) (i : Instr) (at : StandsAt 
   pub has_stopped : {t : State} (next : KnownState) {ending : StepEnding} {stop : Stop} {seen : List Observation}
       {entries : ℕ}
       → ProgramStep program k.state ending → Done k.state ending (Some stop) t seen
-      → Some stop ≢ Some RecorderRefused → length (entries_of seen) ≡ entries
+      → Some stop ≢ Some RecorderRefused → length (entries_of seen) ≡ entries → next.state ≡ t
       → HasStepped program k (Ends entries stop) next
-  has_stopped next {seen = seen} step done calm many = (
+  has_stopped next {seen = seen} step done calm many left = (
     seen,
     certified.stopped (λ j there. rw (one_instruction there at) sure) (stopped_so step done calm),
     many,
+    left ∙ state_kept done,
   )
 
   -- what is stored where the step goes on is data

@@ -1,13 +1,14 @@
 -- Steps and runs of covered states.
-use Rattle.std.proofs.Common.{◌≡◌, ◌≢◌, ℕ, suc, ◌<◌, Bool, true, false, cond, List, refl, sym, ap, ◌∙◌, arith}
+use Rattle.std.proofs.Common.{◌≡◌, ◌≢◌, ℕ, suc, ◌<◌, Bool, true, false, cond, List, ◌++◌, ◌+◌, refl, sym, ap, ◌∙◌, add-one, arith}
 use Rattle.certified_runs.specs.Below.{AccessFault, allows_shown, effect_of, ending_of, executes, goes_on, guarded}
-use Rattle.certified_runs.specs.Below.{here, Instr, IsInstr, MachineProgram, no_instruction, not_code, Observation}
-use Rattle.certified_runs.specs.Below.{pc_misaligned, ProgramLeads, ProgramRuns, ProgramStep, RecorderRefused, spent}
-use Rattle.certified_runs.specs.Below.{StandsAt, State, stays, Step, StepEnding, steps_on, Stop, stops}
+use Rattle.certified_runs.specs.Below.{halts, here, Instr, IsInstr, MachineProgram, no_instruction, not_code}
+use Rattle.certified_runs.specs.Below.{Observation, pc_misaligned, ProgramHalts, ProgramLeads, ProgramRuns}
+use Rattle.certified_runs.specs.Below.{ProgramStep, RecorderRefused, spent, StandsAt, State, stays, Step, StepEnding}
+use Rattle.certified_runs.specs.Below.{steps_on, Stop, stops}
 use Rattle.certified_runs.proofs.Below.{Runs-determined, Runs-more, Runs-stop, Step-determined, step_stops, stops_so}
 use Rattle.certified_runs.specs.Known.{KnownState, Covers}
 use Rattle.certified_runs.specs.Certified as certified
-use Rattle.certified_runs.specs.Certified.{is_decided, known_after, KnownStep, CertifiedRun, decided, leads_on, ends, same}
+use Rattle.certified_runs.specs.Certified.{is_decided, known_after, KnownLeads, KnownStep, CertifiedRun, decided, leads_on, ends, same}
 use Rattle.certified_runs.specs.Certified.{may_differ}
 use Rattle.certified_runs.proofs.Covering.{StaysCovered, goes_alike, stops_alike, itself, step_kept}
 
@@ -119,3 +120,21 @@ steps_before {program} {s = s} (certified.steps_on {k = k} {next = next} {o = o}
     let first = leads_kept program k s covers o next step in
     let then = steps_before rest first.2 in
     (suc then.0, then.1, omega (arith, then.2), steps_on first.1 then.3, then.4)
+
+-- steps that lead on are steps of each covered state
+leads_covered : {program : MachineProgram} {n : ℕ} {k now : KnownState} {s : State} {seen : List Observation}
+    → KnownLeads program n k seen now → Covers k s
+    → (t : State) × ProgramLeads program n s seen t × Covers now t
+leads_covered {s = s} certified.stays covers = (s, stays, covers)
+leads_covered {program} {s = s} (certified.leads {k = k} {next = next} {o = o} step rest) covers =
+    let first = leads_kept program k s covers o next step in
+    let then = leads_covered rest first.2 in
+    (then.0, steps_on first.1 then.1, then.2)
+
+-- and one that stops behind them stops each of them
+pub stops_there : {program : MachineProgram} {n : ℕ} {k now : KnownState} {s : State} {seen last : List Observation}
+    {stop : Stop} → KnownLeads program n k seen now → KnownStep program now (ends last stop) → Covers k s
+    → (t : State) × ProgramHalts program (n + 1) s (seen ++ last) stop t × (t.pc ≡ now.state.pc)
+stops_there {program} {n} {now = now} {last = last} {stop = stop} run step covers =
+    let there = leads_covered run covers in
+    (there.0, rw (add-one n) (halts there.1 (stop_kept program now there.0 there.2 last stop step) refl), there.2.pc)

@@ -28,4 +28,4 @@ pub use Rattle.rv_machine.specs.declared.observation.Observation.{Observation}
 pub use Rattle.rv_machine.specs.declared.stops.Stop.{Stop}
 pub use Rattle.rv_machine.specs.declared.stops.Stop.TheVariants.{AccessFault, Budget, RecorderRefused}
 pub use Rattle.rv_programs.specs.Programs.{allows_shown, guarded, MachineProgram, ProgramStep, StandsAt}
-pub use Rattle.rv_programs.specs.Runs.{ProgramLeads, ProgramRuns, spent, stays, steps_on}
+pub use Rattle.rv_programs.specs.Runs.{halts, ProgramHalts, ProgramLeads, ProgramRuns, spent, stays, steps_on}

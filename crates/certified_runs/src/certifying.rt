@@ -3,7 +3,7 @@
 ghost use Rattle.std.specs.Prelude.{◌≡◌, ℕ, ◌<◌, ◌^◌, List, length, is_some};
 ghost use Rattle.certified_runs.specs.Below.{entries_of, Observation, state_of};
 ghost use Rattle.certified_runs.specs.Certified.{RunEnding, CertifiedRun, KnownLeads};
-ghost use Rattle.certified_runs.specs.End.{end_of};
+ghost use Rattle.certified_runs.specs.End.{ComesTo, end_of};
 ghost use Rattle.certified_runs.specs.Known.{KnownState};
 ghost use Rattle.certified_runs.specs.Parts.{known_of};
 
@@ -26,7 +26,8 @@ pub enum CertifiedEnd {
 
 /// Makes steps of a run of which these parts are known, until one stops, or until what it shows may
 /// depend on what is unknown. It makes no more steps than the run may still make, and takes no memory.
-/// A run of which no step is left can be given more of them, and goes on from there.
+/// A run of which no step is left can be given more of them, and goes on from there; one of which some are left has
+/// ended, and stands where the step that ended it began.
 // It is never compiled in line: beside a caller's own values, those of the steps do not fit the registers.
 #[inline(never)]
 pub fn certify<P: Program, M: Memory>(
@@ -55,6 +56,9 @@ pub fn certify<P: Program, M: Memory>(
         (known_of (state_of run.old.hart (M.bytes run.old.memory)) known.old.registers (M.bytes known.old.marks)
         known.old.shifts) seen later
         → ⊥ }
+    ensures stopped { 0 < run.new.steps_left → ComesTo (P.program program.now)
+        (known_of (state_of run.old.hart (M.bytes run.old.memory)) known.old.registers (M.bytes known.old.marks)
+        known.old.shifts) (state_of run.new.hart (M.bytes run.new.memory)) result }
     ensures extent { (a : ℕ) → is_some (M.bytes known.new.marks a) ≡ is_some (M.bytes run.new.memory a) }
 {
     let mut entries = 0;

@@ -1,10 +1,10 @@
 // The laws of what is known, which hold of the definitions alone.
 
-ghost use Rattle.std.specs.Prelude.{◌≡◌, ◌≢◌, ℕ, ◌<◌, ◌∷◌, ◌++◌, List};
-ghost use Rattle.certified_runs.specs.Below.{entries_of, Entry, MachineProgram, Observation, ProgramLeads};
-ghost use Rattle.certified_runs.specs.Below.{ProgramRuns, ProgramStep, State, StepEnding, Stop};
+ghost use Rattle.std.specs.Prelude.{◌≡◌, ◌≢◌, ℕ, ◌+◌, ◌<◌, ◌∷◌, ◌++◌, List};
+ghost use Rattle.certified_runs.specs.Below.{entries_of, Entry, MachineProgram, Observation, ProgramHalts};
+ghost use Rattle.certified_runs.specs.Below.{ProgramLeads, ProgramRuns, ProgramStep, State, StepEnding, Stop};
 ghost use Rattle.certified_runs.specs.Amounts.{ShiftsBy};
-ghost use Rattle.certified_runs.specs.Certified.{KnownEnding, KnownStep, RunEnding, CertifiedRun};
+ghost use Rattle.certified_runs.specs.Certified.{CertifiedRun, KnownEnding, KnownLeads, KnownStep, RunEnding};
 ghost use Rattle.certified_runs.specs.Known.{KnownState, Covers};
 
 use crate::shifts::Shifts;
@@ -52,6 +52,17 @@ pub fn certified_runs_have_one_end()
         (ending other : RunEnding)
         → CertifiedRun program budget k seen ending → CertifiedRun program budget k shown other
         → (seen ≡ shown) × (ending ≡ other) }
+{}
+
+/// Where steps of what is known lead to one that stops, the run of each covered state stops by it, at the same program
+/// counter.
+pub fn certified_runs_stop_at_one_place()
+    ensures { (program : MachineProgram) (n : ℕ) (k now : KnownState) (s : State) (seen last : List Observation)
+        (stop : Stop)
+        → KnownLeads program n k seen now
+        → KnownStep program now (KnownEnding.ends last stop)
+        → Covers k s
+        → (t : State) × ProgramHalts program (n + 1) s (seen ++ last) stop t × (t.pc ≡ now.state.pc) }
 {}
 
 /// How a certified run ends depends on what is known alone: what the state holds elsewhere makes no difference.

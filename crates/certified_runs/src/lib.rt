@@ -24,7 +24,8 @@ pub use certifying::{CertifiedEnd, certify};
 pub use known_parts::KnownParts;
 pub use laws::{
     certified_runs_cover, certified_runs_cut_short_agree, certified_runs_depend_on_what_is_known,
-    certified_runs_have_one_end, certified_shifts_agree, runs_shift_by_one_list,
-    runs_that_may_differ_begin_alike, steps_keep_covering, what_is_known_covers,
+    certified_runs_have_one_end, certified_runs_stop_at_one_place, certified_shifts_agree,
+    runs_shift_by_one_list, runs_that_may_differ_begin_alike, steps_keep_covering,
+    what_is_known_covers,
 };
 pub use shifts::Shifts;

@@ -42,6 +42,7 @@ fn halt<P: Program, M: Memory>(program: &P, hart: &mut Hart, memory: &mut M) -> 
     ensures stops { (seen : List Observation)
         × ProgramStep (P.program program.now) (state_of hart.old (M.bytes memory.old)) (StepEnding.stops seen result.1)
         × (length (entries_of seen) ≡ result.0) }
+    ensures stays { state_of hart.new (M.bytes memory.new) ≡ state_of hart.old (M.bytes memory.old) }
     ensures extent { HaveOneExtent (M.bytes memory.new) (M.bytes memory.old) }
 {
     let (seen, stop) = step_unrecorded(hart, program, memory);

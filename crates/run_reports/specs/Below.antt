@@ -17,7 +17,7 @@ pub use Rattle.rv_machine.specs.declared.stops.Stop.{Stop}
 pub use Rattle.rv_machine.specs.declared.stops.Stop.TheVariants.{Budget, RecorderRefused}
 pub use Rattle.rv_programs.specs.Programs.{MachineProgram}
 pub use Rattle.certified_runs.specs.Certified.{CertifiedRun, cut, KnownLeads, leads, may_differ, RunEnding, same}
-pub use Rattle.certified_runs.specs.End.{end_of}
+pub use Rattle.certified_runs.specs.End.{ComesTo, end_of, EndsSo}
 pub use Rattle.certified_runs.specs.Known.{KnownState}
 pub use Rattle.certified_runs.specs.Parts.{known_of}
 pub use Rattle.certified_runs.specs.declared.certifying.CertifiedEnd.{CertifiedEnd}

@@ -3,9 +3,9 @@ use Rattle.std.proofs.Common.{◌≡◌, ℕ, zero, suc, ◌+◌, ◌*◌, ◌�
 use Rattle.std.proofs.Common.{zero-add, inl, inr, ap, arith}
 use Rattle.certified_runs.proofs.KnownSteps.{few_entries}
 use Rattle.certified_runs.proofs.OneEnd.{KnownStep-determined}
-use Rattle.run_reports.specs.Below.{CertifiedEnd, CertifiedRun, cut, end_of, entries_of, KnownState}
+use Rattle.run_reports.specs.Below.{CertifiedEnd, CertifiedRun, ComesTo, cut, end_of, EndsSo, entries_of, KnownState}
 use Rattle.run_reports.specs.Below.{KnownLeads, leads, MachineProgram, may_differ, MayDiffer, Observation, RunEnding}
-use Rattle.run_reports.specs.Below.{Same, same}
+use Rattle.run_reports.specs.Below.{Same, same, State}
 use Rattle.certified_runs.specs.Certified.{spent, halts, steps_on, stays}
 use Rattle.run_reports.specs.progress.Certified.{GoesOnKnown, entries_at, end_behind}
 use Rattle.run_reports.specs.progress.GoingOn.{HasLines}
@@ -101,3 +101,16 @@ lines_of_known_at_end {now = now} led made more last = record {
   reached = elim more [ inl none ↦ inl none | inr some ↦ inr (omega (arith, made, some), (led.0, now, led.1)) ];
   no_more = λ on. omega (arith, made, last, on.0);
 }
+
+-- a run that comes to its end behind steps that lead on
+ends_behind : (program : MachineProgram) (k : KnownState) (before : ℕ) (answer : CertifiedEnd)
+    → EndsSo program k answer → EndsSo program k (end_behind before answer)
+ends_behind program k before (Same stop entries) ends = ends
+ends_behind program k before (MayDiffer entry pc) ends = ends
+
+pub comes_after : {program : MachineProgram} {m : ℕ} {k now : KnownState} {end : State} {seen : List Observation}
+    (before : ℕ) (answer : CertifiedEnd)
+    → KnownLeads program m k seen now → ComesTo program now end answer
+    → ComesTo program k end (end_behind before answer)
+comes_after {program} {m = m} {seen = seen} before answer led come =
+    (m + come.0, seen ++ come.1, come.2, leads_append led come.3, come.4, ends_behind program come.2 before answer come.5)

@@ -1,7 +1,7 @@
 // A certified run in pieces.
 
 ghost use Rattle.std.specs.Prelude.{◌≡◌, ℕ, ◌+◌, ◌^◌, ◌<◌, List, IsTrue, is_some};
-ghost use Rattle.run_reports.specs.Below.{CertifiedRun, collected, end_of, known_of, Observation, RunEnding};
+ghost use Rattle.run_reports.specs.Below.{CertifiedRun, collected, ComesTo, end_of, known_of, Observation, RunEnding};
 ghost use Rattle.run_reports.specs.Below.{state_of};
 ghost use Rattle.run_reports.specs.progress.Certified.{GoesOnKnown, entries_at, end_behind};
 ghost use Rattle.run_reports.specs.progress.GoingOn.{HasLines, IsTold};
@@ -54,6 +54,9 @@ pub fn certify_in_pieces<P: Program, M: Memory, E: Sink>(
         (known_of (state_of run.old.hart (M.bytes run.old.memory)) known.old.registers (M.bytes known.old.marks)
         known.old.shifts) seen ending
         × (result ≡ end_of seen ending) }
+    ensures stopped { 0 < run.new.steps_left → ComesTo (P.program program.now)
+        (known_of (state_of run.old.hart (M.bytes run.old.memory)) known.old.registers (M.bytes known.old.marks)
+        known.old.shifts) (state_of run.new.hart (M.bytes run.new.memory)) result }
     ensures told { IsTrue E.TELLS
         → IsTold HasLines
         (GoesOnKnown (P.program program.now) run.old.steps_left

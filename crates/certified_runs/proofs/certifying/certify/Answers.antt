@@ -1,5 +1,6 @@
 -- A step more, or the last one.
-use Rattle.std.proofs.Common.{◌∙◌, arith}
+use Rattle.std.proofs.Common.{sym, ap, ◌∙◌, arith}
+use Rattle.certified_runs.specs.Below.{State}
 use Rattle.certified_runs.proofs.Below.{count-few}
 use Rattle.certified_runs.proofs.Ends.{ends_by, ends_open, ends_at_last, none_made, one_more_made, all_made, not_all}
 use Rattle.certified_runs.proofs.KnownSteps.{few_entries}
@@ -18,7 +19,7 @@ returns-in-Ends-clause-certified g c =
 pub returns-in-Depends-clause-certified : goal.returns-in-Depends-clause-certified
 returns-in-Depends-clause-certified g c =
     let stepped = c.in-Depends.ensures.stepped in
-    rw (c.pc.ensures ∙ stepped.1) (ends_open c.loop-run.invariant.made c.loop-run-test.true stepped.0)
+    rw (c.pc.ensures ∙ ap (λ (s : State). s.pc) stepped.1) (ends_open c.loop-run.invariant.made c.loop-run-test.true stepped.0)
 
 pub loop-run-init : goal.loop-run-init
 loop-run-init g c = record { made = none_made _ _ _; extent = c.requires.extent; few = omega arith }
@@ -42,6 +43,18 @@ returns-in-Ends-clause-ended g c = λ seen later some all.
 pub returns-in-Depends-clause-ended : goal.returns-in-Depends-clause-ended
 returns-in-Depends-clause-ended g c = λ seen later some all.
     not_all c.loop-run.invariant.made c.loop-run-test.true c.in-Depends.ensures.stepped.0 tt all
+
+pub returns-in-Ends-clause-stopped : goal.returns-in-Ends-clause-stopped
+returns-in-Ends-clause-stopped g c = λ some.
+    let made = c.loop-run.invariant.made in
+    let stepped = c.in-Ends.ensures.stepped in
+    (made.0, made.1, _, made.2, sym stepped.3, (stepped.0, stepped.1))
+
+pub returns-in-Depends-clause-stopped : goal.returns-in-Depends-clause-stopped
+returns-in-Depends-clause-stopped g c = λ some.
+    let made = c.loop-run.invariant.made in
+    let stepped = c.in-Depends.ensures.stepped in
+    (made.0, made.1, _, made.2, sym stepped.1, stepped.0)
 
 pub returns-clause-spent : goal.returns-clause-spent
 returns-clause-spent g c = λ none. all_made c.loop-run.invariant.made none

@@ -10,7 +10,7 @@ pub returns-in_default-clause-stepped : goal.returns-in_default-clause-stepped
 returns-in_default-clause-stepped g c =
     let none = rw (c.code_at-code.ensures, c.pc-pc.ensures) at (c.in_default.ensures.none refl) in
     let stops = c.halt-entries.ensures.stops in
-    (stops.0, stopped (λ i at. absurd (none i at)) stops.1, stops.2)
+    (stops.0, stopped (λ i at. absurd (none i at)) stops.1, stops.2, c.halt-entries.ensures.stays)
 
 pub returns-then-not-decides-clause-stepped : goal.returns-then-not-decides-clause-stepped
 returns-then-not-decides-clause-stepped g c =
@@ -31,7 +31,11 @@ returns-in-Some-stop-clause-stepped g c =
     let step = rw c.in-Some-stop.is at c.step_unrecorded-seen.ensures.step in
     let calm = rw c.in-Some-stop.is at c.step_unrecorded-seen.ensures.calm in
     let many = rw step.2.2 at (sym c.entries_in-entries.ensures) in
-    has_stopped (g.P.Program.program c.args.program.now) k c.in-Some.instr.now at sure k step.1 step.2.1 calm many
+    let after = state_of c.step_unrecorded-seen.new.hart (g.M.Memory.bytes c.step_unrecorded-seen.new.memory) in
+    let next = known_of after c.args.known.now.registers (g.M.Memory.bytes c.args.known.now.marks)
+    c.args.known.now.shifts in
+    has_stopped (g.P.Program.program c.args.program.now) k c.in-Some.instr.now at sure next step.1 step.2.1 calm many
+    refl
 
 pub returns-in-None-clause-stepped : goal.returns-in-None-clause-stepped
 returns-in-None-clause-stepped g c =

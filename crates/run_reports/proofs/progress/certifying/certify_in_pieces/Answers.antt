@@ -3,7 +3,7 @@ use Rattle.std.proofs.Common.{◌≡◌, ◌+◌, ◌*◌, [], ◌++◌, length,
 use Rattle.certified_runs.proofs.Ends.{run_after}
 use Rattle.certified_runs.specs.Certified.{stays}
 use Rattle.run_reports.proofs.progress_lemmas.KnownPieces.{leads_append, stretched, few_of_leads, few_at_end}
-use Rattle.run_reports.proofs.progress_lemmas.KnownPieces.{end_of_both, lines_of_known, lines_of_known_at_end}
+use Rattle.run_reports.proofs.progress_lemmas.KnownPieces.{comes_after, end_of_both, lines_of_known, lines_of_known_at_end}
 use Rattle.run_reports.proofs.progress_lemmas.Told.{none_yet, all_told}
 use Rattle.run_reports.specs.progress.Certified.{entries_at, end_behind}
 use Rattle.run_reports.specs.progress.Lines.{steps_a_line}
@@ -45,6 +45,9 @@ returns-then-run-gt0 g c =
         c.end_behind.ensures ∙ ap (end_behind c.loop-left.entries) run.3
             ∙ end_of_both led.0 run.0 run.1 c.loop-left.entries led.2,
       );
+      stopped = λ left.
+          rw c.end_behind.ensures (comes_after c.loop-left.entries c.certify-end.result led.1
+          (c.certify-end.ensures.stopped left));
       told = λ tells. (
         lines.count,
         lines_of_known (led.0, led.1) c.loop-left.invariant.made c.loop-left.invariant.more
@@ -97,6 +100,12 @@ returns-clause-certified g c =
       c.end_behind-2.ensures ∙ ap (end_behind c.loop-left.entries) run.3
           ∙ end_of_both led.0 run.0 run.1 c.loop-left.entries led.2,
     )
+
+pub returns-clause-stopped : goal.returns-clause-stopped
+returns-clause-stopped g c = λ left.
+    let led = c.loop-left.invariant.led in
+    rw c.end_behind-2.ensures (comes_after c.loop-left.entries c.certify-end-2.result led.1
+    (c.certify-end-2.ensures.stopped left))
 
 pub returns-clause-told : goal.returns-clause-told
 returns-clause-told g c = λ tells.
