@@ -47,6 +47,7 @@ LOOPS = [
     ("rv_machine/src/machine.rt", "run", "what the recorder keeps, which is the caller's"),
     ("rv_machine/src/paged.rt", "add_pages", "the addresses of a range that is asked for: a page for each 4,096 bytes"),
     ("rv_machine/src/pairing.rt", "compare", "nothing is kept from step to step"),
+    ("rv_programs/src/steps.rt", "run", "what the recorder keeps, which is the caller's"),
     ("source_eval/src/statements.rt", "repeat", "what the body declares, which is dropped after each iteration"),
     ("streams/src/sink.rt", "put_all", "nothing is kept: the sink takes the bytes that it is given"),
     ("streams/src/source.rt", "get_up_to", "the bytes that the source has, and the limit"),
