@@ -1,7 +1,7 @@
 // What a user asks a run to begin with.
 
 /// An argument of the function.
-#[derive(Debug, Drop)]
+#[derive(Drop)]
 pub enum Argument {
     /// This number.
     Number(u32),
@@ -12,13 +12,13 @@ pub enum Argument {
 }
 
 /// The name of an object of which no bit is known.
-#[derive(Debug, Drop)]
+#[derive(Drop)]
 pub struct Secret {
     pub object: Vec<u8>,
 }
 
 /// Bytes that the object of a name begins with.
-#[derive(Debug, Drop)]
+#[derive(Drop)]
 pub struct Setting {
     pub object: Vec<u8>,
     pub bytes: Vec<u8>,
@@ -26,7 +26,7 @@ pub struct Setting {
 
 /// A function, its arguments, what is secret, what is set before the run, in this order, and how many bytes the stack
 /// has.
-#[derive(Debug, Drop)]
+#[derive(Drop)]
 pub struct Asked {
     pub function: Vec<u8>,
     pub arguments: Vec<Argument>,

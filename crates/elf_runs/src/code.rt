@@ -7,7 +7,7 @@ use elf::{Program, Segment};
 use std::alloc::{AllocError, Global};
 
 /// Words of code, from an address on that is a multiple of 4.
-#[derive(Debug, Drop)]
+#[derive(Drop)]
 pub struct Code {
     pub begin: u64,
     pub words: Vec<u32>,

@@ -6,7 +6,7 @@ use elf::Access;
 
 /// A range of memory: its first address, its bytes, for each of these a mask of its bits that are not known, and what
 /// may be done with them. What a bit that is not known is in the bytes means nothing.
-#[derive(Debug, Drop)]
+#[derive(Drop)]
 pub struct MemoryRange {
     pub address: u32,
     pub bytes: Vec<u8>,

@@ -4,7 +4,7 @@ ghost use Rattle.std.specs.Prelude.{◌≡◌};
 ghost use Rattle.elf_runs.specs.Word.{anything, known};
 
 /// A word, and a mask that has its bits that are not known. What these are in the word means nothing.
-#[derive(Clone, Copy, Debug, PartialEq, Eq)]
+#[derive(Clone, Copy)]
 pub struct Word {
     pub value: u32,
     pub unknown: u32,
