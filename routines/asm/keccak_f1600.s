@@ -1,4 +1,4 @@
-# keccak_f1600: made by factc function; 1931 words, 976 bytes of stack, profile 1
+# keccak_f1600: made by factc function; 1996 words, 976 bytes of stack, profile 1
     .option push
     .option norvc
     .option norelax
@@ -51,24 +51,54 @@ keccak_f1600:
     .word 0x405102b3  # sub x5, x2, x5
     .cfi_def_cfa 5, 976
     # the frame, zeroed downward
-    .word 0xff010113  # addi x2, x2, -16
+    .word 0xfc010113  # addi x2, x2, -64
     .word 0x00012023  # sw x0, 0(x2)
     .word 0x00012223  # sw x0, 4(x2)
     .word 0x00012423  # sw x0, 8(x2)
     .word 0x00012623  # sw x0, 12(x2)
-    .word 0xfe5116e3  # bne x2, x5, -20
+    .word 0x00012823  # sw x0, 16(x2)
+    .word 0x00012a23  # sw x0, 20(x2)
+    .word 0x00012c23  # sw x0, 24(x2)
+    .word 0x00012e23  # sw x0, 28(x2)
+    .word 0x02012023  # sw x0, 32(x2)
+    .word 0x02012223  # sw x0, 36(x2)
+    .word 0x02012423  # sw x0, 40(x2)
+    .word 0x02012623  # sw x0, 44(x2)
+    .word 0x02012823  # sw x0, 48(x2)
+    .word 0x02012a23  # sw x0, 52(x2)
+    .word 0x02012c23  # sw x0, 56(x2)
+    .word 0x02012e23  # sw x0, 60(x2)
+    .word 0xfa511ee3  # bne x2, x5, -68
     .cfi_def_cfa 2, 976
     # parameter 0: an array
     .word 0x3b012283  # lw x5, 944(x2)
     .word 0x00000313  # addi x6, x0, 0
     .word 0x00230333  # add x6, x6, x2
-    .word 0x0c800393  # addi x7, x0, 200
+    .word 0x0c000393  # addi x7, x0, 192
     .word 0x005383b3  # add x7, x7, x5
     .word 0x0002ae03  # lw x28, 0(x5)
     .word 0x01c32023  # sw x28, 0(x6)
-    .word 0x00428293  # addi x5, x5, 4
-    .word 0x00430313  # addi x6, x6, 4
-    .word 0xfe7298e3  # bne x5, x7, -16
+    .word 0x0042ae03  # lw x28, 4(x5)
+    .word 0x01c32223  # sw x28, 4(x6)
+    .word 0x0082ae03  # lw x28, 8(x5)
+    .word 0x01c32423  # sw x28, 8(x6)
+    .word 0x00c2ae03  # lw x28, 12(x5)
+    .word 0x01c32623  # sw x28, 12(x6)
+    .word 0x0102ae03  # lw x28, 16(x5)
+    .word 0x01c32823  # sw x28, 16(x6)
+    .word 0x0142ae03  # lw x28, 20(x5)
+    .word 0x01c32a23  # sw x28, 20(x6)
+    .word 0x0182ae03  # lw x28, 24(x5)
+    .word 0x01c32c23  # sw x28, 24(x6)
+    .word 0x01c2ae03  # lw x28, 28(x5)
+    .word 0x01c32e23  # sw x28, 28(x6)
+    .word 0x02028293  # addi x5, x5, 32
+    .word 0x02030313  # addi x6, x6, 32
+    .word 0xfa729ce3  # bne x5, x7, -72
+    .word 0x0002ae03  # lw x28, 0(x5)
+    .word 0x01c32023  # sw x28, 0(x6)
+    .word 0x0042ae03  # lw x28, 4(x5)
+    .word 0x01c32223  # sw x28, 4(x6)
     # the body
     .word 0x00100293  # addi x5, x0, 1
     .word 0x0c512423  # sw x5, 200(x2)
@@ -1921,13 +1951,31 @@ keccak_f1600:
     .word 0x3b012283  # lw x5, 944(x2)
     .word 0x00000313  # addi x6, x0, 0
     .word 0x00230333  # add x6, x6, x2
-    .word 0x0c800393  # addi x7, x0, 200
+    .word 0x0c000393  # addi x7, x0, 192
     .word 0x005383b3  # add x7, x7, x5
     .word 0x00032e03  # lw x28, 0(x6)
     .word 0x01c2a023  # sw x28, 0(x5)
-    .word 0x00428293  # addi x5, x5, 4
-    .word 0x00430313  # addi x6, x6, 4
-    .word 0xfe7298e3  # bne x5, x7, -16
+    .word 0x00432e03  # lw x28, 4(x6)
+    .word 0x01c2a223  # sw x28, 4(x5)
+    .word 0x00832e03  # lw x28, 8(x6)
+    .word 0x01c2a423  # sw x28, 8(x5)
+    .word 0x00c32e03  # lw x28, 12(x6)
+    .word 0x01c2a623  # sw x28, 12(x5)
+    .word 0x01032e03  # lw x28, 16(x6)
+    .word 0x01c2a823  # sw x28, 16(x5)
+    .word 0x01432e03  # lw x28, 20(x6)
+    .word 0x01c2aa23  # sw x28, 20(x5)
+    .word 0x01832e03  # lw x28, 24(x6)
+    .word 0x01c2ac23  # sw x28, 24(x5)
+    .word 0x01c32e03  # lw x28, 28(x6)
+    .word 0x01c2ae23  # sw x28, 28(x5)
+    .word 0x02028293  # addi x5, x5, 32
+    .word 0x02030313  # addi x6, x6, 32
+    .word 0xfa729ce3  # bne x5, x7, -72
+    .word 0x00032e03  # lw x28, 0(x6)
+    .word 0x01c2a023  # sw x28, 0(x5)
+    .word 0x00432e03  # lw x28, 4(x6)
+    .word 0x01c2a223  # sw x28, 4(x5)
     # above the frame
     .word 0x38000293  # addi x5, x0, 896
     .word 0x002282b3  # add x5, x5, x2
@@ -1965,7 +2013,24 @@ keccak_f1600:
     .word 0x00012423  # sw x0, 8(x2)
     .word 0x00012623  # sw x0, 12(x2)
     .word 0x01010113  # addi x2, x2, 16
-    .word 0xfe5116e3  # bne x2, x5, -20
+    .word 0x00012023  # sw x0, 0(x2)
+    .word 0x00012223  # sw x0, 4(x2)
+    .word 0x00012423  # sw x0, 8(x2)
+    .word 0x00012623  # sw x0, 12(x2)
+    .word 0x00012823  # sw x0, 16(x2)
+    .word 0x00012a23  # sw x0, 20(x2)
+    .word 0x00012c23  # sw x0, 24(x2)
+    .word 0x00012e23  # sw x0, 28(x2)
+    .word 0x02012023  # sw x0, 32(x2)
+    .word 0x02012223  # sw x0, 36(x2)
+    .word 0x02012423  # sw x0, 40(x2)
+    .word 0x02012623  # sw x0, 44(x2)
+    .word 0x02012823  # sw x0, 48(x2)
+    .word 0x02012a23  # sw x0, 52(x2)
+    .word 0x02012c23  # sw x0, 56(x2)
+    .word 0x02012e23  # sw x0, 60(x2)
+    .word 0x04010113  # addi x2, x2, 64
+    .word 0xfa511ee3  # bne x2, x5, -68
     .cfi_def_cfa 2, 0
     # temporaries, wiped
     .word 0x00000293  # addi x5, x0, 0

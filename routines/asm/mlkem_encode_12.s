@@ -1,4 +1,4 @@
-# mlkem_encode_12: made by factc function; 166 words, 1008 bytes of stack, profile 1
+# mlkem_encode_12: made by factc function; 254 words, 1008 bytes of stack, profile 1
     .option push
     .option norvc
     .option norelax
@@ -51,12 +51,33 @@ mlkem_encode_12:
     .word 0x405102b3  # sub x5, x2, x5
     .cfi_def_cfa 5, 1008
     # the frame, zeroed downward
-    .word 0xff010113  # addi x2, x2, -16
+    .word 0xfe010113  # addi x2, x2, -32
     .word 0x00012023  # sw x0, 0(x2)
     .word 0x00012223  # sw x0, 4(x2)
     .word 0x00012423  # sw x0, 8(x2)
     .word 0x00012623  # sw x0, 12(x2)
-    .word 0xfe5116e3  # bne x2, x5, -20
+    .word 0x00012823  # sw x0, 16(x2)
+    .word 0x00012a23  # sw x0, 20(x2)
+    .word 0x00012c23  # sw x0, 24(x2)
+    .word 0x00012e23  # sw x0, 28(x2)
+    .word 0xfc010113  # addi x2, x2, -64
+    .word 0x00012023  # sw x0, 0(x2)
+    .word 0x00012223  # sw x0, 4(x2)
+    .word 0x00012423  # sw x0, 8(x2)
+    .word 0x00012623  # sw x0, 12(x2)
+    .word 0x00012823  # sw x0, 16(x2)
+    .word 0x00012a23  # sw x0, 20(x2)
+    .word 0x00012c23  # sw x0, 24(x2)
+    .word 0x00012e23  # sw x0, 28(x2)
+    .word 0x02012023  # sw x0, 32(x2)
+    .word 0x02012223  # sw x0, 36(x2)
+    .word 0x02012423  # sw x0, 40(x2)
+    .word 0x02012623  # sw x0, 44(x2)
+    .word 0x02012823  # sw x0, 48(x2)
+    .word 0x02012a23  # sw x0, 52(x2)
+    .word 0x02012c23  # sw x0, 56(x2)
+    .word 0x02012e23  # sw x0, 60(x2)
+    .word 0xfa511ee3  # bne x2, x5, -68
     .cfi_def_cfa 2, 1008
     # parameter 0: an array
     .word 0x3d012283  # lw x5, 976(x2)
@@ -66,9 +87,23 @@ mlkem_encode_12:
     .word 0x005383b3  # add x7, x7, x5
     .word 0x0002de03  # lhu x28, 0(x5)
     .word 0x01c31023  # sh x28, 0(x6)
-    .word 0x00228293  # addi x5, x5, 2
-    .word 0x00230313  # addi x6, x6, 2
-    .word 0xfe7298e3  # bne x5, x7, -16
+    .word 0x0022de03  # lhu x28, 2(x5)
+    .word 0x01c31123  # sh x28, 2(x6)
+    .word 0x0042de03  # lhu x28, 4(x5)
+    .word 0x01c31223  # sh x28, 4(x6)
+    .word 0x0062de03  # lhu x28, 6(x5)
+    .word 0x01c31323  # sh x28, 6(x6)
+    .word 0x0082de03  # lhu x28, 8(x5)
+    .word 0x01c31423  # sh x28, 8(x6)
+    .word 0x00a2de03  # lhu x28, 10(x5)
+    .word 0x01c31523  # sh x28, 10(x6)
+    .word 0x00c2de03  # lhu x28, 12(x5)
+    .word 0x01c31623  # sh x28, 12(x6)
+    .word 0x00e2de03  # lhu x28, 14(x5)
+    .word 0x01c31723  # sh x28, 14(x6)
+    .word 0x01028293  # addi x5, x5, 16
+    .word 0x01030313  # addi x6, x6, 16
+    .word 0xfa729ce3  # bne x5, x7, -72
     # parameter 1: an array
     .word 0x3d412283  # lw x5, 980(x2)
     .word 0x20000313  # addi x6, x0, 512
@@ -77,9 +112,23 @@ mlkem_encode_12:
     .word 0x005383b3  # add x7, x7, x5
     .word 0x0002ce03  # lbu x28, 0(x5)
     .word 0x01c30023  # sb x28, 0(x6)
-    .word 0x00128293  # addi x5, x5, 1
-    .word 0x00130313  # addi x6, x6, 1
-    .word 0xfe7298e3  # bne x5, x7, -16
+    .word 0x0012ce03  # lbu x28, 1(x5)
+    .word 0x01c300a3  # sb x28, 1(x6)
+    .word 0x0022ce03  # lbu x28, 2(x5)
+    .word 0x01c30123  # sb x28, 2(x6)
+    .word 0x0032ce03  # lbu x28, 3(x5)
+    .word 0x01c301a3  # sb x28, 3(x6)
+    .word 0x0042ce03  # lbu x28, 4(x5)
+    .word 0x01c30223  # sb x28, 4(x6)
+    .word 0x0052ce03  # lbu x28, 5(x5)
+    .word 0x01c302a3  # sb x28, 5(x6)
+    .word 0x0062ce03  # lbu x28, 6(x5)
+    .word 0x01c30323  # sb x28, 6(x6)
+    .word 0x0072ce03  # lbu x28, 7(x5)
+    .word 0x01c303a3  # sb x28, 7(x6)
+    .word 0x00828293  # addi x5, x5, 8
+    .word 0x00830313  # addi x6, x6, 8
+    .word 0xfa729ce3  # bne x5, x7, -72
     # the body
     .word 0x00000293  # addi x5, x0, 0
     .word 0x38512823  # sw x5, 912(x2)
@@ -161,9 +210,23 @@ mlkem_encode_12:
     .word 0x005383b3  # add x7, x7, x5
     .word 0x00034e03  # lbu x28, 0(x6)
     .word 0x01c28023  # sb x28, 0(x5)
-    .word 0x00128293  # addi x5, x5, 1
-    .word 0x00130313  # addi x6, x6, 1
-    .word 0xfe7298e3  # bne x5, x7, -16
+    .word 0x00134e03  # lbu x28, 1(x6)
+    .word 0x01c280a3  # sb x28, 1(x5)
+    .word 0x00234e03  # lbu x28, 2(x6)
+    .word 0x01c28123  # sb x28, 2(x5)
+    .word 0x00334e03  # lbu x28, 3(x6)
+    .word 0x01c281a3  # sb x28, 3(x5)
+    .word 0x00434e03  # lbu x28, 4(x6)
+    .word 0x01c28223  # sb x28, 4(x5)
+    .word 0x00534e03  # lbu x28, 5(x6)
+    .word 0x01c282a3  # sb x28, 5(x5)
+    .word 0x00634e03  # lbu x28, 6(x6)
+    .word 0x01c28323  # sb x28, 6(x5)
+    .word 0x00734e03  # lbu x28, 7(x6)
+    .word 0x01c283a3  # sb x28, 7(x5)
+    .word 0x00828293  # addi x5, x5, 8
+    .word 0x00830313  # addi x6, x6, 8
+    .word 0xfa729ce3  # bne x5, x7, -72
     # above the frame
     .word 0x3a000293  # addi x5, x0, 928
     .word 0x002282b3  # add x5, x5, x2
@@ -200,8 +263,33 @@ mlkem_encode_12:
     .word 0x00012223  # sw x0, 4(x2)
     .word 0x00012423  # sw x0, 8(x2)
     .word 0x00012623  # sw x0, 12(x2)
-    .word 0x01010113  # addi x2, x2, 16
-    .word 0xfe5116e3  # bne x2, x5, -20
+    .word 0x00012823  # sw x0, 16(x2)
+    .word 0x00012a23  # sw x0, 20(x2)
+    .word 0x00012c23  # sw x0, 24(x2)
+    .word 0x00012e23  # sw x0, 28(x2)
+    .word 0x02012023  # sw x0, 32(x2)
+    .word 0x02012223  # sw x0, 36(x2)
+    .word 0x02012423  # sw x0, 40(x2)
+    .word 0x02012623  # sw x0, 44(x2)
+    .word 0x03010113  # addi x2, x2, 48
+    .word 0x00012023  # sw x0, 0(x2)
+    .word 0x00012223  # sw x0, 4(x2)
+    .word 0x00012423  # sw x0, 8(x2)
+    .word 0x00012623  # sw x0, 12(x2)
+    .word 0x00012823  # sw x0, 16(x2)
+    .word 0x00012a23  # sw x0, 20(x2)
+    .word 0x00012c23  # sw x0, 24(x2)
+    .word 0x00012e23  # sw x0, 28(x2)
+    .word 0x02012023  # sw x0, 32(x2)
+    .word 0x02012223  # sw x0, 36(x2)
+    .word 0x02012423  # sw x0, 40(x2)
+    .word 0x02012623  # sw x0, 44(x2)
+    .word 0x02012823  # sw x0, 48(x2)
+    .word 0x02012a23  # sw x0, 52(x2)
+    .word 0x02012c23  # sw x0, 56(x2)
+    .word 0x02012e23  # sw x0, 60(x2)
+    .word 0x04010113  # addi x2, x2, 64
+    .word 0xfa511ee3  # bne x2, x5, -68
     .cfi_def_cfa 2, 0
     # temporaries, wiped
     .word 0x00000293  # addi x5, x0, 0

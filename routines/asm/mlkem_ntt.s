@@ -1,4 +1,4 @@
-# mlkem_ntt: made by factc function; 560 words, 1184 bytes of stack, profile 1
+# mlkem_ntt: made by factc function; 626 words, 1184 bytes of stack, profile 1
     .option push
     .option norvc
     .option norelax
@@ -56,7 +56,24 @@ mlkem_ntt:
     .word 0x00012223  # sw x0, 4(x2)
     .word 0x00012423  # sw x0, 8(x2)
     .word 0x00012623  # sw x0, 12(x2)
-    .word 0xfe5116e3  # bne x2, x5, -20
+    .word 0xfc010113  # addi x2, x2, -64
+    .word 0x00012023  # sw x0, 0(x2)
+    .word 0x00012223  # sw x0, 4(x2)
+    .word 0x00012423  # sw x0, 8(x2)
+    .word 0x00012623  # sw x0, 12(x2)
+    .word 0x00012823  # sw x0, 16(x2)
+    .word 0x00012a23  # sw x0, 20(x2)
+    .word 0x00012c23  # sw x0, 24(x2)
+    .word 0x00012e23  # sw x0, 28(x2)
+    .word 0x02012023  # sw x0, 32(x2)
+    .word 0x02012223  # sw x0, 36(x2)
+    .word 0x02012423  # sw x0, 40(x2)
+    .word 0x02012623  # sw x0, 44(x2)
+    .word 0x02012823  # sw x0, 48(x2)
+    .word 0x02012a23  # sw x0, 52(x2)
+    .word 0x02012c23  # sw x0, 56(x2)
+    .word 0x02012e23  # sw x0, 60(x2)
+    .word 0xfa511ee3  # bne x2, x5, -68
     .cfi_def_cfa 2, 1184
     # parameter 0: an array
     .word 0x48012283  # lw x5, 1152(x2)
@@ -66,9 +83,23 @@ mlkem_ntt:
     .word 0x005383b3  # add x7, x7, x5
     .word 0x0002de03  # lhu x28, 0(x5)
     .word 0x01c31023  # sh x28, 0(x6)
-    .word 0x00228293  # addi x5, x5, 2
-    .word 0x00230313  # addi x6, x6, 2
-    .word 0xfe7298e3  # bne x5, x7, -16
+    .word 0x0022de03  # lhu x28, 2(x5)
+    .word 0x01c31123  # sh x28, 2(x6)
+    .word 0x0042de03  # lhu x28, 4(x5)
+    .word 0x01c31223  # sh x28, 4(x6)
+    .word 0x0062de03  # lhu x28, 6(x5)
+    .word 0x01c31323  # sh x28, 6(x6)
+    .word 0x0082de03  # lhu x28, 8(x5)
+    .word 0x01c31423  # sh x28, 8(x6)
+    .word 0x00a2de03  # lhu x28, 10(x5)
+    .word 0x01c31523  # sh x28, 10(x6)
+    .word 0x00c2de03  # lhu x28, 12(x5)
+    .word 0x01c31623  # sh x28, 12(x6)
+    .word 0x00e2de03  # lhu x28, 14(x5)
+    .word 0x01c31723  # sh x28, 14(x6)
+    .word 0x01028293  # addi x5, x5, 16
+    .word 0x01030313  # addi x6, x6, 16
+    .word 0xfa729ce3  # bne x5, x7, -72
     # the body
     .word 0x00100293  # addi x5, x0, 1
     .word 0x20512023  # sw x5, 512(x2)
@@ -554,9 +585,23 @@ mlkem_ntt:
     .word 0x005383b3  # add x7, x7, x5
     .word 0x00035e03  # lhu x28, 0(x6)
     .word 0x01c29023  # sh x28, 0(x5)
-    .word 0x00228293  # addi x5, x5, 2
-    .word 0x00230313  # addi x6, x6, 2
-    .word 0xfe7298e3  # bne x5, x7, -16
+    .word 0x00235e03  # lhu x28, 2(x6)
+    .word 0x01c29123  # sh x28, 2(x5)
+    .word 0x00435e03  # lhu x28, 4(x6)
+    .word 0x01c29223  # sh x28, 4(x5)
+    .word 0x00635e03  # lhu x28, 6(x6)
+    .word 0x01c29323  # sh x28, 6(x5)
+    .word 0x00835e03  # lhu x28, 8(x6)
+    .word 0x01c29423  # sh x28, 8(x5)
+    .word 0x00a35e03  # lhu x28, 10(x6)
+    .word 0x01c29523  # sh x28, 10(x5)
+    .word 0x00c35e03  # lhu x28, 12(x6)
+    .word 0x01c29623  # sh x28, 12(x5)
+    .word 0x00e35e03  # lhu x28, 14(x6)
+    .word 0x01c29723  # sh x28, 14(x5)
+    .word 0x01028293  # addi x5, x5, 16
+    .word 0x01030313  # addi x6, x6, 16
+    .word 0xfa729ce3  # bne x5, x7, -72
     # above the frame
     .word 0x45000293  # addi x5, x0, 1104
     .word 0x002282b3  # add x5, x5, x2
@@ -593,8 +638,29 @@ mlkem_ntt:
     .word 0x00012223  # sw x0, 4(x2)
     .word 0x00012423  # sw x0, 8(x2)
     .word 0x00012623  # sw x0, 12(x2)
-    .word 0x01010113  # addi x2, x2, 16
-    .word 0xfe5116e3  # bne x2, x5, -20
+    .word 0x00012823  # sw x0, 16(x2)
+    .word 0x00012a23  # sw x0, 20(x2)
+    .word 0x00012c23  # sw x0, 24(x2)
+    .word 0x00012e23  # sw x0, 28(x2)
+    .word 0x02010113  # addi x2, x2, 32
+    .word 0x00012023  # sw x0, 0(x2)
+    .word 0x00012223  # sw x0, 4(x2)
+    .word 0x00012423  # sw x0, 8(x2)
+    .word 0x00012623  # sw x0, 12(x2)
+    .word 0x00012823  # sw x0, 16(x2)
+    .word 0x00012a23  # sw x0, 20(x2)
+    .word 0x00012c23  # sw x0, 24(x2)
+    .word 0x00012e23  # sw x0, 28(x2)
+    .word 0x02012023  # sw x0, 32(x2)
+    .word 0x02012223  # sw x0, 36(x2)
+    .word 0x02012423  # sw x0, 40(x2)
+    .word 0x02012623  # sw x0, 44(x2)
+    .word 0x02012823  # sw x0, 48(x2)
+    .word 0x02012a23  # sw x0, 52(x2)
+    .word 0x02012c23  # sw x0, 56(x2)
+    .word 0x02012e23  # sw x0, 60(x2)
+    .word 0x04010113  # addi x2, x2, 64
+    .word 0xfa511ee3  # bne x2, x5, -68
     .cfi_def_cfa 2, 0
     # temporaries, wiped
     .word 0x00000293  # addi x5, x0, 0

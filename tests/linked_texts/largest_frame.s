@@ -33,11 +33,23 @@ largest_frame:
     lui x5, 16
     addi x5, x5, 0
     sub x5, x2, x5
-1:  addi x2, x2, -16
+1:  addi x2, x2, -64
     sw x0, 0(x2)
     sw x0, 4(x2)
     sw x0, 8(x2)
     sw x0, 12(x2)
+    sw x0, 16(x2)
+    sw x0, 20(x2)
+    sw x0, 24(x2)
+    sw x0, 28(x2)
+    sw x0, 32(x2)
+    sw x0, 36(x2)
+    sw x0, 40(x2)
+    sw x0, 44(x2)
+    sw x0, 48(x2)
+    sw x0, 52(x2)
+    sw x0, 56(x2)
+    sw x0, 60(x2)
     bne x2, x5, 1b
     # argument 0, at 65,584, to 0
     lui x5, 16
@@ -51,13 +63,10 @@ largest_frame:
     lui x6, 16
     addi x6, x6, -12
     add x6, x6, x2
-    addi x7, x0, 8
-    add x7, x7, x5
-1:  lw x28, 0(x5)
+    lw x28, 0(x5)
     sw x28, 0(x6)
-    addi x5, x5, 4
-    addi x6, x6, 4
-    bne x5, x7, 1b
+    lw x28, 4(x5)
+    sw x28, 4(x6)
     # the body: element 0 becomes the number, the first word of the frame what element 0 was, and the last word their sum
     lw x5, 0(x2)
     lui x6, 16
@@ -78,13 +87,10 @@ largest_frame:
     lui x6, 16
     addi x6, x6, -12
     add x6, x6, x2
-    addi x7, x0, 8
-    add x7, x7, x5
-1:  lw x28, 0(x6)
+    lw x28, 0(x6)
     sw x28, 0(x5)
-    addi x5, x5, 4
-    addi x6, x6, 4
-    bne x5, x7, 1b
+    lw x28, 4(x6)
+    sw x28, 4(x5)
     # the frame's end, the caller's registers and stack
     lui x5, 16
     addi x5, x5, 0
@@ -102,11 +108,29 @@ largest_frame:
     lw x26, 40(x5)
     lw x27, 44(x5)
     addi x5, x5, 80
-1:  sw x0, 0(x2)
+    # four words, and runs of 16
+    sw x0, 0(x2)
     sw x0, 4(x2)
     sw x0, 8(x2)
     sw x0, 12(x2)
     addi x2, x2, 16
+1:  sw x0, 0(x2)
+    sw x0, 4(x2)
+    sw x0, 8(x2)
+    sw x0, 12(x2)
+    sw x0, 16(x2)
+    sw x0, 20(x2)
+    sw x0, 24(x2)
+    sw x0, 28(x2)
+    sw x0, 32(x2)
+    sw x0, 36(x2)
+    sw x0, 40(x2)
+    sw x0, 44(x2)
+    sw x0, 48(x2)
+    sw x0, 52(x2)
+    sw x0, 56(x2)
+    sw x0, 60(x2)
+    addi x2, x2, 64
     bne x2, x5, 1b
     addi x5, x0, 0
     addi x6, x0, 0

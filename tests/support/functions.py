@@ -87,16 +87,31 @@ def wrapper_steps(parameters, offsets, frame, result):
     """The steps of the code around a body, by the sizes of what it moves: parameters are pairs of a form and a type, in which an
     array's type has a length behind it, and offsets are those of their slots, and of the result's where there is one."""
     low = (frame + 15) // 16 * 16
-    steps = 21 + (constant(low) + 1 + 6 * low // 16 if low else 0)
+    steps = 21 + (constant(low) + 1 + zeroed(low) if low else 0)
     for number, (form, kind, length) in enumerate(parameters):
         place = load(low + 48 + 4 * number)
         if form == "word":
             steps += place + {"bool": 1, "uint8": 1, "uint16": 2, "uint32": 0}[kind] + load(offsets[number])
         else:
-            head = place + constant(offsets[number]) + constant(SIZES[kind] * length) + 2
-            steps += head + (6 if kind == "bool" else 5) * length + (head + 5 * length if form == "mut" else 0)
+            head = place + constant(offsets[number]) + 1
+            steps += head + copied(kind, length, 3 if kind == "bool" else 2)
+            steps += head + copied(kind, length, 2) if form == "mut" else 0
     steps += load(result) if result is not None else 1
-    return steps + constant(low) + 14 + 6 * (low + ABOVE_FRAME) // 16 + 15
+    return steps + constant(low) + 14 + zeroed(low + ABOVE_FRAME) + 15
+
+
+def zeroed(room):
+    """The words beside the runs of 16 and x2 moved by them, and for each run 16 stores, x2 moved and the branch."""
+    rest = room % 64 // 4
+    return (rest + 1 if rest else 0) + 18 * (room // 64)
+
+
+def copied(kind, length, each):
+    """Fewer than 16 elements are copied by straight code, more by a loop over eight at a time with those that are left behind it."""
+    if length < 16:
+        return each * length
+    rounds = length // 8
+    return constant(SIZES[kind] * 8 * rounds) + 1 + (8 * each + 3) * rounds + each * (length % 8)
 
 
 def load(offset):

@@ -41,8 +41,15 @@ def x8_is_not_restored(function):
 
 def only_the_frame_is_wiped(function):
     sections = function.copies()
-    titled(sections, "the caller's x2").words = []
-    titled(sections, "all the room, wiped upward").words.append(immediate_word(NUMBER, 80, 2, 0, 2))
+    zeros = [store_word(offset, 0, 2, 2) for offset in range(0, function.low, 4)]
+    titled(sections, "all the room, wiped upward").words = [*zeros, immediate_word(NUMBER, function.room, 2, 0, 2)]
+    return sections
+
+
+def the_wipe_stops_a_run_early(function):
+    sections = function.copies()
+    section = titled(sections, "all the room, wiped upward")
+    section.words = [immediate_word(NUMBER, -64, 5, 0, 5), *section.words, immediate_word(NUMBER, 64, 2, 0, 2)]
     return sections
 
 
@@ -67,10 +74,9 @@ def a_bool_is_its_lowest_bit(function):
 def bytes_are_copied_by_words(function):
     sections = function.copies()
     section = titled(sections, "parameter 7: an array")
-    exchange(section, immediate_word(LOAD, 0, 5, 4, 28), immediate_word(LOAD, 0, 5, 2, 28))
-    exchange(section, store_word(0, 28, 6, 0), store_word(0, 28, 6, 2))
-    for register in (5, 6):
-        exchange(section, immediate_word(NUMBER, 1, register, 0, register), immediate_word(NUMBER, 4, register, 0, register))
+    for number in range(7):
+        exchange(section, immediate_word(LOAD, number, 5, 4, 28), immediate_word(LOAD, 4 * number, 5, 2, 28))
+        exchange(section, store_word(number, 28, 6, 0), store_word(4 * number, 28, 6, 2))
     return sections
 
 
@@ -83,7 +89,7 @@ def the_next_stack_argument_is_taken(function):
 
 def one_element_more_is_copied_back(function):
     sections = function.copies()
-    exchange(titled(sections, "parameter 1: the array, back"), immediate_word(NUMBER, 4, 0, 0, 7), immediate_word(NUMBER, 6, 0, 0, 7))
+    titled(sections, "parameter 1: the array, back").words += [immediate_word(LOAD, 4, 6, 5, 28), store_word(4, 28, 5, 1)]
     return sections
 
 
@@ -92,16 +98,16 @@ def zeros_are_skipped(function):
     section = titled(sections, "parameter 1: an array")
     place = section.words.index(store_word(0, 28, 6, 1))
     section.words.insert(place, branch_word(8, 0, 28, 0))
-    exchange(section, branch_word(-16, 7, 5, 1), branch_word(-20, 7, 5, 1))
     return sections
 
 
 def a_const_array_is_copied_back(function):
-    """The code that copies it in, with its load and its store swapped, once more behind the result."""
+    """The code that copies it in, with its loads and its stores swapped, once more behind the result."""
     sections = function.copies()
     words = list(titled(sections, "parameter 1: an array").words)
-    exchange_in(words, immediate_word(LOAD, 0, 5, 2, 28), immediate_word(LOAD, 0, 6, 2, 28))
-    exchange_in(words, store_word(0, 28, 6, 2), store_word(0, 28, 5, 2))
+    for offset in range(0, 32, 4):
+        exchange_in(words, immediate_word(LOAD, offset, 5, 2, 28), immediate_word(LOAD, offset, 6, 2, 28))
+        exchange_in(words, store_word(offset, 28, 6, 2), store_word(offset, 28, 5, 2))
     titled(sections, "the result").words += words
     return sections
 
@@ -115,6 +121,7 @@ Wrong = collections.namedtuple("Wrong", "name what make by_lists_alone")
 ALL = [
     Wrong("sha256_block", "x8 is not restored", x8_is_not_restored, False),
     Wrong("add_one", "only the frame is wiped", only_the_frame_is_wiped, False),
+    Wrong("sha256_block", "the wipe stops a run early", the_wipe_stops_a_run_early, False),
     Wrong("swap2", "the slots are zeroed before an array is copied back", slots_are_zeroed_before_copying_back, False),
     Wrong("add_one", "x28 is not cleared", x28_is_not_cleared, False),
     Wrong("pick", "a bool is its lowest bit", a_bool_is_its_lowest_bit, False),

@@ -1,1 +1,3 @@
 pub mod BodyLemmas
+pub mod ElementLemmas
+pub mod ZeroLemmas

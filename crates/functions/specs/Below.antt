@@ -13,6 +13,8 @@ pub use Rattle.language.specs.Tree.{parameter_tree, ParameterTree, procedure_tre
 pub use Rattle.language.specs.Tree.{ProgramTree}
 pub use Rattle.language.specs.WantOfMemory.{IsWantOfMemory}
 pub use Rattle.language.specs.declared.refusal.Refusal.{Refusal}
+pub use Rattle.language.specs.Size.{element_bytes}
+pub use Rattle.language.specs.declared.signature.Kind.{Kind}
 pub use Rattle.language.specs.declared.signature.Form.{Form}
 pub use Rattle.language.specs.declared.signature.Form.TheVariants.{FixedArray, MutableArray, SingleWord}
 pub use Rattle.codegen.specs.Anywhere.{body_words}
@@ -24,10 +26,14 @@ pub use Rattle.linked_calls.specs.Callable.{CallsAreLinked, IsCallable}
 pub use Rattle.linked_calls.specs.Convention.{argument_registers, link_register, result_register, saved_registers}
 pub use Rattle.linked_calls.specs.Convention.{scratch_registers, stack_register}
 pub use Rattle.linked_calls.specs.FunctionCode.{above_frame, added, argument_code, argument_offset, array_bytes}
-pub use Rattle.linked_calls.specs.FunctionCode.{bounds_code, clear_registers_code, copied_in_code, copied_out_code}
-pub use Rattle.linked_calls.specs.FunctionCode.{copy_in_code, copy_out_code, element_meant_code, frame_room, loads_code}
-pub use Rattle.linked_calls.specs.FunctionCode.{meant_code, next_code, result_code, room_of, store_by, stores_code}
-pub use Rattle.linked_calls.specs.FunctionCode.{until_equal, wipe_code, word_code, zeros_code}
+pub use Rattle.linked_calls.specs.FunctionCode.{clear_registers_code, copied_code, copied_in_code, copied_out_code}
+pub use Rattle.linked_calls.specs.FunctionCode.{elements_code}
+pub use Rattle.linked_calls.specs.FunctionCode.{copy_in_code, copy_out_code, down_code, element_meant_code}
+pub use Rattle.linked_calls.specs.FunctionCode.{frame_room, loads_code}
+pub use Rattle.linked_calls.specs.FunctionCode.{meant_code, next_code, places_code, rest_words, result_code, room_of}
+pub use Rattle.linked_calls.specs.FunctionCode.{rounds_code, runs_code}
+pub use Rattle.linked_calls.specs.FunctionCode.{store_by, stores_code}
+pub use Rattle.linked_calls.specs.FunctionCode.{until_equal, up_code, wipe_code, word_code, zeros_code}
 unfoldable pub use Rattle.linked_calls.specs.FunctionCode.{function_words}
 pub use Rattle.linked_calls.specs.Sections.{argument_sections, array_section, array_sections, code_of, enter_sections}
 pub use Rattle.linked_calls.specs.Sections.{frame_sections, leave_sections, section_code}

@@ -10,6 +10,7 @@ mod registers;
 mod room;
 mod sections;
 mod words;
+mod zeroing;
 
 pub use room::{ABOVE_FRAME, room_of};
 pub use sections::{enter_sections, leave_sections, section_code};

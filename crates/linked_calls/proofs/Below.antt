@@ -48,15 +48,17 @@ pub use Rattle.linked_calls.specs.Copies.{HasArray, IsCopying, IsHandedBack, IsA
 pub use Rattle.linked_calls.specs.Copies.{Pointed, slot_of}
 pub use Rattle.linked_calls.specs.Does.{AreThere, at, Data, Does}
 pub use Rattle.linked_calls.specs.FunctionCode.{added, argument_code, argument_offset, arguments_code, array_bytes}
-pub use Rattle.linked_calls.specs.FunctionCode.{bounds_code, clear_registers_code, copied_in_code, copied_out_code}
-pub use Rattle.linked_calls.specs.FunctionCode.{copy_out_code, enter_code, entry_code, frame_code, frame_room}
+pub use Rattle.linked_calls.specs.FunctionCode.{clear_registers_code, copied_code, copied_in_code, copied_out_code, elements_code}
+pub use Rattle.linked_calls.specs.FunctionCode.{next_code, places_code, rounds_code}
+pub use Rattle.linked_calls.specs.FunctionCode.{copy_out_code, down_code, enter_code, entry_code, frame_code, frame_room}
 pub use Rattle.linked_calls.specs.FunctionCode.{leave_code, loads_code, meant_code, restore_code}
 unfoldable pub use Rattle.linked_calls.specs.FunctionCode.{function_words}
 pub use Rattle.linked_calls.specs.FunctionCode.{result_code, results_code, room_of, stores_code, until_equal}
-pub use Rattle.linked_calls.specs.FunctionCode.{wipe_code, zeros_code}
+pub use Rattle.linked_calls.specs.FunctionCode.{rest_words, runs_code, up_code, wipe_code, zeros_code}
 pub use Rattle.linked_calls.specs.Meant.{meant}
 pub use Rattle.linked_calls.specs.Sections.{argument_sections, argument_steps, around_steps, array_section}
-pub use Rattle.linked_calls.specs.Sections.{array_sections, array_steps, block_steps, code_of, element_steps}
+pub use Rattle.linked_calls.specs.Sections.{array_sections, array_steps, code_of, copied_steps, rest_steps}
+pub use Rattle.linked_calls.specs.Sections.{rounds_steps, runs_steps}
 pub use Rattle.linked_calls.specs.Sections.{enter_sections, frame_sections, leave_sections, section_steps}
 pub use Rattle.linked_calls.specs.Stretches.{AreData, AreZeroed, LiesIn}
 pub use Rattle.linked_calls.specs.Words.{CanBePut, HasResultSlot, HasWordArgument, IsLoadOf, IsArgumentPut, IsPutting}

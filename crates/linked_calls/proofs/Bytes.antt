@@ -1,5 +1,5 @@
 -- Bytes: data that stays data, numbers put one after another, and stretches of zeros.
-use Rattle.std.specs.Prelude.{◌⊎◌, is_some, unwrap_or, not}
+use Rattle.std.specs.Prelude.{◌⊎◌, is_some, unwrap_or, not, replicate}
 use Rattle.std.proofs.Common.{◌≡◌, ℕ, zero, suc, ◌+◌, ◌*◌, ◌/◌, ◌%◌, ◌^◌, ◌<◌, ◌≤◌, ◌==◌}
 use Rattle.std.proofs.Common.{nat_lt, List, [], ◌∷◌, ◌++◌, length, Some, inl, inr, ⊎_elim, refl, sym, ap, ap₂}
 use Rattle.std.proofs.Common.{add-one, ◌∙◌, subst, arith, eq-eqb, ne_eqb}
@@ -165,17 +165,12 @@ zeros_up low mid high one two three a b down up = record {
   outside = λ x w. up.outside x (above_too low mid high x a w) ∙ down.outside x (below_too low mid high x b w);
 }
 
--- so many zeros
-abbrev pub zeros_of : ℕ → List ℕ
-zeros_of zero = []
-zeros_of (suc k) = 0 ∷ zeros_of k
-
--- as words one after another
-pub zeroed_words : (bytes : ByteMap) (a k : ℕ) → AreZeroed a (a + 4 * k) bytes (with_numbers bytes 4 a (zeros_of k))
+-- so many words of them, one after another
+pub zeroed_words : (bytes : ByteMap) (a k : ℕ) → AreZeroed a (a + 4 * k) bytes (with_numbers bytes 4 a (replicate k 0))
 zeroed_words bytes a zero = no_zeros a (a + 4 * 0) bytes (omega arith)
 zeroed_words bytes a (suc k) =
     let one = with_number bytes 4 a 0 in
-    let all = with_numbers one 4 (a + 4) (zeros_of k) in
+    let all = with_numbers one 4 (a + 4) (replicate k 0) in
     let e : a + 4 + 4 * k ≡ a + 4 * suc k = omega arith in
     zeros_up a (a + 4) (a + 4 * suc k) bytes one all (omega arith) (omega arith) (zero_number bytes 4 a)
     (subst (λ x. AreZeroed (a + 4) x one all) e (zeroed_words one (a + 4) k))

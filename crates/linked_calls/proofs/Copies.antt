@@ -1,24 +1,29 @@
--- The code that takes an array into its slot, and the code that hands it back: the bounds, and then a loop over the
--- elements, in which x5 goes through the caller's array up to x7, and x6 through the slot.
+-- The code that takes an array into its slot, and the code that hands it back: the places of both, and then the
+-- elements, in which x5 goes through the caller's array, eight elements at a time up to x7, and x6 through the slot.
 use Rattle.std.specs.Prelude.{◌⊎◌, is_some, unwrap_or}
-use Rattle.std.proofs.Common.{◌≡◌, ◌≢◌, ℕ, suc, ◌+◌, ◌*◌, ◌%◌, ◌^◌, ◌<◌, ◌≤◌, Bool, true, false, List, [], ◌∷◌, ◌++◌}
-use Rattle.std.proofs.Common.{length, map, Some, inl, inr, refl, sym, ap, ap₂, ◌∙◌, subst, arith, append_assoc}
+use Rattle.std.proofs.Common.{◌≡◌, ◌≢◌, ℕ, zero, suc, ◌+◌, ◌*◌, ◌/◌, ◌%◌, ◌^◌, ◌<◌, ◌≤◌, ◌==◌, ◌||◌, Bool, true}
+use Rattle.std.proofs.Common.{false, nat_lt, if◌then◌else◌, List, [], ◌∷◌, ◌++◌, length, map, Some, inl, inr, refl, sym}
+use Rattle.std.proofs.Common.{ap, ap₂, ◌∙◌, subst, arith, append_assoc, length-append, ne_eqb}
+use Rattle.std.proofs.lemmas.Bool.{lt-ltb, ltb-false, ltb-true}
+use Rattle.std.proofs.lemmas.Bool.Decides.{nat_tests}
 use Rattle.std.proofs.lemmas.List.{length-map, map-append, map-id}
-use Rattle.codegen.proofs.program_logic_lemmas.Counted.{as_straight, in_steps, loop, makes_on, makes_then, Runs}
-use Rattle.codegen.proofs.program_logic_lemmas.Counted.{Setting, straight_runs, weaken_runs}
+use Rattle.codegen.proofs.program_logic_lemmas.Counted.{as_code, as_straight, computes_runs, in_steps, loop, makes_on}
+use Rattle.codegen.proofs.program_logic_lemmas.Counted.{makes_then, no_code, Runs, Setting, straight_runs, then_runs, weaken_runs}
 use Rattle.linked_calls.proofs.Below.{Add, AreApart, AreData, argument_code, argument_offset, array_bytes, array_steps}
-use Rattle.linked_calls.proofs.Below.{ArrayIsHandedBack, ArrayIsTaken, bounds_code, ByteMap, CanBeCopied, MachineCode}
-use Rattle.linked_calls.proofs.Below.{constant_code, copy_out_code, Data, element_bytes, element_steps, Fields}
-use Rattle.linked_calls.proofs.Below.{FixedArray, HasArray, Instr, IsCopying, IsHandedBack, IsArrayTaken, Kind}
-use Rattle.linked_calls.proofs.Below.{load_code, MutableArray, number_at, number_or_zero, numbers_at, OthersAsBefore}
-use Rattle.linked_calls.proofs.Below.{place_of, Pointed, Register, register_kept, Slot, slot_of, sum_of, until_equal}
+use Rattle.linked_calls.proofs.Below.{ArrayIsHandedBack, ArrayIsTaken, ByteMap, CanBeCopied, copied_code, copied_steps}
+use Rattle.linked_calls.proofs.Below.{MachineCode, constant_code, copy_out_code, Data, element_bytes, elements_code}
+use Rattle.linked_calls.proofs.Below.{Fields, FixedArray, HasArray, Instr, IsCopying, IsHandedBack, IsArrayTaken, Kind}
+use Rattle.linked_calls.proofs.Below.{load_code}
+use Rattle.linked_calls.proofs.Below.{MutableArray, near_address, next_code, number_at, number_or_zero, numbers_at}
+use Rattle.linked_calls.proofs.Below.{OthersAsBefore, place_of, places_code, Pointed, Register, register_kept}
+use Rattle.linked_calls.proofs.Below.{rounds_code, rounds_steps, sign_extended, Slot, slot_of, sum_of, until_equal}
 use Rattle.linked_calls.proofs.Below.{unwritten, with_number, with_numbers, with_register, with_result}
 use Rattle.linked_calls.proofs.Bytes.{number_beside, number_there, numbers_count, is_some-with_numbers, numbers_more}
 use Rattle.linked_calls.proofs.Bytes.{numbers_then}
-use Rattle.linked_calls.proofs.CopyElements.{Reached, chosen, copied_code, copied_value, copy_fit, copy_leaves}
-use Rattle.linked_calls.proofs.CopyElements.{copy_length, copy_made, copy_met, copy_plain, copy_works, element_even}
-use Rattle.linked_calls.proofs.CopyElements.{element_size}
-use Rattle.linked_calls.proofs.CopyElements.{element_lies, elements_fit, some_bytes, source, target}
+use Rattle.linked_calls.proofs.CopyElements.{chosen, copied_value, eight_code, eight_length, element_code, element_even}
+use Rattle.linked_calls.proofs.CopyElements.{element_fit, element_lies, element_made, element_met, element_plain}
+use Rattle.linked_calls.proofs.CopyElements.{element_size, element_works, elements_fit, fewer_fit, near_elements}
+use Rattle.linked_calls.proofs.CopyElements.{rounds_fit, some_bytes, source, target}
 use Rattle.linked_calls.proofs.Parts.{load_runs, number_then, same_number}
 use Rattle.linked_calls.specs.Below.{Word}
 use Rattle.linked_calls.proofs.Pieces.{does, MayAt, placed}
@@ -44,8 +49,24 @@ first_is : (inward : Bool) (regs : ℕ → ℕ) → regs 5 ≡ chosen inward (so
 first_is true regs = refl
 first_is false regs = refl
 
-regrouped : (a b c d e : List Instr) → a ++ (b ++ c) ++ (d ++ e) ≡ a ++ b ++ c ++ d ++ e
-regrouped a b c d e = simp append_assoc
+regrouped : (a b c : List Instr) → a ++ (b ++ c) ≡ a ++ b ++ c
+regrouped a b c = simp append_assoc
+
+-- a register that moves by a number that fits an immediate
+near_sum : (x by : ℕ) → by < 2048 → sum_of x (sign_extended 12 by) ≡ (x + by) % 2 ^ 32
+near_sum x by near = grind (arith, nat_tests)
+
+both_on : (inward : Bool) (x y by : ℕ)
+    → chosen inward (sum_of x (sign_extended 12 by)) (sum_of y (sign_extended 12 by))
+    ≡ sum_of (chosen inward x y) (sign_extended 12 by)
+both_on true x y by = refl
+both_on false x y by = refl
+
+both_back : (inward : Bool) (x y by : ℕ)
+    → chosen inward (sum_of y (sign_extended 12 by)) (sum_of x (sign_extended 12 by))
+    ≡ sum_of (chosen inward y x) (sign_extended 12 by)
+both_back true x y by = refl
+both_back false x y by = refl
 
 module _ (image : Fields) (slot : Slot) (spot : Pointed) (can : CanBeCopied image slot spot) (inward : Bool)
     (z : Setting) (place : z.allowed spot.frame (Some (event.Load (place_of image spot) Word)))
@@ -89,24 +110,30 @@ module _ (image : Fields) (slot : Slot) (spot : Pointed) (can : CanBeCopied imag
   to_ends : to + n * k ≤ 2 ^ 32
   to_ends = both inward (λ x. x + n * k ≤ 2 ^ 32) (slot_of slot spot) spot.pointer slot_to can.array_ends
 
-  -- The loop.
+  -- The elements.
 
-  -- x2 at the frame's base, x5 at the caller's array, x6 at its slot, x7 behind the array, and both are data
+  -- x2 at the frame's base, x5 at the caller's array, x6 at its slot, and both are data
   record BeginsCopy (s : Data) : Type 0 where
     stack : s.regs 2 ≡ spot.frame
     pointer : s.regs 5 ≡ spot.pointer
     slot_at : s.regs 6 ≡ slot_of slot spot
-    stop : s.regs 7 ≡ (spot.pointer + n * k) % 2 ^ 32
     from_there : AreData from (from + n * k) s.bytes
     to_there : AreData to (to + n * k) s.bytes
 
-  -- so many elements are copied
-  record Copying (i : ℕ) (s d : Data) : Type 0 where
+  -- x5 and x6 are so many elements on, and these and so many more are copied
+  record Copying (base more : ℕ) (s d : Data) : Type 0 where
     begins : BeginsCopy s
-    source_is : source inward d.regs ≡ (from + n * i) % 2 ^ 32
-    target_is : target inward d.regs ≡ (to + n * i) % 2 ^ 32
+    source_is : source inward d.regs ≡ (from + n * base) % 2 ^ 32
+    target_is : target inward d.regs ≡ (to + n * base) % 2 ^ 32
     others : (q : ℕ) → q ≢ 5 → q ≢ 6 → q ≢ 28 → d.regs q ≡ s.regs q
-    bytes : d.bytes ≡ copied i s.bytes
+    bytes : d.bytes ≡ copied (base + more) s.bytes
+
+  -- from one to another
+  abbrev FromCopying : ℕ → ℕ → Data → Type 0
+  FromCopying base more d = (s : Data) × Copying base more s d
+
+  abbrev ToCopying : ℕ → ℕ → ℕ → ℕ → Data → Data → Type 0
+  ToCopying base more base' more' d t = (s : Data) → Copying base more s d → Copying base' more' s t
 
   count : (bytes : ByteMap) (i : ℕ) → length (map (copied_value inward kind) (numbers_at bytes n from i)) ≡ i
   count bytes i = length-map (numbers_at bytes n from i) (copied_value inward kind) ∙ numbers_count bytes n from i
@@ -143,78 +170,195 @@ module _ (image : Fields) (slot : Slot) (spot : Pointed) (can : CanBeCopied imag
         ∙ ap (λ (ws : List ℕ). with_numbers bytes n to ws) (sym (map-append f vs (v ∷ [])))
         ∙ ap (λ (ws : List ℕ). with_numbers bytes n to (map f ws)) (sym (numbers_more bytes n from i))
 
-    source_reached : (s d : Data) → Copying i s d → Reached n (source inward d.regs) (from + n * i) d
-    source_reached s d held =
-        record {
-          is = held.source_is ∙ omega (arith, inside, some_bytes kind, from_ends);
-          below = omega (arith, inside, some_bytes kind, from_ends);
-          there = ap (λ (b : ByteMap). is_some (number_at b n (from + n * i))) held.bytes
-              ∙ ap is_some (unwritten_yet s.bytes)
-              ∙ number_there s.bytes n (from + n * i)
-              (λ x low high. held.begins.from_there x (omega arith) (omega (arith, inside)));
-        }
+    source_there : (s d : Data) → BeginsCopy s → d.bytes ≡ copied i s.bytes
+        → is_some (number_at d.bytes n (from + n * i)) ≡ true
+    source_there s d begins made =
+        ap (λ (b : ByteMap). is_some (number_at b n (from + n * i))) made
+        ∙ ap is_some (unwritten_yet s.bytes)
+        ∙ number_there s.bytes n (from + n * i)
+        (λ x low high. begins.from_there x (omega arith) (omega (arith, inside)))
 
-    target_reached : (s d : Data) → Copying i s d → Reached n (target inward d.regs) (to + n * i) d
-    target_reached s d held =
+    target_there : (s d : Data) → BeginsCopy s → d.bytes ≡ copied i s.bytes
+        → is_some (number_at d.bytes n (to + n * i)) ≡ true
+    target_there s d begins made =
         let fits = inside in
         let done = count s.bytes i in
         let same = is_some-with_numbers s.bytes n to (map (copied_value inward kind) (numbers_at s.bytes n from i))
-        (λ x low high. held.begins.to_there x low (omega (arith, subst (λ c. x < to + n * c) done high, fits))) in
-        record {
-          is = held.target_is ∙ omega (arith, some_bytes kind, to_ends);
-          below = omega (arith, some_bytes kind, to_ends);
-          there = number_there d.bytes n (to + n * i)
-              (λ x low high. ap (λ (b : ByteMap). is_some (b x)) held.bytes
-              ∙ same x ∙ held.begins.to_there x (omega arith) (omega arith));
-        }
+        (λ x low high. begins.to_there x low (omega (arith, subst (λ c. x < to + n * c) done high, fits))) in
+        number_there d.bytes n (to + n * i)
+        (λ x low high. ap (λ (b : ByteMap). is_some (b x)) made
+        ∙ same x ∙ begins.to_there x (omega arith) (omega arith))
 
-    round : Runs z (length (copied_code inward kind)) (copied_code inward kind) (λ d. (s : Data) × Copying i s d)
-        (λ d t. (s : Data) → Copying i s d → Copying (suc i) s t)
-    round =
-        let a = from + n * i in
-        let b = to + n * i in
-        let fits = inside in
-        straight_runs z spot.frame copy_works (copied_code inward kind) (a ∷ b ∷ []) (copy_plain inward kind) refl
-        (copy_fit (z.allowed spot.frame) inward kind a b
-        (record {
-          even = element_even kind from i from_even;
-          allowed = loads a (element_size kind)
-              (element_lies kind from (from + array_bytes slot) a (omega arith) (omega arith));
-        })
-        (record {
-          even = element_even kind to i to_even;
-          allowed = stores b (element_size kind)
-              (element_lies kind to (to + array_bytes slot) b (omega arith) (omega arith));
-        }))
-        (λ d given. given.1.others 2 (λ e. omega arith) (λ e. omega arith) (λ e. omega arith) ∙ given.1.begins.stack)
-        (λ d given. copy_met inward kind a b d (source_reached given.0 d given.1) (target_reached given.0 d given.1))
-        (λ d given s held.
-        let made = copy_made inward kind a b d in
-        record {
-          begins = held.begins;
-          source_is = made.source_on ∙ ap (λ x. sum_of x n) held.source_is ∙ omega arith;
-          target_is = made.target_on ∙ ap (λ x. sum_of x n) held.target_is ∙ omega arith;
-          others = λ q g h l. register_kept copy_works (copied_code inward kind) (a ∷ b ∷ []) d q
-              (copy_plain inward kind) (copy_leaves q g h l) ∙ held.others q g h l;
-          bytes = made.bytes
-              ∙ ap (λ (m : ByteMap). with_number m n b (copied_value inward kind (number_or_zero (number_at m n a))))
-              held.bytes
-              ∙ one_more s.bytes;
-        })
+  -- an offset from where x5 or x6 is
+  reached : (at offset base more : ℕ) → offset ≡ n * more → more < 16 → base + more < k → at + n * k ≤ 2 ^ 32
+      → sum_of ((at + n * base) % 2 ^ 32) (sign_extended 12 offset) ≡ at + n * (base + more)
+  reached at offset base more is few inside_all ends =
+      let fits = inside (base + more) inside_all in
+      let near = near_elements kind more (omega arith) in
+      let some = some_bytes kind in
+      let at_base : (at + n * base) % 2 ^ 32 ≡ at + n * base = omega arith in
+      ap (λ x. sum_of x (sign_extended 12 offset)) at_base
+      ∙ near_address (at + n * base) offset (omega arith) (omega arith) ∙ omega arith
+
+  element_runs : (base more offset : ℕ) → offset ≡ n * more → more < 16 → base + more < k
+      → Runs z (length (element_code inward kind offset)) (element_code inward kind offset) (FromCopying base more)
+      (ToCopying base more base (suc more))
+  element_runs base more offset is few all =
+      let i = base + more in
+      let a = from + n * i in
+      let b = to + n * i in
+      let fits = inside i all in
+      let near = near_elements kind more (omega arith) in
+      let plain = element_plain inward kind offset (omega arith) in
+      let next : suc (base + more) ≡ base + suc more = omega arith in
+      straight_runs z spot.frame element_works (element_code inward kind offset) (a ∷ b ∷ []) plain refl
+      (element_fit (z.allowed spot.frame) inward kind offset a b
+      (record {
+        even = element_even kind from i from_even;
+        allowed = loads a (element_size kind)
+            (element_lies kind from (from + array_bytes slot) a (omega arith) (omega arith));
+      })
+      (record {
+        even = element_even kind to i to_even;
+        allowed = stores b (element_size kind)
+            (element_lies kind to (to + array_bytes slot) b (omega arith) (omega arith));
+      }))
+      (λ d given. given.1.others 2 (λ e. omega arith) (λ e. omega arith) (λ e. omega arith) ∙ given.1.begins.stack)
+      (λ d given.
+      let held = given.1 in
+      element_met inward kind offset a b d
+      (record {
+        is = ap (λ x. sum_of x (sign_extended 12 offset)) held.source_is
+            ∙ reached from offset base more is few all from_ends;
+        there = source_there i all given.0 d held.begins held.bytes;
+      })
+      (record {
+        is = ap (λ x. sum_of x (sign_extended 12 offset)) held.target_is
+            ∙ reached to offset base more is few all to_ends;
+        there = target_there i all given.0 d held.begins held.bytes;
+      }))
+      (λ d given s held.
+      let kept = λ (q : ℕ) (other : q ≢ 28).
+      register_kept element_works (element_code inward kind offset) (a ∷ b ∷ []) d q plain (ne_eqb q 28 other) in
+      record {
+        begins = held.begins;
+        source_is = ap₂ (chosen inward) (kept 5 (λ e. omega arith)) (kept 6 (λ e. omega arith)) ∙ held.source_is;
+        target_is = ap₂ (chosen inward) (kept 6 (λ e. omega arith)) (kept 5 (λ e. omega arith)) ∙ held.target_is;
+        others = λ q g h l. kept q l ∙ held.others q g h l;
+        bytes = element_made inward kind offset a b d
+            ∙ ap (λ (m : ByteMap). with_number m n b (copied_value inward kind (number_or_zero (number_at m n a))))
+            held.bytes
+            ∙ one_more i all s.bytes ∙ ap (λ j. copied j s.bytes) next;
+      })
+
+  -- so many elements
+  elements_run : (count base more offset : ℕ) → offset ≡ n * more → more + count ≤ 16 → base + more + count ≤ k
+      → Runs z (length (elements_code (element_code inward kind) n offset count))
+      (elements_code (element_code inward kind) n offset count) (FromCopying base more)
+      (ToCopying base more base (more + count))
+  elements_run zero base more offset is few all =
+      let e : more ≡ more + 0 = omega arith in
+      no_code z (λ d given s held. subst (λ m. Copying base m s d) e held)
+  elements_run (suc count) base more offset is few all =
+      let e : suc more + count ≡ more + suc count = omega arith in
+      makes_more (element_code inward kind offset) (elements_code (element_code inward kind) n (offset + n) count)
+      (then_runs z {S = ToCopying base more base (more + suc count)}
+      (element_runs base more offset is (omega arith) (omega arith))
+      (elements_run count base (suc more) (offset + n) (omega arith) (omega arith) (omega arith))
+      (λ d t given done. (given.0, done given.0 given.1))
+      (λ d t u given done rest s held. subst (λ m. Copying base m s u) e (rest s (done s held))))
+    where
+      makes_more : {P : Data → Type 0} {R : Data → Data → Type 0} (xs ys : List Instr)
+          → Runs z (length xs + length ys) (xs ++ ys) P R → Runs z (length (xs ++ ys)) (xs ++ ys) P R
+      makes_more xs ys one = in_steps z (sym (length-append xs ys)) one
+
+  -- The loop.
+
+  -- x5 and x6 go on by eight elements
+  next_runs : (base : ℕ) → base + 8 ≤ k
+      → Runs z 2 (next_code kind) (FromCopying base 8) (ToCopying base 8 (base + 8) 0)
+  next_runs base all =
+      let by = 8 * n in
+      let few = near_elements kind 8 (omega arith) in
+      let small : by < 4096 = omega arith in
+      let same : base + 8 ≡ base + 8 + 0 = omega arith in
+      let moved = λ (x at : ℕ) (is : x ≡ (at + n * base) % 2 ^ 32).
+      ap (λ y. sum_of y (sign_extended 12 by)) is ∙ on_by at base in
+      weaken_runs z
+      (computes_runs z (λ q. (q == 5) || (q == 6)) (next_code kind)
+      (λ regs. with_register (with_register regs 5 (sum_of (regs 5) (sign_extended 12 by))) 6
+      (sum_of (regs 6) (sign_extended 12 by)))
+      (simp (lt-ltb by 4096 small)) (λ regs. refl))
+      (λ d given. given)
+      (λ d t given made s held.
+      subst (Copying (base + 8) 0 s) (sym made)
+      (record {
+        begins = held.begins;
+        source_is = both_on inward (d.regs 5) (d.regs 6) by ∙ moved (source inward d.regs) from held.source_is;
+        target_is = both_back inward (d.regs 5) (d.regs 6) by ∙ moved (target inward d.regs) to held.target_is;
+        others = λ q g h l.
+            unwritten (with_register d.regs 5 (sum_of (d.regs 5) (sign_extended 12 by))) 6
+            (sum_of (d.regs 6) (sign_extended 12 by)) q h
+            ∙ unwritten d.regs 5 (sum_of (d.regs 5) (sign_extended 12 by)) q g
+            ∙ held.others q g h l;
+        bytes = held.bytes ∙ ap (λ j. copied j s.bytes) same;
+      }))
+    where
+      on_by : (at base : ℕ) → sum_of ((at + n * base) % 2 ^ 32) (sign_extended 12 (8 * n))
+          ≡ (at + n * (base + 8)) % 2 ^ 32
+      on_by at base =
+          let few = near_elements kind 8 (omega arith) in
+          near_sum ((at + n * base) % 2 ^ 32) (8 * n) (omega arith) ∙ omega arith
+
+  abbrev rounds : ℕ
+  rounds = k / 8
+
+  -- x7 is where the rounds end
+  record BeginsRounds (s : Data) : Type 0 where
+    begins : BeginsCopy s
+    stop : s.regs 7 ≡ (spot.pointer + n * (8 * rounds)) % 2 ^ 32
+
+  record Round (i : ℕ) (s d : Data) : Type 0 where
+    begins : BeginsRounds s
+    held : Copying (8 * i) 0 s d
+
+  eight_runs : (i : ℕ) → i < rounds
+      → Runs z (length (elements_code (element_code inward kind) n 0 8) + 2) (eight_code inward kind)
+      (λ d. (s : Data) × Round i s d) (λ d t. (s : Data) → Round i s d → Round (suc i) s t)
+  eight_runs i few =
+      let e : 8 * i + 8 ≡ 8 * suc i = omega arith in
+      then_runs z {P = λ d. (s : Data) × Round i s d} {R = ToCopying (8 * i) 0 (8 * i) 8}
+      {S = λ d t. (s : Data) → Round i s d → Round (suc i) s t}
+      (weaken_runs z (elements_run 8 (8 * i) 0 0 (omega arith) (omega arith) (omega arith))
+      (λ d given. (given.0, given.1.held)) (λ d t given done. done))
+      (next_runs (8 * i) (omega arith))
+      (λ d t given done. (given.0, done given.0 given.1.held))
+      (λ d t u given done more s round. record {
+        begins = round.begins;
+        held = subst (λ b. Copying b 0 s u) e (more s (done s round.held));
+      })
 
   -- x5 has come so far
-  pointer_is : (i : ℕ) (s d : Data) → Copying i s d → d.regs 5 ≡ (spot.pointer + n * i) % 2 ^ 32
+  pointer_is : (i : ℕ) (s d : Data) → Copying (8 * i) 0 s d → d.regs 5 ≡ (spot.pointer + n * (8 * i)) % 2 ^ 32
   pointer_is i s d held = first_is inward d.regs ∙ ap₂ (chosen inward) held.source_is held.target_is
-      ∙ chosen_on inward spot.pointer (slot_of slot spot) (n * i)
+      ∙ chosen_on inward spot.pointer (slot_of slot spot) (n * (8 * i))
 
-  stop_is : (i : ℕ) (s d : Data) → Copying i s d → d.regs 7 ≡ (spot.pointer + n * k) % 2 ^ 32
-  stop_is i s d held = held.others 7 (λ e. omega arith) (λ e. omega arith) (λ e. omega arith) ∙ held.begins.stop
+  stop_is : (i : ℕ) (s d : Data) → Round i s d → d.regs 7 ≡ (spot.pointer + n * (8 * rounds)) % 2 ^ 32
+  stop_is i s d round =
+      round.held.others 7 (λ e. omega arith) (λ e. omega arith) (λ e. omega arith) ∙ round.begins.stop
 
-  goes_further : (i : ℕ) (s d : Data) → i < k → Copying i s d → d.regs 5 ≢ d.regs 7
-  goes_further i s d few held same =
-      omega (arith, pointer_is i s d held, stop_is i s d held, inside i few, some_bytes kind)
+  goes_further : (i : ℕ) (s d : Data) → i < rounds → Round i s d → d.regs 5 ≢ d.regs 7
+  goes_further i s d few round same =
+      omega (
+        arith,
+        pointer_is i s d round.held,
+        stop_is i s d round,
+        rounds_fit kind i rounds few,
+        fewer_fit kind (8 * rounds) k (omega arith),
+        some_bytes kind,
+      )
 
-  begins_copying : (s : Data) → BeginsCopy s → Copying 0 s s
+  begins_copying : (s : Data) → BeginsCopy s → Copying 0 0 s s
   begins_copying s begins =
       let fits = inside 0 can.some in
       let some = some_bytes kind in
@@ -230,20 +374,94 @@ module _ (image : Fields) (slot : Slot) (spot : Pointed) (can : CanBeCopied imag
         bytes = refl;
       }
 
+  loop_runs : 0 < rounds
+      → Runs z (rounds * suc (length (elements_code (element_code inward kind) n 0 8) + 2))
+      (until_equal 5 7 (eight_code inward kind)) BeginsRounds (λ s t. Copying (8 * rounds) 0 s t)
+  loop_runs some =
+      let size = eight_length inward kind in
+      loop z 5 7 (omega arith, omega arith) (eight_code inward kind) size.0 size.1 rounds Round eight_runs goes_further
+      (λ s d round. pointer_is rounds s d round.held ∙ sym (stop_is rounds s d round)) some
+      (λ s begins. record { begins = begins; held = begins_copying s begins.begins })
+      (λ s t begins round. round.held)
+
   -- the bytes are those with all elements copied
   record Copies (s t : Data) : Type 0 where
     bytes : t.bytes ≡ copied k s.bytes
-    others : (q : ℕ) → q ≢ 5 → q ≢ 6 → q ≢ 28 → t.regs q ≡ s.regs q
+    others : OthersAsBefore s t
 
-  copy_runs : Runs z (k * suc (length (copied_code inward kind))) (until_equal 5 7 (copied_code inward kind)) BeginsCopy
+  -- with x7 at the end of the rounds
+  abbrev bounded : Data → Data
+  bounded s = with_result 7 (sum_of (n * (8 * rounds)) (s.regs 5)) s
+
+  rounds_begin : (s : Data) → BeginsCopy s → BeginsRounds (bounded s)
+  rounds_begin s begins = record {
+    begins = record {
+      stack = begins.stack;
+      pointer = begins.pointer;
+      slot_at = begins.slot_at;
+      from_there = begins.from_there;
+      to_there = begins.to_there;
+    };
+    stop = ap (λ x. sum_of (n * (8 * rounds)) x) begins.pointer ∙ omega arith;
+  }
+
+  rounds_run : 16 ≤ k
+      → Runs z (rounds_steps (element_code inward kind) kind k) (rounds_code (element_code inward kind) kind k) BeginsCopy
       Copies
-  copy_runs =
-      let size = copy_length inward kind in
-      loop z 5 7 (omega arith, omega arith) (copied_code inward kind) size.0 size.1 k Copying round goes_further
-      (λ s d held. pointer_is k s d held ∙ sym (stop_is k s d held)) can.some begins_copying
-      (λ s t begins held. record { bytes = held.bytes; others = held.others })
+  rounds_run many =
+      let number = constant_code 7 (n * (8 * rounds)) in
+      let stop = Register Add 7 7 5 in
+      let eight = until_equal 5 7 (eight_code inward kind) in
+      let rest = elements_code (element_code inward kind) n 0 (k % 8) in
+      let all : 8 * rounds + k % 8 ≡ k = omega arith in
+      let none : 0 + k % 8 ≡ k % 8 = omega arith in
+      let fits = fewer_fit kind (8 * rounds) k (omega arith) in
+      as_code z (grouped number stop eight rest)
+      (in_steps z (counted (length number) _ _ _ (length-append number (stop ∷ [])))
+      (makes_then z {P = BeginsCopy} {f = bounded} {S = Copies}
+      (number_then z 7 (n * (8 * rounds)) (omega arith) (λ e. omega arith) (omega arith) Add 7 5 (omega arith)
+      (omega arith))
+      (then_runs z {S = λ s t. Copying (8 * rounds) (k % 8) s t} (loop_runs (omega arith))
+      (elements_run (k % 8) (8 * rounds) 0 0 (omega arith) (omega arith) (omega arith))
+      (λ s t begins held. (s, held))
+      (λ s t u begins held more. subst (λ m. Copying (8 * rounds) m s u) none (more s held)))
+      rounds_begin
+      (λ s u begins held. record {
+        bytes = held.bytes ∙ ap (λ j. copied j s.bytes) all;
+        others = λ q g h l m. held.others q g h m ∙ unwritten s.regs 7 (sum_of (n * (8 * rounds)) (s.regs 5)) q l;
+      })))
+    where
+      grouped : (a : List Instr) (x : Instr) (c d : List Instr) → (a ++ x ∷ []) ++ (c ++ d) ≡ a ++ x ∷ c ++ d
+      grouped a x c d = simp append_assoc
 
-  -- The bounds.
+      counted : (x w e r : ℕ) → w ≡ x + 1 → w + (rounds * suc (e + 2) + r) ≡ x + 1 + (e + 3) * rounds + r
+      counted x w e r more = omega arith
+
+  straight_copy : k < 16
+      → Runs z (length (elements_code (element_code inward kind) n 0 k)) (elements_code (element_code inward kind) n 0 k)
+      BeginsCopy Copies
+  straight_copy few =
+      weaken_runs z (elements_run k 0 0 0 (omega arith) (omega arith) (omega arith))
+      (λ s begins. (s, begins_copying s begins))
+      (λ s t begins more.
+      let held = more s (begins_copying s begins) in
+      let all : 0 + (0 + k) ≡ k = omega arith in
+      record { bytes = held.bytes ∙ ap (λ j. copied j s.bytes) all; others = λ q g h l m. held.others q g h m })
+
+  copy_runs : Runs z (copied_steps (element_code inward kind) kind k) (copied_code (element_code inward kind) kind k)
+      BeginsCopy Copies
+  copy_runs = by (nat_lt k 16) refl
+    where
+      by : (b : Bool) → nat_lt k 16 ≡ b
+          → Runs z
+          (if b then length (elements_code (element_code inward kind) n 0 k)
+          else rounds_steps (element_code inward kind) kind k)
+          (if b then elements_code (element_code inward kind) n 0 k else rounds_code (element_code inward kind) kind k)
+          BeginsCopy Copies
+      by true few = straight_copy (ltb-true k 16 few)
+      by false many = rounds_run (ltb-false k 16 many)
+
+  -- The places.
 
   -- what stands where the pointer to the array is
   abbrev raw : Data → ℕ
@@ -253,33 +471,20 @@ module _ (image : Fields) (slot : Slot) (spot : Pointed) (can : CanBeCopied imag
   abbrev located : Data → Data
   located s = with_result 6 (sum_of slot.offset (s.regs 2)) (with_result 5 (raw s) s)
 
-  -- and where the array ends in x7
-  abbrev bounded : Data → Data
-  bounded s = with_result 7 (sum_of (array_bytes slot) (raw s)) (located s)
-
-  bounds_runs : Runs z (length (bounds_code image spot.index slot)) (bounds_code image spot.index slot)
-      (HasArray image slot spot) (λ s t. t ≡ bounded s)
-  bounds_runs =
+  places_run : Runs z (length (places_code image spot.index slot)) (places_code image spot.index slot)
+      (HasArray image slot spot) (λ s t. t ≡ located s)
+  places_run =
       let offset = argument_offset image spot.index in
-      let load = load_code 5 offset in
-      let first = constant_code 6 slot.offset ++ Register Add 6 6 2 ∷ [] in
-      let second = constant_code 7 (array_bytes slot) ++ Register Add 7 7 5 ∷ [] in
-      as_straight z
-      (regrouped load (constant_code 6 slot.offset) (Register Add 6 6 2 ∷ []) (constant_code 7 (array_bytes slot))
-      (Register Add 7 7 5 ∷ []))
-      (makes_on z {P' = λ s. Unit {0}} {f = located}
+      as_straight z (regrouped (load_code 5 offset) (constant_code 6 slot.offset) (Register Add 6 6 2 ∷ []))
       (makes_on z {P' = λ s. Unit {0}} {f = λ s. with_result 5 (raw s) s}
       (load_runs z spot.frame offset (omega arith) can.place_ends
       (λ s has. record { stack = has.stack; there = ap is_some has.argument })
       5 (omega arith) (λ e. omega arith) (λ e. omega arith) place)
       (number_then z 6 slot.offset (omega arith) (λ e. omega arith) (omega arith) Add 6 2 (omega arith) (omega arith))
       (λ s has. tt) (λ s u has made. made))
-      (number_then z 7 (array_bytes slot) (omega arith) (λ e. omega arith) (omega arith) Add 7 5 (omega arith)
-      (omega arith))
-      (λ s has. tt) (λ s u has made. made))
 
-  bounds_begin : (s : Data) → HasArray image slot spot s → BeginsCopy (bounded s)
-  bounds_begin s has =
+  places_begin : (s : Data) → HasArray image slot spot s → BeginsCopy (located s)
+  places_begin s has =
       let pointer : raw s ≡ spot.pointer = ap number_or_zero has.argument in
       let array = has.array_there in
       let held = has.slot_there in
@@ -287,7 +492,6 @@ module _ (image : Fields) (slot : Slot) (spot : Pointed) (can : CanBeCopied imag
         stack = has.stack;
         pointer = pointer;
         slot_at = omega (arith, has.stack);
-        stop = ap (λ x. sum_of (array_bytes slot) x) pointer ∙ omega arith;
         from_there = both inward (λ x. AreData x (x + n * k) s.bytes) spot.pointer (slot_of slot spot) array held;
         to_there = both inward (λ x. AreData x (x + n * k) s.bytes) (slot_of slot spot) spot.pointer held array;
       }
@@ -298,15 +502,14 @@ module _ (image : Fields) (slot : Slot) (spot : Pointed) (can : CanBeCopied imag
     pub bytes : t.bytes ≡ copied k s.bytes
     pub others : OthersAsBefore s t
 
-  pub array_runs : Runs z (length (bounds_code image spot.index slot) + element_steps (copied_code inward kind) k)
-      (bounds_code image spot.index slot ++ until_equal 5 7 (copied_code inward kind)) (HasArray image slot spot) Copied
+  pub array_runs : Runs z (length (places_code image spot.index slot) + copied_steps (element_code inward kind) kind k)
+      (places_code image spot.index slot ++ copied_code (element_code inward kind) kind k) (HasArray image slot spot)
+      Copied
   array_runs =
-      makes_then z {P = HasArray image slot spot} {f = bounded} {S = Copied} bounds_runs
-      (in_steps z (omega arith) copy_runs) bounds_begin
+      makes_then z {P = HasArray image slot spot} {f = located} {S = Copied} places_run copy_runs places_begin
       (λ s u has copies. record {
         bytes = copies.bytes;
-        others = λ q g h l m. copies.others q g h m
-            ∙ unwritten (located s).regs 7 (sum_of (array_bytes slot) (raw s)) q l
+        others = λ q g h l m. copies.others q g h l m
             ∙ unwritten (with_register s.regs 5 (raw s)) 6 (sum_of slot.offset (s.regs 2)) q h
             ∙ unwritten s.regs 5 (raw s) q g;
       })

@@ -7,11 +7,12 @@ use Rattle.std.proofs.Common.{Some, None, drop, inl, refl, sym, ap, ◌∙◌, s
 use Rattle.std.proofs.lemmas.List.Elements.{All-head}
 use Rattle.codegen.proofs.program_logic_lemmas.Counted.{as_code, computes_runs, makes_then, Runs, Setting, then_runs}
 use Rattle.codegen.proofs.program_logic_lemmas.Counted.{weaken_runs}
-use Rattle.linked_calls.proofs.Below.{Add, AreZeroed, arguments_end, arrays_in, at, block_steps, ByteMap}
+use Rattle.linked_calls.proofs.Below.{Add, AreZeroed, arguments_end, arrays_in, at, ByteMap}
 use Rattle.linked_calls.proofs.Below.{clear_registers_code, MachineCode, constant_code, Data, Fields, frame_room}
 use Rattle.linked_calls.proofs.Below.{function_words, Instr, IsAt, IsImage, IsLeft, IsOfCall, IsSite, JumpRegister}
 use Rattle.linked_calls.proofs.Below.{kept_registers, LeadsWithin, number_at, Placed-left, Placed-right, Register}
 use Rattle.linked_calls.proofs.Below.{restore_code, result_code, results_code, results_in, ResultSlot, room_base}
+use Rattle.linked_calls.proofs.Below.{room_of, runs_steps}
 use Rattle.linked_calls.proofs.Below.{saved_registers, scratch_registers, CallSite, State, unwritten, wipe_code}
 use Rattle.linked_calls.proofs.Below.{with_arrays, with_register, with_result, word_in}
 use Rattle.linked_calls.specs.Below.{IsResultSlot, result_end, slots_end}
@@ -36,7 +37,7 @@ use Rattle.linked_calls.proofs.Standing.{function_length, leave_placed}
 abbrev front : Fields → List Instr
 front image =
     result_code image.returned ++ results_code image 0 image.slots ++ restore_code
-    (frame_room image) ++ wipe_code ++ clear_registers_code scratch_registers
+    (frame_room image) ++ wipe_code (room_of image) ++ clear_registers_code scratch_registers
 
 last_place : (image : Fields) (site : CallSite)
     → leave_at image site + 4 * length (front image) ≡ site.entry + 4 * (length (function_words image) - 1)
@@ -133,15 +134,15 @@ module _ (image : Fields) (code : MachineCode) (site : CallSite) (is : IsImage i
   front_steps =
       length (result_code image.returned) + outputs_steps image 0 image.slots +
       (length (constant_code 5 (frame_room image) ++ Register Add 5 5 2 ∷ []) + 12 + 1 +
-      block_steps (frame_room image + 80) + 14)
+      runs_steps (frame_room image + 80) + 14)
 
   front_runs : Runs z front_steps (front image) Starts LeavesAll
   front_runs =
       let ends = numbers.ends in
       let room = frame_room image in
       let first = result_code image.returned ++ results_code image 0 image.slots in
-      let rest = restore_code room ++ wipe_code ++ clear_registers_code scratch_registers in
-      as_code z (grouped first (restore_code room) wipe_code (clear_registers_code scratch_registers))
+      let rest = restore_code room ++ wipe_code (room_of image) ++ clear_registers_code scratch_registers in
+      as_code z (grouped first (restore_code room) (wipe_code (room_of image)) (clear_registers_code scratch_registers))
       (then_runs z {P = Starts} {S = LeavesAll} handed_runs
       (lasts_run z base room numbers.even numbers.whole (omega arith)
       (λ x low high. inl ((omega arith, omega arith), omega arith))

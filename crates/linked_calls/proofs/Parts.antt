@@ -165,7 +165,7 @@ abbrev pub words_at : ℕ → List ℕ → List ℕ
 words_at a [] = []
 words_at a (r ∷ rs) = a ∷ words_at (a + 4) rs
 
-abbrev are_registers : List ℕ → Bool
+abbrev pub are_registers : List ℕ → Bool
 are_registers [] = true
 are_registers (r ∷ rs) = nat_lt r 32 && are_registers rs
 

@@ -2,9 +2,9 @@
 use Rattle.std.proofs.Common.{◌≡◌, ℕ, ◌+◌, ◌%◌, ◌^◌, ◌<◌, ◌==◌, List, [], ◌∷◌, ◌++◌, length, All, refl, sym}
 use Rattle.std.proofs.Common.{◌∙◌, subst, arith, append_assoc}
 use Rattle.codegen.proofs.program_logic_lemmas.Counted.{as_code, computes_runs, makes_then, Runs, Setting, then_runs}
-use Rattle.linked_calls.proofs.Below.{Add, added, after_all, AreCleared, AreData, AreZeroed, block_steps, ByteMap}
+use Rattle.linked_calls.proofs.Below.{Add, added, after_all, AreCleared, AreData, AreZeroed, ByteMap}
 use Rattle.linked_calls.proofs.Below.{clear_registers_code, constant_code, Data, Instr, IsWiped, loads_code, Register}
-use Rattle.linked_calls.proofs.Below.{restore_code, saved_registers, scratch_registers, sum_of, wipe_code}
+use Rattle.linked_calls.proofs.Below.{restore_code, runs_steps, saved_registers, scratch_registers, sum_of, wipe_code}
 use Rattle.linked_calls.proofs.Below.{with_register, with_result}
 use Rattle.linked_calls.proofs.Between.{AreSaved}
 use Rattle.linked_calls.proofs.Cleared.{clear_runs}
@@ -72,11 +72,11 @@ module _ (z : Setting) (frame room : ℕ) (even : frame % 16 ≡ 0) (whole : roo
         (λ s begins. tt) (λ s u begins made. made)
 
     -- the room is wiped as well
-    wiped_runs : Runs z (length (constant_code 5 room ++ Register Add 5 5 2 ∷ []) + 12 + 1 + block_steps (room + 80))
-        (restore_code room ++ wipe_code) BeginsLast (λ s t. IsWiped frame (room + 80) (restored s) t)
+    wiped_runs : Runs z (length (constant_code 5 room ++ Register Add 5 5 2 ∷ []) + 12 + 1 + runs_steps (room + 80))
+        (restore_code room ++ wipe_code (room + 80)) BeginsLast (λ s t. IsWiped frame (room + 80) (restored s) t)
     wiped_runs =
         makes_then z {P = BeginsLast} {f = restored} restored_runs
-        (up_runs z frame (room + 80) even (omega arith) (omega arith) below stores)
+        (up_runs z frame (room + 80) even (omega arith) below stores)
         (λ s begins. record { stack = begins.stack; top = omega (arith, begins.stack); there = begins.there })
         (λ s u begins wiped. wiped)
 
@@ -89,8 +89,8 @@ module _ (z : Setting) (frame room : ℕ) (even : frame % 16 ≡ 0) (whole : roo
       pub zeroed : AreZeroed frame (frame + (room + 80)) s.bytes t.bytes
 
     pub lasts_run : Runs z
-        (length (constant_code 5 room ++ Register Add 5 5 2 ∷ []) + 12 + 1 + block_steps (room + 80) + 14)
-        (restore_code room ++ wipe_code ++ clear_registers_code scratch_registers) BeginsLast Lasts
+        (length (constant_code 5 room ++ Register Add 5 5 2 ∷ []) + 12 + 1 + runs_steps (room + 80) + 14)
+        (restore_code room ++ wipe_code (room + 80) ++ clear_registers_code scratch_registers) BeginsLast Lasts
     lasts_run =
         then_runs z {P = BeginsLast} {P' = λ s. Unit {0}} {R' = AreCleared scratch_registers} {S = Lasts}
         wiped_runs

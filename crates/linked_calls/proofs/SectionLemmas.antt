@@ -1,14 +1,14 @@
 -- The sections' code, one after another, is the code before the body and that behind it.
-use Rattle.std.proofs.Common.{◌≡◌, ℕ, ◌+◌, ◌-◌, ◌==◌, Bool, true, false, List, [], ◌∷◌, ◌++◌, map, refl, ap, ◌∙◌}
+use Rattle.std.proofs.Common.{◌≡◌, ℕ, ◌+◌, ◌==◌, Bool, true, false, List, [], ◌∷◌, ◌++◌, map, refl, ap, ◌∙◌}
 use Rattle.std.proofs.Common.{ap₂, if◌then◌else◌}
 use Rattle.std.proofs.lemmas.List.{append_assoc, append-nil}
-use Rattle.linked_calls.proofs.Below.{added, argument_sections, arguments_code, array_section, array_sections}
+use Rattle.linked_calls.proofs.Below.{argument_sections, arguments_code, array_section, array_sections}
 use Rattle.linked_calls.proofs.Below.{body_words, CallersStack, ClearedFrame, ClearedRegisters, code_of}
-use Rattle.linked_calls.proofs.Below.{constant_code, copy_out_code, enter_code, enter_sections, Fields, Form}
+use Rattle.linked_calls.proofs.Below.{constant_code, copy_out_code, down_code, enter_code, enter_sections, Fields, Form}
 use Rattle.linked_calls.proofs.Below.{frame_room, frame_sections, FrameBase, FrameTop, function_words, Instr}
 use Rattle.linked_calls.proofs.Below.{leave_code, leave_sections, MutableArray, Register, RestoredRegisters}
-use Rattle.linked_calls.proofs.Below.{results_code, Return, Section, Slot, stack_register, Sub, until_equal}
-use Rattle.linked_calls.proofs.Below.{WipedRoom, zeros_code}
+use Rattle.linked_calls.proofs.Below.{results_code, Return, runs_code, Section, Slot, stack_register, Sub}
+use Rattle.linked_calls.proofs.Below.{WipedRoom}
 use Rattle.linked_calls.specs.Below.{word_of}
 
 code_of_both : (image : Fields) (one other : List Section)
@@ -18,17 +18,18 @@ code_of_both image (section ∷ one) other = rw (code_of_both image one other, a
 
 -- Before the body.
 
-abbrev cleared : List Instr
-cleared = until_equal stack_register 5 (added stack_register (4096 - 16) ∷ zeros_code)
-
 abbrev base : Instr
 base = Register Sub 5 stack_register 5
 
 frame_code_of : (image : Fields) (empty : Bool)
     → code_of image (if empty then [] else FrameBase ∷ ClearedFrame ∷ [])
-    ≡ (if empty then [] else constant_code 5 (frame_room image) ++ base ∷ cleared)
+    ≡ (if empty then [] else constant_code 5 (frame_room image) ++ base ∷ runs_code down_code (frame_room image))
 frame_code_of image true = refl
-frame_code_of image false = append_assoc (constant_code 5 (frame_room image)) (base ∷ []) cleared
+frame_code_of image false =
+    let number = constant_code 5 (frame_room image) in
+    let runs = runs_code down_code (frame_room image) in
+    append_assoc number (base ∷ []) (runs ++ [])
+    ∙ ap (λ (xs : List Instr). number ++ base ∷ xs) (append-nil runs)
 
 arguments_code_of : (image : Fields) (i : ℕ) (slots : List Slot)
     → code_of image (argument_sections i slots) ≡ arguments_code image i slots

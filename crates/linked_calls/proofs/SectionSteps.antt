@@ -4,10 +4,10 @@ use Rattle.std.proofs.Common.{◌≡◌, ℕ, ◌+◌, ◌==◌, Bool, true, fal
 use Rattle.std.proofs.Common.{refl, ap, ap₂, ◌∙◌, arith, length-append}
 use Rattle.std.proofs.lemmas.List.Sums.{sum_by-cons, sum_by-append, sum-map}
 use Rattle.linked_calls.proofs.Below.{Add, argument_sections, argument_steps, ArgumentIn, array_section, array_sections}
-use Rattle.linked_calls.proofs.Below.{array_steps, block_steps, CallersStack, ClearedFrame, ClearedRegisters}
+use Rattle.linked_calls.proofs.Below.{array_steps, CallersStack, ClearedFrame, ClearedRegisters}
 use Rattle.linked_calls.proofs.Below.{constant_code, Fields, FixedArray, Form, frame_room, frame_sections, frame_steps}
 use Rattle.linked_calls.proofs.Below.{FrameBase, FrameTop, leave_sections, MutableArray, Register, RestoredRegisters}
-use Rattle.linked_calls.proofs.Below.{result_code, ResultOut, Return, room_of, Section, section_steps, SingleWord, Slot}
+use Rattle.linked_calls.proofs.Below.{result_code, ResultOut, Return, room_of, runs_steps, Section, section_steps, SingleWord, Slot}
 use Rattle.linked_calls.proofs.Below.{Sub, WipedRoom}
 use Rattle.linked_calls.specs.declared.section.Section.TheVariants.{RoomAboveFrame, SavedRegisters, ArgumentRegisters}
 use Rattle.linked_calls.proofs.Between.{enter_steps, leave_steps}
@@ -37,12 +37,12 @@ module _ (image : Fields) where
   -- Before the body.
 
   frame_steps_by : (b : Bool) → steps_of (if b then [] else FrameBase ∷ ClearedFrame ∷ [])
-      ≡ (if b then 0 else length (constant_code 5 room) + 1 + block_steps room)
+      ≡ (if b then 0 else length (constant_code 5 room) + 1 + runs_steps room)
   frame_steps_by true = refl
   frame_steps_by false =
       let e = length-append (constant_code 5 room) (Register Sub 5 2 5 ∷ []) in
-      let steps : 0 + length (constant_code 5 room ++ Register Sub 5 2 5 ∷ []) + block_steps room
-      ≡ length (constant_code 5 room) + 1 + block_steps room = omega arith in
+      let steps : 0 + length (constant_code 5 room ++ Register Sub 5 2 5 ∷ []) + runs_steps room
+      ≡ length (constant_code 5 room) + 1 + runs_steps room = omega arith in
       steps
 
   arguments_steps_are : (i : ℕ) (slots : List Slot) → steps_of (argument_sections i slots) ≡ arguments_steps i slots
@@ -80,7 +80,7 @@ module _ (image : Fields) where
 
   -- the registers restored and cleared, and the room wiped
   abbrev pub last_steps : ℕ
-  last_steps = length (constant_code 5 room ++ Register Add 5 5 2 ∷ []) + block_steps (room_of image) + 28
+  last_steps = length (constant_code 5 room ++ Register Add 5 5 2 ∷ []) + runs_steps (room_of image) + 28
 
   pub leave_steps_are : leave_steps image ≡ length (result_code image.returned) +
       (outputs_steps 0 image.slots + last_steps)

@@ -1,30 +1,23 @@
--- The code that zeroes a frame, and the code that wipes a room: loops over blocks of four words, downward over the
--- frame, and upward over all the room.
-use Rattle.std.proofs.Common.{◌≡◌, ◌≢◌, ℕ, suc, ◌+◌, ◌-◌, ◌*◌, ◌/◌, ◌%◌, ◌^◌, ◌<◌, ◌≤◌, ◌==◌, Bool, true, false, List}
-use Rattle.std.proofs.Common.{[], ◌∷◌, ◌++◌, length, Some, refl, sym, ap, ◌∙◌, subst, arith, append_assoc}
+-- The code that zeroes a frame, and the code that wipes a room: the words beside the runs, and then a loop over runs of
+-- 16 words, downward over the frame, and upward over all the room.
+use Rattle.std.proofs.Common.{◌≡◌, ◌≢◌, ℕ, zero, suc, ◌+◌, ◌-◌, ◌*◌, ◌/◌, ◌%◌, ◌^◌, ◌<◌, ◌≤◌, ◌==◌, Bool, true, false}
+use Rattle.std.proofs.Common.{List, [], ◌∷◌, ◌++◌, length, map, Some, refl, sym, ap, ◌∙◌, subst, arith, append_assoc}
 use Rattle.std.proofs.Common.{length-append, if◌then◌else◌}
-use Rattle.std.proofs.lemmas.Bool.{eqb-false, eqb-true}
+use Rattle.std.specs.Prelude.{replicate}
+use Rattle.std.proofs.lemmas.Bool.{eqb-false, eqb-true, lt-ltb}
+use Rattle.std.proofs.lemmas.Bool.Decides.{nat_tests}
 use Rattle.codegen.proofs.program_logic_lemmas.Counted.{as_code, computes_runs, in_steps, loop, makes_then, no_code}
-use Rattle.codegen.proofs.program_logic_lemmas.Counted.{Runs, Setting, weaken_runs}
-use Rattle.linked_calls.proofs.Below.{added, AreData, AreZeroed, block_steps, ByteMap, MachineCode, constant_code, Data}
-use Rattle.linked_calls.proofs.Below.{difference_of, frame_code, frame_steps, FrameIsZeroed, HasFrame, HasRoomBounds}
-use Rattle.linked_calls.proofs.Below.{Instr, IsStoreIn, IsWiped, IsZeroFrame, Register, RoomIsWiped, Sub, sum_of}
-use Rattle.linked_calls.proofs.Below.{until_equal, unwritten, wipe_code, with_numbers, with_register, with_result}
-use Rattle.linked_calls.proofs.Below.{zeros_code}
-use Rattle.linked_calls.proofs.Bytes.{no_zeros, is_some-with_numbers, zeroed_words, zeros_down, zeros_of, zeros_up}
+use Rattle.codegen.proofs.program_logic_lemmas.Counted.{Runs, Setting, then_runs, weaken_runs}
+use Rattle.linked_calls.proofs.Below.{added, AreData, AreZeroed, ByteMap, MachineCode, constant_code, Data}
+use Rattle.linked_calls.proofs.Below.{difference_of, down_code, frame_code, frame_steps, FrameIsZeroed, HasFrame}
+use Rattle.linked_calls.proofs.Below.{HasRoomBounds, Instr, IsStoreIn, IsWiped, IsZeroFrame, Register, register}
+use Rattle.linked_calls.proofs.Below.{rest_steps, rest_words, RoomIsWiped, runs_code, runs_steps, sign_extended}
+use Rattle.linked_calls.proofs.Below.{stores_code, Sub, sum_of, until_equal, unwritten, up_code, wipe_code}
+use Rattle.linked_calls.proofs.Below.{with_numbers, with_register, with_result, zeros_code}
+use Rattle.linked_calls.proofs.Bytes.{no_zeros, is_some-with_numbers, zeroed_words, zeros_down, zeros_up}
 use Rattle.linked_calls.specs.Below.{Store, Word}
-use Rattle.linked_calls.proofs.Parts.{number_then, stored, stores_runs}
+use Rattle.linked_calls.proofs.Parts.{are_registers, number_then, stores_runs}
 use Rattle.linked_calls.proofs.Pieces.{does, placed}
-
-abbrev down_code : List Instr
-down_code = added 2 (4096 - 16) ∷ zeros_code
-
-abbrev up_code : List Instr
-up_code = zeros_code ++ added 2 16 ∷ []
-
--- the code of a frame that has room
-abbrev some_frame : ℕ → List Instr
-some_frame room = constant_code 5 room ++ Register Sub 5 2 5 ∷ until_equal 2 5 down_code
 
 abbrev storing : MachineCode → ℕ → ℕ → Setting
 storing code bottom room = record { code = code; allowed = IsStoreIn bottom (bottom + room); silent = λ sp. tt }
@@ -33,55 +26,99 @@ storing code bottom room = record { code = code; allowed = IsStoreIn bottom (bot
 abbrev pub MayZero : Setting → ℕ → ℕ → Type 0
 MayZero z low high = (sp x : ℕ) → low ≤ x → x + 4 ≤ high → sp ≤ x → z.allowed sp (Some (Store x Word))
 
-module _ (z : Setting) (bottom room : ℕ) (even : bottom % 16 ≡ 0) (whole : room % 16 ≡ 0) (positive : 0 < room)
-    (below : bottom + room < 2 ^ 32) (may : MayZero z bottom (bottom + room)) where
-  abbrev top : ℕ
-  top = bottom + room
+-- Words of zeros.
 
-  -- One block: its words are zeroed, and x2 moves on.
+are_zeros : (count : ℕ) → are_registers (replicate count 0) ≡ true
+are_zeros zero = refl
+are_zeros (suc count) = are_zeros count
 
-  abbrev block : ℕ → ℕ → Data → Data
-  block a next s = record { regs = with_register s.regs 2 next; bytes = with_numbers s.bytes 4 a (zeros_of 4) }
+zeros_length : (offset count : ℕ) → length (stores_code 2 offset (replicate count 0)) ≡ count
+zeros_length offset zero = refl
+zeros_length offset (suc count) = ap suc (zeros_length (offset + 4) count)
 
-  -- x2 is there, and the block is data
-  record HasBlock (x a : ℕ) (s : Data) : Type 0 where
+zeros_count : (count : ℕ) → length {A = ℕ} (replicate count 0) ≡ count
+zeros_count zero = refl
+zeros_count (suc count) = ap suc (zeros_count count)
+
+-- data for so many words is data for the words of zeros
+zeros_there : (bytes : ByteMap) (a count : ℕ) → AreData a (a + 4 * count) bytes
+    → AreData a (a + 4 * length {A = ℕ} (replicate count 0)) bytes
+zeros_there bytes a count there = subst (λ k. AreData a (a + 4 * k) bytes) (sym (zeros_count count)) there
+
+zero_values : (regs : ℕ → ℕ) (count : ℕ) → map (λ r. register regs r) (replicate count 0) ≡ replicate count 0
+zero_values regs zero = refl
+zero_values regs (suc count) = ap (λ (vs : List ℕ). 0 ∷ vs) (zero_values regs count)
+
+-- x2 down and up by so many bytes
+lowered : (x a bytes : ℕ) → x ≡ a + bytes → 0 < bytes → bytes ≤ 64 → x < 2 ^ 32
+    → sum_of x (sign_extended 12 (4096 - bytes)) ≡ a
+lowered x a bytes is some few below = grind (arith, nat_tests)
+
+raised : (a bytes : ℕ) → bytes ≤ 64 → a + bytes < 2 ^ 32 → sum_of a (sign_extended 12 bytes) ≡ a + bytes
+raised a bytes few below = grind (arith, nat_tests)
+
+module _ (z : Setting) (bottom top : ℕ) (below : top < 2 ^ 32) (may : MayZero z bottom top) where
+  -- So many words: they are zeroed, and x2 moves on.
+
+  abbrev block : ℕ → ℕ → ℕ → Data → Data
+  block count a next s =
+      record { regs = with_register s.regs 2 next; bytes = with_numbers s.bytes 4 a (replicate count 0) }
+
+  -- x2 is there, and they are data
+  record HasBlock (count x a : ℕ) (s : Data) : Type 0 where
     stack : s.regs 2 ≡ x
-    there : AreData a (a + 16) s.bytes
+    there : AreData a (a + 4 * count) s.bytes
 
-  zeros_run : (a : ℕ) → a % 16 ≡ 0 → bottom ≤ a → a + 16 ≤ top
-      → Runs z 4 zeros_code (HasBlock a a) (λ s t. t ≡ stored a (0 ∷ 0 ∷ 0 ∷ 0 ∷ []) s)
-  zeros_run a aligned from to =
-      stores_runs z a (0 ∷ 0 ∷ 0 ∷ 0 ∷ []) refl (omega arith) (omega arith) (omega arith)
-      (λ x low high. may a x (omega arith) (omega arith) low) (λ s has. (has.stack, has.there))
+  zeros_run : (count a : ℕ) → count ≤ 16 → a % 4 ≡ 0 → bottom ≤ a → a + 4 * count ≤ top
+      → Runs z count (zeros_code count) (HasBlock count a a)
+      (λ s t. t ≡ record { regs = s.regs; bytes = with_numbers s.bytes 4 a (replicate count 0) })
+  zeros_run count a few even from to =
+      let all = zeros_count count in
+      in_steps z (zeros_length 0 count)
+      (weaken_runs z
+      (stores_runs z {P = HasBlock count a a} a (replicate count 0) (are_zeros count) even (omega (arith, all))
+      (omega (arith, all)) (λ x low high. may a x (omega arith) (omega (arith, all)) low)
+      (λ s has. (has.stack, zeros_there s.bytes a count has.there)))
+      (λ s has. has)
+      (λ s t has made.
+      made ∙ ap (λ (vs : List ℕ). record { regs = s.regs; bytes = with_numbers s.bytes 4 a vs })
+      (zero_values s.regs count)))
 
-  block_down : (x a : ℕ) → x ≡ a + 16 → a % 16 ≡ 0 → bottom ≤ a → a + 16 ≤ top
-      → Runs z 5 down_code (HasBlock x a) (λ s t. t ≡ block a a s)
-  block_down x a next aligned from to =
-      makes_then z {P = HasBlock x a} {f = λ s. with_result 2 (sum_of (s.regs 2) 4294967280) s}
-      (computes_runs z (λ q. q == 2) (added 2 (4096 - 16) ∷ [])
-      (λ regs. with_register regs 2 (sum_of (regs 2) 4294967280)) refl (λ regs. refl))
-      (zeros_run a aligned from to)
-      (λ s has. record { stack = omega (arith, has.stack); there = has.there })
+  down_run : (count x a : ℕ) → 0 < count → count ≤ 16 → x ≡ a + 4 * count → a % 4 ≡ 0 → bottom ≤ a → x ≤ top
+      → Runs z (1 + count) (down_code count) (HasBlock count x a) (λ s t. t ≡ block count a a s)
+  down_run count x a some few is even from to =
+      let n = 4096 - 4 * count in
+      let small : n < 4096 = omega arith in
+      makes_then z {P = HasBlock count x a} {f = λ s. with_result 2 (sum_of (s.regs 2) (sign_extended 12 n)) s}
+      (computes_runs z (λ q. q == 2) (added 2 n ∷ [])
+      (λ regs. with_register regs 2 (sum_of (regs 2) (sign_extended 12 n))) (simp (lt-ltb n 4096 small)) (λ regs. refl))
+      (zeros_run count a few even from (omega arith))
+      (λ s has. record {
+        stack = lowered (s.regs 2) a (4 * count) (has.stack ∙ is) (omega arith) (omega arith) (omega (arith, has.stack));
+        there = has.there;
+      })
       (λ s u has made.
-      let moved : sum_of (s.regs 2) 4294967280 ≡ a = omega (arith, has.stack) in
-      made ∙ ap (λ y. block a y s) moved)
+      let moved = lowered (s.regs 2) a (4 * count) (has.stack ∙ is) (omega arith) (omega arith)
+      (omega (arith, has.stack)) in
+      made ∙ ap (λ y. block count a y s) moved)
 
-  block_up : (a next : ℕ) → a + 16 ≡ next → a % 16 ≡ 0 → bottom ≤ a → a + 16 ≤ top
-      → Runs z 5 up_code (HasBlock a a) (λ s t. t ≡ block a next s)
-  block_up a next is aligned from to =
-      makes_then z {P = HasBlock a a} {P' = λ s. Unit {0}} {f = stored a (0 ∷ 0 ∷ 0 ∷ 0 ∷ [])}
-      (zeros_run a aligned from to)
-      (computes_runs z (λ q. q == 2) (added 2 16 ∷ []) (λ regs. with_register regs 2 (sum_of (regs 2) 16)) refl
-      (λ regs. refl))
+  up_run : (count a next : ℕ) → count ≤ 16 → a + 4 * count ≡ next → a % 4 ≡ 0 → bottom ≤ a → next ≤ top
+      → Runs z (count + 1) (up_code count) (HasBlock count a a) (λ s t. t ≡ block count a next s)
+  up_run count a next few is even from to =
+      let n = 4 * count in
+      let small : n < 4096 = omega arith in
+      makes_then z {P = HasBlock count a a} {P' = λ s. Unit {0}}
+      {f = λ s. record { regs = s.regs; bytes = with_numbers s.bytes 4 a (replicate count 0) }}
+      (zeros_run count a few even from (omega arith))
+      (computes_runs z (λ q. q == 2) (added 2 n ∷ [])
+      (λ regs. with_register regs 2 (sum_of (regs 2) (sign_extended 12 n))) (simp (lt-ltb n 4096 small)) (λ regs. refl))
       (λ s has. tt)
       (λ s u has made.
-      let moved : sum_of (s.regs 2) 16 ≡ next = omega (arith, has.stack) in
-      made ∙ ap (λ y. block a y s) moved)
+      let moved : sum_of (s.regs 2) (sign_extended 12 n) ≡ next =
+      ap (λ x. sum_of x (sign_extended 12 n)) has.stack ∙ raised a n (omega arith) (omega arith) ∙ is in
+      made ∙ ap (λ y. block count a y s) moved)
 
-  -- Blocks.
-
-  abbrev blocks : ℕ
-  blocks = room / 16
+  -- Stretches.
 
   -- x2 has come to an address, x5 is where it stops, and a stretch is zeros
   record Zeroing (x stop low high : ℕ) (s d : Data) : Type 0 where
@@ -91,50 +128,76 @@ module _ (z : Setting) (bottom room : ℕ) (even : bottom % 16 ≡ 0) (whole : r
     zeroed : AreZeroed low high s.bytes d.bytes
     others : (q : ℕ) → q ≢ 2 → d.regs q ≡ s.regs q
 
-  -- x2 is where the first begins, and x5 where it stops
-  record BeginsBlocks (x stop : ℕ) (s : Data) : Type 0 where
+  -- x2 is there, and x5 where it stops
+  record Begins (x stop : ℕ) (s : Data) : Type 0 where
     stack : s.regs 2 ≡ x
     last : s.regs 5 ≡ stop
     there : AreData bottom top s.bytes
 
-  -- Each by a body: where x2 is before it, where it lies, and what is zeros then.
-  module _ (body : List Instr) (five : length body ≡ 5) (stop : ℕ) (x a low high : ℕ → ℕ)
-      (inside : (i : ℕ) → i < blocks → (bottom ≤ a i) × (a i + 16 ≤ top))
-      (block_runs : (i : ℕ) → i < blocks
-      → Runs z 5 body (HasBlock (x i) (a i)) (λ s t. t ≡ block (a i) (x (suc i)) s))
-      (joined : (i : ℕ) (one two three : ByteMap) → i < blocks → AreZeroed (low i) (high i) one two
-      → AreZeroed (a i) (a i + 16) two three → AreZeroed (low (suc i)) (high (suc i)) one three)
-      (apart : (i : ℕ) → i < blocks → x i ≢ stop) (ends : x blocks ≡ stop) (none : high 0 ≤ low 0) where
+  block_there : (count x a : ℕ) (d : Data) → bottom ≤ a → a + 4 * count ≤ top → d.regs 2 ≡ x
+      → AreData bottom top d.bytes → HasBlock count x a d
+  block_there count x a d from to stack there = record {
+    stack = stack;
+    there = λ y l h. there y (omega arith) (omega arith);
+  }
+
+  -- the first words
+  first_words : {n : ℕ} {is : List Instr} (count x a next stop : ℕ) → bottom ≤ a → a + 4 * count ≤ top
+      → Runs z n is (HasBlock count x a) (λ s t. t ≡ block count a next s)
+      → Runs z n is (Begins x stop) (Zeroing next stop a (a + 4 * count))
+  first_words count x a next stop from to one =
+      weaken_runs z one (λ s begins. block_there count x a s from to begins.stack begins.there)
+      (λ s t begins made.
+      subst (λ (u : Data). Zeroing next stop a (a + 4 * count) s u) (sym made)
+      (record {
+        stack = refl;
+        last = begins.last;
+        there = λ y l h. is_some-with_numbers s.bytes 4 a (replicate count 0)
+            (zeros_there s.bytes a count (block_there count x a s from to begins.stack begins.there).there) y
+            ∙ begins.there y l h;
+        zeroed = zeroed_words s.bytes a count;
+        others = λ q h. unwritten s.regs 2 next q h;
+      }))
+
+  -- Runs of 16 words, each by a body: where x2 is before it, where it lies, and what is zeros then.
+  module _ (rounds : ℕ) (body : List Instr) (size : length body ≡ 17) (stop : ℕ) (x a low high : ℕ → ℕ)
+      (inside : (i : ℕ) → i < rounds → (bottom ≤ a i) × (a i + 64 ≤ top))
+      (block_runs : (i : ℕ) → i < rounds
+      → Runs z 17 body (HasBlock 16 (x i) (a i)) (λ s t. t ≡ block 16 (a i) (x (suc i)) s))
+      (joined : (i : ℕ) (one two three : ByteMap) → i < rounds → AreZeroed (low i) (high i) one two
+      → AreZeroed (a i) (a i + 64) two three → AreZeroed (low (suc i)) (high (suc i)) one three)
+      (apart : (i : ℕ) → i < rounds → x i ≢ stop) (ends : x rounds ≡ stop) (none : high 0 ≤ low 0)
+      (some : 0 < rounds) where
     abbrev Zeroed : ℕ → Data → Data → Type 0
     Zeroed i = Zeroing (x i) stop (low i) (high i)
 
-    here : (i : ℕ) → i < blocks → (s d : Data) → Zeroed i s d → AreData (a i) (a i + 16) d.bytes
-    here i few s d held y l h =
+    here : (i : ℕ) → i < rounds → (s d : Data) → Zeroed i s d → HasBlock 16 (x i) (a i) d
+    here i few s d held =
         let lies = inside i few in
-        held.there y (omega (arith, lies.0)) (omega (arith, lies.1))
+        block_there 16 (x i) (a i) d lies.0 lies.1 held.stack held.there
 
-    one_more : (i : ℕ) → i < blocks → (s d : Data) → Zeroed i s d → Zeroed (suc i) s (block (a i) (x (suc i)) d)
+    one_more : (i : ℕ) → i < rounds → (s d : Data) → Zeroed i s d → Zeroed (suc i) s (block 16 (a i) (x (suc i)) d)
     one_more i few s d held = record {
       stack = refl;
       last = held.last;
-      there = λ y l h. is_some-with_numbers d.bytes 4 (a i) (zeros_of 4) (here i few s d held) y ∙ held.there y l h;
-      zeroed = joined i s.bytes d.bytes (with_numbers d.bytes 4 (a i) (zeros_of 4)) few held.zeroed
-          (zeroed_words d.bytes (a i) 4);
+      there = λ y l h. is_some-with_numbers d.bytes 4 (a i) (replicate 16 0) (here i few s d held).there y
+          ∙ held.there y l h;
+      zeroed = joined i s.bytes d.bytes (with_numbers d.bytes 4 (a i) (replicate 16 0)) few held.zeroed
+          (zeroed_words d.bytes (a i) 16);
       others = λ q h. unwritten d.regs 2 (x (suc i)) q h ∙ held.others q h;
     }
 
-    blocks_run : Runs z (block_steps room) (until_equal 2 5 body) (BeginsBlocks (x 0) stop) (Zeroed blocks)
-    blocks_run =
+    loop_runs : Runs z (18 * rounds) (until_equal 2 5 body) (Begins (x 0) stop) (Zeroed rounds)
+    loop_runs =
         in_steps z (omega arith)
-        (loop z 2 5 (omega arith, omega arith) body (omega arith) (omega arith) blocks Zeroed
+        (loop z 2 5 (omega arith, omega arith) body (omega arith) (omega arith) rounds Zeroed
         (λ i few.
-        weaken_runs z (block_runs i few)
-        (λ d given. record { stack = given.1.stack; there = here i few given.0 d given.1 })
+        weaken_runs z (block_runs i few) (λ d given. here i few given.0 d given.1)
         (λ d t given made s held.
         subst (λ (u : Data). Zeroed (suc i) s u) (sym made) (one_more i few s d held)))
         (λ i s d few held same. apart i few (sym held.stack ∙ same ∙ held.last))
         (λ s d held. held.stack ∙ ends ∙ sym held.last)
-        (omega arith)
+        some
         (λ s begins. record {
           stack = begins.stack;
           last = begins.last;
@@ -144,61 +207,198 @@ module _ (z : Setting) (bottom room : ℕ) (even : bottom % 16 ≡ 0) (whole : r
         })
         (λ s t begins held. held))
 
+  -- code that is left out, where nothing is to be zeroed
+  none_runs : (x stop low high : ℕ) → high ≤ low → Runs z 0 [] (Begins x stop) (Zeroing x stop low high)
+  none_runs x stop low high none =
+      no_code z
+      (λ s begins. record {
+        stack = begins.stack;
+        last = begins.last;
+        there = begins.there;
+        zeroed = no_zeros low high s.bytes none;
+        others = λ q h. refl;
+      })
+
+  -- one stretch and then another
+  both_run : {m n : ℕ} {xs ys : List Instr} (x y w stop l h l' h' low high : ℕ)
+      → ((one two three : ByteMap) → AreZeroed l h one two → AreZeroed l' h' two three → AreZeroed low high one three)
+      → Runs z m xs (Begins x stop) (Zeroing y stop l h) → Runs z n ys (Begins y stop) (Zeroing w stop l' h')
+      → Runs z (m + n) (xs ++ ys) (Begins x stop) (Zeroing w stop low high)
+  both_run x y w stop l h l' h' low high joined one other =
+      then_runs z one other
+      (λ s t begins first. record { stack = first.stack; last = first.last; there = first.there })
+      (λ s t u begins first second. record {
+        stack = second.stack;
+        last = second.last;
+        there = second.there;
+        zeroed = joined s.bytes t.bytes u.bytes first.zeroed second.zeroed;
+        others = λ q d. second.others q d ∙ first.others q d;
+      })
+
+module _ (z : Setting) (bottom room : ℕ) (even : bottom % 16 ≡ 0) (whole : room % 16 ≡ 0)
+    (below : bottom + room < 2 ^ 32) (may : MayZero z bottom (bottom + room)) where
+  abbrev top : ℕ
+  top = bottom + room
+
+  abbrev rest : ℕ
+  rest = rest_words room
+
+  abbrev rounds : ℕ
+  rounds = room / 64
+
+  parts : 4 * rest + 64 * rounds ≡ room
+  parts = omega arith
+
+  abbrev Starts : ℕ → ℕ → Data → Type 0
+  Starts x stop = Begins z bottom top below may x stop
+
+  abbrev Zeroes : ℕ → ℕ → ℕ → ℕ → Data → Data → Type 0
+  Zeroes x stop low high = Zeroing z bottom top below may x stop low high
+
+  -- Downward: the rest, and then the runs.
+
+  abbrev middle_down : ℕ
+  middle_down = top - 4 * rest
+
+  rest_down : (b : Bool) → (rest == 0) ≡ b
+      → Runs z (if b then 0 else rest + 1) (if b then [] else down_code rest) (Starts top bottom)
+      (Zeroes middle_down bottom middle_down top)
+  rest_down true none =
+      let no_rest : rest ≡ 0 = eqb-true rest 0 none in
+      let same : top ≡ middle_down = omega arith in
+      subst (λ x. Runs z 0 [] (Starts top bottom) (Zeroes x bottom x top)) same
+      (none_runs z bottom top below may top bottom top top (omega arith))
+  rest_down false some =
+      let differ = eqb-false rest 0 some in
+      let is = parts in
+      let end : middle_down + 4 * rest ≡ top = omega arith in
+      subst (λ h. Runs z (rest + 1) (down_code rest) (Starts top bottom) (Zeroes middle_down bottom middle_down h)) end
+      (in_steps z (omega arith)
+      (first_words z bottom top below may rest top middle_down middle_down bottom (omega arith) (omega arith)
+      (down_run z bottom top below may rest top middle_down (omega arith) (omega arith) (omega arith) (omega arith)
+      (omega arith) (omega arith))))
+
   -- where x2 is after so many
   abbrev down_at : ℕ → ℕ
-  down_at i = top - 16 * i
+  down_at i = middle_down - 64 * i
+
+  runs_down : (b : Bool) → (rounds == 0) ≡ b
+      → Runs z (18 * rounds) (if b then [] else until_equal 2 5 (down_code 16)) (Starts middle_down bottom)
+      (Zeroes bottom bottom bottom middle_down)
+  runs_down true none =
+      let no_rounds : rounds ≡ 0 = eqb-true rounds 0 none in
+      let is = parts in
+      let same : middle_down ≡ bottom = omega arith in
+      let no_steps : 0 ≡ 18 * rounds = omega arith in
+      in_steps z no_steps
+      (subst (λ x. Runs z 0 [] (Starts x bottom) (Zeroes bottom bottom bottom x)) (sym same)
+      (none_runs z bottom top below may bottom bottom bottom bottom (omega arith)))
+  runs_down false some =
+      let differ = eqb-false rounds 0 some in
+      let is = parts in
+      let end : down_at rounds ≡ bottom = omega arith in
+      let begin : down_at 0 ≡ middle_down = omega arith in
+      subst (λ x. Runs z (18 * rounds) (until_equal 2 5 (down_code 16)) (Starts x bottom)
+      (Zeroes bottom bottom bottom x)) begin
+      (subst (λ x. Runs z (18 * rounds) (until_equal 2 5 (down_code 16)) (Starts (down_at 0) bottom)
+      (Zeroes x bottom x (down_at 0))) end
+      (loop_runs z bottom top below may rounds (down_code 16) refl bottom down_at (λ i. down_at (suc i)) down_at
+      (λ i. down_at 0)
+      (λ i few. (omega arith, omega arith))
+      (λ i few. down_run z bottom top below may 16 (down_at i) (down_at (suc i)) (omega arith) (omega arith)
+      (omega arith) (omega arith) (omega arith) (omega arith))
+      (λ i one two three few zeroed more.
+      let next : down_at (suc i) + 64 ≡ down_at i = omega arith in
+      zeros_down (down_at (suc i)) (down_at i) (down_at 0) one two three (omega arith) (omega arith) zeroed
+      (subst (λ y. AreZeroed (down_at (suc i)) y two three) next more))
+      (λ i few same. omega arith) (omega arith) (omega arith) (omega arith)))
+
+  down_runs : Runs z (runs_steps room) (runs_code down_code room) (Starts top bottom) (Zeroes bottom bottom bottom top)
+  down_runs =
+      let is = parts in
+      both_run z bottom top below may top middle_down bottom bottom middle_down top bottom middle_down bottom top
+      (λ one two three upper lower.
+      zeros_down bottom middle_down top one two three (omega arith) (omega arith) upper lower)
+      (rest_down (rest == 0) refl) (runs_down (rounds == 0) refl)
+
+  -- Upward: the rest, and then the runs.
+
+  abbrev middle_up : ℕ
+  middle_up = bottom + 4 * rest
+
+  rest_up : (b : Bool) → (rest == 0) ≡ b
+      → Runs z (if b then 0 else rest + 1) (if b then [] else up_code rest) (Starts bottom top)
+      (Zeroes middle_up top bottom middle_up)
+  rest_up true none =
+      let no_rest : rest ≡ 0 = eqb-true rest 0 none in
+      let same : bottom ≡ middle_up = omega arith in
+      subst (λ x. Runs z 0 [] (Starts bottom top) (Zeroes x top bottom x)) same
+      (none_runs z bottom top below may bottom top bottom bottom (omega arith))
+  rest_up false some =
+      let is = parts in
+      first_words z bottom top below may rest bottom bottom middle_up top (omega arith) (omega arith)
+      (up_run z bottom top below may rest bottom middle_up (omega arith) refl (omega arith) (omega arith) (omega arith))
 
   abbrev up_at : ℕ → ℕ
-  up_at i = bottom + 16 * i
+  up_at i = middle_up + 64 * i
 
-  down_runs : Runs z (block_steps room) (until_equal 2 5 down_code) (BeginsBlocks (down_at 0) bottom)
-      (Zeroing (down_at blocks) bottom (down_at blocks) top)
-  down_runs =
-      blocks_run down_code refl bottom down_at (λ i. down_at (suc i)) down_at (λ i. top)
+  runs_up : (b : Bool) → (rounds == 0) ≡ b
+      → Runs z (18 * rounds) (if b then [] else until_equal 2 5 (up_code 16)) (Starts middle_up top)
+      (Zeroes top top middle_up top)
+  runs_up true none =
+      let no_rounds : rounds ≡ 0 = eqb-true rounds 0 none in
+      let is = parts in
+      let same : middle_up ≡ top = omega arith in
+      let no_steps : 0 ≡ 18 * rounds = omega arith in
+      in_steps z no_steps
+      (subst (λ x. Runs z 0 [] (Starts x top) (Zeroes top top x top)) (sym same)
+      (none_runs z bottom top below may top top top top (omega arith)))
+  runs_up false some =
+      let differ = eqb-false rounds 0 some in
+      let is = parts in
+      let end : up_at rounds ≡ top = omega arith in
+      let begin : up_at 0 ≡ middle_up = omega arith in
+      subst (λ x. Runs z (18 * rounds) (until_equal 2 5 (up_code 16)) (Starts x top) (Zeroes top top middle_up top))
+      begin
+      (subst (λ x. Runs z (18 * rounds) (until_equal 2 5 (up_code 16)) (Starts (up_at 0) top)
+      (Zeroes x top middle_up x)) end
+      (loop_runs z bottom top below may rounds (up_code 16) refl top up_at up_at (λ i. middle_up) up_at
       (λ i few. (omega arith, omega arith))
-      (λ i few. block_down (down_at i) (down_at (suc i)) (omega arith) (omega arith) (omega arith) (omega arith))
+      (λ i few. up_run z bottom top below may 16 (up_at i) (up_at (suc i)) (omega arith) (omega arith) (omega arith)
+      (omega arith) (omega arith))
       (λ i one two three few zeroed more.
-      let next : down_at (suc i) + 16 ≡ down_at i = omega arith in
-      zeros_down (down_at (suc i)) (down_at i) top one two three (omega arith) (omega arith) zeroed
-      (subst (λ y. AreZeroed (down_at (suc i)) y two three) next more))
-      (λ i few same. omega arith) (omega arith) (omega arith)
-
-  pub up_runs : Runs z (block_steps room) (until_equal 2 5 up_code) (HasRoomBounds bottom room) (IsWiped bottom room)
-  up_runs =
-      let end : up_at blocks ≡ top = omega arith in
-      weaken_runs z
-      (blocks_run up_code refl top up_at up_at (λ i. bottom) up_at (λ i few. (omega arith, omega arith))
-      (λ i few. block_up (up_at i) (up_at (suc i)) (omega arith) (omega arith) (omega arith) (omega arith))
-      (λ i one two three few zeroed more.
-      let next : up_at i + 16 ≡ up_at (suc i) = omega arith in
-      zeros_up bottom (up_at i) (up_at (suc i)) one two three (omega arith) (omega arith) zeroed
+      let next : up_at i + 64 ≡ up_at (suc i) = omega arith in
+      zeros_up middle_up (up_at i) (up_at (suc i)) one two three (omega arith) (omega arith) zeroed
       (subst (λ y. AreZeroed (up_at i) y two three) next more))
-      (λ i few same. omega arith) end (omega arith))
-      (λ s has. record { stack = has.stack ∙ omega arith; last = has.top; there = has.there })
-      (λ s t has held. record {
-        stack = held.stack ∙ end;
-        zeroed = subst (λ y. AreZeroed bottom y s.bytes t.bytes) end held.zeroed;
-        others = held.others;
-      })
+      (λ i few same. omega arith) end (omega arith) (omega arith)))
+
+  pub up_runs : Runs z (runs_steps room) (wipe_code room) (HasRoomBounds bottom room) (IsWiped bottom room)
+  up_runs =
+      let is = parts in
+      weaken_runs z
+      (both_run z bottom top below may bottom middle_up top top bottom middle_up middle_up top bottom top
+      (λ one two three lower upper.
+      zeros_up bottom middle_up top one two three (omega arith) (omega arith) lower upper)
+      (rest_up (rest == 0) refl) (runs_up (rounds == 0) refl))
+      (λ s has. record { stack = has.stack; last = has.top; there = has.there })
+      (λ s t has held. record { stack = held.stack; zeroed = held.zeroed; others = held.others })
 
   -- The frame: x5 is the number of bytes, and then the bottom.
 
-  frame_runs : Runs z (length (constant_code 5 room) + 1 + block_steps room)
-      ((constant_code 5 room ++ Register Sub 5 2 5 ∷ []) ++ until_equal 2 5 down_code) (HasFrame bottom room)
+  frame_runs : Runs z (length (constant_code 5 room) + 1 + runs_steps room)
+      ((constant_code 5 room ++ Register Sub 5 2 5 ∷ []) ++ runs_code down_code room) (HasFrame bottom room)
       (IsZeroFrame bottom room)
   frame_runs =
-      let base = constant_code 5 room ++ Register Sub 5 2 5 ∷ [] in
-      let end : down_at blocks ≡ bottom = omega arith in
       in_steps z
-      (ap (λ n. n + block_steps room) (length-append (constant_code 5 room) (Register Sub 5 2 5 ∷ [])))
+      (ap (λ n. n + runs_steps room) (length-append (constant_code 5 room) (Register Sub 5 2 5 ∷ [])))
       (makes_then z {P = HasFrame bottom room} {f = λ s. with_result 5 (difference_of (s.regs 2) room) s}
       {S = IsZeroFrame bottom room}
       (number_then z 5 room (omega arith) (λ e. omega arith) (omega arith) Sub 2 5 (omega arith) (omega arith))
       down_runs
-      (λ s has. record { stack = has.stack ∙ omega arith; last = omega (arith, has.stack); there = has.there })
+      (λ s has. record { stack = has.stack; last = omega (arith, has.stack); there = has.there })
       (λ s u has held. record {
-        stack = held.stack ∙ end;
-        zeroed = subst (λ y. AreZeroed y top s.bytes u.bytes) end held.zeroed;
+        stack = held.stack;
+        zeroed = held.zeroed;
         others = λ q h k. held.others q h ∙ unwritten s.regs 5 (difference_of (s.regs 2) room) q k;
       }))
 
@@ -209,8 +409,8 @@ pub zeroed_runs : (z : Setting) (bottom room : ℕ) → bottom % 16 ≡ 0 → ro
 zeroed_runs z bottom room even whole below may = by (room == 0) refl
   where
     by : (b : Bool) → (room == 0) ≡ b
-        → Runs z (if b then 0 else length (constant_code 5 room) + 1 + block_steps room)
-        (if b then [] else some_frame room) (HasFrame bottom room) (IsZeroFrame bottom room)
+        → Runs z (if b then 0 else length (constant_code 5 room) + 1 + runs_steps room)
+        (if b then [] else constant_code 5 room ++ Register Sub 5 2 5 ∷ runs_code down_code room) (HasFrame bottom room) (IsZeroFrame bottom room)
     by true none =
         let no_room : room ≡ 0 = eqb-true room 0 none in
         no_code z
@@ -220,9 +420,8 @@ zeroed_runs z bottom room even whole below may = by (room == 0) refl
           others = λ q h k. refl;
         })
     by false some =
-        let differ = eqb-false room 0 some in
-        as_code z (append_assoc (constant_code 5 room) (Register Sub 5 2 5 ∷ []) (until_equal 2 5 down_code))
-        (frame_runs z bottom room even whole (omega arith) below may)
+        as_code z (append_assoc (constant_code 5 room) (Register Sub 5 2 5 ∷ []) (runs_code down_code room))
+        (frame_runs z bottom room even whole below may)
 
 pub frame_is_zeroed : FrameIsZeroed
 frame_is_zeroed code start bottom room there even whole below =
@@ -231,7 +430,7 @@ frame_is_zeroed code start bottom room there even whole below =
     (zeroed_runs z bottom room even whole below (λ sp x low high above. ((low, high), above)))
 
 pub room_is_wiped : RoomIsWiped
-room_is_wiped code start bottom room there even whole positive below =
+room_is_wiped code start bottom room there even whole below =
     let z = storing code bottom room in
-    does z start wipe_code (placed code start wipe_code there)
-    (up_runs z bottom room even whole positive below (λ sp x low high above. ((low, high), above)))
+    does z start (wipe_code room) (placed code start (wipe_code room) there)
+    (up_runs z bottom room even whole below (λ sp x low high above. ((low, high), above)))

@@ -4,8 +4,9 @@
 -- The room of a call lies below the caller's sp: the image's frame at its lower end, in whole blocks of 16 bytes,
 -- then the caller's s0 to s11, then a0 to a7, so that argument i stands in the i-th word from there on, also where C
 -- passes it on the stack.
-use Rattle.std.specs.Prelude.{ℕ, ◌+◌, ◌-◌, ◌*◌, ◌^◌, ◌==◌, List, [], ◌∷◌, ◌++◌, length, map, Option, Some, None}
-use Rattle.std.specs.Prelude.{if◌then◌else◌}
+use Rattle.std.specs.Prelude.{ℕ, ◌+◌, ◌-◌, ◌*◌, ◌/◌, ◌%◌, ◌^◌, ◌==◌, List, [], ◌∷◌, ◌++◌, length, map, replicate}
+use Rattle.std.specs.Prelude.{nat_lt, Option, Some, None, if◌then◌else◌}
+use Rattle.std.proofs.Common.{zero, suc}
 use Rattle.linked_calls.specs.Below.{Add, Addi, Bne, body_words, Boolean, Branch, constant_code, cut_code}
 use Rattle.linked_calls.specs.Below.{element_bytes, Fields, FixedArray, Form, Immediate, Instr, is_not_zero_code}
 use Rattle.linked_calls.specs.Below.{JumpRegister, Kind, load_by, load_code, MutableArray, Register, ResultSlot}
@@ -55,9 +56,27 @@ until_equal one other body = body ++ Branch Bne one other (2 ^ 12 - 2 * length b
 abbrev pub added : ℕ → ℕ → Instr
 added r n = Immediate Addi r r n
 
--- four words of zeros from x2 on
-abbrev pub zeros_code : List Instr
-zeros_code = stores_code stack_register 0 (0 ∷ 0 ∷ 0 ∷ 0 ∷ [])
+-- so many words of zeros from x2 on
+abbrev pub zeros_code : ℕ → List Instr
+zeros_code count = stores_code stack_register 0 (replicate count 0)
+
+-- x2 goes down by so many words, which become zeros
+abbrev pub down_code : ℕ → List Instr
+down_code count = added stack_register (4096 - 4 * count) ∷ zeros_code count
+
+-- so many words from x2 on become zeros, and x2 goes up by them
+abbrev pub up_code : ℕ → List Instr
+up_code count = zeros_code count ++ added stack_register (4 * count) ∷ []
+
+-- the words of a room beside its runs of 16
+abbrev pub rest_words : ℕ → ℕ
+rest_words room = room % 64 / 4
+
+-- code for a number of words, over a room up or down to x5: once for the words beside the runs, and once for each run
+abbrev pub runs_code : (ℕ → List Instr) → ℕ → List Instr
+runs_code code room =
+    (if rest_words room == 0 then [] else code (rest_words room))
+    ++ (if room / 64 == 0 then [] else until_equal stack_register 5 (code 16))
 
 -- Entry.
 
@@ -67,12 +86,11 @@ entry_code =
     added stack_register (4096 - above_frame) ∷ stores_code stack_register 0 saved_registers
     ++ stores_code stack_register 48 argument_registers
 
--- the frame, zeroed block by block downward, so that nothing live ever lies below x2
+-- the frame, zeroed run by run downward, so that nothing live ever lies below x2
 abbrev pub frame_code : ℕ → List Instr
 frame_code room =
     if room == 0 then [] else
-    constant_code 5 room ++ Register Sub 5 stack_register 5
-    ∷ until_equal stack_register 5 (added stack_register (4096 - 16) ∷ zeros_code)
+    constant_code 5 room ++ Register Sub 5 stack_register 5 ∷ runs_code down_code room
 
 -- what a raw word means by its kind: a bool is whether it is not 0, a number its low bits
 abbrev pub meant_code : ℕ → Kind → List Instr
@@ -90,16 +108,14 @@ word_code image i slot = load_code 5 (argument_offset image i) ++ meant_code 5 s
 abbrev pub array_bytes : Slot → ℕ
 array_bytes slot = element_bytes slot.param.kind * slot.param.length
 
--- the caller's array from x5 to x7, and its slot from x6 on
-abbrev pub bounds_code : Fields → ℕ → Slot → List Instr
-bounds_code image i slot =
-    load_code 5 (argument_offset image i)
-    ++ constant_code 6 slot.offset ++ Register Add 6 6 stack_register ∷ []
-    ++ constant_code 7 (array_bytes slot) ++ Register Add 7 7 5 ∷ []
+-- the caller's array from x5 on, and its slot from x6 on
+abbrev pub places_code : Fields → ℕ → Slot → List Instr
+places_code image i slot =
+    load_code 5 (argument_offset image i) ++ constant_code 6 slot.offset ++ Register Add 6 6 stack_register ∷ []
 
--- one element more is done
+-- eight elements more are done
 abbrev pub next_code : Kind → List Instr
-next_code kind = added 5 (element_bytes kind) ∷ added 6 (element_bytes kind) ∷ []
+next_code kind = added 5 (8 * element_bytes kind) ∷ added 6 (8 * element_bytes kind) ∷ []
 
 -- a bool element as 0 or 1; numbers have their width
 abbrev pub element_meant_code : Kind → List Instr
@@ -115,18 +131,36 @@ store_by Uint8 = Sb
 store_by Uint16 = Sh
 store_by Uint32 = Sw
 
--- an element of the caller's array into the slot
-abbrev pub copied_in_code : Kind → List Instr
-copied_in_code kind =
-    Load (load_by kind) 28 5 0 ∷ element_meant_code kind ++ Store (store_by kind) 28 6 0 ∷ next_code kind
+-- the element at an offset of the caller's array into the slot
+abbrev pub copied_in_code : Kind → ℕ → List Instr
+copied_in_code kind offset =
+    Load (load_by kind) 28 5 offset ∷ element_meant_code kind ++ Store (store_by kind) 28 6 offset ∷ []
 
--- and of the slot into the caller's array
-abbrev pub copied_out_code : Kind → List Instr
-copied_out_code kind = Load (load_by kind) 28 6 0 ∷ Store (store_by kind) 28 5 0 ∷ next_code kind
+-- and that of the slot into the caller's array
+abbrev pub copied_out_code : Kind → ℕ → List Instr
+copied_out_code kind offset = Load (load_by kind) 28 6 offset ∷ Store (store_by kind) 28 5 offset ∷ []
+
+-- so many elements of so many bytes one after another, the first at an offset
+abbrev pub elements_code : (ℕ → List Instr) → ℕ → ℕ → ℕ → List Instr
+elements_code code bytes offset zero = []
+elements_code code bytes offset (suc count) = code offset ++ elements_code code bytes (offset + bytes) count
+
+-- eight of them by each round of a loop, up to x7, and those that are left behind it
+abbrev pub rounds_code : (ℕ → List Instr) → Kind → ℕ → List Instr
+rounds_code code kind count =
+    let bytes = element_bytes kind in
+    constant_code 7 (bytes * (8 * (count / 8))) ++ Register Add 7 7 5
+    ∷ until_equal 5 7 (elements_code code bytes 0 8 ++ next_code kind) ++ elements_code code bytes 0 (count % 8)
+
+-- all elements of an array: by straight code if they are few
+abbrev pub copied_code : (ℕ → List Instr) → Kind → ℕ → List Instr
+copied_code code kind count =
+    if nat_lt count 16 then elements_code code (element_bytes kind) 0 count else rounds_code code kind count
 
 -- an array that the argument points to into its slot
 abbrev pub copy_in_code : Fields → ℕ → Slot → List Instr
-copy_in_code image i slot = bounds_code image i slot ++ until_equal 5 7 (copied_in_code slot.param.kind)
+copy_in_code image i slot =
+    places_code image i slot ++ copied_code (copied_in_code slot.param.kind) slot.param.kind slot.param.length
 
 abbrev pub argument_code : Fields → ℕ → Slot → Form → List Instr
 argument_code image i slot SingleWord = word_code image i slot
@@ -153,7 +187,8 @@ result_code (Some slot) = load_code result_register slot.offset
 abbrev pub copy_out_code : Fields → ℕ → Slot → Form → List Instr
 copy_out_code image i slot SingleWord = []
 copy_out_code image i slot FixedArray = []
-copy_out_code image i slot MutableArray = bounds_code image i slot ++ until_equal 5 7 (copied_out_code slot.param.kind)
+copy_out_code image i slot MutableArray =
+    places_code image i slot ++ copied_code (copied_out_code slot.param.kind) slot.param.kind slot.param.length
 
 -- all arrays that may be changed, from the i-th argument on
 abbrev pub results_code : Fields → ℕ → List Slot → List Instr
@@ -165,9 +200,9 @@ abbrev pub restore_code : ℕ → List Instr
 restore_code room =
     constant_code 5 room ++ Register Add 5 5 stack_register ∷ loads_code 5 0 saved_registers ++ added 5 above_frame ∷ []
 
--- all the room, zeroed block by block upward
-abbrev pub wipe_code : List Instr
-wipe_code = until_equal stack_register 5 (zeros_code ++ added stack_register 16 ∷ [])
+-- all the room, zeroed run by run upward
+abbrev pub wipe_code : ℕ → List Instr
+wipe_code room = runs_code up_code room
 
 -- registers become 0
 abbrev pub clear_registers_code : List ℕ → List Instr
@@ -176,7 +211,7 @@ clear_registers_code rs = map (λ r. Immediate Addi r 0 0) rs
 abbrev pub leave_code : Fields → List Instr
 leave_code image =
     result_code image.returned ++ results_code image 0 image.slots ++ restore_code (frame_room image)
-    ++ wipe_code ++ clear_registers_code scratch_registers ++ JumpRegister 0 link_register 0 ∷ []
+    ++ wipe_code (room_of image) ++ clear_registers_code scratch_registers ++ JumpRegister 0 link_register 0 ∷ []
 
 -- The function.
 

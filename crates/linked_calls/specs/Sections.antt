@@ -1,15 +1,17 @@
 -- The code of a function in sections, each with one purpose: what its text says of them, and how many steps they
 -- make.
-use Rattle.std.specs.Prelude.{ℕ, ◌+◌, ◌-◌, ◌*◌, ◌/◌, ◌==◌, List, [], ◌∷◌, ◌++◌, length, map, sum, if◌then◌else◌}
+use Rattle.std.specs.Prelude.{ℕ, ◌+◌, ◌-◌, ◌*◌, ◌/◌, ◌%◌, ◌==◌, List, [], ◌∷◌, ◌++◌, length, map, sum, nat_lt}
+use Rattle.std.specs.Prelude.{if◌then◌else◌}
 use Rattle.std.specs.List.{flat_map}
-use Rattle.linked_calls.specs.Below.{Add, constant_code, Fields, FixedArray, Form, Instr, JumpRegister, MutableArray}
-use Rattle.linked_calls.specs.Below.{Register, SingleWord, Slot, Sub}
+use Rattle.linked_calls.specs.Below.{Add, constant_code, element_bytes, Fields, FixedArray, Form, Instr, JumpRegister}
+use Rattle.linked_calls.specs.Below.{Kind, MutableArray, Register, SingleWord, Slot, Sub}
 use Rattle.linked_calls.specs.Convention.{link_register, stack_register, saved_registers, argument_registers}
 use Rattle.linked_calls.specs.Convention.{scratch_registers}
-use Rattle.linked_calls.specs.FunctionCode.{above_frame, frame_room, room_of, stores_code, loads_code, until_equal}
-use Rattle.linked_calls.specs.FunctionCode.{added, zeros_code, argument_code, bounds_code, copied_in_code}
-use Rattle.linked_calls.specs.FunctionCode.{copied_out_code, result_code, copy_out_code, wipe_code}
-use Rattle.linked_calls.specs.FunctionCode.{clear_registers_code}
+use Rattle.linked_calls.specs.FunctionCode.{above_frame, frame_room, room_of, stores_code, loads_code, runs_code}
+use Rattle.linked_calls.specs.FunctionCode.{added, argument_code, copied_in_code}
+use Rattle.linked_calls.specs.FunctionCode.{copied_out_code, down_code, elements_code, places_code, result_code}
+use Rattle.linked_calls.specs.FunctionCode.{copy_out_code}
+use Rattle.linked_calls.specs.FunctionCode.{clear_registers_code, rest_words, wipe_code}
 use Rattle.linked_calls.specs.declared.section.Section.{Section}
 use Rattle.linked_calls.specs.declared.section.Section.TheVariants.{RoomAboveFrame, SavedRegisters, ArgumentRegisters}
 use Rattle.linked_calls.specs.declared.section.Section.TheVariants.{FrameBase, ClearedFrame, ArgumentIn, ResultOut}
@@ -53,45 +55,62 @@ section_code image RoomAboveFrame = added stack_register (4096 - above_frame) �
 section_code image SavedRegisters = stores_code stack_register 0 saved_registers
 section_code image ArgumentRegisters = stores_code stack_register 48 argument_registers
 section_code image FrameBase = constant_code 5 (frame_room image) ++ Register Sub 5 stack_register 5 ∷ []
-section_code image ClearedFrame = until_equal stack_register 5 (added stack_register (4096 - 16) ∷ zeros_code)
+section_code image ClearedFrame = runs_code down_code (frame_room image)
 section_code image (ArgumentIn i slot) = argument_code image i slot slot.param.form
 section_code image ResultOut = result_code image.returned
 section_code image (ArrayOut i slot) = copy_out_code image i slot slot.param.form
 section_code image FrameTop = constant_code 5 (frame_room image) ++ Register Add 5 5 stack_register ∷ []
 section_code image RestoredRegisters = loads_code 5 0 saved_registers
 section_code image CallersStack = added 5 above_frame ∷ []
-section_code image WipedRoom = wipe_code
+section_code image WipedRoom = wipe_code (room_of image)
 section_code image ClearedRegisters = clear_registers_code scratch_registers
 section_code image Return = JumpRegister 0 link_register 0 ∷ []
 
 abbrev pub code_of : Fields → List Section → List Instr
 code_of image sections = flat_map (section_code image) sections
 
--- Steps. A loop makes its steps once for each block of 16 bytes, or for each element.
+-- Steps. A loop makes its steps once for each run of 16 words, or for each eight elements.
 
-abbrev pub block_steps : ℕ → ℕ
-block_steps room = 6 * (room / 16)
+-- so many instructions, and one that moves x2
+abbrev pub rest_steps : ℕ → ℕ
+rest_steps count = if count == 0 then 0 else count + 1
 
--- so many instructions and the branch, once for each element
-abbrev pub element_steps : List Instr → ℕ → ℕ
-element_steps element count = (length element + 1) * count
+-- the words beside the runs, and for each run 16 stores, x2 moved and the branch
+abbrev pub runs_steps : ℕ → ℕ
+runs_steps room = rest_steps (rest_words room) + 18 * (room / 64)
+
+-- eight elements, x5 and x6 moved and the branch in each round, and the elements that are left
+abbrev pub rounds_steps : (ℕ → List Instr) → Kind → ℕ → ℕ
+rounds_steps code kind count =
+    let bytes = element_bytes kind in
+    length (constant_code 7 (bytes * (8 * (count / 8)))) + 1
+    + (length (elements_code code bytes 0 8) + 3) * (count / 8)
+    + length (elements_code code bytes 0 (count % 8))
+
+abbrev pub copied_steps : (ℕ → List Instr) → Kind → ℕ → ℕ
+copied_steps code kind count =
+    if nat_lt count 16 then length (elements_code code (element_bytes kind) 0 count) else rounds_steps code kind count
+
+abbrev pub taken_steps : Fields → ℕ → Slot → ℕ
+taken_steps image i slot =
+    length (places_code image i slot)
+    + copied_steps (copied_in_code slot.param.kind) slot.param.kind slot.param.length
 
 abbrev pub argument_steps : Fields → ℕ → Slot → Form → ℕ
 argument_steps image i slot SingleWord = length (argument_code image i slot SingleWord)
-argument_steps image i slot FixedArray =
-    length (bounds_code image i slot) + element_steps (copied_in_code slot.param.kind) slot.param.length
-argument_steps image i slot MutableArray =
-    length (bounds_code image i slot) + element_steps (copied_in_code slot.param.kind) slot.param.length
+argument_steps image i slot FixedArray = taken_steps image i slot
+argument_steps image i slot MutableArray = taken_steps image i slot
 
 abbrev pub array_steps : Fields → ℕ → Slot → ℕ
 array_steps image i slot =
-    length (bounds_code image i slot) + element_steps (copied_out_code slot.param.kind) slot.param.length
+    length (places_code image i slot)
+    + copied_steps (copied_out_code slot.param.kind) slot.param.kind slot.param.length
 
 abbrev pub section_steps : Fields → Section → ℕ
-section_steps image ClearedFrame = block_steps (frame_room image)
+section_steps image ClearedFrame = runs_steps (frame_room image)
 section_steps image (ArgumentIn i slot) = argument_steps image i slot slot.param.form
 section_steps image (ArrayOut i slot) = array_steps image i slot
-section_steps image WipedRoom = block_steps (room_of image)
+section_steps image WipedRoom = runs_steps (room_of image)
 section_steps image section = length (section_code image section)
 
 -- of all that stands around the body

@@ -2,7 +2,7 @@
 use Rattle.std.specs.Prelude.{◌≡◌, ◌≢◌, ℕ, ◌+◌, ◌%◌, ◌^◌, ◌<◌, ◌≤◌, ◌==◌, length, Option, Some, None, if◌then◌else◌}
 use Rattle.linked_calls.specs.Below.{MachineCode, constant_code, Div, Event, Load, Mul, Store}
 use Rattle.linked_calls.specs.FunctionCode.{frame_code, wipe_code}
-use Rattle.linked_calls.specs.Sections.{block_steps}
+use Rattle.linked_calls.specs.Sections.{runs_steps}
 use Rattle.linked_calls.specs.Does.{Data, Does, AreThere}
 use Rattle.linked_calls.specs.Stretches.{AreData, AreZeroed, LiesIn}
 
@@ -26,7 +26,7 @@ pub record IsZeroFrame (bottom room : ℕ) (s t : Data) : Type 0 where
   pub others : (q : ℕ) → q ≢ 2 → q ≢ 5 → t.regs q ≡ s.regs q
 
 abbrev pub frame_steps : ℕ → ℕ
-frame_steps room = if room == 0 then 0 else length (constant_code 5 room) + 1 + block_steps room
+frame_steps room = if room == 0 then 0 else length (constant_code 5 room) + 1 + runs_steps room
 
 -- the code that zeroes a frame does so
 abbrev pub FrameIsZeroed : Type 0
@@ -55,10 +55,9 @@ pub record IsWiped (bottom room : ℕ) (s t : Data) : Type 0 where
 abbrev pub RoomIsWiped : Type 0
 RoomIsWiped =
     (code : MachineCode) (start bottom room : ℕ)
-    → AreThere code start wipe_code
+    → AreThere code start (wipe_code room)
     → bottom % 16 ≡ 0
     → room % 16 ≡ 0
-    → 0 < room
     → bottom + room < 2 ^ 32
-    → Does code start wipe_code (block_steps room)
+    → Does code start (wipe_code room) (runs_steps room)
     (IsStoreIn bottom (bottom + room)) (HasRoomBounds bottom room) (IsWiped bottom room)

@@ -1,47 +1,54 @@
-// Arrays between the caller's memory and the frame, an element a step.
+// Arrays between the caller's memory and the frame: few elements by straight code, many by a loop over eight at a time.
 
-ghost use Rattle.std.specs.Prelude.{◌≡◌, ◌≤◌, ◌<◌, ◌++◌, ◌∷◌, [], length, OnOk, IfOk};
-ghost use Rattle.functions.specs.Below.{array_bytes, bounds_code, copied_in_code, copied_out_code, copy_in_code};
-ghost use Rattle.functions.specs.Below.{copy_out_code, element_meant_code, load_by, MutableArray, next_code};
+ghost use Rattle.std.specs.Prelude.{◌≡◌, ◌≤◌, ◌<◌, ◌+◌, ◌*◌, ◌++◌, OnOk, IfOk};
+ghost use Rattle.functions.specs.Below.{copied_code, copy_in_code, copy_out_code, element_bytes, element_meant_code};
+ghost use Rattle.functions.specs.Below.{elements_code, load_by, MutableArray, next_code, places_code, rounds_code};
 ghost use Rattle.functions.specs.Below.{store_by};
+ghost use Rattle.functions.specs.function_code.private.Ways.{element_code};
 
 use crate::function_code::pieces::{added, store_by, until_equal};
 use crate::function_code::room::argument_offset;
 use codegen::expression_code::emit::{constant, load, load_by};
 use codegen::image_fields::{ImageFields, Slot};
-use language::{Kind, Param};
+use language::Kind;
 use rv_code::{Immediate12, Instr, Reg, RegisterOperation};
 use std::alloc::{AllocError, Global};
 
-/// How many bytes the array of a parameter has.
-fn array_bytes(slot: Slot) -> u32
-    ensures { result ≡ array_bytes slot }
-{
-    u32::from(slot.param.kind.element_bytes()) * u32::from(slot.param.length)
+/// The elements that one round of the loop copies.
+const ROUND: u32 = 8;
+
+/// From how many elements on they are copied by a loop.
+const MANY: u32 = 16;
+
+/// Which way an array is copied.
+#[derive(Clone, Copy, Debug, PartialEq, Eq)]
+pub enum Way {
+    /// From the caller's array into the slot.
+    In,
+    /// From the slot into the caller's array.
+    Out,
 }
 
-/// The caller's array from x5 up to x7, and its slot from x6 on.
-fn bounds(
+/// The caller's array in x5, and its slot in x6.
+fn places(
     code: &mut Vec<Instr>,
     image: &ImageFields,
     index: u16,
     slot: Slot,
 ) -> Result<(), AllocError>
-    ensures { OnOk result (code.new.items ≡ code.old.items ++ bounds_code image.now index slot) }
+    ensures { OnOk result (code.new.items ≡ code.old.items ++ places_code image.now index slot) }
 {
     load(code, Reg::X5, argument_offset(image, index))?;
     constant(code, Reg::X6, slot.offset)?;
     code.push(Instr::Register(RegisterOperation::Add, Reg::X6, Reg::X6, Reg::X2))?;
-    constant(code, Reg::X7, array_bytes(slot))?;
-    code.push(Instr::Register(RegisterOperation::Add, Reg::X7, Reg::X7, Reg::X5))?;
     Ok(())
 }
 
-/// One element more is done.
+/// Eight elements more are done.
 fn next(code: &mut Vec<Instr>, kind: Kind) -> Result<(), AllocError>
     ensures { OnOk result (code.new.items ≡ code.old.items ++ next_code kind) }
 {
-    let bytes = u32::from(kind.element_bytes());
+    let bytes = ROUND * u32::from(kind.element_bytes());
     code.push(added(Reg::X5, bytes))?;
     code.push(added(Reg::X6, bytes))?;
     Ok(())
@@ -61,29 +68,79 @@ fn element_meant(code: &mut Vec<Instr>, kind: Kind) -> Result<(), AllocError>
     }
 }
 
-/// An element from the caller's array into the frame's: a bool as 0 or 1.
-fn element_in(alloc: Global, kind: Kind) -> Result<Vec<Instr>, AllocError>
-    ensures { IfOk result (λ code. code.items ≡ copied_in_code kind) }
+/// The element at an offset: a bool of the caller's as 0 or 1.
+fn element(code: &mut Vec<Instr>, way: Way, kind: Kind, offset: u32) -> Result<(), AllocError>
+    requires { offset < 4096 }
+    ensures { OnOk result (code.new.items ≡ code.old.items ++ element_code way kind offset) }
 {
-    let here = Immediate12::from_bits(0);
-    let mut code = Vec::new(alloc);
-    code.push(Instr::Load(load_by(kind), Reg::X28, Reg::X5, here))?;
-    element_meant(&mut code, kind)?;
-    code.push(Instr::Store(store_by(kind), Reg::X28, Reg::X6, here))?;
-    next(&mut code, kind)?;
-    Ok(code)
+    let place = Immediate12::from_bits(offset);
+    match way {
+        Way::In => {
+            code.push(Instr::Load(load_by(kind), Reg::X28, Reg::X5, place))?;
+            element_meant(code, kind)?;
+            code.push(Instr::Store(store_by(kind), Reg::X28, Reg::X6, place))?;
+        }
+        Way::Out => {
+            code.push(Instr::Load(load_by(kind), Reg::X28, Reg::X6, place))?;
+            code.push(Instr::Store(store_by(kind), Reg::X28, Reg::X5, place))?;
+        }
+    }
+    Ok(())
 }
 
-/// An element from the frame's array into the caller's.
-fn element_out(alloc: Global, kind: Kind) -> Result<Vec<Instr>, AllocError>
-    ensures { IfOk result (λ code. code.items ≡ copied_out_code kind) }
+/// So many elements, the first where x5 and x6 are.
+fn elements(code: &mut Vec<Instr>, way: Way, kind: Kind, count: u32) -> Result<(), AllocError>
+    requires { count ≤ 16 }
+    ensures { OnOk result (code.new.items
+        ≡ code.old.items ++ elements_code (element_code way kind) (element_bytes kind) 0 count) }
 {
-    let here = Immediate12::from_bits(0);
-    let mut code = Vec::new(alloc);
-    code.push(Instr::Load(load_by(kind), Reg::X28, Reg::X6, here))?;
-    code.push(Instr::Store(store_by(kind), Reg::X28, Reg::X5, here))?;
-    next(&mut code, kind)?;
-    Ok(code)
+    let mut offset = 0;
+    let mut left = count;
+    'elements: while left != 0 {
+        element(code, way, kind, offset)?;
+        offset += u32::from(kind.element_bytes());
+        left -= 1;
+    }
+    Ok(())
+}
+
+/// Eight elements a round, up to x7, and those that are left.
+fn rounds(
+    alloc: Global,
+    code: &mut Vec<Instr>,
+    way: Way,
+    kind: Kind,
+    count: u32,
+) -> Result<(), AllocError>
+    requires { count < 65536 }
+    ensures { OnOk result (code.new.items ≡ code.old.items ++ rounds_code (element_code way kind) kind count) }
+{
+    let bytes = u32::from(kind.element_bytes());
+    constant(code, Reg::X7, bytes * (ROUND * (count / ROUND)))?;
+    code.push(Instr::Register(RegisterOperation::Add, Reg::X7, Reg::X7, Reg::X5))?;
+    let mut round = Vec::new(alloc);
+    elements(&mut round, way, kind, ROUND)?;
+    next(&mut round, kind)?;
+    until_equal(code, Reg::X5, Reg::X7, round.as_slice())?;
+    elements(code, way, kind, count % ROUND)
+}
+
+/// All elements of an array.
+fn copied(
+    alloc: Global,
+    code: &mut Vec<Instr>,
+    way: Way,
+    kind: Kind,
+    count: u32,
+) -> Result<(), AllocError>
+    requires { count < 65536 }
+    ensures { OnOk result (code.new.items ≡ code.old.items ++ copied_code (element_code way kind) kind count) }
+{
+    if count < MANY {
+        elements(code, way, kind, count)
+    } else {
+        rounds(alloc, code, way, kind, count)
+    }
 }
 
 /// The array that an argument points to into its slot.
@@ -96,9 +153,14 @@ pub fn copy_in(
 ) -> Result<(), AllocError>
     ensures { OnOk result (code.new.items ≡ code.old.items ++ copy_in_code image.now index slot) }
 {
-    bounds(code, image, index, slot)?;
-    let element = element_in(alloc, slot.param.kind)?;
-    until_equal(code, Reg::X5, Reg::X7, element.as_slice())
+    places(code, image, index, slot)?;
+    copied(
+        alloc,
+        code,
+        Way::In,
+        slot.param.kind,
+        u32::from(slot.param.length),
+    )
 }
 
 /// An array from its slot to where the argument points.
@@ -111,7 +173,12 @@ pub fn copy_out(
 ) -> Result<(), AllocError>
     ensures { OnOk result (code.new.items ≡ code.old.items ++ copy_out_code image.now index slot MutableArray) }
 {
-    bounds(code, image, index, slot)?;
-    let element = element_out(alloc, slot.param.kind)?;
-    until_equal(code, Reg::X5, Reg::X7, element.as_slice())
+    places(code, image, index, slot)?;
+    copied(
+        alloc,
+        code,
+        Way::Out,
+        slot.param.kind,
+        u32::from(slot.param.length),
+    )
 }

@@ -2,11 +2,11 @@
 
 ghost use Rattle.std.specs.Prelude.{◌≡◌, ◌-◌, ◌++◌, ◌∷◌, [], OnOk};
 ghost use Rattle.functions.specs.Below.{above_frame, added, argument_code, constant_code, meant_code, Register};
-ghost use Rattle.functions.specs.Below.{stack_register, Sub, until_equal, word_code, zeros_code};
+ghost use Rattle.functions.specs.Below.{stack_register, Sub, word_code};
 
 use crate::function_code::copying::copy_in;
-use crate::function_code::pieces::{added, until_equal, zeros};
-use crate::function_code::room::{ABOVE_FRAME, BLOCK, argument_offset};
+use crate::function_code::pieces::added;
+use crate::function_code::room::{ABOVE_FRAME, argument_offset};
 use codegen::expression_code::emit::{constant, load, store};
 use codegen::image_fields::{ImageFields, Slot};
 use language::{Form, Kind};
@@ -34,17 +34,6 @@ pub fn frame_base(code: &mut Vec<Instr>, room: u32) -> Result<(), AllocError>
     constant(code, Reg::X5, room)?;
     code.push(Instr::Register(RegisterOperation::Sub, Reg::X5, Reg::X2, Reg::X5))?;
     Ok(())
-}
-
-/// The frame, zeroed block by block downward.
-pub fn cleared_frame(alloc: Global, code: &mut Vec<Instr>) -> Result<(), AllocError>
-    ensures { OnOk result (code.new.items
-        ≡ code.old.items ++ until_equal stack_register 5 (added stack_register (4096 - 16) ∷ zeros_code)) }
-{
-    let mut block = Vec::new(alloc);
-    block.push(added(Reg::X2, IMMEDIATES - BLOCK))?;
-    zeros(&mut block)?;
-    until_equal(code, Reg::X2, Reg::X5, block.as_slice())
 }
 
 /// What a raw word in x5 means by its kind.

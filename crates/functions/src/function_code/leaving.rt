@@ -2,12 +2,12 @@
 
 ghost use Rattle.std.specs.Prelude.{◌≡◌, ◌++◌, ◌∷◌, [], OnOk};
 ghost use Rattle.functions.specs.Below.{above_frame, Add, added, constant_code, copy_out_code, JumpRegister};
-ghost use Rattle.functions.specs.Below.{link_register, Register, result_code, stack_register, wipe_code};
+ghost use Rattle.functions.specs.Below.{link_register, Register, result_code, stack_register};
 
 use crate::function_code::copying::copy_out;
-use crate::function_code::pieces::{added, until_equal, zeros};
+use crate::function_code::pieces::added;
 use crate::function_code::registers;
-use crate::function_code::room::{ABOVE_FRAME, BLOCK};
+use crate::function_code::room::ABOVE_FRAME;
 use codegen::expression_code::emit::{constant, load};
 use codegen::image_fields::{ImageFields, ResultSlot, Slot};
 use language::Form;
@@ -61,16 +61,6 @@ pub fn callers_stack(code: &mut Vec<Instr>) -> Result<(), AllocError>
 {
     code.push(added(Reg::X5, ABOVE_FRAME))?;
     Ok(())
-}
-
-/// All the room, zeroed block by block upward.
-pub fn wiped_room(alloc: Global, code: &mut Vec<Instr>) -> Result<(), AllocError>
-    ensures { OnOk result (code.new.items ≡ code.old.items ++ wipe_code) }
-{
-    let mut block = Vec::new(alloc);
-    zeros(&mut block)?;
-    block.push(added(Reg::X2, BLOCK))?;
-    until_equal(code, Reg::X2, Reg::X5, block.as_slice())
 }
 
 /// Back to the caller.

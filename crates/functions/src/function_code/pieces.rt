@@ -1,8 +1,7 @@
-// Instructions that several sections have: registers to memory and back, loops, and zeros.
+// Instructions that several sections have: registers to memory and back, and loops.
 
 ghost use Rattle.std.specs.Prelude.{◌≡◌, ◌≤◌, ◌<◌, ◌+◌, ◌*◌, ◌++◌, length, map, OnOk};
 ghost use Rattle.functions.specs.Below.{added, clear_registers_code, loads_code, store_by, stores_code, until_equal};
-ghost use Rattle.functions.specs.Below.{zeros_code};
 
 use language::Kind;
 use rv_code::{
@@ -78,13 +77,6 @@ pub fn clear_registers(code: &mut Vec<Instr>, registers: &[Reg]) -> Result<(), A
         ))?;
     }
     Ok(())
-}
-
-/// Four words of zeros from x2 on.
-pub fn zeros(code: &mut Vec<Instr>) -> Result<(), AllocError>
-    ensures { OnOk result (code.new.items ≡ code.old.items ++ zeros_code) }
-{
-    stores(code, Reg::X2, 0, &[Reg::X0, Reg::X0, Reg::X0, Reg::X0])
 }
 
 /// Instructions, and again from the first on as long as two registers differ.

@@ -9,7 +9,7 @@ use codegen::image_fields::ImageFields;
 pub const ABOVE_FRAME: u32 = 80;
 
 /// A block of the stack, of which x2 is always a multiple.
-pub(crate) const BLOCK: u32 = 16;
+const BLOCK: u32 = 16;
 
 /// Where the first argument stands above the frame.
 pub(crate) const FIRST_ARGUMENT: u32 = 48;

@@ -4,11 +4,12 @@ ghost use Rattle.std.specs.Prelude.{◌≡◌, ◌≤◌, ◌++◌, length, OnOk
 ghost use Rattle.functions.specs.Below.{argument_sections, array_section, array_sections, enter_sections};
 ghost use Rattle.functions.specs.Below.{frame_sections, leave_sections, section_code};
 
-use crate::function_code::entering::{argument, cleared_frame, frame_base, room_above};
-use crate::function_code::leaving::{array, callers_stack, frame_top, go_back, result, wiped_room};
+use crate::function_code::entering::{argument, frame_base, room_above};
+use crate::function_code::leaving::{array, callers_stack, frame_top, go_back, result};
 use crate::function_code::pieces::{clear_registers, loads, stores};
 use crate::function_code::registers;
-use crate::function_code::room::{FIRST_ARGUMENT, frame_room};
+use crate::function_code::room::{FIRST_ARGUMENT, frame_room, room_of};
+use crate::function_code::zeroing::{cleared_frame, wiped_room};
 use codegen::image_fields::{ImageFields, Slot};
 use language::Form;
 use linked_calls::Section;
@@ -111,14 +112,14 @@ fn push_code(
             stores(code, Reg::X2, FIRST_ARGUMENT, &registers::arguments())
         }
         Section::FrameBase => frame_base(code, frame_room(image)),
-        Section::ClearedFrame => cleared_frame(alloc, code),
+        Section::ClearedFrame => cleared_frame(alloc, code, frame_room(image)),
         Section::ArgumentIn(index, slot) => argument(alloc, code, image, index, slot),
         Section::ResultOut => result(code, image.returned()),
         Section::ArrayOut(index, slot) => array(alloc, code, image, index, slot),
         Section::FrameTop => frame_top(code, frame_room(image)),
         Section::RestoredRegisters => loads(code, Reg::X5, 0, &registers::saved()),
         Section::CallersStack => callers_stack(code),
-        Section::WipedRoom => wiped_room(alloc, code),
+        Section::WipedRoom => wiped_room(alloc, code, room_of(image)),
         Section::ClearedRegisters => clear_registers(code, &registers::scratch()),
         Section::Return => go_back(code),
     }
