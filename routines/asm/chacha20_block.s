@@ -1,4 +1,4 @@
-# chacha20_block: made by factc function; 1027 words, 448 bytes of stack, profile 1
+# chacha20_block: made by factc function; 1010 words, 416 bytes of stack, profile 1
     .option push
     .option norvc
     .option norelax
@@ -10,46 +10,20 @@
 chacha20_block:
     .cfi_startproc
     # room above the frame
-    .word 0xfb010113  # addi x2, x2, -80
-    .cfi_def_cfa_offset 80
+    .word 0xfd010113  # addi x2, x2, -48
+    .cfi_def_cfa_offset 48
     # the caller's registers
     .word 0x00812023  # sw x8, 0(x2)
-    .cfi_offset 8, -80
-    .word 0x00912223  # sw x9, 4(x2)
-    .cfi_offset 9, -76
-    .word 0x01212423  # sw x18, 8(x2)
-    .cfi_offset 18, -72
-    .word 0x01312623  # sw x19, 12(x2)
-    .cfi_offset 19, -68
-    .word 0x01412823  # sw x20, 16(x2)
-    .cfi_offset 20, -64
-    .word 0x01512a23  # sw x21, 20(x2)
-    .cfi_offset 21, -60
-    .word 0x01612c23  # sw x22, 24(x2)
-    .cfi_offset 22, -56
-    .word 0x01712e23  # sw x23, 28(x2)
-    .cfi_offset 23, -52
-    .word 0x03812023  # sw x24, 32(x2)
-    .cfi_offset 24, -48
-    .word 0x03912223  # sw x25, 36(x2)
-    .cfi_offset 25, -44
-    .word 0x03a12423  # sw x26, 40(x2)
-    .cfi_offset 26, -40
-    .word 0x03b12623  # sw x27, 44(x2)
-    .cfi_offset 27, -36
+    .cfi_offset 8, -48
     # the arguments, below those on the stack
-    .word 0x02a12823  # sw x10, 48(x2)
-    .word 0x02b12a23  # sw x11, 52(x2)
-    .word 0x02c12c23  # sw x12, 56(x2)
-    .word 0x02d12e23  # sw x13, 60(x2)
-    .word 0x04e12023  # sw x14, 64(x2)
-    .word 0x04f12223  # sw x15, 68(x2)
-    .word 0x05012423  # sw x16, 72(x2)
-    .word 0x05112623  # sw x17, 76(x2)
+    .word 0x00a12823  # sw x10, 16(x2)
+    .word 0x00b12a23  # sw x11, 20(x2)
+    .word 0x00c12c23  # sw x12, 24(x2)
+    .word 0x00d12e23  # sw x13, 28(x2)
     # the frame's base
     .word 0x17000293  # addi x5, x0, 368
     .word 0x405102b3  # sub x5, x2, x5
-    .cfi_def_cfa 5, 448
+    .cfi_def_cfa 5, 416
     # the frame, zeroed downward
     .word 0xfd010113  # addi x2, x2, -48
     .word 0x00012023  # sw x0, 0(x2)
@@ -82,9 +56,9 @@ chacha20_block:
     .word 0x02012c23  # sw x0, 56(x2)
     .word 0x02012e23  # sw x0, 60(x2)
     .word 0xfa511ee3  # bne x2, x5, -68
-    .cfi_def_cfa 2, 448
+    .cfi_def_cfa 2, 416
     # parameter 0: an array
-    .word 0x1a012283  # lw x5, 416(x2)
+    .word 0x18012283  # lw x5, 384(x2)
     .word 0x00000313  # addi x6, x0, 0
     .word 0x00230333  # add x6, x6, x2
     .word 0x02000393  # addi x7, x0, 32
@@ -109,10 +83,10 @@ chacha20_block:
     .word 0x00830313  # addi x6, x6, 8
     .word 0xfa729ce3  # bne x5, x7, -72
     # parameter 1: a word
-    .word 0x1a412283  # lw x5, 420(x2)
+    .word 0x18412283  # lw x5, 388(x2)
     .word 0x02512023  # sw x5, 32(x2)
     # parameter 2: an array
-    .word 0x1a812283  # lw x5, 424(x2)
+    .word 0x18812283  # lw x5, 392(x2)
     .word 0x02400313  # addi x6, x0, 36
     .word 0x00230333  # add x6, x6, x2
     .word 0x0002ce03  # lbu x28, 0(x5)
@@ -140,7 +114,7 @@ chacha20_block:
     .word 0x00b2ce03  # lbu x28, 11(x5)
     .word 0x01c305a3  # sb x28, 11(x6)
     # parameter 3: an array
-    .word 0x1ac12283  # lw x5, 428(x2)
+    .word 0x18c12283  # lw x5, 396(x2)
     .word 0x03000313  # addi x6, x0, 48
     .word 0x00230333  # add x6, x6, x2
     .word 0x04000393  # addi x7, x0, 64
@@ -991,7 +965,7 @@ chacha20_block:
     # the result
     .word 0x00000513  # addi x10, x0, 0
     # parameter 3: the array, back
-    .word 0x1ac12283  # lw x5, 428(x2)
+    .word 0x18c12283  # lw x5, 396(x2)
     .word 0x03000313  # addi x6, x0, 48
     .word 0x00230333  # add x6, x6, x2
     .word 0x04000393  # addi x7, x0, 64
@@ -1021,32 +995,19 @@ chacha20_block:
     # the caller's registers
     .word 0x0002a403  # lw x8, 0(x5)
     .cfi_restore 8
-    .word 0x0042a483  # lw x9, 4(x5)
-    .cfi_restore 9
-    .word 0x0082a903  # lw x18, 8(x5)
-    .cfi_restore 18
-    .word 0x00c2a983  # lw x19, 12(x5)
-    .cfi_restore 19
-    .word 0x0102aa03  # lw x20, 16(x5)
-    .cfi_restore 20
-    .word 0x0142aa83  # lw x21, 20(x5)
-    .cfi_restore 21
-    .word 0x0182ab03  # lw x22, 24(x5)
-    .cfi_restore 22
-    .word 0x01c2ab83  # lw x23, 28(x5)
-    .cfi_restore 23
-    .word 0x0202ac03  # lw x24, 32(x5)
-    .cfi_restore 24
-    .word 0x0242ac83  # lw x25, 36(x5)
-    .cfi_restore 25
-    .word 0x0282ad03  # lw x26, 40(x5)
-    .cfi_restore 26
-    .word 0x02c2ad83  # lw x27, 44(x5)
-    .cfi_restore 27
     # the caller's x2
-    .word 0x05028293  # addi x5, x5, 80
+    .word 0x03028293  # addi x5, x5, 48
     .cfi_def_cfa 5, 0
     # all the room, wiped upward
+    .word 0x00012023  # sw x0, 0(x2)
+    .word 0x00012223  # sw x0, 4(x2)
+    .word 0x00012423  # sw x0, 8(x2)
+    .word 0x00012623  # sw x0, 12(x2)
+    .word 0x00012823  # sw x0, 16(x2)
+    .word 0x00012a23  # sw x0, 20(x2)
+    .word 0x00012c23  # sw x0, 24(x2)
+    .word 0x00012e23  # sw x0, 28(x2)
+    .word 0x02010113  # addi x2, x2, 32
     .word 0x00012023  # sw x0, 0(x2)
     .word 0x00012223  # sw x0, 4(x2)
     .word 0x00012423  # sw x0, 8(x2)

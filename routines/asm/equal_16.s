@@ -1,4 +1,4 @@
-# equal_16: made by factc function; 173 words, 144 bytes of stack, profile 1
+# equal_16: made by factc function; 147 words, 96 bytes of stack, profile 1
     .option push
     .option norvc
     .option norelax
@@ -10,46 +10,16 @@
 equal_16:
     .cfi_startproc
     # room above the frame
-    .word 0xfb010113  # addi x2, x2, -80
-    .cfi_def_cfa_offset 80
+    .word 0xfe010113  # addi x2, x2, -32
+    .cfi_def_cfa_offset 32
     # the caller's registers
-    .word 0x00812023  # sw x8, 0(x2)
-    .cfi_offset 8, -80
-    .word 0x00912223  # sw x9, 4(x2)
-    .cfi_offset 9, -76
-    .word 0x01212423  # sw x18, 8(x2)
-    .cfi_offset 18, -72
-    .word 0x01312623  # sw x19, 12(x2)
-    .cfi_offset 19, -68
-    .word 0x01412823  # sw x20, 16(x2)
-    .cfi_offset 20, -64
-    .word 0x01512a23  # sw x21, 20(x2)
-    .cfi_offset 21, -60
-    .word 0x01612c23  # sw x22, 24(x2)
-    .cfi_offset 22, -56
-    .word 0x01712e23  # sw x23, 28(x2)
-    .cfi_offset 23, -52
-    .word 0x03812023  # sw x24, 32(x2)
-    .cfi_offset 24, -48
-    .word 0x03912223  # sw x25, 36(x2)
-    .cfi_offset 25, -44
-    .word 0x03a12423  # sw x26, 40(x2)
-    .cfi_offset 26, -40
-    .word 0x03b12623  # sw x27, 44(x2)
-    .cfi_offset 27, -36
     # the arguments, below those on the stack
-    .word 0x02a12823  # sw x10, 48(x2)
-    .word 0x02b12a23  # sw x11, 52(x2)
-    .word 0x02c12c23  # sw x12, 56(x2)
-    .word 0x02d12e23  # sw x13, 60(x2)
-    .word 0x04e12023  # sw x14, 64(x2)
-    .word 0x04f12223  # sw x15, 68(x2)
-    .word 0x05012423  # sw x16, 72(x2)
-    .word 0x05112623  # sw x17, 76(x2)
+    .word 0x00a12023  # sw x10, 0(x2)
+    .word 0x00b12223  # sw x11, 4(x2)
     # the frame's base
     .word 0x04000293  # addi x5, x0, 64
     .word 0x405102b3  # sub x5, x2, x5
-    .cfi_def_cfa 5, 144
+    .cfi_def_cfa 5, 96
     # the frame, zeroed downward
     .word 0xfc010113  # addi x2, x2, -64
     .word 0x00012023  # sw x0, 0(x2)
@@ -69,9 +39,9 @@ equal_16:
     .word 0x02012c23  # sw x0, 56(x2)
     .word 0x02012e23  # sw x0, 60(x2)
     .word 0xfa511ee3  # bne x2, x5, -68
-    .cfi_def_cfa 2, 144
+    .cfi_def_cfa 2, 96
     # parameter 0: an array
-    .word 0x07012283  # lw x5, 112(x2)
+    .word 0x04012283  # lw x5, 64(x2)
     .word 0x00000313  # addi x6, x0, 0
     .word 0x00230333  # add x6, x6, x2
     .word 0x01000393  # addi x7, x0, 16
@@ -96,7 +66,7 @@ equal_16:
     .word 0x00830313  # addi x6, x6, 8
     .word 0xfa729ce3  # bne x5, x7, -72
     # parameter 1: an array
-    .word 0x07412283  # lw x5, 116(x2)
+    .word 0x04412283  # lw x5, 68(x2)
     .word 0x01000313  # addi x6, x0, 16
     .word 0x00230333  # add x6, x6, x2
     .word 0x01000393  # addi x7, x0, 16
@@ -157,39 +127,19 @@ equal_16:
     .word 0x04000293  # addi x5, x0, 64
     .word 0x002282b3  # add x5, x5, x2
     # the caller's registers
-    .word 0x0002a403  # lw x8, 0(x5)
-    .cfi_restore 8
-    .word 0x0042a483  # lw x9, 4(x5)
-    .cfi_restore 9
-    .word 0x0082a903  # lw x18, 8(x5)
-    .cfi_restore 18
-    .word 0x00c2a983  # lw x19, 12(x5)
-    .cfi_restore 19
-    .word 0x0102aa03  # lw x20, 16(x5)
-    .cfi_restore 20
-    .word 0x0142aa83  # lw x21, 20(x5)
-    .cfi_restore 21
-    .word 0x0182ab03  # lw x22, 24(x5)
-    .cfi_restore 22
-    .word 0x01c2ab83  # lw x23, 28(x5)
-    .cfi_restore 23
-    .word 0x0202ac03  # lw x24, 32(x5)
-    .cfi_restore 24
-    .word 0x0242ac83  # lw x25, 36(x5)
-    .cfi_restore 25
-    .word 0x0282ad03  # lw x26, 40(x5)
-    .cfi_restore 26
-    .word 0x02c2ad83  # lw x27, 44(x5)
-    .cfi_restore 27
     # the caller's x2
-    .word 0x05028293  # addi x5, x5, 80
+    .word 0x02028293  # addi x5, x5, 32
     .cfi_def_cfa 5, 0
     # all the room, wiped upward
     .word 0x00012023  # sw x0, 0(x2)
     .word 0x00012223  # sw x0, 4(x2)
     .word 0x00012423  # sw x0, 8(x2)
     .word 0x00012623  # sw x0, 12(x2)
-    .word 0x01010113  # addi x2, x2, 16
+    .word 0x00012823  # sw x0, 16(x2)
+    .word 0x00012a23  # sw x0, 20(x2)
+    .word 0x00012c23  # sw x0, 24(x2)
+    .word 0x00012e23  # sw x0, 28(x2)
+    .word 0x02010113  # addi x2, x2, 32
     .word 0x00012023  # sw x0, 0(x2)
     .word 0x00012223  # sw x0, 4(x2)
     .word 0x00012423  # sw x0, 8(x2)

@@ -6,7 +6,7 @@
 #define FACT_aes128_decrypt_H
 #include <stdbool.h>
 #include <stdint.h>
-#define aes128_decrypt_STACK_BYTES 1840
+#define aes128_decrypt_STACK_BYTES 1808
 #ifdef __cplusplus
 extern "C" {
 #endif

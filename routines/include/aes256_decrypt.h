@@ -6,7 +6,7 @@
 #define FACT_aes256_decrypt_H
 #include <stdbool.h>
 #include <stdint.h>
-#define aes256_decrypt_STACK_BYTES 2000
+#define aes256_decrypt_STACK_BYTES 1968
 #ifdef __cplusplus
 extern "C" {
 #endif

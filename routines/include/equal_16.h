@@ -6,7 +6,7 @@
 #define FACT_equal_16_H
 #include <stdbool.h>
 #include <stdint.h>
-#define equal_16_STACK_BYTES 144
+#define equal_16_STACK_BYTES 96
 #ifdef __cplusplus
 extern "C" {
 #endif

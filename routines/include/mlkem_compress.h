@@ -6,7 +6,7 @@
 #define FACT_mlkem_compress_H
 #include <stdbool.h>
 #include <stdint.h>
-#define mlkem_compress_STACK_BYTES 624
+#define mlkem_compress_STACK_BYTES 592
 #ifdef __cplusplus
 extern "C" {
 #endif

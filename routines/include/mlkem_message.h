@@ -6,7 +6,7 @@
 #define FACT_mlkem_message_H
 #include <stdbool.h>
 #include <stdint.h>
-#define mlkem_message_STACK_BYTES 640
+#define mlkem_message_STACK_BYTES 608
 #ifdef __cplusplus
 extern "C" {
 #endif

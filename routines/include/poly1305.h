@@ -6,7 +6,7 @@
 #define FACT_poly1305_H
 #include <stdbool.h>
 #include <stdint.h>
-#define poly1305_STACK_BYTES 768
+#define poly1305_STACK_BYTES 736
 #ifdef __cplusplus
 extern "C" {
 #endif

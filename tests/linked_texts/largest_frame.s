@@ -7,28 +7,10 @@
     .globl largest_frame
     .type largest_frame, @function
 largest_frame:
-    # room above the frame, 80 bytes, and what stands there
-    addi x2, x2, -80
-    sw x8, 0(x2)
-    sw x9, 4(x2)
-    sw x18, 8(x2)
-    sw x19, 12(x2)
-    sw x20, 16(x2)
-    sw x21, 20(x2)
-    sw x22, 24(x2)
-    sw x23, 28(x2)
-    sw x24, 32(x2)
-    sw x25, 36(x2)
-    sw x26, 40(x2)
-    sw x27, 44(x2)
-    sw x10, 48(x2)
-    sw x11, 52(x2)
-    sw x12, 56(x2)
-    sw x13, 60(x2)
-    sw x14, 64(x2)
-    sw x15, 68(x2)
-    sw x16, 72(x2)
-    sw x17, 76(x2)
+    # room above the frame, 32 bytes, and the arguments there
+    addi x2, x2, -32
+    sw x10, 0(x2)
+    sw x11, 4(x2)
     # 65,536 bytes below
     lui x5, 16
     addi x5, x5, 0
@@ -51,15 +33,15 @@ largest_frame:
     sw x0, 56(x2)
     sw x0, 60(x2)
     bne x2, x5, 1b
-    # argument 0, at 65,584, to 0
+    # argument 0, at 65,536, to 0
     lui x5, 16
     add x5, x5, x2
-    lw x5, 48(x5)
+    lw x5, 0(x5)
     sw x5, 0(x2)
-    # argument 1, at 65,588: two words to 65,524
+    # argument 1, at 65,540: two words to 65,524
     lui x5, 16
     add x5, x5, x2
-    lw x5, 52(x5)
+    lw x5, 4(x5)
     lui x6, 16
     addi x6, x6, -12
     add x6, x6, x2
@@ -83,7 +65,7 @@ largest_frame:
     # the array back
     lui x5, 16
     add x5, x5, x2
-    lw x5, 52(x5)
+    lw x5, 4(x5)
     lui x6, 16
     addi x6, x6, -12
     add x6, x6, x2
@@ -91,29 +73,21 @@ largest_frame:
     sw x28, 0(x5)
     lw x28, 4(x6)
     sw x28, 4(x5)
-    # the frame's end, the caller's registers and stack
+    # the frame's end, and the caller's stack
     lui x5, 16
     addi x5, x5, 0
     add x5, x5, x2
-    lw x8, 0(x5)
-    lw x9, 4(x5)
-    lw x18, 8(x5)
-    lw x19, 12(x5)
-    lw x20, 16(x5)
-    lw x21, 20(x5)
-    lw x22, 24(x5)
-    lw x23, 28(x5)
-    lw x24, 32(x5)
-    lw x25, 36(x5)
-    lw x26, 40(x5)
-    lw x27, 44(x5)
-    addi x5, x5, 80
-    # four words, and runs of 16
+    addi x5, x5, 32
+    # eight words, and runs of 16
     sw x0, 0(x2)
     sw x0, 4(x2)
     sw x0, 8(x2)
     sw x0, 12(x2)
-    addi x2, x2, 16
+    sw x0, 16(x2)
+    sw x0, 20(x2)
+    sw x0, 24(x2)
+    sw x0, 28(x2)
+    addi x2, x2, 32
 1:  sw x0, 0(x2)
     sw x0, 4(x2)
     sw x0, 8(x2)

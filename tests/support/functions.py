@@ -4,7 +4,6 @@ import re
 
 WORD = re.compile(r"^    \.word 0x([0-9a-f]{8})  # (.*)$")
 HEAD = re.compile(r"^# (\w+): made by factc function; (\d+) words, (\d+) bytes of stack, profile ([12])$")
-ABOVE_FRAME = 80
 SIZES = {"bool": 1, "uint8": 1, "uint16": 2, "uint32": 4}
 
 
@@ -27,7 +26,7 @@ class Function:
         lines = text.splitlines()
         self.name, count, room, profile = HEAD.match(lines[0]).groups()
         self.count, self.room, self.profile = int(count), int(room), int(profile)
-        self.sections = []
+        self.sections, self.above = [], 0
         for line in lines[lines.index(f"{self.name}:") + 1 :]:
             self.take(line)
 
@@ -37,12 +36,20 @@ class Function:
             self.sections.append(Section(line.removeprefix("    # ")))
         elif word:
             self.sections[-1].words.append(int(word.group(1), 16))
+        elif line.startswith("    .cfi_def_cfa_offset "):
+            self.above = int(line.split()[1])
+            self.sections[-1].changes.append((len(self.sections[-1].words), line.split()))
         elif line.startswith("    .cfi_") and self.sections and "endproc" not in line:
             self.sections[-1].changes.append((len(self.sections[-1].words), line.split()))
 
     @property
     def low(self):
-        return self.room - ABOVE_FRAME
+        return self.room - self.above
+
+    @property
+    def kept(self):
+        """How many of the caller's registers it keeps."""
+        return sum(len(section.words) for section in self.sections[:2] if section.title == "the caller's registers")
 
     def words(self, sections=None):
         return [word for section in sections or self.sections for word in section.words]
@@ -83,13 +90,14 @@ def near(number):
     return number < 2_048
 
 
-def wrapper_steps(parameters, offsets, frame, result):
+def wrapper_steps(parameters, offsets, frame, result, kept):
     """The steps of the code around a body, by the sizes of what it moves: parameters are pairs of a form and a type, in which an
-    array's type has a length behind it, and offsets are those of their slots, and of the result's where there is one."""
-    low = (frame + 15) // 16 * 16
-    steps = 21 + (constant(low) + 1 + zeroed(low) if low else 0)
+    array's type has a length behind it, offsets are those of their slots, and of the result's where there is one, and so many of
+    the caller's registers are kept."""
+    low, above = (frame + 15) // 16 * 16, (4 * kept + 32 + 15) // 16 * 16
+    steps = 1 + kept + min(len(parameters), 8) + (constant(low) + 1 + zeroed(low) if low else 0)
     for number, (form, kind, length) in enumerate(parameters):
-        place = load(low + 48 + 4 * number)
+        place = load(low + above - 32 + 4 * number)
         if form == "word":
             steps += place + {"bool": 1, "uint8": 1, "uint16": 2, "uint32": 0}[kind] + load(offsets[number])
         else:
@@ -97,7 +105,7 @@ def wrapper_steps(parameters, offsets, frame, result):
             steps += head + copied(kind, length, 3 if kind == "bool" else 2)
             steps += head + copied(kind, length, 2) if form == "mut" else 0
     steps += load(result) if result is not None else 1
-    return steps + constant(low) + 14 + zeroed(low + ABOVE_FRAME) + 15
+    return steps + constant(low) + 2 + kept + zeroed(low + above) + 15
 
 
 def zeroed(room):

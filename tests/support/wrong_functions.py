@@ -39,6 +39,12 @@ def x8_is_not_restored(function):
     return sections
 
 
+def x8_is_not_saved(function):
+    sections = function.copies()
+    exchange(titled(sections, "the caller's registers"), store_word(0, 8, 2, 2), NOTHING)
+    return sections
+
+
 def only_the_frame_is_wiped(function):
     sections = function.copies()
     zeros = [store_word(offset, 0, 2, 2) for offset in range(0, function.low, 4)]
@@ -82,7 +88,7 @@ def bytes_are_copied_by_words(function):
 
 def the_next_stack_argument_is_taken(function):
     sections = function.copies()
-    place = function.low + 48 + 4 * 8
+    place = function.room - 32 + 4 * 8
     exchange(titled(sections, "parameter 8: a word"), immediate_word(LOAD, place, 2, 2, 5), immediate_word(LOAD, place + 4, 2, 2, 5))
     return sections
 
@@ -119,7 +125,8 @@ def exchange_in(words, word, other):
 # The function that is made wrong, what is wrong with it, how it is made, and whether nothing but an observer's list tells.
 Wrong = collections.namedtuple("Wrong", "name what make by_lists_alone")
 ALL = [
-    Wrong("sha256_block", "x8 is not restored", x8_is_not_restored, False),
+    Wrong("sha256_block -O", "x8 is not restored", x8_is_not_restored, False),
+    Wrong("sha256_block -O", "x8 is not saved", x8_is_not_saved, False),
     Wrong("add_one", "only the frame is wiped", only_the_frame_is_wiped, False),
     Wrong("sha256_block", "the wipe stops a run early", the_wipe_stops_a_run_early, False),
     Wrong("swap2", "the slots are zeroed before an array is copied back", slots_are_zeroed_before_copying_back, False),

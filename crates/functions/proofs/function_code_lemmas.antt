@@ -1,3 +1,4 @@
 pub mod BodyLemmas
 pub mod ElementLemmas
 pub mod ZeroLemmas
+pub mod ArgumentLemmas

@@ -4,6 +4,7 @@
 
 mod copying;
 mod entering;
+mod kept;
 mod leaving;
 mod pieces;
 mod registers;
@@ -12,6 +13,6 @@ mod sections;
 mod words;
 mod zeroing;
 
-pub use room::{ABOVE_FRAME, room_of};
+pub use room::{above_frame, room_of};
 pub use sections::{enter_sections, leave_sections, section_code};
 pub use words::{body, function_words};

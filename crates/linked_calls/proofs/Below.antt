@@ -43,11 +43,13 @@ pub use Rattle.linked_calls.specs.Calls.{IsCalled, IsReadable, IsSite, LiesWell,
 pub use Rattle.linked_calls.specs.Calls.{CallSite}
 pub use Rattle.linked_calls.specs.Cleared.{AreCleared, IsSilent, RegistersAreCleared}
 pub use Rattle.linked_calls.specs.Convention.{argument_registers, saved_registers, scratch_registers, stack_register}
+pub use Rattle.linked_calls.specs.Written.{is_written, written_of}
 pub use Rattle.linked_calls.specs.Copies.{AreApart, ArrayIsHandedBack, ArrayIsTaken, CanBeCopied, elements_at}
 pub use Rattle.linked_calls.specs.Copies.{HasArray, IsCopying, IsHandedBack, IsArrayTaken, OthersAsBefore, place_of}
 pub use Rattle.linked_calls.specs.Copies.{Pointed, slot_of}
 pub use Rattle.linked_calls.specs.Does.{AreThere, at, Data, Does}
-pub use Rattle.linked_calls.specs.FunctionCode.{added, argument_code, argument_offset, arguments_code, array_bytes}
+pub use Rattle.linked_calls.specs.FunctionCode.{above_frame, added, argument_code, argument_offset, arguments_code}
+pub use Rattle.linked_calls.specs.FunctionCode.{array_bytes, kept_of, passed_of}
 pub use Rattle.linked_calls.specs.FunctionCode.{clear_registers_code, copied_code, copied_in_code, copied_out_code, elements_code}
 pub use Rattle.linked_calls.specs.FunctionCode.{next_code, places_code, rounds_code}
 pub use Rattle.linked_calls.specs.FunctionCode.{copy_out_code, down_code, enter_code, entry_code, frame_code, frame_room}

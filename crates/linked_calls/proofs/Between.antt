@@ -2,10 +2,11 @@
 -- that they can be proved apart from each other and from the body.
 use Rattle.std.specs.Prelude.{sum}
 use Rattle.std.proofs.Common.{◌≡◌, ℕ, suc, ◌+◌, ◌-◌, ◌*◌, ◌%◌, ◌^◌, ◌<◌, List, [], ◌∷◌, length, map, Some}
-use Rattle.std.proofs.Common.{None}
+use Rattle.std.proofs.Common.{false, None}
 use Rattle.linked_calls.proofs.Below.{AreData, argument_offset, arguments_end, arguments_of, array_bytes, body_words}
 use Rattle.linked_calls.proofs.Below.{ByteMap, MachineCode, enter_code, enter_sections, Fields, FixedArray, Form}
 use Rattle.linked_calls.proofs.Below.{frame_room, function_words, goes_on, IsCalled, IsImage, IsLeft, IsLoaded}
+use Rattle.linked_calls.proofs.Below.{is_written, kept_of}
 use Rattle.linked_calls.proofs.Below.{IsOfCall, IsSite, LeadsWithin, leave_sections, moved_to, MutableArray, number_at}
 use Rattle.linked_calls.proofs.Below.{Observation, observed, results_in, room_base, saved_registers, section_steps}
 use Rattle.linked_calls.proofs.Below.{SingleWord, CallSite, Slot, State, Step}
@@ -29,6 +30,11 @@ leave_steps image = sum (map (section_steps image) (leave_sections image))
 abbrev pub AreSaved : ByteMap → (ℕ → ℕ) → ℕ → List ℕ → Type 0
 AreSaved bytes regs a [] = Unit {0}
 AreSaved bytes regs a (r ∷ rs) = (number_at bytes 4 a ≡ Some (regs r)) × AreSaved bytes regs (a + 4) rs
+
+-- two functions agree on each of a list that these words do not write
+abbrev pub AreLeft : List ℕ → (ℕ → ℕ) → (ℕ → ℕ) → List ℕ → Type 0
+AreLeft words f g [] = Unit {0}
+AreLeft words f g (r ∷ rs) = (is_written words r ≡ false → f r ≡ g r) × AreLeft words f g rs
 
 -- ra, gp and tp, which neither the body nor the code around it touches
 abbrev pub untouched_registers : List ℕ
@@ -65,7 +71,8 @@ pub record IsEntered (image : Fields) (site : CallSite) (s t : State) : Type 0 w
   pub at_body : t.pc ≡ body_at image site
   pub loaded : IsLoaded image (room_base image site) (arguments_of image site s) t
   pub untouched : AreSame t.regs s.regs untouched_registers
-  pub saved : AreSaved t.bytes s.regs (saved_at image site) saved_registers
+  pub still : AreSame t.regs s.regs saved_registers
+  pub saved : AreSaved t.bytes s.regs (saved_at image site) (kept_of image)
   pub ready : AreReady image site t.bytes 0 image.slots
   pub outside : (x : ℕ) → IsOutsideRoom image site x → t.bytes x ≡ s.bytes x
   pub there : AreData (room_base image site) site.stack t.bytes
@@ -93,7 +100,9 @@ pub record CanLeave (image : Fields) (site : CallSite) (regs : ℕ → ℕ) (s :
   pub stack : regs 2 ≡ site.stack
   pub untouched : AreSame s.regs regs untouched_registers
   pub words : (r : ℕ) → regs r < 2 ^ 32
-  pub saved : AreSaved s.bytes regs (saved_at image site) saved_registers
+  pub saved : AreSaved s.bytes regs (saved_at image site) (kept_of image)
+  -- the others that the caller may count on are as they were
+  pub left : AreLeft (body_words image.words) s.regs regs saved_registers
   pub there : AreData (room_base image site) (arguments_end image site) s.bytes
   pub ready : AreReady image site s.bytes 0 image.slots
 

@@ -5,7 +5,8 @@ use Rattle.std.proofs.Common.{inr, ⊎_elim, refl, sym, ap, ◌∙◌, subst, ar
 use Rattle.std.proofs.lemmas.Bool.{cases_lt}
 use Rattle.std.proofs.lemmas.List.{map-append}
 use Rattle.std.proofs.lemmas.List.Sums.{sum_by-append}
-use Rattle.linked_calls.proofs.Below.{AreData, Arg, arguments_end, arguments_of, around_steps, both_within, MachineCode}
+use Rattle.linked_calls.proofs.Below.{AreData, Arg, arguments_end, arguments_of, around_steps, body_words, both_within}
+use Rattle.linked_calls.proofs.Below.{kept_of, MachineCode}
 use Rattle.linked_calls.proofs.Below.{enter_sections, Event, Fields, IsCalled, IsInside, IsLeft, IsLinked, IsOfCall}
 use Rattle.linked_calls.proofs.Below.{IsSite, LeadsBy-append, leave_sections, Observation, ProcedureTree}
 use Rattle.linked_calls.proofs.Below.{ProgramTree, Results, results_in, room_base, RunsLinked, saved_registers}
@@ -16,23 +17,36 @@ use Rattle.linked_calls.proofs.Between.{IsOutsideRoom, body_at, saved_at, enter_
 use Rattle.linked_calls.proofs.Between.{EntersFrom, EnteringLeads, CanLeave, Leaves, LeavesFrom, LeavesEverywhere}
 use Rattle.linked_calls.proofs.Between.{untouched_registers}
 use Rattle.linked_calls.proofs.Bytes.{SameData}
+use Rattle.linked_calls.proofs.KeptRegisters.{left_of, left_same, left_then}
 use Rattle.linked_calls.proofs.Rooms.{room_numbers}
 use Rattle.linked_calls.proofs.SameRegisters.{same_then}
 use Rattle.linked_calls.proofs.SavedRegisters.{saved_same}
 use Rattle.linked_calls.proofs.Standing.{body_stands}
+use Rattle.linked_calls.proofs.Unwritten.{alone, alone_writes_none, IsPartOf, part_of, stands_alone, steps_in}
+use Rattle.linked_calls.proofs.Unwritten.{steps_keep}
 use Rattle.linked_calls.proofs.Staying.{arrays_agree, stay_ready}
 use Rattle.linked_calls.proofs.WithinParameters.{arguments_within}
 
 -- Places.
 
+-- the body's words alone
+abbrev body_alone : Fields → MachineCode → CallSite → MachineCode
+body_alone image code site = alone code (body_at image site) (body_words image.words)
+
 is_placed : (image : Fields) (code : MachineCode) (site : CallSite) → IsSite image code site
-    → IsPlaced image code (body_at image site) (room_base image site)
+    → IsPlaced image (body_alone image code site) (body_at image site) (room_base image site)
 is_placed image code site is = record {
   observed = is.observed;
-  words = body_stands image code site is;
+  words = stands_alone code (body_at image site) (body_words image.words) (body_stands image code site is);
   frame_aligned = omega arith;
   frame_ends = omega arith;
 }
+
+-- they are a part of the code
+body_part : (image : Fields) (code : MachineCode) (site : CallSite) → IsSite image code site
+    → IsPartOf (body_alone image code site) code
+body_part image code site is =
+    part_of code (body_at image site) (body_words image.words) (body_stands image code site is)
 
 -- Accesses.
 
@@ -64,8 +78,8 @@ steps_counted enter body leave around rest e counted = omega arith
 module _ (image : Fields) (code : MachineCode) (site : CallSite) (is : IsSite image code site) (s : State)
     (called : IsCalled image site s)
     (before : List Observation) (entered : EntersFrom image code site before s)
-    (list : List Observation) (run : BodyRun image code (body_at image site) (room_base image site) entered.end
-    list) where
+    (list : List Observation)
+    (run : BodyRun image (body_alone image code site) (body_at image site) (room_base image site) entered.end list) where
   same_above : (x : ℕ) → saved_at image site ≤ x → run.end.bytes x ≡ entered.end.bytes x
   same_above x above = run.beside x (inr (omega arith))
 
@@ -112,8 +126,13 @@ module _ (image : Fields) (code : MachineCode) (site : CallSite) (is : IsSite im
         (run.untouched 1 (inl refl), (run.untouched 3 (inr (inl refl)), (run.untouched 4 (inr (inr refl)), tt)))
         entered.entered.untouched;
     words = called.words;
-    saved = saved_same entered.end.bytes run.end.bytes s.regs (saved_at image site) saved_registers
+    saved = saved_same entered.end.bytes run.end.bytes s.regs (saved_at image site) (kept_of image)
         (λ x low high. same_above x low) entered.entered.saved;
+    left = left_then (body_words image.words) saved_registers run.end.regs entered.end.regs s.regs
+        (left_of (body_words image.words) saved_registers run.end.regs entered.end.regs
+        (λ r none. steps_keep r
+        (alone_writes_none r code (body_at image site) (body_words image.words) none) run.at_base))
+        (left_same (body_words image.words) saved_registers entered.end.regs s.regs entered.entered.still);
     there = all_there;
     ready = stay_ready image site (room_numbers image code site is) entered.end.bytes run.end.bytes
         (λ x low high. same_above x low) data_same 0 image.slots (omega arith) entered.entered.ready;
@@ -138,13 +157,13 @@ module _ (image : Fields) (code : MachineCode) (site : CallSite) (is : IsSite im
 module _ (program : ProgramTree) (p : ProcedureTree) (image : Fields) (code : MachineCode) (site : CallSite)
     (is : IsSite image code site)
     (enters : Enters image code site)
-    (linked : IsLinked program p image code (body_at image site) (room_base image site))
+    (linked : IsLinked program p image (body_alone image code site) (body_at image site) (room_base image site))
     (leaves : Leaves image code site) where
   abbrev shown_on : List Arg → List Observation
   shown_on args = enters.shown ++ (linked.shown args ++ leaves.shown)
 
   returns_by : (s : State) (called : IsCalled image site s) (entered : EntersFrom image code site enters.shown s)
-      (body : RunsLinked program image code (body_at image site) (room_base image site) (arguments_of image site s)
+      (body : RunsLinked program image (body_alone image code site) (body_at image site) (room_base image site) (arguments_of image site s)
       entered.end (linked.shown (arguments_of image site s)))
       → LeavesFrom image code site leaves.shown s.regs body.run.end
       → CallReturns program image code site s (shown_on (arguments_of image site s))
@@ -158,7 +177,7 @@ module _ (program : ProgramTree) (p : ProcedureTree) (image : Fields) (code : Ma
         means = body.outcome;
         step_count = enter_steps image + (run.step_count + left.step_count);
         end = left.end;
-        leads = LeadsBy-append entered.leads (LeadsBy-append body_within left.leads);
+        leads = LeadsBy-append entered.leads (LeadsBy-append (steps_in (body_part image code site is) body_within) left.leads);
         body_steps = run.step_count;
         within_steps = run.within_steps;
         counted = steps_counted (enter_steps image) run.step_count (leave_steps image)
@@ -192,5 +211,5 @@ module _ (program : ProgramTree) (p : ProcedureTree) (image : Fields) (code : Ma
 pub calls_are_linked_from : EnteringLeads → LeavesEverywhere → CallsAreLinked
 calls_are_linked_from entering leaving program before p image compiled fields code site is =
     is_callable program p image code site is (entering image code site fields is)
-    (compiled.linked code (body_at image site) (room_base image site) (is_placed image code site is))
+    (compiled.linked (body_alone image code site) (body_at image site) (room_base image site) (is_placed image code site is))
     (leaving image code site fields is)

@@ -1,14 +1,16 @@
 -- The code before the body leads from a state in which the function is called to one in which its body is loaded.
 use Rattle.std.specs.Prelude.{is_some}
-use Rattle.std.proofs.Common.{◌≡◌, ℕ, ◌+◌, ◌-◌, ◌*◌, ◌^◌, ◌<◌, ◌≤◌, Bool, true, false, nat_lt, if◌then◌else◌, []}
+use Rattle.std.proofs.Common.{◌≡◌, ℕ, ◌+◌, ◌-◌, ◌*◌, ◌^◌, ◌<◌, ◌≤◌, Bool, true, false, nat_lt, if◌then◌else◌, List}
+use Rattle.std.proofs.Common.{[]}
 use Rattle.std.proofs.Common.{◌∷◌, ◌++◌, length, map, Some, inl, inr, ⊎_elim, refl, sym, ap, ◌∙◌, subst, arith}
 use Rattle.std.proofs.lemmas.Bool.{cases_lt, ltb-false, ltb-true}
+use Rattle.std.proofs.lemmas.List.{length-map}
 use Rattle.codegen.proofs.program_logic_lemmas.Counted.{in_steps, makes_then, Runs, Setting, then_runs}
-use Rattle.linked_calls.proofs.Below.{AreData, argument_offset, argument_registers, arguments_end, arguments_of, at}
+use Rattle.linked_calls.proofs.Below.{above_frame, AreData, argument_offset, argument_registers, arguments_end, arguments_of, at}
 use Rattle.linked_calls.proofs.Below.{ByteMap, MachineCode, Data, enter_code, entry_code, Fields, found, frame_code}
 use Rattle.linked_calls.proofs.Below.{frame_room, frame_steps, HasFrame, IsCalled, IsImage, IsLoaded, IsOfCall, IsSite}
 use Rattle.linked_calls.proofs.Below.{IsZeroFrame, LeadsWithin, number_at, number_at_same, room_base, saved_registers}
-use Rattle.linked_calls.proofs.Below.{CallSite, State, word_in, zeros}
+use Rattle.linked_calls.proofs.Below.{body_words, CallSite, kept_of, passed_of, State, with_numbers, word_in, zeros}
 use Rattle.linked_calls.proofs.AllArguments.{AreKnown, ArgumentsBegin, TakesArguments, all_taken, all_taken_data}
 use Rattle.linked_calls.proofs.AllArguments.{all_taken_outside, arguments_runs, call_setting, still_base}
 use Rattle.linked_calls.proofs.AllArguments.{taken_registers}
@@ -16,8 +18,9 @@ use Rattle.linked_calls.proofs.Between.{AreReady, AreSaved, EnteringLeads, IsEnt
 use Rattle.linked_calls.proofs.Between.{enter_steps, saved_at, untouched_registers}
 use Rattle.linked_calls.proofs.Bytes.{IsOutside, SameData, number_there, numbers_outside, is_some-with_numbers}
 use Rattle.linked_calls.proofs.Bytes.{zero_byte}
-use Rattle.linked_calls.proofs.SectionSteps.{arguments_steps, enter_steps_are}
-use Rattle.linked_calls.proofs.Entering.{entered, entered_bytes, entry_runs, stored_registers}
+use Rattle.linked_calls.proofs.SectionSteps.{arguments_steps, enter_steps_are, entry_steps}
+use Rattle.linked_calls.proofs.Entering.{entered, entered_bytes, entry_runs, taken_count}
+use Rattle.linked_calls.proofs.KeptRegisters.{kept_fitting}
 use Rattle.linked_calls.proofs.KnownArguments.{all_known}
 use Rattle.linked_calls.proofs.LoadedArguments.{all_taken_is}
 use Rattle.linked_calls.proofs.Parts.{same_number}
@@ -25,7 +28,7 @@ use Rattle.linked_calls.proofs.Passed.{StandAsPassed, all_ready, still_passed}
 use Rattle.linked_calls.proofs.Pieces.{does}
 use Rattle.linked_calls.proofs.Rooms.{RoomNumbers, place_inside, place_stacked, room_numbers}
 use Rattle.linked_calls.proofs.SameRegisters.{AreSame, same_beside, still_same}
-use Rattle.linked_calls.proofs.SavedRegisters.{stored_are_saved, saved_first, saved_one, saved_same, saved_then}
+use Rattle.linked_calls.proofs.SavedRegisters.{stored_are_saved, saved_same, saved_taken}
 use Rattle.linked_calls.proofs.Standing.{enter_placed}
 use Rattle.linked_calls.proofs.Zeros.{zeroed_runs}
 
@@ -54,21 +57,71 @@ module _ (image : Fields) (code : MachineCode) (site : CallSite) (is : IsImage i
 
   -- What the entry stores.
 
+  abbrev kept : List ℕ
+  kept = kept_of image
+
+  abbrev given : List ℕ
+  given = passed_of image
+
+  abbrev beyond : ℕ
+  beyond = above_frame image
+
+  abbrev high : ℕ
+  high = above + (beyond - 32)
+
   abbrev stored : Data → ByteMap
-  stored d = entered_bytes above d
+  stored d = entered_bytes kept (length image.slots) above high d
 
-  stored_outside : (d : Data) (x : ℕ) → IsOutside above (above + 80) x → stored d x ≡ d.bytes x
-  stored_outside d x outside = numbers_outside d.bytes 4 above (map d.regs stored_registers) x outside
+  -- with what is kept alone
+  abbrev stored_first : Data → ByteMap
+  stored_first d = with_numbers d.bytes 4 above (map d.regs kept)
 
-  stored_saved : (d : Data) → ((r : ℕ) → d.regs r < 2 ^ 32) → AreSaved (stored d) d.regs above stored_registers
-  stored_saved d words = stored_are_saved d.bytes d.regs above stored_registers words
+  kept_count : (d : Data) → length (map d.regs kept) ≡ length kept
+  kept_count d = length-map kept d.regs
 
-  above_there : (d : Data) → Called d → AreData above (above + 80) d.bytes
+  given_count : (d : Data) → length (map d.regs given) ≤ 8
+  given_count d =
+      let few = taken_count (length image.slots) argument_registers in
+      let same = length-map given d.regs in
+      omega arith
+
+  stored_outside : (d : Data) (x : ℕ) → IsOutside above (above + beyond) x → stored d x ≡ d.bytes x
+  stored_outside d x outside = by outside
+    where
+      by : IsOutside above (above + beyond) x → stored d x ≡ d.bytes x
+      by (inl low) =
+          numbers_outside (stored_first d) 4 high (map d.regs given) x (inl (omega arith))
+          ∙ numbers_outside d.bytes 4 above (map d.regs kept) x (inl low)
+      by (inr up) =
+          let few = given_count d in
+          let same = kept_count d in
+          numbers_outside (stored_first d) 4 high (map d.regs given) x (inr (omega arith))
+          ∙ numbers_outside d.bytes 4 above (map d.regs kept) x (inr (omega arith))
+
+  stored_kept : (d : Data) → ((r : ℕ) → d.regs r < 2 ^ 32) → AreSaved (stored d) d.regs above kept
+  stored_kept d words =
+      saved_same (stored_first d) (stored d) d.regs above kept
+      (λ x low up. numbers_outside (stored_first d) 4 high (map d.regs given) x (inl (omega arith)))
+      (stored_are_saved d.bytes d.regs above kept words)
+
+  stored_given : (d : Data) → ((r : ℕ) → d.regs r < 2 ^ 32) → AreSaved (stored d) d.regs high given
+  stored_given d words = stored_are_saved (stored_first d) d.regs high given words
+
+  above_there : (d : Data) → Called d → AreData above (above + beyond) d.bytes
   above_there d called x low high = called.there x (omega arith) (omega arith)
+
+  first_data : (d : Data) → Called d → SameData d.bytes (stored_first d)
+  first_data d called x =
+      let same = kept_count d in
+      is_some-with_numbers d.bytes 4 above (map d.regs kept)
+      (λ y low up. above_there d called y low (omega arith)) x
 
   stored_data : (d : Data) → Called d → SameData d.bytes (stored d)
   stored_data d called x =
-      is_some-with_numbers d.bytes 4 above (map d.regs stored_registers) (above_there d called) x
+      let few = given_count d in
+      is_some-with_numbers (stored_first d) 4 high (map d.regs given)
+      (λ y low up. first_data d called y ∙ above_there d called y (omega arith) (omega arith)) x
+      ∙ first_data d called x
 
   -- Arguments, as they stand then.
 
@@ -76,10 +129,10 @@ module _ (image : Fields) (code : MachineCode) (site : CallSite) (is : IsImage i
       → number_at (stored d) 4 (frame + argument_offset image i)
       ≡ Some (if b then d.regs (10 + i) else word_in site.stack d.bytes (4 * (i - 8)))
   raw_by d called i true h few =
-      let place : frame + argument_offset image i ≡ above + 48 + 4 * i = omega arith in
+      let place : frame + argument_offset image i ≡ high + 4 * i = omega arith in
       ap (λ x. number_at (stored d) 4 x) place
-      ∙ saved_one (stored d) d.regs (above + 48) 10 8 i (ltb-true i 8 h)
-      (saved_then (stored d) d.regs above saved_registers argument_registers (stored_saved d called.words))
+      ∙ saved_taken (stored d) d.regs high 10 (length image.slots) 8 i few (ltb-true i 8 h)
+      (stored_given d called.words)
   raw_by d called i false h few =
       let a = site.stack + 4 * (i - 8) in
       let place : frame + argument_offset image i ≡ a = place_stacked image site numbers i (ltb-false i 8 h) in
@@ -90,7 +143,7 @@ module _ (image : Fields) (code : MachineCode) (site : CallSite) (is : IsImage i
       (number_there d.bytes 4 a (λ x low high. called.there x (omega arith) (omega arith)))
       ∙ ap Some (same_number (number_at d.bytes 4 a))
 
-  room_above : (x : ℕ) → IsOutsideRoom image site x → IsOutside above (above + 80) x
+  room_above : (x : ℕ) → IsOutsideRoom image site x → IsOutside above (above + beyond) x
   room_above x (inl low) = inl (omega arith)
   room_above x (inr high) = inr (omega arith)
 
@@ -102,9 +155,14 @@ module _ (image : Fields) (code : MachineCode) (site : CallSite) (is : IsImage i
 
   -- The entry and the frame.
 
-  entry_part : Runs z 21 entry_code Called (λ d t. t ≡ entered above d)
+  abbrev entering : Data → Data
+  entering d = entered kept (length image.slots) above high d
+
+  entry_part : Runs z (entry_steps image) (entry_code image) Called (λ d t. t ≡ entering d)
   entry_part =
-      entry_runs z above (omega arith) (omega arith) (λ x low high. inl ((omega arith, omega arith), low))
+      entry_runs kept (length image.slots) z above beyond (omega arith) numbers.above_whole numbers.above_least
+      numbers.above_most (kept_fitting (body_words image.words)) (omega arith)
+      (λ x low high. inl ((omega arith, omega arith), low))
       (λ d called. (omega (arith, called.stack), above_there d called))
 
   frame_part : Runs z (frame_steps room) (frame_code room) (HasFrame frame room) (IsZeroFrame frame room)
@@ -116,24 +174,27 @@ module _ (image : Fields) (code : MachineCode) (site : CallSite) (is : IsImage i
   record IsFramed (d t : Data) : Type 0 where
     stack : t.regs 2 ≡ frame
     untouched : AreSame t.regs d.regs untouched_registers
+    still : AreSame t.regs d.regs saved_registers
     zeros : (x : ℕ) → frame ≤ x → x < above → t.bytes x ≡ Some 0
     outside : (x : ℕ) → IsOutside frame above x → t.bytes x ≡ stored d x
 
-  frame_begins : (d : Data) → Called d → HasFrame frame room (entered above d)
+  frame_begins : (d : Data) → Called d → HasFrame frame room (entering d)
   frame_begins d called =
       record { stack = refl; there = λ x low high. stored_data d called x ∙ called.there x low (omega arith) }
 
-  framed : (d u : Data) → Called d → IsZeroFrame frame room (entered above d) u → IsFramed d u
+  framed : (d u : Data) → Called d → IsZeroFrame frame room (entering d) u → IsFramed d u
   framed d u called zeroed = record {
     stack = zeroed.stack;
-    untouched = same_beside (2 ∷ 5 ∷ []) u.regs (entered above d).regs (λ q none. zeroed.others q none.0 none.1.0)
+    untouched = same_beside (2 ∷ 5 ∷ []) u.regs (entering d).regs (λ q none. zeroed.others q none.0 none.1.0)
         untouched_registers refl;
+    still = same_beside (2 ∷ 5 ∷ []) u.regs (entering d).regs (λ q none. zeroed.others q none.0 none.1.0)
+        saved_registers refl;
     zeros = zeroed.zeroed.inside;
     outside = zeroed.zeroed.outside;
   }
 
-  framed_part : Runs z (21 + frame_steps room) (entry_code ++ frame_code room) Called IsFramed
-  framed_part = makes_then z {f = entered above} entry_part frame_part frame_begins framed
+  framed_part : Runs z (entry_steps image + frame_steps room) (entry_code image ++ frame_code room) Called IsFramed
+  framed_part = makes_then z {f = entering} entry_part frame_part frame_begins framed
 
   -- The arguments.
 
@@ -193,15 +254,16 @@ module _ (image : Fields) (code : MachineCode) (site : CallSite) (is : IsImage i
       loaded = taken_loaded;
       untouched = still_same taken_registers u.regs t.regs d.regs takes.others untouched_registers refl
           frames.untouched;
-      saved = saved_same (stored d) u.bytes d.regs above saved_registers (λ x low high. taken_outside x (inr low))
-          (saved_first (stored d) d.regs above saved_registers argument_registers (stored_saved d called.words));
+      still = still_same taken_registers u.regs t.regs d.regs takes.others saved_registers refl frames.still;
+      saved = saved_same (stored d) u.bytes d.regs above kept (λ x low high. taken_outside x (inr low))
+          (stored_kept d called.words);
       ready = all_ready image site (at_call d) u.bytes taken_passed 0 image.slots (omega arith) is_site.arrays
           called.arguments;
       outside = taken_passed.outside;
       there = room_there;
     }
 
-  enter_part : Runs z (21 + frame_steps room + arguments_steps image 0 image.slots) (enter_code image) Called
+  enter_part : Runs z (entry_steps image + frame_steps room + arguments_steps image 0 image.slots) (enter_code image) Called
       (λ d t. IsEntered image site (at_call d) (at (body_at image site) t))
   enter_part =
       then_runs z {S = λ d t. IsEntered image site (at_call d) (at (body_at image site) t)} framed_part

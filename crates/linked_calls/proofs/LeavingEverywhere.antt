@@ -12,7 +12,7 @@ use Rattle.linked_calls.proofs.Below.{clear_registers_code, MachineCode, constan
 use Rattle.linked_calls.proofs.Below.{function_words, Instr, IsAt, IsImage, IsLeft, IsOfCall, IsSite, JumpRegister}
 use Rattle.linked_calls.proofs.Below.{kept_registers, LeadsWithin, number_at, Placed-left, Placed-right, Register}
 use Rattle.linked_calls.proofs.Below.{restore_code, result_code, results_code, results_in, ResultSlot, room_base}
-use Rattle.linked_calls.proofs.Below.{room_of, runs_steps}
+use Rattle.linked_calls.proofs.Below.{above_frame, body_words, kept_of, room_of, runs_steps}
 use Rattle.linked_calls.proofs.Below.{saved_registers, scratch_registers, CallSite, State, unwritten, wipe_code}
 use Rattle.linked_calls.proofs.Below.{with_arrays, with_register, with_result, word_in}
 use Rattle.linked_calls.specs.Below.{IsResultSlot, result_end, slots_end}
@@ -21,6 +21,7 @@ use Rattle.linked_calls.proofs.AllResults.{all_handed_apart, all_handed_are, res
 use Rattle.linked_calls.proofs.Between.{AreReady, CanLeave, Leaves, LeavesEverywhere, leave_at, leave_steps}
 use Rattle.linked_calls.proofs.Between.{saved_at, untouched_registers}
 use Rattle.linked_calls.proofs.GoingBack.{goes_back}
+use Rattle.linked_calls.proofs.KeptRegisters.{left_same, left_then}
 use Rattle.linked_calls.proofs.KnownArguments.{all_known}
 use Rattle.linked_calls.proofs.SectionSteps.{outputs_steps, leave_steps_are}
 use Rattle.linked_calls.proofs.Parts.{load_runs, same_number}
@@ -37,7 +38,7 @@ use Rattle.linked_calls.proofs.Standing.{function_length, leave_placed}
 abbrev front : Fields → List Instr
 front image =
     result_code image.returned ++ results_code image 0 image.slots ++ restore_code
-    (frame_room image) ++ wipe_code (room_of image) ++ clear_registers_code scratch_registers
+    image ++ wipe_code (room_of image) ++ clear_registers_code scratch_registers
 
 last_place : (image : Fields) (site : CallSite)
     → leave_at image site + 4 * length (front image) ≡ site.entry + 4 * (length (function_words image) - 1)
@@ -133,18 +134,19 @@ module _ (image : Fields) (code : MachineCode) (site : CallSite) (is : IsImage i
   abbrev front_steps : ℕ
   front_steps =
       length (result_code image.returned) + outputs_steps image 0 image.slots +
-      (length (constant_code 5 (frame_room image) ++ Register Add 5 5 2 ∷ []) + 12 + 1 +
-      runs_steps (frame_room image + 80) + 14)
+      (length (constant_code 5 (frame_room image) ++ Register Add 5 5 2 ∷ []) + length (kept_of image) + 1 +
+      runs_steps (frame_room image + above_frame image) + 14)
 
   front_runs : Runs z front_steps (front image) Starts LeavesAll
   front_runs =
       let ends = numbers.ends in
       let room = frame_room image in
       let first = result_code image.returned ++ results_code image 0 image.slots in
-      let rest = restore_code room ++ wipe_code (room_of image) ++ clear_registers_code scratch_registers in
-      as_code z (grouped first (restore_code room) (wipe_code (room_of image)) (clear_registers_code scratch_registers))
+      let rest = restore_code image ++ wipe_code (room_of image) ++ clear_registers_code scratch_registers in
+      as_code z (grouped first (restore_code image) (wipe_code (room_of image)) (clear_registers_code scratch_registers))
       (then_runs z {P = Starts} {S = LeavesAll} handed_runs
-      (lasts_run z base room numbers.even numbers.whole (omega arith)
+      (lasts_run z (body_words image.words) base room (above_frame image) numbers.even numbers.whole
+      numbers.above_whole numbers.above_least numbers.above_most (omega arith)
       (λ x low high. inl ((omega arith, omega arith), omega arith))
       (λ sp x low high above. inl ((omega arith, omega arith), above)))
       (λ s t begins handed. record {
@@ -159,16 +161,20 @@ module _ (image : Fields) (code : MachineCode) (site : CallSite) (is : IsImage i
       (lasts.others_same.0, (lasts.others_same.1.0, (lasts.others_same.1.1.0, tt)))
       (still_same (10 ∷ taken_registers) t.regs s.regs regs handed.others untouched_registers refl can.untouched) in
       let saved = lasts.saved regs
-      (saved_same s.bytes t.bytes regs (saved_at image site) saved_registers
+      (saved_same s.bytes t.bytes regs (saved_at image site) (kept_of image)
       (λ x low high. ap (λ (b : ByteMap). b x) handed.bytes ∙ in_room s.bytes x (omega arith) (omega arith))
-      can.saved) in
+      can.saved)
+      (left_then (body_words image.words) saved_registers t.regs s.regs regs
+      (left_same (body_words image.words) saved_registers t.regs s.regs
+      (same_beside (10 ∷ taken_registers) t.regs s.regs handed.others saved_registers refl))
+      can.left) in
       record {
         result = lasts.others_same.1.1.1.0 ∙ handed.result;
         kept = all_same u.regs regs kept_registers
             (kept.0, (lasts.stack ∙ ends ∙ sym can.stack, (kept.1.0, (kept.1.1.0, saved))));
         cleared = lasts.cleared;
         memory = subst (λ x. AreZeroed base x (left_bytes s.bytes) u.bytes) ends
-            (subst (λ (b : ByteMap). AreZeroed base (base + (room + 80)) b u.bytes) handed.bytes lasts.zeroed);
+            (subst (λ (b : ByteMap). AreZeroed base (base + (room + above_frame image)) b u.bytes) handed.bytes lasts.zeroed);
       }))
 
   -- The whole.

@@ -11,6 +11,7 @@ pub mod SameRegisters
 pub mod Between
 pub mod Rooms
 pub mod Standing
+pub mod Unwritten
 pub mod Staying
 pub mod SavedRegisters
 pub mod SectionSteps
@@ -21,6 +22,7 @@ pub mod Passed
 pub mod LoadedArguments
 pub mod EnteringLeads
 pub mod AllResults
+pub mod KeptRegisters
 pub mod Restoring
 pub mod GoingBack
 pub mod LeavingEverywhere

@@ -1,7 +1,7 @@
 -- The pieces that are emitted for words of the room, for numbers and for lists of registers. What they make of a state is
 -- a function of it.
 use Rattle.std.specs.Prelude.{is_some, unwrap_or, not}
-use Rattle.std.proofs.Common.{◌≡◌, ◌≢◌, ℕ, ◌+◌, ◌*◌, ◌%◌, ◌^◌, ◌<◌, ◌≤◌, ◌==◌, Bool, true, false, ◌&&◌, cond, nat_lt}
+use Rattle.std.proofs.Common.{◌≡◌, ◌≢◌, ℕ, suc, ◌+◌, ◌*◌, ◌%◌, ◌^◌, ◌<◌, ◌≤◌, ◌==◌, Bool, true, false, ◌&&◌, cond, nat_lt}
 use Rattle.std.proofs.Common.{List, [], ◌∷◌, ◌++◌, length, map, Option, Some, None, refl, sym, ap, ap₂, ◌∙◌, arith}
 use Rattle.std.proofs.Common.{eq-eqb, ne_eqb, if◌then◌else◌}
 use Rattle.std.proofs.Math.Path.{fun_ext}
@@ -160,6 +160,16 @@ MayLoad z sp low high = (x : ℕ) → low ≤ x → x + 4 ≤ high → z.allowed
 abbrev pub MayStore : Setting → ℕ → ℕ → ℕ → Type 0
 MayStore z sp low high = (x : ℕ) → low ≤ x → x + 4 ≤ high → z.allowed sp (Some (event.Store x Word))
 
+-- as many as there are registers
+
+pub stores_length : (base offset : ℕ) (rs : List ℕ) → length (stores_code base offset rs) ≡ length rs
+stores_length base offset [] = refl
+stores_length base offset (r ∷ rs) = ap (λ n. suc n) (stores_length base (offset + 4) rs)
+
+pub loads_length : (base offset : ℕ) (rs : List ℕ) → length (loads_code base offset rs) ≡ length rs
+loads_length base offset [] = refl
+loads_length base offset (r ∷ rs) = ap (λ n. suc n) (loads_length base (offset + 4) rs)
+
 -- the words' addresses
 abbrev pub words_at : ℕ → List ℕ → List ℕ
 words_at a [] = []
@@ -205,6 +215,21 @@ stores_made : (offset a : ℕ) (rs : List ℕ) (d : Data)
     → after_all (stores_code 2 offset rs) (words_at a rs) d ≡ stored a rs d
 stores_made offset a [] d = refl
 stores_made offset a (r ∷ rs) d = stores_made (offset + 4) (a + 4) rs (after (Store Sw r 2 offset) a d)
+
+-- from an offset of x2 on
+pub stores_from : (z : Setting) {P : Data → Type 0} (sp offset : ℕ) (rs : List ℕ) → are_registers rs ≡ true
+    → (sp + offset) % 4 ≡ 0 → offset + 4 * length rs ≤ 2048 → sp + offset + 4 * length rs ≤ 2 ^ 32
+    → MayStore z sp (sp + offset) (sp + offset + 4 * length rs)
+    → ((s : Data) → P s → (s.regs 2 ≡ sp) × AreData (sp + offset) (sp + offset + 4 * length rs) s.bytes)
+    → Runs z (length (stores_code 2 offset rs)) (stores_code 2 offset rs) P (λ s t. t ≡ stored (sp + offset) rs s)
+stores_from z sp offset rs registers even near below may begins =
+    straight_runs z sp (λ q. false) (stores_code 2 offset rs) (words_at (sp + offset) rs)
+    (stores_plain offset rs registers near) refl
+    (stores_fit z sp offset (sp + offset) rs even may) (λ s given. (begins s given).0)
+    (λ s given.
+    let begin = begins s given in
+    stores_met offset (sp + offset) rs s near below (omega (arith, begin.0)) begin.1)
+    (λ s given. stores_made offset (sp + offset) rs s)
 
 pub stores_runs : (z : Setting) {P : Data → Type 0} (a : ℕ) (rs : List ℕ) → are_registers rs ≡ true → a % 4 ≡ 0
     → 4 * length rs ≤ 2048 → a + 4 * length rs ≤ 2 ^ 32 → MayStore z a a (a + 4 * length rs)

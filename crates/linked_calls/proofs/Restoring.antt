@@ -1,44 +1,50 @@
 -- The last of a call: the caller's registers restored, all the room wiped, and the other registers cleared.
-use Rattle.std.proofs.Common.{◌≡◌, ℕ, ◌+◌, ◌%◌, ◌^◌, ◌<◌, ◌==◌, List, [], ◌∷◌, ◌++◌, length, All, refl, sym}
-use Rattle.std.proofs.Common.{◌∙◌, subst, arith, append_assoc}
-use Rattle.codegen.proofs.program_logic_lemmas.Counted.{as_code, computes_runs, makes_then, Runs, Setting, then_runs}
-use Rattle.linked_calls.proofs.Below.{Add, added, after_all, AreCleared, AreData, AreZeroed, ByteMap}
-use Rattle.linked_calls.proofs.Below.{clear_registers_code, constant_code, Data, Instr, IsWiped, loads_code, Register}
-use Rattle.linked_calls.proofs.Below.{restore_code, runs_steps, saved_registers, scratch_registers, sum_of, wipe_code}
-use Rattle.linked_calls.proofs.Below.{with_register, with_result}
-use Rattle.linked_calls.proofs.Between.{AreSaved}
+use Rattle.std.specs.Prelude.{is_some}
+use Rattle.std.proofs.Common.{◌≡◌, ◌≢◌, ℕ, ◌+◌, ◌*◌, ◌%◌, ◌^◌, ◌<◌, ◌≤◌, ◌==◌, List, [], ◌∷◌, ◌++◌, length, All, refl}
+use Rattle.std.proofs.Common.{sym, ap, ◌∙◌, subst, arith, append_assoc}
+use Rattle.std.proofs.lemmas.Bool.{lt-ltb}
+use Rattle.std.proofs.lemmas.Bool.Decides.{nat_tests}
+use Rattle.codegen.proofs.program_logic_lemmas.Counted.{as_code, computes_runs, in_steps, makes_then, Runs, Setting}
+use Rattle.codegen.proofs.program_logic_lemmas.Counted.{then_runs}
+use Rattle.linked_calls.proofs.Below.{Add, added, AreCleared, AreData, AreZeroed, ByteMap, clear_registers_code}
+use Rattle.linked_calls.proofs.Below.{constant_code, Data, Instr, IsWiped, loads_code, near_address, Register, runs_steps}
+use Rattle.linked_calls.proofs.Below.{saved_registers, scratch_registers, sign_extended, sum_of, unwritten, wipe_code}
+use Rattle.linked_calls.proofs.Below.{with_register, with_result, written_of}
+use Rattle.linked_calls.proofs.Between.{AreLeft, AreSaved}
 use Rattle.linked_calls.proofs.Cleared.{clear_runs}
-use Rattle.linked_calls.proofs.Parts.{loads_runs, MayLoad, number_then, words_at}
-use Rattle.linked_calls.proofs.SameRegisters.{AreSame, IsNone, all_differ, same_beside, still_same}
-use Rattle.linked_calls.proofs.SavedRegisters.{saved_values}
+use Rattle.linked_calls.proofs.KeptRegisters.{all_of_both, fitting_others, kept_fitting, left_same}
+use Rattle.linked_calls.proofs.KeptRegisters.{left_then, loaded_from}
+use Rattle.linked_calls.proofs.KeptRegisters.{loads_back, loads_bytes, loads_leave, loads_left, loads_plain}
+use Rattle.linked_calls.proofs.KeptRegisters.{written_none}
+use Rattle.linked_calls.proofs.Parts.{loads_length, loads_runs, MayLoad, number_then, words_at}
+use Rattle.linked_calls.proofs.SameRegisters.{AreSame, IsNone, all_differ, first_none, none_of, same_beside}
+use Rattle.linked_calls.proofs.SameRegisters.{still_same, then_none}
 use Rattle.linked_calls.proofs.Zeros.{MayZero, up_runs}
 
 -- ra, gp, tp and a0
 abbrev pub others_still : List ℕ
 others_still = 1 ∷ 3 ∷ 4 ∷ 10 ∷ []
 
--- what registers held that were saved is in them again
-abbrev AreBack : ℕ → Data → Data → Type 0
-AreBack a s t = (regs : ℕ → ℕ) → AreSaved s.bytes regs a saved_registers → AreSame t.regs regs saved_registers
-
-module _ (z : Setting) (frame room : ℕ) (even : frame % 16 ≡ 0) (whole : room % 16 ≡ 0)
-    (below : frame + (room + 80) < 2 ^ 32)
-    (may : MayLoad z frame (frame + room) (frame + room + 48))
-    (stores : MayZero z frame (frame + (room + 80)))
+module _ (z : Setting) (words : List ℕ) (frame room above : ℕ) (even : frame % 16 ≡ 0) (whole : room % 16 ≡ 0)
+    (above_whole : above % 16 ≡ 0) (above_least : 4 * length (written_of words saved_registers) + 32 ≤ above)
+    (above_most : above ≤ 80) (below : frame + (room + above) < 2 ^ 32)
+    (may : MayLoad z frame (frame + room) (frame + room + 4 * length (written_of words saved_registers)))
+    (stores : MayZero z frame (frame + (room + above)))
   where
+    -- the registers that are kept
+    abbrev kept : List ℕ
+    kept = written_of words saved_registers
+
     -- x2 is the base of the room, which is data
     pub record BeginsLast (s : Data) : Type 0 where
       pub stack : s.regs 2 ≡ frame
-      pub there : AreData frame (frame + (room + 80)) s.bytes
+      pub there : AreData frame (frame + (room + above)) s.bytes
 
     -- x2 is the base of the room, and x5 where the registers were saved
     record AtSaved (s : Data) : Type 0 where
       stack : s.regs 2 ≡ frame
       root : s.regs 5 ≡ frame + room
-      there : AreData (frame + room) (frame + room + 48) s.bytes
-
-    abbrev loads : List Instr
-    loads = loads_code 5 0 saved_registers
+      there : AreData (frame + room) (frame + room + 4 * length kept) s.bytes
 
     -- x5 where they were saved, they loaded from there, and x5 where the room ends
 
@@ -46,51 +52,101 @@ module _ (z : Setting) (frame room : ℕ) (even : frame % 16 ≡ 0) (whole : roo
     located s = with_result 5 (sum_of room (s.regs 2)) s
 
     abbrev loaded : Data → Data
-    loaded s = after_all loads (words_at (frame + room) saved_registers) (located s)
+    loaded s = loaded_from 0 (frame + room) kept (located s)
 
     abbrev restored : Data → Data
-    restored s = with_result 5 (sum_of (sum_of room (s.regs 2)) 80) (loaded s)
+    restored s = with_result 5 (sum_of ((loaded s).regs 5) (sign_extended 12 above)) (loaded s)
 
-    restored_runs : Runs z (length (constant_code 5 room ++ Register Add 5 5 2 ∷ []) + 12 + 1) (restore_code room)
-        BeginsLast (λ s t. t ≡ restored s)
+    abbrev code : List Instr
+    code = constant_code 5 room ++ Register Add 5 5 2 ∷ loads_code 5 0 kept ++ added 5 above ∷ []
+
+    abbrev code_steps : ℕ
+    code_steps = length (constant_code 5 room ++ Register Add 5 5 2 ∷ []) + length kept + 1
+
+    regrouped : (a b c d : List Instr) → ((a ++ b) ++ c) ++ d ≡ a ++ (b ++ c) ++ d
+    regrouped a b c d = simp append_assoc
+
+    restored_runs : Runs z code_steps code BeginsLast (λ s t. t ≡ restored s)
     restored_runs =
-        let top = constant_code 5 room ++ Register Add 5 5 2 ∷ [] in
-        makes_then z {P = BeginsLast} {P' = λ s. Unit {0}} {f = loaded}
-        (as_code z (append_assoc (constant_code 5 room) (Register Add 5 5 2 ∷ []) loads)
+        let loads = loads_code 5 0 kept in
+        let small : above < 4096 = omega arith in
+        as_code z (regrouped (constant_code 5 room) (Register Add 5 5 2 ∷ []) loads (added 5 above ∷ []))
+        (makes_then z {P = BeginsLast} {P' = λ s. Unit {0}} {f = loaded}
+        (in_steps z (ap (λ n. length (constant_code 5 room ++ Register Add 5 5 2 ∷ []) + n) (loads_length 5 0 kept))
         (makes_then z {P = BeginsLast} {f = located}
         (number_then z 5 room (omega arith) (λ e. omega arith) (omega arith) Add 5 2 (omega arith) (omega arith))
-        (loads_runs z {P = AtSaved} frame (frame + room) saved_registers refl refl (omega arith) (omega arith)
-        (omega arith) may (λ s at. at.stack) (λ s at. (at.root, at.there)))
+        (loads_runs z {P = AtSaved} frame (frame + room) kept
+        (loads_plain 0 kept (kept_fitting words) (omega arith)) (fitting_others kept (kept_fitting words)) (omega arith)
+        (omega arith) (omega arith) may (λ s at. at.stack) (λ s at. (at.root, at.there)))
         (λ s begins. record {
           stack = begins.stack;
           root = omega (arith, begins.stack);
           there = λ x l h. begins.there x (omega arith) (omega arith);
         })
         (λ s u begins made. made)))
-        (computes_runs z (λ q. q == 5) (added 5 80 ∷ []) (λ regs. with_register regs 5 (sum_of (regs 5) 80)) refl
+        (computes_runs z (λ q. q == 5) (added 5 above ∷ [])
+        (λ regs. with_register regs 5 (sum_of (regs 5) (sign_extended 12 above))) (simp (lt-ltb above 4096 small))
         (λ regs. refl))
-        (λ s begins. tt) (λ s u begins made. made)
+        (λ s begins. tt) (λ s u begins made. made))
+
+    -- what they leave
+
+    none_kept : (q : ℕ) → IsNone saved_registers q → IsNone kept q
+    none_kept q none = written_none words saved_registers q none
+
+    restored_still : (s : Data) (q : ℕ) → q ≢ 5 → IsNone saved_registers q → (restored s).regs q ≡ s.regs q
+    restored_still s q other none =
+        unwritten (loaded s).regs 5 (sum_of ((loaded s).regs 5) (sign_extended 12 above)) q other
+        ∙ loads_leave q 0 (frame + room) kept (located s) (none_kept q none)
+        ∙ unwritten s.regs 5 (sum_of room (s.regs 2)) q other
+
+    restored_top : (s : Data) → s.regs 2 ≡ frame → (restored s).regs 5 ≡ frame + (room + above)
+    restored_top s stack =
+        let at : sum_of room (s.regs 2) ≡ frame + room = omega (arith, stack) in
+        ap (λ x. sum_of x (sign_extended 12 above))
+        (loads_leave 5 0 (frame + room) kept (located s) (none_kept 5 (none_of saved_registers 5 refl)) ∙ at)
+        ∙ near_address (frame + room) above (omega arith) (omega arith) ∙ omega arith
+
+    restored_bytes : (s : Data) → (restored s).bytes ≡ s.bytes
+    restored_bytes s = loads_bytes 0 (frame + room) kept (located s)
 
     -- the room is wiped as well
-    wiped_runs : Runs z (length (constant_code 5 room ++ Register Add 5 5 2 ∷ []) + 12 + 1 + runs_steps (room + 80))
-        (restore_code room ++ wipe_code (room + 80)) BeginsLast (λ s t. IsWiped frame (room + 80) (restored s) t)
+    wiped_runs : Runs z (code_steps + runs_steps (room + above)) (code ++ wipe_code (room + above)) BeginsLast
+        (λ s t. IsWiped frame (room + above) (restored s) t)
     wiped_runs =
         makes_then z {P = BeginsLast} {f = restored} restored_runs
-        (up_runs z frame (room + 80) even (omega arith) below stores)
-        (λ s begins. record { stack = begins.stack; top = omega (arith, begins.stack); there = begins.there })
+        (up_runs z frame (room + above) even (omega arith) below stores)
+        (λ s begins. record {
+          stack = restored_still s 2 (λ e. omega arith) (none_of saved_registers 2 refl) ∙ begins.stack;
+          top = restored_top s begins.stack;
+          there = λ x l h. ap (λ (b : ByteMap). is_some (b x)) (restored_bytes s) ∙ begins.there x l h;
+        })
         (λ s u begins wiped. wiped)
 
     -- and the other registers are 0
     pub record Lasts (s t : Data) : Type 0 where
-      pub stack : t.regs 2 ≡ frame + (room + 80)
-      pub saved : AreBack (frame + room) s t
+      pub stack : t.regs 2 ≡ frame + (room + above)
+      -- what the caller may count on is as it was, if it was saved or is as it was before
+      pub saved : (regs : ℕ → ℕ) → AreSaved s.bytes regs (frame + room) kept
+          → AreLeft words s.regs regs saved_registers → AreSame t.regs regs saved_registers
       pub others_same : AreSame t.regs s.regs others_still
       pub cleared : All (λ r. t.regs r ≡ 0) scratch_registers
-      pub zeroed : AreZeroed frame (frame + (room + 80)) s.bytes t.bytes
+      pub zeroed : AreZeroed frame (frame + (room + above)) s.bytes t.bytes
 
-    pub lasts_run : Runs z
-        (length (constant_code 5 room ++ Register Add 5 5 2 ∷ []) + 12 + 1 + runs_steps (room + 80) + 14)
-        (restore_code room ++ wipe_code (room + 80) ++ clear_registers_code scratch_registers) BeginsLast Lasts
+    back : (s : Data) (regs : ℕ → ℕ) → AreSaved s.bytes regs (frame + room) kept
+        → AreLeft words s.regs regs saved_registers → AreSame (loaded s).regs regs saved_registers
+    back s regs saved left =
+        all_of_both words saved_registers (loaded s).regs regs
+        (loads_back regs 0 (frame + room) kept (located s) (kept_fitting words) saved)
+        (loads_left regs words saved_registers 0 (frame + room) kept (located s) (kept_fitting words) saved
+        (left_then words saved_registers (located s).regs s.regs regs
+        (left_same words saved_registers (located s).regs s.regs
+        (same_beside (5 ∷ []) (located s).regs s.regs
+        (λ q none. unwritten s.regs 5 (sum_of room (s.regs 2)) q none.0) saved_registers refl))
+        left))
+
+    pub lasts_run : Runs z (code_steps + runs_steps (room + above) + 14)
+        (code ++ wipe_code (room + above) ++ clear_registers_code scratch_registers) BeginsLast Lasts
     lasts_run =
         then_runs z {P = BeginsLast} {P' = λ s. Unit {0}} {R' = AreCleared scratch_registers} {S = Lasts}
         wiped_runs
@@ -98,13 +154,20 @@ module _ (z : Setting) (frame room : ℕ) (even : frame % 16 ≡ 0) (whole : roo
         (λ s t begins wiped. tt)
         (λ s t u begins wiped clears.
         let cleared = λ (q : ℕ) (none : IsNone scratch_registers q). clears.others q (all_differ scratch_registers q none) in
-        let kept = λ (q : ℕ) (none : IsNone (2 ∷ scratch_registers) q). cleared q none.1 ∙ wiped.others q none.0 in
+        let still = λ (q : ℕ) (none : IsNone (2 ∷ scratch_registers) q). cleared q none.1 ∙ wiped.others q none.0 in
+        let loads_still = λ (q : ℕ) (none : IsNone (2 ∷ scratch_registers) q).
+        still q none
+        ∙ unwritten (loaded s).regs 5 (sum_of ((loaded s).regs 5) (sign_extended 12 above)) q none.1.0 in
+        let others = λ (q : ℕ) (none : IsNone (2 ∷ scratch_registers ++ saved_registers) q).
+        still q (first_none (2 ∷ scratch_registers) saved_registers q none)
+        ∙ restored_still s q none.1.0 (then_none (2 ∷ scratch_registers) saved_registers q none) in
         record {
           stack = (same_beside scratch_registers u.regs t.regs cleared (2 ∷ []) refl).0 ∙ wiped.stack;
-          saved = λ regs saved. still_same (2 ∷ scratch_registers) u.regs (restored s).regs regs kept saved_registers
-              refl (saved_values s.bytes regs (frame + room) saved_registers (restored s).regs refl saved);
-          others_same = same_beside (2 ∷ scratch_registers) u.regs (restored s).regs kept others_still refl;
+          saved = λ regs saved left. still_same (2 ∷ scratch_registers) u.regs (loaded s).regs regs loads_still
+              saved_registers refl (back s regs saved left);
+          others_same = same_beside (2 ∷ scratch_registers ++ saved_registers) u.regs s.regs others others_still refl;
           cleared = clears.zero;
-          zeroed = subst (λ (b : ByteMap). AreZeroed frame (frame + (room + 80)) s.bytes b) (sym clears.bytes)
-              wiped.zeroed;
+          zeroed = subst (λ (b : ByteMap). AreZeroed frame (frame + (room + above)) s.bytes b) (sym clears.bytes)
+              (subst (λ (b : ByteMap). AreZeroed frame (frame + (room + above)) b t.bytes) (restored_bytes s)
+              wiped.zeroed);
         })

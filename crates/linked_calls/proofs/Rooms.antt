@@ -1,23 +1,42 @@
 -- The room of a call: where its frame, the saved registers and the arguments lie in it, in numbers.
-use Rattle.std.proofs.Common.{◌≡◌, ℕ, ◌+◌, ◌-◌, ◌*◌, ◌%◌, ◌^◌, ◌<◌, ◌≤◌, length, inl, inr, arith}
-use Rattle.linked_calls.proofs.Below.{argument_offset, arguments_end, MachineCode, Fields, frame_room, IsSite}
+use Rattle.std.proofs.Common.{◌≡◌, ℕ, ◌+◌, ◌-◌, ◌*◌, ◌%◌, ◌^◌, ◌<◌, ◌≤◌, Bool, true, false, List, []}
+use Rattle.std.proofs.Common.{◌∷◌, length, inl, inr, arith, if◌then◌else◌}
+use Rattle.linked_calls.proofs.Below.{above_frame, argument_offset, arguments_end, body_words, MachineCode, Fields}
+use Rattle.linked_calls.proofs.Below.{frame_room, IsSite, is_written, kept_of, saved_registers, written_of}
 use Rattle.linked_calls.proofs.Below.{room_base, CallSite}
 use Rattle.linked_calls.proofs.Between.{IsOutsideRoom, saved_at}
 use Rattle.linked_calls.proofs.Bytes.{IsOutside}
 
 pub record RoomNumbers (image : Fields) (site : CallSite) : Type 0 where
-  pub ends : room_base image site + (frame_room image + 80) ≡ site.stack
+  pub ends : room_base image site + (frame_room image + above_frame image) ≡ site.stack
+  pub above_whole : above_frame image % 16 ≡ 0
+  pub above_least : 4 * length (kept_of image) + 32 ≤ above_frame image
+  pub above_most : above_frame image ≤ 80
   pub even : room_base image site % 16 ≡ 0
   pub whole : frame_room image % 16 ≡ 0
   pub holds : image.frame_bytes ≤ frame_room image
   pub arguments : site.stack ≤ arguments_end image site
   pub below : arguments_end image site < 2 ^ 32
 
+-- no more registers are kept than may have to be
+written_few : (words rs : List ℕ) → length (written_of words rs) ≤ length rs
+written_few words [] = omega arith
+written_few words (r ∷ rs) = by (is_written words r) (written_few words rs)
+  where
+    by : (b : Bool) → length (written_of words rs) ≤ length rs
+        → length (if b then r ∷ written_of words rs else written_of words rs) ≤ length (r ∷ rs)
+    by true few = omega arith
+    by false few = omega arith
+
 pub room_numbers : (image : Fields) (code : MachineCode) (site : CallSite) → IsSite image code site
     → RoomNumbers image site
 room_numbers image code site is =
+    let few : length (kept_of image) ≤ 12 = written_few (body_words image.words) saved_registers in
     record {
       ends = omega arith;
+      above_whole = omega arith;
+      above_least = omega arith;
+      above_most = omega arith;
       even = omega arith;
       whole = omega arith;
       holds = omega arith;

@@ -1,6 +1,6 @@
 -- Registers that hold what others hold: by a list, one after another.
 use Rattle.std.specs.Prelude.{not}
-use Rattle.std.proofs.Common.{◌≡◌, ◌≢◌, ℕ, ◌==◌, Bool, true, ◌&&◌, List, [], ◌∷◌, map, All, refl, ap₂, ◌∙◌, arith}
+use Rattle.std.proofs.Common.{◌≡◌, ◌≢◌, ℕ, ◌==◌, Bool, true, ◌&&◌, List, [], ◌∷◌, ◌++◌, map, All, refl, ap₂, ◌∙◌, arith}
 use Rattle.std.proofs.Common.{ne_eqb}
 use Rattle.std.proofs.lemmas.Bool.Decides.{nat_tests}
 use Rattle.std.proofs.lemmas.List.Elements.{All-cons, All-head, All-nil, All-tail}
@@ -28,10 +28,20 @@ are_none ks (r ∷ rs) = is_none ks r && are_none ks rs
 differs : (q k : ℕ) → not (q == k) ≡ true → q ≢ k
 differs q k h = grind (arith, nat_tests)
 
-none_of : (ks : List ℕ) (q : ℕ) → is_none ks q ≡ true → IsNone ks q
+pub none_of : (ks : List ℕ) (q : ℕ) → is_none ks q ≡ true → IsNone ks q
 none_of [] q h = tt
 none_of (k ∷ ks) q h =
     (differs q k (both_left (not (q == k)) (is_none ks q) h), none_of ks q (both_right (not (q == k)) (is_none ks q) h))
+
+-- none of two lists is none of each
+
+pub first_none : (ks js : List ℕ) (q : ℕ) → IsNone (ks ++ js) q → IsNone ks q
+first_none [] js q none = tt
+first_none (k ∷ ks) js q none = (none.0, first_none ks js q none.1)
+
+pub then_none : (ks js : List ℕ) (q : ℕ) → IsNone (ks ++ js) q → IsNone js q
+then_none [] js q none = none
+then_none (k ∷ ks) js q none = then_none ks js q none.1
 
 pub all_differ : (ks : List ℕ) (q : ℕ) → IsNone ks q → All (λ k. q ≢ k) ks
 all_differ [] q none = All-nil (λ k. q ≢ k)

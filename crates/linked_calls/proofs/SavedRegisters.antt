@@ -1,4 +1,5 @@
 -- Registers that were stored into words, one after another.
+use Rattle.std.specs.Prelude.{take}
 use Rattle.std.proofs.Common.{◌≡◌, ℕ, zero, suc, ◌+◌, ◌*◌, ◌%◌, ◌^◌, ◌<◌, ◌≤◌, List, [], ◌∷◌, ◌++◌, length, map, Some}
 use Rattle.std.proofs.Common.{ap, subst, inl}
 use Rattle.std.proofs.Common.{◌∙◌, arith}
@@ -24,16 +25,6 @@ stored_are_saved bytes regs a (r ∷ rs) words =
       stored_are_saved one regs (a + 4) rs words,
     )
 
--- read from there they are what the registers held
-pub saved_values : (bytes : ByteMap) (regs : ℕ → ℕ) (a : ℕ) (rs : List ℕ) (f : ℕ → ℕ)
-    → map f rs ≡ map (λ x. number_or_zero (number_at bytes 4 x)) (words_at a rs) → AreSaved bytes regs a rs
-    → AreSame f regs rs
-saved_values bytes regs a [] f is saved = tt
-saved_values bytes regs a (r ∷ rs) f is saved = (
-  heads (f r) _ (map f rs) _ is ∙ ap number_or_zero saved.0,
-  saved_values bytes regs (a + 4) rs f (tails (f r) _ (map f rs) _ is) saved.1,
-)
-
 -- and stay there as long as nothing else is stored
 pub saved_same : (old new : ByteMap) (regs : ℕ → ℕ) (a : ℕ) (rs : List ℕ)
     → ((x : ℕ) → a ≤ x → x < a + 4 * length rs → new x ≡ old x) → AreSaved old regs a rs → AreSaved new regs a rs
@@ -43,37 +34,23 @@ saved_same old new regs a (r ∷ rs) same saved = (
   saved_same old new regs (a + 4) rs (λ x low high. same x (omega arith) (omega arith)) saved.1,
 )
 
--- those of the first registers, and those of the others behind them
-
-pub saved_first : (bytes : ByteMap) (regs : ℕ → ℕ) (a : ℕ) (rs qs : List ℕ) → AreSaved bytes regs a (rs ++ qs)
-    → AreSaved bytes regs a rs
-saved_first bytes regs a [] qs saved = tt
-saved_first bytes regs a (r ∷ rs) qs saved = (saved.0, saved_first bytes regs (a + 4) rs qs saved.1)
-
-pub saved_then : (bytes : ByteMap) (regs : ℕ → ℕ) (a : ℕ) (rs qs : List ℕ) → AreSaved bytes regs a (rs ++ qs)
-    → AreSaved bytes regs (a + 4 * length rs) qs
-saved_then bytes regs a [] qs saved =
-    let e : a ≡ a + 4 * 0 = omega arith in
-    subst (λ x. AreSaved bytes regs x qs) e saved
-saved_then bytes regs a (r ∷ rs) qs saved =
-    let e : a + 4 + 4 * length rs ≡ a + 4 * suc (length rs) = omega arith in
-    subst (λ x. AreSaved bytes regs x qs) e (saved_then bytes regs (a + 4) rs qs saved.1)
-
 -- so many registers, from one on
 abbrev pub registers_from : ℕ → ℕ → List ℕ
 registers_from r zero = []
 registers_from r (suc n) = r ∷ registers_from (r + 1) n
 
--- one of them
-pub saved_one : (bytes : ByteMap) (regs : ℕ → ℕ) (a r n i : ℕ) → i < n → AreSaved bytes regs a (registers_from r n)
-    → number_at bytes 4 (a + 4 * i) ≡ Some (regs (r + i))
-saved_one bytes regs a r zero i few saved = absurd (omega arith)
-saved_one bytes regs a r (suc n) zero few saved =
+-- one of the first of them
+pub saved_taken : (bytes : ByteMap) (regs : ℕ → ℕ) (a r n m i : ℕ) → i < n → i < m
+    → AreSaved bytes regs a (take n (registers_from r m)) → number_at bytes 4 (a + 4 * i) ≡ Some (regs (r + i))
+saved_taken bytes regs a r zero m i few fewer saved = absurd (omega arith)
+saved_taken bytes regs a r (suc n) zero i few fewer saved = absurd (omega arith)
+saved_taken bytes regs a r (suc n) (suc m) zero few fewer saved =
     let e : a + 4 * 0 ≡ a = omega arith in
     let f : r ≡ r + 0 = omega arith in
     ap (λ x. number_at bytes 4 x) e ∙ saved.0 ∙ ap (λ q. Some (regs q)) f
-saved_one bytes regs a r (suc n) (suc i) few saved =
+saved_taken bytes regs a r (suc n) (suc m) (suc i) few fewer saved =
     let e : a + 4 * suc i ≡ a + 4 + 4 * i = omega arith in
     let f : r + 1 + i ≡ r + suc i = omega arith in
-    ap (λ x. number_at bytes 4 x) e ∙ saved_one bytes regs (a + 4) (r + 1) n i (omega arith) saved.1
+    ap (λ x. number_at bytes 4 x) e
+    ∙ saved_taken bytes regs (a + 4) (r + 1) n m i (omega arith) (omega arith) saved.1
     ∙ ap (λ q. Some (regs q)) f

@@ -8,7 +8,8 @@ use Rattle.linked_calls.proofs.Below.{constant_code, copy_out_code, down_code, e
 use Rattle.linked_calls.proofs.Below.{frame_room, frame_sections, FrameBase, FrameTop, function_words, Instr}
 use Rattle.linked_calls.proofs.Below.{leave_code, leave_sections, MutableArray, Register, RestoredRegisters}
 use Rattle.linked_calls.proofs.Below.{results_code, Return, runs_code, Section, Slot, stack_register, Sub}
-use Rattle.linked_calls.proofs.Below.{WipedRoom}
+use Rattle.linked_calls.proofs.Below.{above_frame, Add, added, clear_registers_code, JumpRegister, kept_of, loads_code}
+use Rattle.linked_calls.proofs.Below.{result_code, room_of, scratch_registers, wipe_code, WipedRoom}
 use Rattle.linked_calls.specs.Below.{word_of}
 
 code_of_both : (image : Fields) (one other : List Section)
@@ -43,6 +44,7 @@ enter_code_of image =
       frame_code_of image (frame_room image == 0),
       arguments_code_of image 0 image.slots,
     )
+    (simp append_assoc)
 
 -- Behind it.
 
@@ -65,10 +67,16 @@ arrays_code_of image i (slot ∷ slots) =
 abbrev tail : List Section
 tail = FrameTop ∷ RestoredRegisters ∷ CallersStack ∷ WipedRoom ∷ ClearedRegisters ∷ Return ∷ []
 
+leave_grouped : (r rs c x l y w k j : List Instr)
+    → r ++ (rs ++ ((c ++ x) ++ (l ++ (y ++ (w ++ (k ++ j)))))) ≡ r ++ rs ++ (c ++ (x ++ l) ++ y) ++ w ++ k ++ j
+leave_grouped r rs c x l y w k j = simp append_assoc
+
 pub leave_code_of : (image : Fields) → code_of image (leave_sections image) ≡ leave_code image
 leave_code_of image =
     rw (code_of_both image (array_sections 0 image.slots) tail, arrays_code_of image 0 image.slots)
-    (simp append_assoc)
+    (leave_grouped (result_code image.returned) (results_code image 0 image.slots) (constant_code 5 (frame_room image))
+    (Register Add 5 5 stack_register ∷ []) (loads_code 5 0 (kept_of image)) (added 5 (above_frame image) ∷ [])
+    (wipe_code (room_of image)) (clear_registers_code scratch_registers) (JumpRegister 0 1 0 ∷ []))
 
 -- The function.
 

@@ -1,6 +1,6 @@
 -- How many steps the sections make, before the body and behind it.
 use Rattle.std.specs.List.{sum_by}
-use Rattle.std.proofs.Common.{◌≡◌, ℕ, ◌+◌, ◌==◌, Bool, true, false, if◌then◌else◌, List, [], ◌∷◌, ◌++◌, length}
+use Rattle.std.proofs.Common.{◌≡◌, ℕ, ◌+◌, ◌-◌, ◌==◌, Bool, true, false, if◌then◌else◌, List, [], ◌∷◌, ◌++◌, length}
 use Rattle.std.proofs.Common.{refl, ap, ap₂, ◌∙◌, arith, length-append}
 use Rattle.std.proofs.lemmas.List.Sums.{sum_by-cons, sum_by-append, sum-map}
 use Rattle.linked_calls.proofs.Below.{Add, argument_sections, argument_steps, ArgumentIn, array_section, array_sections}
@@ -10,7 +10,9 @@ use Rattle.linked_calls.proofs.Below.{FrameBase, FrameTop, leave_sections, Mutab
 use Rattle.linked_calls.proofs.Below.{result_code, ResultOut, Return, room_of, runs_steps, Section, section_steps, SingleWord, Slot}
 use Rattle.linked_calls.proofs.Below.{Sub, WipedRoom}
 use Rattle.linked_calls.specs.declared.section.Section.TheVariants.{RoomAboveFrame, SavedRegisters, ArgumentRegisters}
+use Rattle.linked_calls.proofs.Below.{above_frame, kept_of, passed_of}
 use Rattle.linked_calls.proofs.Between.{enter_steps, leave_steps}
+use Rattle.linked_calls.proofs.Parts.{loads_length, stores_length}
 
 module _ (image : Fields) where
   abbrev steps_of : List Section → ℕ
@@ -51,16 +53,23 @@ module _ (image : Fields) where
       sum_by-cons (section_steps image) (ArgumentIn i slot) (argument_sections (i + 1) slots)
       ∙ ap (λ n. argument_steps image i slot slot.param.form + n) (arguments_steps_are (i + 1) slots)
 
-  -- the entry makes 21 steps, and then come the frame's and the arguments'
-  pub enter_steps_are : enter_steps image ≡ 21 + frame_steps room + arguments_steps 0 image.slots
+  -- one, and one for each register that is stored
+  abbrev pub entry_steps : ℕ
+  entry_steps = 1 + (length (kept_of image) + length (passed_of image))
+
+  -- the entry's, and then the frame's and the arguments'
+  pub enter_steps_are : enter_steps image ≡ entry_steps + frame_steps room + arguments_steps 0 image.slots
   enter_steps_are =
       let entry = RoomAboveFrame ∷ SavedRegisters ∷ ArgumentRegisters ∷ [] in
       let framed = frame_sections room in
       let arguments = argument_sections 0 image.slots in
+      let kept = stores_length 2 0 (kept_of image) in
+      let passed = stores_length 2 (above_frame image - 32) (passed_of image) in
+      let counted : steps_of entry ≡ entry_steps = omega arith in
       sum-map (section_steps image) (entry ++ framed ++ arguments)
       ∙ sum_by-append (section_steps image) (entry ++ framed) arguments
       ∙ ap₂ (λ a b. a + b) (sum_by-append (section_steps image) entry framed
-      ∙ ap (λ n. 21 + n) (frame_steps_by (room == 0))) (arguments_steps_are 0 image.slots)
+      ∙ ap₂ (λ a b. a + b) counted (frame_steps_by (room == 0))) (arguments_steps_are 0 image.slots)
 
   -- Behind it.
 
@@ -80,11 +89,13 @@ module _ (image : Fields) where
 
   -- the registers restored and cleared, and the room wiped
   abbrev pub last_steps : ℕ
-  last_steps = length (constant_code 5 room ++ Register Add 5 5 2 ∷ []) + runs_steps (room_of image) + 28
+  last_steps = length (constant_code 5 room ++ Register Add 5 5 2 ∷ []) + runs_steps (room_of image)
+      + (length (kept_of image) + 16)
 
   pub leave_steps_are : leave_steps image ≡ length (result_code image.returned) +
       (outputs_steps 0 image.slots + last_steps)
   leave_steps_are =
+      let kept = loads_length 5 0 (kept_of image) in
       let counted : steps_of lasts ≡ last_steps = omega arith in
       sum-map (section_steps image) (leave_sections image)
       ∙ sum_by-cons (section_steps image) ResultOut (array_sections 0 image.slots ++ lasts)

@@ -1,4 +1,4 @@
--- The function that adds one to its argument, as it is worked out by hand: 92 words, and 88 steps around the 4 of its
+-- The function that adds one to its argument, as it is worked out by hand: 47 words, and 43 steps around the 4 of its
 -- body.
 use Rattle.std.proofs.Common.{◌≡◌, [], ◌∷◌, length, Some, refl}
 use Rattle.linked_calls.proofs.Below.{around_steps, Fields, function_words, P1, room_of, Secret, SingleWord, Uint32}
@@ -13,12 +13,12 @@ add_one = record {
   words = 0x12283 ∷ 0x100313 ∷ 0x6282b3 ∷ 0x512223 ∷ 0x73 ∷ [];
 }
 
-room : room_of add_one ≡ 96
+room : room_of add_one ≡ 48
 room = refl
 
-words : length (function_words add_one) ≡ 92
+words : length (function_words add_one) ≡ 47
 unfolding function_words
 words = refl
 
-steps : around_steps add_one ≡ 88
+steps : around_steps add_one ≡ 43
 steps = refl

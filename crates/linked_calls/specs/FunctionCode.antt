@@ -2,9 +2,9 @@
 -- that hands results back and goes back to the caller. They may stand anywhere.
 --
 -- The room of a call lies below the caller's sp: the image's frame at its lower end, in whole blocks of 16 bytes,
--- then the caller's s0 to s11, then a0 to a7, so that argument i stands in the i-th word from there on, also where C
--- passes it on the stack.
-use Rattle.std.specs.Prelude.{ℕ, ◌+◌, ◌-◌, ◌*◌, ◌/◌, ◌%◌, ◌^◌, ◌==◌, List, [], ◌∷◌, ◌++◌, length, map, replicate}
+-- then those of the caller's s0 to s11 that the body writes, and at its upper end words for a0 to a7, so that argument
+-- i stands in the i-th word from there on, also where C passes it on the stack.
+use Rattle.std.specs.Prelude.{ℕ, ◌+◌, ◌-◌, ◌*◌, ◌/◌, ◌%◌, ◌^◌, ◌==◌, List, [], ◌∷◌, ◌++◌, length, map, replicate, take}
 use Rattle.std.specs.Prelude.{nat_lt, Option, Some, None, if◌then◌else◌}
 use Rattle.std.proofs.Common.{zero, suc}
 use Rattle.linked_calls.specs.Below.{Add, Addi, Bne, body_words, Boolean, Branch, constant_code, cut_code}
@@ -13,6 +13,7 @@ use Rattle.linked_calls.specs.Below.{JumpRegister, Kind, load_by, load_code, Mut
 use Rattle.linked_calls.specs.Below.{SingleWord, Slot, store_code, Sub, Uint16, Uint32, Uint8, word_of}
 use Rattle.linked_calls.specs.Convention.{link_register, stack_register, saved_registers, argument_registers}
 use Rattle.linked_calls.specs.Convention.{result_register, scratch_registers, whole_blocks}
+use Rattle.linked_calls.specs.Written.{written_of}
 use Rattle.language.specs.Operators.{width_of}
 use Rattle.rv_code.specs.declared.instructions.Instr.TheVariants.{Load, Store}
 use Rattle.rv_code.specs.declared.operations.LoadOperation.TheVariants.{Lw}
@@ -25,17 +26,25 @@ use Rattle.rv_code.specs.declared.operations.StoreOperation.TheVariants.{Sb, Sh,
 abbrev pub frame_room : Fields → ℕ
 frame_room image = whole_blocks image.frame_bytes
 
--- the bytes above it: 12 saved registers and 8 arguments
-abbrev pub above_frame : ℕ
-above_frame = 80
+-- those of s0 to s11 that the body writes, which are kept
+abbrev pub kept_of : Fields → List ℕ
+kept_of image = written_of (body_words image.words) saved_registers
+
+-- those of a0 to a7 that are arguments
+abbrev pub passed_of : Fields → List ℕ
+passed_of image = take (length image.slots) argument_registers
+
+-- the bytes above the frame: a word for each register that is kept, and 8 for arguments
+abbrev pub above_frame : Fields → ℕ
+above_frame image = whole_blocks (4 * length (kept_of image) + 32)
 
 -- how many bytes of stack a call takes
 abbrev pub room_of : Fields → ℕ
-room_of image = frame_room image + above_frame
+room_of image = frame_room image + above_frame image
 
 -- where argument i stands, from x2 on
 abbrev pub argument_offset : Fields → ℕ → ℕ
-argument_offset image i = frame_room image + 48 + 4 * i
+argument_offset image i = frame_room image + (above_frame image - 32) + 4 * i
 
 -- Pieces.
 
@@ -80,11 +89,11 @@ runs_code code room =
 
 -- Entry.
 
--- room above the frame: what the caller has in s0 to s11, and the arguments in a0 to a7
-abbrev pub entry_code : List Instr
-entry_code =
-    added stack_register (4096 - above_frame) ∷ stores_code stack_register 0 saved_registers
-    ++ stores_code stack_register 48 argument_registers
+-- room above the frame: what the caller has in registers that are kept, and the arguments in a0 to a7
+abbrev pub entry_code : Fields → List Instr
+entry_code image =
+    added stack_register (4096 - above_frame image) ∷ stores_code stack_register 0 (kept_of image)
+    ++ stores_code stack_register (above_frame image - 32) (passed_of image)
 
 -- the frame, zeroed run by run downward, so that nothing live ever lies below x2
 abbrev pub frame_code : ℕ → List Instr
@@ -174,7 +183,7 @@ arguments_code image i (slot ∷ slots) = argument_code image i slot slot.param.
     ++ arguments_code image (i + 1) slots
 
 abbrev pub enter_code : Fields → List Instr
-enter_code image = entry_code ++ frame_code (frame_room image) ++ arguments_code image 0 image.slots
+enter_code image = entry_code image ++ frame_code (frame_room image) ++ arguments_code image 0 image.slots
 
 -- The way back.
 
@@ -195,10 +204,11 @@ abbrev pub results_code : Fields → ℕ → List Slot → List Instr
 results_code image i [] = []
 results_code image i (slot ∷ slots) = copy_out_code image i slot slot.param.form ++ results_code image (i + 1) slots
 
--- the caller's s0 to s11, and its x2 in x5
-abbrev pub restore_code : ℕ → List Instr
-restore_code room =
-    constant_code 5 room ++ Register Add 5 5 stack_register ∷ loads_code 5 0 saved_registers ++ added 5 above_frame ∷ []
+-- the caller's registers that are kept, and its x2 in x5
+abbrev pub restore_code : Fields → List Instr
+restore_code image =
+    constant_code 5 (frame_room image) ++ Register Add 5 5 stack_register
+    ∷ loads_code 5 0 (kept_of image) ++ added 5 (above_frame image) ∷ []
 
 -- all the room, zeroed run by run upward
 abbrev pub wipe_code : ℕ → List Instr
@@ -210,7 +220,7 @@ clear_registers_code rs = map (λ r. Immediate Addi r 0 0) rs
 
 abbrev pub leave_code : Fields → List Instr
 leave_code image =
-    result_code image.returned ++ results_code image 0 image.slots ++ restore_code (frame_room image)
+    result_code image.returned ++ results_code image 0 image.slots ++ restore_code image
     ++ wipe_code (room_of image) ++ clear_registers_code scratch_registers ++ JumpRegister 0 link_register 0 ∷ []
 
 -- The function.

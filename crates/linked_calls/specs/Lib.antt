@@ -2,6 +2,7 @@
 -- Callable: the linked call and its theorem; Convention, Calls, Called: the calling convention, what a caller sets up,
 --   and what a call leaves.
 -- FunctionCode, Sections: the words of a function for C, and the same in sections.
+-- Written: which registers the instructions of words write.
 -- Words, Copies, Zeros, Cleared: its pieces: word arguments and results, arrays, the frame zeroed, registers cleared.
 -- Does: what a piece of code does wherever it is; Meant, Stretches: raw words that are passed, and ranges of bytes.
 pub mod Called
@@ -16,5 +17,6 @@ pub mod Meant
 pub mod Sections
 pub mod Stretches
 pub mod Words
+pub mod Written
 pub mod Zeros
 pub mod Below

@@ -9,8 +9,8 @@ use Rattle.linked_calls.specs.Convention.{link_register, stack_register, saved_r
 use Rattle.linked_calls.specs.Convention.{scratch_registers}
 use Rattle.linked_calls.specs.FunctionCode.{above_frame, frame_room, room_of, stores_code, loads_code, runs_code}
 use Rattle.linked_calls.specs.FunctionCode.{added, argument_code, copied_in_code}
-use Rattle.linked_calls.specs.FunctionCode.{copied_out_code, down_code, elements_code, places_code, result_code}
-use Rattle.linked_calls.specs.FunctionCode.{copy_out_code}
+use Rattle.linked_calls.specs.FunctionCode.{copied_out_code, down_code, elements_code, kept_of, passed_of}
+use Rattle.linked_calls.specs.FunctionCode.{places_code, result_code, copy_out_code}
 use Rattle.linked_calls.specs.FunctionCode.{clear_registers_code, rest_words, wipe_code}
 use Rattle.linked_calls.specs.declared.section.Section.{Section}
 use Rattle.linked_calls.specs.declared.section.Section.TheVariants.{RoomAboveFrame, SavedRegisters, ArgumentRegisters}
@@ -51,17 +51,17 @@ leave_sections image =
     ++ FrameTop ∷ RestoredRegisters ∷ CallersStack ∷ WipedRoom ∷ ClearedRegisters ∷ Return ∷ []
 
 abbrev pub section_code : Fields → Section → List Instr
-section_code image RoomAboveFrame = added stack_register (4096 - above_frame) ∷ []
-section_code image SavedRegisters = stores_code stack_register 0 saved_registers
-section_code image ArgumentRegisters = stores_code stack_register 48 argument_registers
+section_code image RoomAboveFrame = added stack_register (4096 - above_frame image) ∷ []
+section_code image SavedRegisters = stores_code stack_register 0 (kept_of image)
+section_code image ArgumentRegisters = stores_code stack_register (above_frame image - 32) (passed_of image)
 section_code image FrameBase = constant_code 5 (frame_room image) ++ Register Sub 5 stack_register 5 ∷ []
 section_code image ClearedFrame = runs_code down_code (frame_room image)
 section_code image (ArgumentIn i slot) = argument_code image i slot slot.param.form
 section_code image ResultOut = result_code image.returned
 section_code image (ArrayOut i slot) = copy_out_code image i slot slot.param.form
 section_code image FrameTop = constant_code 5 (frame_room image) ++ Register Add 5 5 stack_register ∷ []
-section_code image RestoredRegisters = loads_code 5 0 saved_registers
-section_code image CallersStack = added 5 above_frame ∷ []
+section_code image RestoredRegisters = loads_code 5 0 (kept_of image)
+section_code image CallersStack = added 5 (above_frame image) ∷ []
 section_code image WipedRoom = wipe_code (room_of image)
 section_code image ClearedRegisters = clear_registers_code scratch_registers
 section_code image Return = JumpRegister 0 link_register 0 ∷ []

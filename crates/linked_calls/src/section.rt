@@ -7,9 +7,9 @@ use codegen::image_fields::Slot;
 pub enum Section {
     /// x2 goes down by what stands above the frame.
     RoomAboveFrame,
-    /// What the caller has in s0 to s11 is kept.
+    /// What the caller has in those of s0 to s11 that the body writes is kept.
     SavedRegisters,
-    /// What it has in a0 to a7 is laid below its further arguments.
+    /// The arguments in a0 to a7 are laid below those on the stack.
     ArgumentRegisters,
     /// The frame's base into x5.
     FrameBase,
@@ -23,7 +23,7 @@ pub enum Section {
     ArrayOut(u16, Slot),
     /// The frame's end into x5.
     FrameTop,
-    /// The caller's s0 to s11.
+    /// The caller's registers that were kept.
     RestoredRegisters,
     /// The caller's x2 into x5.
     CallersStack,

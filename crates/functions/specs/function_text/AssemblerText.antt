@@ -56,10 +56,10 @@ section_title ClearedRegisters = codes "temporaries, wiped"
 section_title Return = codes "back"
 
 -- a register of the caller is kept at an offset above the frame
-abbrev pub kept_line : Instr → List ℕ
-kept_line (Store operation register base offset) =
-    codes "    .cfi_offset " ++ decimal register ++ codes ", -" ++ decimal (above_frame - offset) ++ codes "\n"
-kept_line _ = []
+abbrev pub kept_line : Fields → Instr → List ℕ
+kept_line image (Store operation register base offset) =
+    codes "    .cfi_offset " ++ decimal register ++ codes ", -" ++ decimal (above_frame image - offset) ++ codes "\n"
+kept_line image _ = []
 
 -- a register of the caller is back
 abbrev pub restored_line : Instr → List ℕ
@@ -67,27 +67,27 @@ restored_line (Load operation register base offset) = codes "    .cfi_restore " 
 restored_line _ = []
 
 -- what changes by an instruction of a section
-abbrev pub change_lines : Section → Instr → List ℕ
-change_lines SavedRegisters instruction = kept_line instruction
-change_lines RestoredRegisters instruction = restored_line instruction
-change_lines _ instruction = []
+abbrev pub change_lines : Fields → Section → Instr → List ℕ
+change_lines image SavedRegisters instruction = kept_line image instruction
+change_lines image RestoredRegisters instruction = restored_line instruction
+change_lines image _ instruction = []
 
 -- what changes by all of a section
 abbrev pub end_line : Fields → Section → List ℕ
-end_line image RoomAboveFrame = codes "    .cfi_def_cfa_offset 80\n"
+end_line image RoomAboveFrame = codes "    .cfi_def_cfa_offset " ++ decimal (above_frame image) ++ codes "\n"
 end_line image FrameBase = frame_line 5 (room_of image)
 end_line image ClearedFrame = frame_line 2 (room_of image)
 end_line image CallersStack = frame_line 5 0
 end_line image WipedRoom = frame_line 2 0
 end_line image _ = []
 
-abbrev pub instruction_lines : Section → Instr → List ℕ
-instruction_lines section instruction = word_line (word_of instruction) (text_of instruction)
-    ++ change_lines section instruction
+abbrev pub instruction_lines : Fields → Section → Instr → List ℕ
+instruction_lines image section instruction = word_line (word_of instruction) (text_of instruction)
+    ++ change_lines image section instruction
 
 abbrev pub section_lines : Fields → Section → List ℕ
 section_lines image section =
-    title_line (section_title section) ++ flat_map (instruction_lines section) (section_code image section)
+    title_line (section_title section) ++ flat_map (instruction_lines image section) (section_code image section)
     ++ end_line image section
 
 abbrev pub sections_lines : Fields → List Section → List ℕ

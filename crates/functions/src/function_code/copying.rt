@@ -5,6 +5,7 @@ ghost use Rattle.functions.specs.Below.{copied_code, copy_in_code, copy_out_code
 ghost use Rattle.functions.specs.Below.{elements_code, load_by, MutableArray, next_code, places_code, rounds_code};
 ghost use Rattle.functions.specs.Below.{store_by};
 ghost use Rattle.functions.specs.function_code.private.Ways.{element_code};
+ghost use Rattle.functions.specs.function_code.Above.{IsAbove};
 
 use crate::function_code::pieces::{added, store_by, until_equal};
 use crate::function_code::room::argument_offset;
@@ -33,12 +34,14 @@ pub enum Way {
 fn places(
     code: &mut Vec<Instr>,
     image: &ImageFields,
+    above: u32,
     index: u16,
     slot: Slot,
 ) -> Result<(), AllocError>
+    requires { IsAbove image.now above }
     ensures { OnOk result (code.new.items ≡ code.old.items ++ places_code image.now index slot) }
 {
-    load(code, Reg::X5, argument_offset(image, index))?;
+    load(code, Reg::X5, argument_offset(image, above, index))?;
     constant(code, Reg::X6, slot.offset)?;
     code.push(Instr::Register(RegisterOperation::Add, Reg::X6, Reg::X6, Reg::X2))?;
     Ok(())
@@ -148,12 +151,14 @@ pub fn copy_in(
     alloc: Global,
     code: &mut Vec<Instr>,
     image: &ImageFields,
+    above: u32,
     index: u16,
     slot: Slot,
 ) -> Result<(), AllocError>
+    requires { IsAbove image.now above }
     ensures { OnOk result (code.new.items ≡ code.old.items ++ copy_in_code image.now index slot) }
 {
-    places(code, image, index, slot)?;
+    places(code, image, above, index, slot)?;
     copied(
         alloc,
         code,
@@ -168,12 +173,14 @@ pub fn copy_out(
     alloc: Global,
     code: &mut Vec<Instr>,
     image: &ImageFields,
+    above: u32,
     index: u16,
     slot: Slot,
 ) -> Result<(), AllocError>
+    requires { IsAbove image.now above }
     ensures { OnOk result (code.new.items ≡ code.old.items ++ copy_out_code image.now index slot MutableArray) }
 {
-    places(code, image, index, slot)?;
+    places(code, image, above, index, slot)?;
     copied(
         alloc,
         code,

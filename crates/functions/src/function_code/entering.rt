@@ -3,10 +3,11 @@
 ghost use Rattle.std.specs.Prelude.{◌≡◌, ◌-◌, ◌++◌, ◌∷◌, [], OnOk};
 ghost use Rattle.functions.specs.Below.{above_frame, added, argument_code, constant_code, meant_code, Register};
 ghost use Rattle.functions.specs.Below.{stack_register, Sub, word_code};
+ghost use Rattle.functions.specs.function_code.Above.{IsAbove};
 
 use crate::function_code::copying::copy_in;
 use crate::function_code::pieces::added;
-use crate::function_code::room::{ABOVE_FRAME, argument_offset};
+use crate::function_code::room::argument_offset;
 use codegen::expression_code::emit::{constant, load, store};
 use codegen::image_fields::{ImageFields, Slot};
 use language::{Form, Kind};
@@ -19,10 +20,12 @@ use std::alloc::{AllocError, Global};
 const IMMEDIATES: u32 = 4096;
 
 /// Room above the frame.
-pub fn room_above(code: &mut Vec<Instr>) -> Result<(), AllocError>
-    ensures { OnOk result (code.new.items ≡ code.old.items ++ added stack_register (4096 - above_frame) ∷ []) }
+pub fn room_above(code: &mut Vec<Instr>, image: &ImageFields, above: u32) -> Result<(), AllocError>
+    requires { IsAbove image.now above }
+    ensures { OnOk result (code.new.items
+        ≡ code.old.items ++ added stack_register (4096 - above_frame image.now) ∷ []) }
 {
-    code.push(added(Reg::X2, IMMEDIATES - ABOVE_FRAME))?;
+    code.push(added(Reg::X2, IMMEDIATES - above))?;
     Ok(())
 }
 
@@ -65,12 +68,14 @@ fn meant(code: &mut Vec<Instr>, kind: Kind) -> Result<(), AllocError>
 fn word(
     code: &mut Vec<Instr>,
     image: &ImageFields,
+    above: u32,
     index: u16,
     slot: Slot,
 ) -> Result<(), AllocError>
+    requires { IsAbove image.now above }
     ensures { OnOk result (code.new.items ≡ code.old.items ++ word_code image.now index slot) }
 {
-    load(code, Reg::X5, argument_offset(image, index))?;
+    load(code, Reg::X5, argument_offset(image, above, index))?;
     meant(code, slot.param.kind)?;
     store(code, Reg::X5, slot.offset)
 }
@@ -80,13 +85,15 @@ pub fn argument(
     alloc: Global,
     code: &mut Vec<Instr>,
     image: &ImageFields,
+    above: u32,
     index: u16,
     slot: Slot,
 ) -> Result<(), AllocError>
+    requires { IsAbove image.now above }
     ensures { OnOk result (code.new.items ≡ code.old.items ++ argument_code image.now index slot slot.param.form) }
 {
     match slot.param.form {
-        Form::SingleWord => word(code, image, index, slot),
-        Form::FixedArray | Form::MutableArray => copy_in(alloc, code, image, index, slot),
+        Form::SingleWord => word(code, image, above, index, slot),
+        Form::FixedArray | Form::MutableArray => copy_in(alloc, code, image, above, index, slot),
     }
 }

@@ -3,11 +3,11 @@
 ghost use Rattle.std.specs.Prelude.{◌≡◌, ◌++◌, ◌∷◌, [], OnOk};
 ghost use Rattle.functions.specs.Below.{above_frame, Add, added, constant_code, copy_out_code, JumpRegister};
 ghost use Rattle.functions.specs.Below.{link_register, Register, result_code, stack_register};
+ghost use Rattle.functions.specs.function_code.Above.{IsAbove};
 
 use crate::function_code::copying::copy_out;
 use crate::function_code::pieces::added;
 use crate::function_code::registers;
-use crate::function_code::room::ABOVE_FRAME;
 use codegen::expression_code::emit::{constant, load};
 use codegen::image_fields::{ImageFields, ResultSlot, Slot};
 use language::Form;
@@ -34,14 +34,16 @@ pub fn array(
     alloc: Global,
     code: &mut Vec<Instr>,
     image: &ImageFields,
+    above: u32,
     index: u16,
     slot: Slot,
 ) -> Result<(), AllocError>
+    requires { IsAbove image.now above }
     ensures { OnOk result (code.new.items ≡ code.old.items ++ copy_out_code image.now index slot slot.param.form) }
 {
     match slot.param.form {
         Form::SingleWord | Form::FixedArray => Ok(()),
-        Form::MutableArray => copy_out(alloc, code, image, index, slot),
+        Form::MutableArray => copy_out(alloc, code, image, above, index, slot),
     }
 }
 
@@ -56,10 +58,15 @@ pub fn frame_top(code: &mut Vec<Instr>, room: u32) -> Result<(), AllocError>
 }
 
 /// The caller's x2 into x5.
-pub fn callers_stack(code: &mut Vec<Instr>) -> Result<(), AllocError>
-    ensures { OnOk result (code.new.items ≡ code.old.items ++ added 5 above_frame ∷ []) }
+pub fn callers_stack(
+    code: &mut Vec<Instr>,
+    image: &ImageFields,
+    above: u32,
+) -> Result<(), AllocError>
+    requires { IsAbove image.now above }
+    ensures { OnOk result (code.new.items ≡ code.old.items ++ added 5 (above_frame image.now) ∷ []) }
 {
-    code.push(added(Reg::X5, ABOVE_FRAME))?;
+    code.push(added(Reg::X5, above))?;
     Ok(())
 }
 

@@ -1,14 +1,17 @@
 // The sections of a function's code: one list of them is what its words, its text and its steps are made of.
 
-ghost use Rattle.std.specs.Prelude.{◌≡◌, ◌≤◌, ◌++◌, length, OnOk, IfOk};
+ghost use Rattle.std.specs.Prelude.{◌≡◌, ◌≤◌, ◌-◌, ◌++◌, length, OnOk, IfOk};
 ghost use Rattle.functions.specs.Below.{argument_sections, array_section, array_sections, enter_sections};
-ghost use Rattle.functions.specs.Below.{frame_sections, leave_sections, section_code};
+ghost use Rattle.functions.specs.Below.{above_frame, frame_sections, kept_of, leave_sections, loads_code, passed_of};
+ghost use Rattle.functions.specs.Below.{section_code, stores_code};
+ghost use Rattle.functions.specs.function_code.Above.{IsAbove};
 
 use crate::function_code::entering::{argument, frame_base, room_above};
+use crate::function_code::kept::kept;
 use crate::function_code::leaving::{array, callers_stack, frame_top, go_back, result};
 use crate::function_code::pieces::{clear_registers, loads, stores};
 use crate::function_code::registers;
-use crate::function_code::room::{FIRST_ARGUMENT, frame_room, room_of};
+use crate::function_code::room::{first_argument, frame_room, room_of};
 use crate::function_code::zeroing::{cleared_frame, wiped_room};
 use codegen::image_fields::{ImageFields, Slot};
 use language::Form;
@@ -96,44 +99,91 @@ pub fn leave_sections(alloc: Global, image: &ImageFields) -> Result<Vec<Section>
     Ok(sections)
 }
 
+/// The caller's registers that are kept, above the frame.
+fn saved_registers(
+    alloc: Global,
+    code: &mut Vec<Instr>,
+    image: &ImageFields,
+) -> Result<(), AllocError>
+    ensures { OnOk result (code.new.items ≡ code.old.items ++ stores_code 2 0 (kept_of image.now)) }
+{
+    let kept = kept(alloc, image)?;
+    stores(code, Reg::X2, 0, kept.as_slice())
+}
+
+/// And back.
+fn restored_registers(
+    alloc: Global,
+    code: &mut Vec<Instr>,
+    image: &ImageFields,
+) -> Result<(), AllocError>
+    ensures { OnOk result (code.new.items ≡ code.old.items ++ loads_code 5 0 (kept_of image.now)) }
+{
+    let kept = kept(alloc, image)?;
+    loads(code, Reg::X5, 0, kept.as_slice())
+}
+
+/// The arguments in a0 to a7, above those.
+#[tactic(auto, using(crate::proofs::function_code_lemmas::ArgumentLemmas::taken_all))]
+fn argument_registers(
+    code: &mut Vec<Instr>,
+    image: &ImageFields,
+    above: u32,
+) -> Result<(), AllocError>
+    requires { IsAbove image.now above }
+    ensures { OnOk result (code.new.items
+        ≡ code.old.items ++ stores_code 2 (above_frame image.now - 32) (passed_of image.now)) }
+{
+    let arguments = registers::arguments();
+    let passed = image.slots().len();
+    let place = first_argument(image, above);
+    if passed < arguments.len() {
+        stores(code, Reg::X2, place, &arguments[..passed])
+    } else {
+        stores(code, Reg::X2, place, &arguments)
+    }
+}
+
 /// Puts the instructions of a section of an image's function at the end.
 fn push_code(
     alloc: Global,
     code: &mut Vec<Instr>,
     image: &ImageFields,
+    above: u32,
     section: Section,
 ) -> Result<(), AllocError>
+    requires { IsAbove image.now above }
     ensures { OnOk result (code.new.items ≡ code.old.items ++ section_code image.now section) }
 {
     match section {
-        Section::RoomAboveFrame => room_above(code),
-        Section::SavedRegisters => stores(code, Reg::X2, 0, &registers::saved()),
-        Section::ArgumentRegisters => {
-            stores(code, Reg::X2, FIRST_ARGUMENT, &registers::arguments())
-        }
+        Section::RoomAboveFrame => room_above(code, image, above),
+        Section::SavedRegisters => saved_registers(alloc, code, image),
+        Section::ArgumentRegisters => argument_registers(code, image, above),
         Section::FrameBase => frame_base(code, frame_room(image)),
         Section::ClearedFrame => cleared_frame(alloc, code, frame_room(image)),
-        Section::ArgumentIn(index, slot) => argument(alloc, code, image, index, slot),
+        Section::ArgumentIn(index, slot) => argument(alloc, code, image, above, index, slot),
         Section::ResultOut => result(code, image.returned()),
-        Section::ArrayOut(index, slot) => array(alloc, code, image, index, slot),
+        Section::ArrayOut(index, slot) => array(alloc, code, image, above, index, slot),
         Section::FrameTop => frame_top(code, frame_room(image)),
-        Section::RestoredRegisters => loads(code, Reg::X5, 0, &registers::saved()),
-        Section::CallersStack => callers_stack(code),
+        Section::RestoredRegisters => restored_registers(alloc, code, image),
+        Section::CallersStack => callers_stack(code, image, above),
         Section::WipedRoom => wiped_room(alloc, code, room_of(image)),
         Section::ClearedRegisters => clear_registers(code, &registers::scratch()),
         Section::Return => go_back(code),
     }
 }
 
-/// The instructions of a section of an image's function.
+/// The instructions of a section of an image's function, with so many bytes above its frame.
 pub fn section_code(
     alloc: Global,
     image: &ImageFields,
+    above: u32,
     section: Section,
 ) -> Result<Vec<Instr>, AllocError>
+    requires { IsAbove image.now above }
     ensures { IfOk result (λ code. code.items ≡ section_code image.now section) }
 {
     let mut code = Vec::new(alloc);
-    push_code(alloc, &mut code, image, section)?;
+    push_code(alloc, &mut code, image, above, section)?;
     Ok(code)
 }

@@ -2,7 +2,9 @@
 
 ghost use Rattle.std.specs.Prelude.{◌≡◌, ◌++◌, ◌^◌, ◌<◌, map, All, OnOk, IfOk};
 ghost use Rattle.functions.specs.Below.{body_words, code_of, function_words, word_of};
+ghost use Rattle.functions.specs.function_code.Above.{IsAbove};
 
+use crate::function_code::room::above_frame;
 use crate::function_code::sections::{enter_sections, leave_sections, section_code};
 use codegen::image_fields::ImageFields;
 use linked_calls::{Section, sections_are_the_function};
@@ -24,12 +26,14 @@ fn push_sections(
     alloc: Global,
     words: &mut Vec<u32>,
     image: &ImageFields,
+    above: u32,
     sections: &[Section],
 ) -> Result<(), AllocError>
+    requires { IsAbove image.now above }
     ensures { OnOk result (words.new.items ≡ words.old.items ++ map word_of (code_of image.now sections.now)) }
 {
     for section in sections {
-        let code = section_code(alloc, image, *section)?;
+        let code = section_code(alloc, image, above, *section)?;
         push_words(words, code.as_slice())?;
     }
     Ok(())
@@ -51,10 +55,11 @@ pub fn function_words(alloc: Global, image: &ImageFields) -> Result<Vec<u32>, Al
 {
     let enter = enter_sections(alloc, image)?;
     let leave = leave_sections(alloc, image)?;
+    let above = above_frame(image);
     let mut words = Vec::new(alloc);
-    push_sections(alloc, &mut words, image, enter.as_slice())?;
+    push_sections(alloc, &mut words, image, above, enter.as_slice())?;
     words.extend_from_slice(body(image))?;
-    push_sections(alloc, &mut words, image, leave.as_slice())?;
+    push_sections(alloc, &mut words, image, above, leave.as_slice())?;
     sections_are_the_function();
     Ok(words)
 }

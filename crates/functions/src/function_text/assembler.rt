@@ -9,9 +9,10 @@ ghost use Rattle.functions.specs.function_text.AssemblerText.{section_lines, sec
 ghost use Rattle.functions.specs.function_text.AssemblerText.{first_line, place_lines, symbol_lines, head_lines};
 ghost use Rattle.functions.specs.function_text.AssemblerText.{tail_lines, title_line};
 ghost use Rattle.functions.specs.function_text.Functions.{parts_of};
+ghost use Rattle.functions.specs.function_code.Above.{IsAbove};
 
 use crate::function_code::{
-    body, enter_sections, function_words, leave_sections, room_of, section_code,
+    above_frame, body, enter_sections, function_words, leave_sections, room_of, section_code,
 };
 use crate::function_text::function::Function;
 use crate::function_text::lines::{push_end, push_instruction, push_number, push_title, push_word};
@@ -32,12 +33,17 @@ pub(crate) fn profile_text(profile: Profile) -> &'static str
 }
 
 /// The instructions of a section, at the end of a text.
-fn push_code(text: &mut String, section: Section, code: &[Instr]) -> Result<(), AllocError>
+fn push_code(
+    text: &mut String,
+    image: &ImageFields,
+    section: Section,
+    code: &[Instr],
+) -> Result<(), AllocError>
     ensures { OnOk result (string_bytes text.new
-        ≡ string_bytes text.old ++ flat_map (instruction_lines section) code.now) }
+        ≡ string_bytes text.old ++ flat_map (instruction_lines image.now section) code.now) }
 {
     for instruction in code {
-        push_instruction(text, section, instruction)?;
+        push_instruction(text, image, section, instruction)?;
     }
     Ok(())
 }
@@ -47,13 +53,15 @@ fn push_section(
     alloc: Global,
     text: &mut String,
     image: &ImageFields,
+    above: u32,
     section: Section,
 ) -> Result<(), AllocError>
+    requires { IsAbove image.now above }
     ensures { OnOk result (string_bytes text.new ≡ string_bytes text.old ++ section_lines image.now section) }
 {
-    let code = section_code(alloc, image, section)?;
+    let code = section_code(alloc, image, above, section)?;
     push_title(text, section)?;
-    push_code(text, section, code.as_slice())?;
+    push_code(text, image, section, code.as_slice())?;
     push_end(text, image, section)
 }
 
@@ -62,12 +70,14 @@ fn push_sections(
     alloc: Global,
     text: &mut String,
     image: &ImageFields,
+    above: u32,
     sections: &[Section],
 ) -> Result<(), AllocError>
+    requires { IsAbove image.now above }
     ensures { OnOk result (string_bytes text.new ≡ string_bytes text.old ++ sections_lines image.now sections.now) }
 {
     for section in sections {
-        push_section(alloc, text, image, *section)?;
+        push_section(alloc, text, image, above, *section)?;
     }
     Ok(())
 }
@@ -158,7 +168,8 @@ fn push_entry(alloc: Global, text: &mut String, image: &ImageFields) -> Result<(
         ≡ string_bytes text.old ++ sections_lines image.now (enter_sections image.now)) }
 {
     let sections = enter_sections(alloc, image)?;
-    push_sections(alloc, text, image, sections.as_slice())
+    let above = above_frame(image);
+    push_sections(alloc, text, image, above, sections.as_slice())
 }
 
 /// The body, at the end of a text.
@@ -179,7 +190,8 @@ fn push_exit(alloc: Global, text: &mut String, image: &ImageFields) -> Result<()
         ≡ string_bytes text.old ++ sections_lines image.now (leave_sections image.now)) }
 {
     let sections = leave_sections(alloc, image)?;
-    push_sections(alloc, text, image, sections.as_slice())
+    let above = above_frame(image);
+    push_sections(alloc, text, image, above, sections.as_slice())
 }
 
 /// The text of a function for a GNU or LLVM assembler: its words as numbers, each with its instruction as a comment,

@@ -8,7 +8,7 @@ ghost use Rattle.functions.specs.function_text.AssemblerText.{argument_title, se
 ghost use Rattle.functions.specs.function_text.AssemblerText.{change_lines, end_line, instruction_lines};
 ghost use Rattle.functions.specs.Below.{IsTextOf, text_of};
 
-use crate::function_code::{ABOVE_FRAME, room_of};
+use crate::function_code::{above_frame, room_of};
 use codegen::image_fields::ImageFields;
 use language::Form;
 use linked_calls::Section;
@@ -74,6 +74,16 @@ fn push_frame(text: &mut String, register: u32, distance: u32) -> Result<(), All
     text.push_str("\n")
 }
 
+/// How far the caller's x2 is above x2.
+fn push_offset(text: &mut String, distance: u32) -> Result<(), AllocError>
+    ensures { OnOk result (string_bytes text.new
+        ≡ string_bytes text.old ++ (codes "    .cfi_def_cfa_offset " ++ decimal distance ++ codes "\n")) }
+{
+    text.push_str("    .cfi_def_cfa_offset ")?;
+    push_number(text, u64::from(distance))?;
+    text.push_str("\n")
+}
+
 /// What the form of an argument is called.
 fn argument_title(form: Form) -> &'static str
     ensures { result.now ≡ argument_title form }
@@ -135,13 +145,13 @@ pub fn push_title(text: &mut String, section: Section) -> Result<(), AllocError>
 }
 
 /// Where a register of the caller is kept, below the caller's x2.
-fn push_kept(text: &mut String, instruction: &Instr) -> Result<(), AllocError>
-    ensures { OnOk result (string_bytes text.new ≡ string_bytes text.old ++ kept_line instruction.now) }
+fn push_kept(text: &mut String, image: &ImageFields, instruction: &Instr) -> Result<(), AllocError>
+    ensures { OnOk result (string_bytes text.new ≡ string_bytes text.old ++ kept_line image.now instruction.now) }
 {
     match *instruction {
         Instr::Store(_, register, _, offset) => {
             let register = register.number();
-            let below = ABOVE_FRAME.saturating_sub(u32::from(offset.field()));
+            let below = above_frame(image).saturating_sub(u32::from(offset.field()));
             writeln!(text, "    .cfi_offset {register}, -{below}")?;
             Ok(())
         }
@@ -170,11 +180,17 @@ fn push_restored(text: &mut String, instruction: &Instr) -> Result<(), AllocErro
 }
 
 /// What changes for a debugger by an instruction of a section.
-fn push_change(text: &mut String, section: Section, instruction: &Instr) -> Result<(), AllocError>
-    ensures { OnOk result (string_bytes text.new ≡ string_bytes text.old ++ change_lines section instruction.now) }
+fn push_change(
+    text: &mut String,
+    image: &ImageFields,
+    section: Section,
+    instruction: &Instr,
+) -> Result<(), AllocError>
+    ensures { OnOk result (string_bytes text.new
+        ≡ string_bytes text.old ++ change_lines image.now section instruction.now) }
 {
     match section {
-        Section::SavedRegisters => push_kept(text, instruction),
+        Section::SavedRegisters => push_kept(text, image, instruction),
         Section::RestoredRegisters => push_restored(text, instruction),
         _ => Ok(()),
     }
@@ -183,14 +199,16 @@ fn push_change(text: &mut String, section: Section, instruction: &Instr) -> Resu
 /// An instruction of a section, and what changes by it.
 pub fn push_instruction(
     text: &mut String,
+    image: &ImageFields,
     section: Section,
     instruction: &Instr,
 ) -> Result<(), AllocError>
-    ensures { OnOk result (string_bytes text.new ≡ string_bytes text.old ++ instruction_lines section instruction.now) }
+    ensures { OnOk result (string_bytes text.new
+        ≡ string_bytes text.old ++ instruction_lines image.now section instruction.now) }
 {
     let word = encode(*instruction);
     push_told(text, word, instruction)?;
-    push_change(text, section, instruction)
+    push_change(text, image, section, instruction)
 }
 
 /// What has changed for a debugger at the end of a section.
@@ -198,7 +216,7 @@ pub fn push_end(text: &mut String, image: &ImageFields, section: Section) -> Res
     ensures { OnOk result (string_bytes text.new ≡ string_bytes text.old ++ end_line image.now section) }
 {
     match section {
-        Section::RoomAboveFrame => text.push_str("    .cfi_def_cfa_offset 80\n"),
+        Section::RoomAboveFrame => push_offset(text, above_frame(image)),
         Section::FrameBase => push_frame(text, 5, room_of(image)),
         Section::ClearedFrame => push_frame(text, 2, room_of(image)),
         Section::CallersStack => push_frame(text, 5, 0),

@@ -7,5 +7,5 @@ use Rattle.functions.proofs.function_text.assembler.push_code.Given as goal
 -- the text so far, and the lines of what is left, are all
 abbrev pub invariant-loop-instruction : goal.invariant-loop-instruction
 invariant-loop-instruction l =
-    string_bytes l.text ++ flat_map (instruction_lines l.section) (drop l.instruction-index l.code)
-    ≡ string_bytes l.fn.text ++ flat_map (instruction_lines l.fn.section) l.fn.code
+    string_bytes l.text ++ flat_map (instruction_lines l.fn.image l.section) (drop l.instruction-index l.code)
+    ≡ string_bytes l.fn.text ++ flat_map (instruction_lines l.fn.image l.fn.section) l.fn.code
