@@ -1,17 +1,16 @@
 -- The registers of the caller that the body writes, of those that it may count on: which are kept, and that with those
 -- that are not written they are all.
 use Rattle.std.specs.Prelude.{not}
-use Rattle.std.proofs.Common.{◌≡◌, ◌≢◌, ℕ, zero, suc, ◌+◌, ◌*◌, ◌<◌, ◌≤◌, ◌==◌, ◌&&◌, Bool, true, false, List, [], ◌∷◌}
+use Rattle.std.proofs.Common.{◌≡◌, ◌≢◌, ℕ, ◌+◌, ◌*◌, ◌<◌, ◌≤◌, ◌==◌, ◌&&◌, Bool, true, false, List, [], ◌∷◌}
 use Rattle.std.proofs.Common.{if◌then◌else◌, length, nat_lt, inl, inr, refl, sym, ap, ◌∙◌, arith, ne_eqb}
 use Rattle.std.proofs.lemmas.Bool.{cases_eq, lt-ltb, ltb-true}
 use Rattle.std.proofs.lemmas.Bool.Decides.{nat_tests}
-use Rattle.linked_calls.proofs.Below.{after, after_all, are_straight, both_left, both_right, Data, is_written, loads_code}
-use Rattle.linked_calls.proofs.Below.{Lw, number_at, number_or_zero, saved_registers, unwritten, with_result, written}
+use Rattle.linked_calls.proofs.Below.{after_all, are_straight, both_left, both_right, Data, is_written, loads_code}
+use Rattle.linked_calls.proofs.Below.{number_at, number_or_zero, saved_registers, unwritten, with_result, written}
 use Rattle.linked_calls.proofs.Below.{written_of}
 use Rattle.linked_calls.proofs.Between.{AreLeft, AreSaved}
 use Rattle.linked_calls.proofs.Parts.{are_others, are_registers, words_at}
 use Rattle.linked_calls.proofs.SameRegisters.{AreSame, IsNone}
-use Rattle.rv_code.specs.declared.instructions.Instr.TheVariants.{Load}
 
 -- none is x0, x2 or x5
 abbrev pub AreFitting : List ℕ → Type 0

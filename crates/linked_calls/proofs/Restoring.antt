@@ -3,7 +3,6 @@ use Rattle.std.specs.Prelude.{is_some}
 use Rattle.std.proofs.Common.{◌≡◌, ◌≢◌, ℕ, ◌+◌, ◌*◌, ◌%◌, ◌^◌, ◌<◌, ◌≤◌, ◌==◌, List, [], ◌∷◌, ◌++◌, length, All, refl}
 use Rattle.std.proofs.Common.{sym, ap, ◌∙◌, subst, arith, append_assoc}
 use Rattle.std.proofs.lemmas.Bool.{lt-ltb}
-use Rattle.std.proofs.lemmas.Bool.Decides.{nat_tests}
 use Rattle.codegen.proofs.program_logic_lemmas.Counted.{as_code, computes_runs, in_steps, makes_then, Runs, Setting}
 use Rattle.codegen.proofs.program_logic_lemmas.Counted.{then_runs}
 use Rattle.linked_calls.proofs.Below.{Add, added, AreCleared, AreData, AreZeroed, ByteMap, clear_registers_code}
@@ -16,7 +15,7 @@ use Rattle.linked_calls.proofs.KeptRegisters.{all_of_both, fitting_others, kept_
 use Rattle.linked_calls.proofs.KeptRegisters.{left_then, loaded_from}
 use Rattle.linked_calls.proofs.KeptRegisters.{loads_back, loads_bytes, loads_leave, loads_left, loads_plain}
 use Rattle.linked_calls.proofs.KeptRegisters.{written_none}
-use Rattle.linked_calls.proofs.Parts.{loads_length, loads_runs, MayLoad, number_then, words_at}
+use Rattle.linked_calls.proofs.Parts.{loads_length, loads_runs, MayLoad, number_then}
 use Rattle.linked_calls.proofs.SameRegisters.{AreSame, IsNone, all_differ, first_none, none_of, same_beside}
 use Rattle.linked_calls.proofs.SameRegisters.{still_same, then_none}
 use Rattle.linked_calls.proofs.Zeros.{MayZero, up_runs}

@@ -1,14 +1,12 @@
 -- Registers that were stored into words, one after another.
 use Rattle.std.specs.Prelude.{take}
-use Rattle.std.proofs.Common.{◌≡◌, ℕ, zero, suc, ◌+◌, ◌*◌, ◌%◌, ◌^◌, ◌<◌, ◌≤◌, List, [], ◌∷◌, ◌++◌, length, map, Some}
-use Rattle.std.proofs.Common.{ap, subst, inl}
+use Rattle.std.proofs.Common.{◌≡◌, ℕ, zero, suc, ◌+◌, ◌*◌, ◌%◌, ◌^◌, ◌<◌, ◌≤◌, List, [], ◌∷◌, length, map, Some}
+use Rattle.std.proofs.Common.{ap, inl}
 use Rattle.std.proofs.Common.{◌∙◌, arith}
-use Rattle.linked_calls.proofs.Below.{ByteMap, number_at, number_at-with_number, number_at_same, number_or_zero}
+use Rattle.linked_calls.proofs.Below.{ByteMap, number_at, number_at-with_number, number_at_same}
 use Rattle.linked_calls.proofs.Below.{with_number, with_numbers}
 use Rattle.linked_calls.proofs.Between.{AreSaved}
 use Rattle.linked_calls.proofs.Bytes.{numbers_outside}
-use Rattle.linked_calls.proofs.Parts.{words_at}
-use Rattle.linked_calls.proofs.SameRegisters.{AreSame, heads, tails}
 
 word_whole : (v : ℕ) → v < 2 ^ 32 → v % 256 ^ 4 ≡ v
 word_whole v below = omega arith

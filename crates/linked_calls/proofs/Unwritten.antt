@@ -1,13 +1,13 @@
 -- A register that no word of a body writes is the same behind it. The body is run among its own words alone, so that
 -- each of its steps executes one of them.
-use Rattle.std.specs.Prelude.{not, slice_get}
+use Rattle.std.specs.Prelude.{slice_get}
 use Rattle.std.specs.Prelude.{nat_le}
-use Rattle.std.proofs.Common.{◌≡◌, ◌≢◌, ℕ, zero, suc, ◌+◌, ◌-◌, ◌*◌, ◌/◌, ◌%◌, ◌^◌, ◌<◌, ◌≤◌, ◌==◌, ◌&&◌, ◌||◌, Bool}
+use Rattle.std.proofs.Common.{◌≡◌, ◌≢◌, ℕ, zero, suc, ◌+◌, ◌-◌, ◌*◌, ◌/◌, ◌%◌, ◌^◌, ◌<◌, ◌==◌, ◌&&◌, ◌||◌, Bool}
 use Rattle.std.proofs.Common.{true, false, List, [], ◌∷◌, ◌++◌, length, Option, Some, None, refl, sym, ap, ◌∙◌, subst}
 use Rattle.std.proofs.Common.{arith, if◌then◌else◌, append_assoc, eq-eqb, length-append, ne_eqb}
 use Rattle.std.proofs.lemmas.Bool.{eqb-true, false≢true, le-leb, leb-true}
-use Rattle.linked_calls.proofs.Below.{both_left, both_right, MachineCode, Observation, observed, Stand, State, Step}
-use Rattle.linked_calls.proofs.Below.{goes_on, Instr, next, number_at, unwritten, with_register}
+use Rattle.linked_calls.proofs.Below.{MachineCode, Observation, Stand, State, Step}
+use Rattle.linked_calls.proofs.Below.{goes_on, Instr, next, number_at, unwritten}
 use Rattle.linked_calls.specs.Below.{Event}
 use Rattle.linked_calls.specs.Written.{is_written, writes}
 use Rattle.codegen.specs.program_logic.MachineSteps.{LeadsBy, stays_by, steps_by}
@@ -20,7 +20,7 @@ use Rattle.rv_code.specs.declared.operations.UpperOperation.TheVariants.{Auipc, 
 use Rattle.rv_machine.proofs.Face.{moved_to-regs, with_link-regs, with_value-regs}
 use Rattle.rv_machine.specs.Effects.{effect_of, load_size, store_size}
 use Rattle.rv_machine.specs.Sizes.{byte_count}
-use Rattle.rv_machine.specs.Machine.{arrives, executes, here, loaded, StepEnding, stored, stops, word_at}
+use Rattle.rv_machine.specs.Machine.{executes, here, loaded, StepEnding, stored, stops, word_at}
 unfoldable use Rattle.rv_machine.specs.Machine.{ending_of, moved_to, with_link, with_stored, with_value}
 use Rattle.rv_machine.specs.declared.effects.Effect.{Effect}
 use Rattle.rv_machine.specs.declared.effects.Effect.TheVariants.{Branches, Breaks, Calls, Computes, Divides, Jumps, Loads}

@@ -11,7 +11,7 @@ use Rattle.codegen.proofs.program_logic_lemmas.Counted.{Runs, Setting, then_runs
 use Rattle.linked_calls.proofs.Below.{added, AreData, AreZeroed, ByteMap, MachineCode, constant_code, Data}
 use Rattle.linked_calls.proofs.Below.{difference_of, down_code, frame_code, frame_steps, FrameIsZeroed, HasFrame}
 use Rattle.linked_calls.proofs.Below.{HasRoomBounds, Instr, IsStoreIn, IsWiped, IsZeroFrame, Register, register}
-use Rattle.linked_calls.proofs.Below.{rest_steps, rest_words, RoomIsWiped, runs_code, runs_steps, sign_extended}
+use Rattle.linked_calls.proofs.Below.{rest_words, RoomIsWiped, runs_code, runs_steps, sign_extended}
 use Rattle.linked_calls.proofs.Below.{stores_code, Sub, sum_of, until_equal, unwritten, up_code, wipe_code}
 use Rattle.linked_calls.proofs.Below.{with_numbers, with_register, with_result, zeros_code}
 use Rattle.linked_calls.proofs.Bytes.{no_zeros, is_some-with_numbers, zeroed_words, zeros_down, zeros_up}

@@ -5,7 +5,7 @@ use Rattle.std.specs.Prelude.{if◌then◌else◌}
 use Rattle.std.specs.List.{flat_map}
 use Rattle.linked_calls.specs.Below.{Add, constant_code, element_bytes, Fields, FixedArray, Form, Instr, JumpRegister}
 use Rattle.linked_calls.specs.Below.{Kind, MutableArray, Register, SingleWord, Slot, Sub}
-use Rattle.linked_calls.specs.Convention.{link_register, stack_register, saved_registers, argument_registers}
+use Rattle.linked_calls.specs.Convention.{link_register, stack_register}
 use Rattle.linked_calls.specs.Convention.{scratch_registers}
 use Rattle.linked_calls.specs.FunctionCode.{above_frame, frame_room, room_of, stores_code, loads_code, runs_code}
 use Rattle.linked_calls.specs.FunctionCode.{added, argument_code, copied_in_code}

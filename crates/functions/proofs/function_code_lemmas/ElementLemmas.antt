@@ -1,7 +1,7 @@
 -- The elements of an array, one after another.
-use Rattle.std.proofs.Common.{◌≡◌, ◌≢◌, ℕ, zero, suc, ◌+◌, ◌-◌, ◌<◌, ◌≤◌, List, ◌++◌, refl, ap, ◌∙◌, arith}
+use Rattle.std.proofs.Common.{◌≡◌, ◌≢◌, ℕ, zero, suc, ◌+◌, ◌-◌, ◌≤◌, List, ◌++◌, refl, ap, arith}
 use Rattle.functions.specs.Below.{element_bytes, elements_code, Instr, Kind}
-use Rattle.language.specs.declared.signature.Kind.TheVariants.{Boolean, Uint16, Uint32, Uint8}
+use Rattle.language.specs.declared.signature.Kind.TheVariants.{Boolean}
 
 -- where some are left, the next of them, and those behind it
 pub elements_more : (code : ℕ → List Instr) (bytes offset left : ℕ) → left ≢ 0

@@ -1,4 +1,4 @@
-use Rattle.std.proofs.Common.{◌≡◌, ◌≢◌, ◌≤◌, ◌+◌, ◌*◌, ◌-◌, ◌++◌, ℕ, List, sym, ap, ◌∙◌, arith, append_assoc}
+use Rattle.std.proofs.Common.{◌≡◌, ◌≢◌, ◌+◌, ◌-◌, ◌++◌, List, sym, ap, ◌∙◌, arith, append_assoc}
 use Rattle.functions.specs.Below.{element_bytes, elements_code, Instr}
 use Rattle.functions.specs.function_code.private.Ways.{element_code}
 use Rattle.functions.proofs.function_code_lemmas.ElementLemmas.{elements_more, few_bytes}
