@@ -2,8 +2,8 @@
 use Rattle.std.proofs.Common.{◌≡◌, ◌≢◌, ℕ, List, Option, None, Result, Ok, refl, sym, subst, ◌∙◌}
 use Rattle.std.proofs.lemmas.Option.{none-some}
 use Rattle.rv_code.specs.Words.{word_of}
-use Rattle.commands.specs.Below.{Arg, Certified, certified, CertifiedEnd, MachineCode, code_at, code_base, Fields}
-use Rattle.commands.specs.Below.{MayDiffer, RunFault, Same, Shifts, word_at}
+use Rattle.commands.specs.Below.{Arg, Certified, certified, CertifiedEnd, code_at, code_base, Fields}
+use Rattle.commands.specs.Below.{image_program, MachineProgram, MayDiffer, RunFault, Same, Shifts, word_at}
 use Rattle.rv_machine.specs.declared.observation.Observation.{Observation}
 use Rattle.certified_runs.specs.Certified.{KnownEnding, depends, KnownStep, decided, stopped, undecided, RunEnding}
 use Rattle.certified_runs.specs.Certified.{same, may_differ, CertifiedRun, spent, halts, cut, steps_on}
@@ -11,21 +11,21 @@ use Rattle.certified_runs.specs.Known.{KnownState}
 use Rattle.image_reports.specs.certificates.Certified.{refused, out_of_memory}
 use Rattle.commands.specs.Certificates.{StandsInCode}
 
-depends_at : (code : MachineCode) (k : KnownState) (ending : KnownEnding) → KnownStep code k ending → ending ≡ depends
-    → word_at code k.state.pc ≢ None
-depends_at code k ending (decided i at sure step) is = cc
-depends_at code k ending (stopped known step) is = cc
-depends_at code k ending (undecided i at unknown) is = λ none. none-some (word_of i) (sym none ∙ at.word)
+depends_at : (program : MachineProgram) (k : KnownState) (ending : KnownEnding) → KnownStep program k ending
+    → ending ≡ depends → word_at (program.code k.state.pc) k.state.pc ≢ None
+depends_at program k ending (decided i at sure step) is = cc
+depends_at program k ending (stopped known step) is = cc
+depends_at program k ending (undecided i at unknown) is = λ none. none-some (word_of i) (sym none ∙ at.word)
 
-cut_at : (code : MachineCode) (n : ℕ) (k : KnownState) (seen : List Observation) (ending : RunEnding) (pc : ℕ)
-    → CertifiedRun code n k seen ending → ending ≡ may_differ pc → word_at code pc ≢ None
-cut_at code n k seen ending pc spent is = cc
-cut_at code n k seen ending pc (halts step) is = cc
-cut_at code n k seen ending pc (cut step) is =
+cut_at : (program : MachineProgram) (n : ℕ) (k : KnownState) (seen : List Observation) (ending : RunEnding) (pc : ℕ)
+    → CertifiedRun program n k seen ending → ending ≡ may_differ pc → word_at (program.code pc) pc ≢ None
+cut_at program n k seen ending pc spent is = cc
+cut_at program n k seen ending pc (halts step) is = cc
+cut_at program n k seen ending pc (cut step) is =
     let here : k.state.pc ≡ pc = cc in
-    subst (λ (p : ℕ). word_at code p ≢ None) here (depends_at code k depends step refl)
-cut_at code n k seen ending pc (steps_on {n = less} {next = next} {seen = rest} step run) is =
-    cut_at code less next rest ending pc run is
+    subst (λ (p : ℕ). word_at (program.code p) p ≢ None) here (depends_at program k depends step refl)
+cut_at program n k seen ending pc (steps_on {n = less} {next = next} {seen = rest} step run) is =
+    cut_at program less next rest ending pc run is
 
 stands_at : (image : Fields) (given : List (Option Arg)) (shifts : Shifts) (answer : Result CertifiedEnd RunFault)
     (entry pc : ℕ) → Certified image given shifts answer → answer ≡ Ok (MayDiffer entry pc)
@@ -36,7 +36,7 @@ stands_at image given shifts answer entry pc (certified {ending = same stop} non
 stands_at image given shifts answer entry pc (certified {seen = seen} {ending = may_differ at} none run) is =
     let there : at ≡ pc = cc in
     subst (λ (p : ℕ). word_at (code_at code_base image) p ≢ None) there
-    (cut_at (code_at code_base image) _ _ seen (may_differ at) at run refl)
+    (cut_at (image_program (code_at code_base image)) _ _ seen (may_differ at) at run refl)
 
 pub stands_in_code : (image : Fields) (given : List (Option Arg)) (shifts : Shifts) (certificate : CertifiedEnd)
     → Certified image given shifts (Ok certificate) → StandsInCode image certificate

@@ -11,6 +11,7 @@ pub use Rattle.rv_machine.specs.declared.pairing.Pairing.{Pairing}
 pub use Rattle.rv_machine.specs.declared.stops.Stop.{Stop}
 pub use Rattle.rv_machine.specs.declared.stops.Stop.TheVariants.{AccessFault, Break, Budget, Ecall, Illegal, Misaligned}
 pub use Rattle.rv_machine.specs.declared.stops.Stop.TheVariants.{RecorderRefused}
+pub use Rattle.rv_programs.specs.Programs.{image_program, MachineProgram}
 pub use Rattle.certified_runs.specs.declared.certifying.CertifiedEnd.{CertifiedEnd}
 pub use Rattle.certified_runs.specs.declared.certifying.CertifiedEnd.TheVariants.{MayDiffer, Same}
 pub use Rattle.certified_runs.specs.declared.shifts.Shifts.{Shifts}

@@ -3,7 +3,7 @@
 use Rattle.std.specs.Prelude.{◌≡◌, ℕ, Bool, true, false, List, map, Option}
 use Rattle.image_reports.specs.certificates.KnownImage.{known_at}
 use Rattle.commands.specs.Below.{Arg, BothGoOn, code_at, code_base, Collected, Counting, Fields, frame_base, GoesOn}
-use Rattle.commands.specs.Below.{IsTold, loaded_at, params_of, Shifts}
+use Rattle.commands.specs.Below.{image_program, IsTold, loaded_at, params_of, Shifts}
 use Rattle.commands.specs.declared.command_line.words.Request.{Request}
 use Rattle.commands.specs.declared.command_line.words.Request.TheVariants as requests
 use Rattle.commands.specs.Certificates.{shifts_seen}
@@ -25,7 +25,8 @@ PairGoesOn image one other =
 -- and its certified run on what is given
 abbrev pub CertificateGoesOn : Fields → List (Option Arg) → Shifts → ℕ → Type 0
 CertificateGoesOn image given shifts =
-    GoesOnKnown (code_at code_base image) image.max_steps (known_at code_base frame_base image given shifts)
+    GoesOnKnown (image_program (code_at code_base image)) image.max_steps
+    (known_at code_base frame_base image given shifts)
 
 -- what goes out of a run, where it is asked for
 abbrev pub Tells : Counting → Bool → (ℕ → Type 0) → Collected → Collected → Type 0

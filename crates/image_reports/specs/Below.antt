@@ -12,11 +12,13 @@ pub use Rattle.rv_machine.specs.declared.observation.Observation.{Observation}
 pub use Rattle.rv_machine.specs.declared.pairing.Pairing.{Pairing}
 pub use Rattle.rv_machine.specs.declared.pairing.Pairing.TheVariants.{Differ}
 pub use Rattle.rv_machine.specs.declared.stops.Stop.{Stop}
+pub use Rattle.rv_programs.specs.Programs.{image_program, MachineProgram}
 pub use Rattle.certified_runs.specs.Amounts.{ShiftsBy}
+pub use Rattle.certified_runs.specs.Bits.{Agree}
 pub use Rattle.certified_runs.specs.Certified.{CertifiedRun, may_differ, RunEnding, same}
 pub use Rattle.certified_runs.specs.End.{end_of}
-pub use Rattle.certified_runs.specs.Known.{Covers, KnownState, with_bytes_known}
-pub use Rattle.certified_runs.specs.Parts.{is_known_mark, known_bytes, known_of, known_registers}
+pub use Rattle.certified_runs.specs.Known.{AreBytes, byte_unknown, Covers, KnownState}
+pub use Rattle.certified_runs.specs.Parts.{known_of, no_masks, register_masks}
 pub use Rattle.certified_runs.specs.declared.certifying.CertifiedEnd.{CertifiedEnd}
 pub use Rattle.certified_runs.specs.declared.certifying.CertifiedEnd.TheVariants.{MayDiffer, Same}
 pub use Rattle.certified_runs.specs.declared.shifts.Shifts.{Shifts}

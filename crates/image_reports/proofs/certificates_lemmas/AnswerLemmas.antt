@@ -1,8 +1,8 @@
 -- What is answered to what is given, case by case.
 use Rattle.std.proofs.Common.{◌≡◌, ℕ, List, Option, None, Some, Result, Ok, Err, sym, ap, ◌∙◌, subst}
 use Rattle.image_reports.specs.Below.{Arg, Argument, ArgumentFault, CertifiedEnd, CertifiedRun, MachineCode, code_at}
-use Rattle.image_reports.specs.Below.{code_base, end_of, Fields, frame_base, KnownState, Memory, Observation, params_of}
-use Rattle.image_reports.specs.Below.{RunEnding, RunFault, Shifts, Slot}
+use Rattle.image_reports.specs.Below.{code_base, end_of, Fields, frame_base, image_program, KnownState, Memory, Observation}
+use Rattle.image_reports.specs.Below.{params_of, RunEnding, RunFault, Shifts, Slot}
 use Rattle.image_reports.specs.certificates.Certified.{Certified, refused, out_of_memory, certified}
 use Rattle.image_reports.specs.certificates.Given.{fault_of_given}
 use Rattle.image_reports.specs.certificates.KnownImage.{known_at}
@@ -32,11 +32,12 @@ memory_certified image given shifts answer none is =
 pub run_certified : (image : Fields) (given : List (Option Arg)) (shifts : Shifts) (code : MachineCode) (steps : ℕ)
     (k : KnownState) (seen : List Observation) (ending : RunEnding) (end : CertifiedEnd)
     → fault_of_given (params_of image) given ≡ None → code ≡ code_at code_base image → steps ≡ image.max_steps
-    → k ≡ known_at code_base frame_base image given shifts → CertifiedRun code steps k seen ending
+    → k ≡ known_at code_base frame_base image given shifts → CertifiedRun (image_program code) steps k seen ending
     → end ≡ end_of seen ending → Certified image given shifts (Ok end)
 run_certified image given shifts code steps k seen ending end none code_is steps_is known_is run is =
     subst (λ (x : CertifiedEnd). Certified image given shifts (Ok x)) (sym is)
     (certified none
-    (subst (λ (x : KnownState). CertifiedRun (code_at code_base image) image.max_steps x seen ending) known_is
-    (subst (λ (x : ℕ). CertifiedRun (code_at code_base image) x k seen ending) steps_is
-    (subst (λ (x : MachineCode). CertifiedRun x steps k seen ending) code_is run))))
+    (subst (λ (x : KnownState). CertifiedRun (image_program (code_at code_base image)) image.max_steps x seen ending)
+    known_is
+    (subst (λ (x : ℕ). CertifiedRun (image_program (code_at code_base image)) x k seen ending) steps_is
+    (subst (λ (x : MachineCode). CertifiedRun (image_program x) steps k seen ending) code_is run))))

@@ -9,10 +9,12 @@ pub use Rattle.language.proofs.arguments_lemmas.FaultLemmas.{
   fault_from-next,
 }
 pub use Rattle.language.proofs.arguments_lemmas.ReadLemmas.{fault_by-map, map-more}
+pub use Rattle.rv_programs.proofs.Images.{image_runs}
 pub use Rattle.certified_runs.proofs.Amounts.{some_amounts, shifts_agree}
+pub use Rattle.certified_runs.proofs.Covering.{itself}
 pub use Rattle.certified_runs.proofs.FirstEntry.{entries_in_common}
 pub use Rattle.certified_runs.proofs.OneEnd.{one_end}
-pub use Rattle.certified_runs.proofs.Runs.{itself, every_run}
+pub use Rattle.certified_runs.proofs.Runs.{every_run}
 pub use Rattle.hepurita.proofs.DataLemmas.{HoldsSlot-same, bytes_within, is_some-with_argument}
 pub use Rattle.hepurita.proofs.ElementLemmas.{number_there}
 pub use Rattle.hepurita.proofs.LoadLemmas.{no_slot, slots_hold}

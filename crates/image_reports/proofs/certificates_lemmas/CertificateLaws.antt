@@ -7,11 +7,11 @@ use Rattle.std.proofs.lemmas.Bool.{cases_lt}
 use Rattle.std.proofs.lemmas.Option.{none-some, same_Some}
 use Rattle.image_reports.specs.Below.{Arg, Argument, ArgumentFault, CertifiedEnd, CertifiedRun, code_at, code_base}
 use Rattle.image_reports.specs.Below.{compared, Compares, Covers, end_of, entries_of, Entry, Fields, frame_base}
-use Rattle.image_reports.specs.Below.{IsFirstDifference, IsImage, IsLeak, loaded_at, may_differ, MayDiffer, Memory}
+use Rattle.image_reports.specs.Below.{image_program, IsFirstDifference, IsImage, IsLeak, loaded_at, may_differ, MayDiffer, Memory}
 use Rattle.image_reports.specs.Below.{Observation, Observed, Paired, Pairing, params_of, program_counter, RunEnding}
 use Rattle.image_reports.specs.Below.{RunFault, Same, same, Seen, Shifts, ShiftsBy, Stop}
 use Rattle.image_reports.proofs.certificates_lemmas.Below.{entries_in_common, one_end, every_run, itself, some_amounts, shifts_agree}
-use Rattle.image_reports.proofs.certificates_lemmas.Below.{differ-apart}
+use Rattle.image_reports.proofs.certificates_lemmas.Below.{differ-apart, image_runs}
 use Rattle.hepurita.specs.Paired as pairs
 use Rattle.listing.specs.Listings.{listing}
 use Rattle.rv_machine.specs.declared.pairing.Pairing.TheVariants as pairings
@@ -25,8 +25,8 @@ use Rattle.image_reports.proofs.certificates_lemmas.Covered.{loaded_covered}
 
 abbrev RunOf : Fields → List (Option Arg) → Shifts → List Observation → RunEnding → Type 0
 RunOf image given shifts seen ending =
-    CertifiedRun (code_at code_base image) image.max_steps (known_at code_base frame_base image given shifts)
-    seen ending
+    CertifiedRun (image_program (code_at code_base image)) image.max_steps
+    (known_at code_base frame_base image given shifts) seen ending
 
 abbrev IsOneList : Fields → List (Option Arg) → Shifts → Stop → ℕ → Type 0
 IsOneList image given shifts stop entries = (seen : List Observation) × RunOf image given shifts seen (same stop)
@@ -72,23 +72,23 @@ all_show image given shifts stop entries allowed is =
       run.0,
       run.2,
       λ args shown other agree ends.
-          every_run run.1 (covered image given shifts args allowed agree) ends.1.0 ends.1.1,
+          every_run run.1 (covered image given shifts args allowed agree) (image_runs ends.1.0) ends.1.1,
     )
 
 -- where shifts are seen, by the amounts of one list
 pub all_shift : (image : Fields) (given : List (Option Arg)) (stop : Stop) (entries : ℕ) → IsImage image
     → Certified image given Seen (Ok (Same stop entries)) → (amounts : List ℕ) × AllShiftBy image given amounts
 all_shift image given stop entries allowed is =
-    let code = code_at code_base image in
+    let program = image_program (code_at code_base image) in
     let k = known_at code_base frame_base image given Seen in
     let run = same_of image given Seen (Ok (Same stop entries)) stop entries is refl in
-    let list = some_amounts code image.max_steps k.state in (
+    let list = some_amounts program image.max_steps k.state in (
       list.0,
       λ args agree.
           let begun = loaded_at code_base frame_base image args in
-          let own = some_amounts code image.max_steps begun in
+          let own = some_amounts program image.max_steps begun in
           let one = shifts_agree run.1 refl (covered image given Seen args allowed agree) (itself k) own.1 list.1 in
-          subst (λ amounts. ShiftsBy code image.max_steps begun amounts) one own.1,
+          subst (λ amounts. ShiftsBy program image.max_steps begun amounts) one own.1,
     )
 
 -- what begins with some entries, and then one
@@ -108,7 +108,8 @@ all_begin image given shifts entry pc allowed is =
       before,
       run.2,
       λ args shown stop agree ends.
-          let common = entries_in_common run.1 (covered image given shifts args allowed agree) ends.1.0 ends.1.1 in
+          let common = entries_in_common run.1 (covered image given shifts args allowed agree)
+          (image_runs ends.1.0) ends.1.1 in
           first_with (entries_of shown) before common.0 (program_counter pc) common.1,
     )
 

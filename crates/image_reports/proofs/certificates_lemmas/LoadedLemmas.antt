@@ -2,37 +2,38 @@
 use Rattle.std.specs.Prelude.{not, is_some, nat_le, nat_lt, ◌&&◌}
 use Rattle.std.proofs.Math.Path.{fun_ext}
 use Rattle.std.proofs.Common.{◌≡◌, ◌≢◌, ℕ, suc, ◌+◌, ◌<◌, ◌≤◌, Bool, true, false, cond, List, ◌∷◌, length, map, drop}
-use Rattle.std.proofs.Common.{slice_index_or, Option, Some, None, refl, sym, ap, ap₂, ◌∙◌, ⊎_elim, arith, drop-cons}
+use Rattle.std.proofs.Common.{slice_index_or, Option, Some, None, refl, sym, ap, ap₂, ◌∙◌, ⊎_elim, arith, drop-cons, inl, inr}
 use Rattle.std.proofs.Common.{add-one}
 use Rattle.std.proofs.lemmas.Bool.{cases_eq, cases_lt, le-leb, lt-leb, lt-ltb, le-ltb, false≢true}
 use Rattle.std.proofs.lemmas.List.{length-map}
 use Rattle.std.proofs.Math.ListN.{get_or-map}
 use Rattle.image_reports.proofs.certificates_lemmas.Below.{fault_from-left, fault_by-None, IsWithin-from_rule_of}
-use Rattle.image_reports.proofs.certificates_lemmas.Below.{is_some-with_argument, no_slot}
-use Rattle.image_reports.specs.Below.{Arg, ByteMap, fault_from, HasShape, HoldsSlot, is_known_mark, KnownState}
-use Rattle.image_reports.specs.Below.{known_bytes, Param, Shifts, Slot, with_bytes_known, zeros}
+use Rattle.image_reports.proofs.certificates_lemmas.Below.{is_some-with_argument, no_slot, with_byte_other}
+use Rattle.image_reports.proofs.certificates_lemmas.Below.{with_byte_same, with_number-suc, with_number-zero}
+use Rattle.image_reports.specs.Below.{Arg, ByteMap, fault_from, HasShape, HoldsSlot, KnownState, Param, Shifts, Slot}
+use Rattle.image_reports.specs.Below.{with_number}
 use Rattle.image_reports.specs.certificates.Given.{rule_of_given, fault_of_given}
-use Rattle.image_reports.specs.certificates.KnownImage.{argument_bytes, with_one, known_with_one, with_given}
-use Rattle.image_reports.specs.certificates.KnownImage.{known_with_given}
+use Rattle.image_reports.specs.certificates.KnownImage.{argument_bytes, marks_with_given, marks_with_one, with_given}
+use Rattle.image_reports.specs.certificates.KnownImage.{with_one, with_unknown}
 
 -- Unknown bytes.
 
 -- one more, behind those that are unknown already
-module _ (known : ℕ → Bool) (at i x : ℕ) where
-  abbrev now : ℕ → Bool
-  now = with_bytes_known (with_bytes_known known i at false) 1 (at + i) false
+module _ (marks : ByteMap) (at i x : ℕ) where
+  abbrev now : ByteMap
+  now = with_unknown (with_unknown marks i at) 1 (at + i)
 
-  below_all : x < at → now x ≡ with_bytes_known known (i + 1) at false x
+  below_all : x < at → now x ≡ with_unknown marks (i + 1) at x
   below_all below =
       let low : x < at + i = omega arith in
       rw (lt-leb (at + i) x low, lt-leb at x below) refl
 
-  among_old : at ≤ x → x < at + i → now x ≡ with_bytes_known known (i + 1) at false x
+  among_old : at ≤ x → x < at + i → now x ≡ with_unknown marks (i + 1) at x
   among_old low high =
       let more : x < at + (i + 1) = omega arith in
       rw (lt-leb (at + i) x high, le-leb at x low, lt-ltb x (at + i) high, lt-ltb x (at + (i + 1)) more) refl
 
-  at_new : x ≡ at + i → now x ≡ with_bytes_known known (i + 1) at false x
+  at_new : x ≡ at + i → now x ≡ with_unknown marks (i + 1) at x
   at_new is =
       let low : at ≤ x = omega arith in
       let from : at + i ≤ x = omega arith in
@@ -40,7 +41,7 @@ module _ (known : ℕ → Bool) (at i x : ℕ) where
       let more : x < at + (i + 1) = omega arith in
       rw (le-leb (at + i) x from, lt-ltb x (at + i + 1) to, le-leb at x low, lt-ltb x (at + (i + 1)) more) refl
 
-  above_all : at + i < x → now x ≡ with_bytes_known known (i + 1) at false x
+  above_all : at + i < x → now x ≡ with_unknown marks (i + 1) at x
   above_all above =
       let low : at ≤ x = omega arith in
       let from : at + i ≤ x = omega arith in
@@ -54,7 +55,7 @@ module _ (known : ℕ → Bool) (at i x : ℕ) where
         le-ltb x (at + (i + 1)) past',
       ) refl
 
-  one_more : now x ≡ with_bytes_known known (i + 1) at false x
+  one_more : now x ≡ with_unknown marks (i + 1) at x
   one_more =
       ⊎_elim below_all
       (λ (low : at ≤ x). ⊎_elim (among_old low)
@@ -62,19 +63,44 @@ module _ (known : ℕ → Bool) (at i x : ℕ) where
       (cases_lt x (at + i)))
       (cases_lt x at)
 
-pub one_more_unknown : (known : ℕ → Bool) (at i : ℕ)
-    → with_bytes_known (with_bytes_known known i at false) 1 (at + i) false ≡ with_bytes_known known (i + 1) at false
-one_more_unknown known at i = fun_ext (one_more known at i)
+pub one_more_unknown : (marks : ByteMap) (at i : ℕ)
+    → with_unknown (with_unknown marks i at) 1 (at + i) ≡ with_unknown marks (i + 1) at
+one_more_unknown marks at i = fun_ext (one_more marks at i)
 
 -- none is unknown yet
-pub none_unknown : (known : ℕ → Bool) (at : ℕ) → with_bytes_known known 0 at false ≡ known
-none_unknown known at =
+pub none_unknown : (marks : ByteMap) (at : ℕ) → with_unknown marks 0 at ≡ marks
+none_unknown marks at =
     fun_ext (λ x. ⊎_elim
-    (λ (below : x < at). let is : with_bytes_known known 0 at false x ≡ known x = rw (lt-leb at x below) refl in is)
+    (λ (below : x < at). let is : with_unknown marks 0 at x ≡ marks x = rw (lt-leb at x below) refl in is)
     (λ (low : at ≤ x). let past : at + 0 ≤ x = omega arith in
-    let is : with_bytes_known known 0 at false x ≡ known x =
+    let is : with_unknown marks 0 at x ≡ marks x =
     rw (le-leb at x low, le-ltb x (at + 0) past) refl in is)
     (cases_lt x at))
+
+-- one byte, by its mark
+pub one_unknown : (marks : ByteMap) (at : ℕ) → with_number marks 1 at 255 ≡ with_unknown marks 1 at
+one_unknown marks at = fun_ext (λ x. elim (cases_eq x at) [
+  | inl is ↦
+      let low : at ≤ x = omega (arith, is) in
+      let to : x < at + 1 = omega (arith, is) in
+      let unknown : with_unknown marks 1 at x ≡ Some 255 = rw (le-leb at x low, lt-ltb x (at + 1) to) refl in
+      ap (λ (m : ByteMap). m x) (with_number-suc marks 0 at 255)
+      ∙ with_byte_same (with_number marks 0 (at + 1) 0) at 255 x is ∙ sym unknown
+  | inr apart ↦
+      let put = ap (λ (m : ByteMap). m x) (with_number-suc marks 0 at 255)
+      ∙ with_byte_other (with_number marks 0 (at + 1) 0) at 255 x apart
+      ∙ ap (λ (m : ByteMap). m x) (with_number-zero marks (at + 1) 0) in
+      put ∙ sym (outside x apart)
+])
+  where
+    outside : (x : ℕ) → x ≢ at → with_unknown marks 1 at x ≡ marks x
+    outside x apart = elim (cases_lt x at) [
+      | inl below ↦
+          let is : with_unknown marks 1 at x ≡ marks x = rw (lt-leb at x below) refl in is
+      | inr low ↦
+          let past : at + 1 ≤ x = omega (arith, low, apart) in
+          let is : with_unknown marks 1 at x ≡ marks x = rw (le-leb at x low, le-ltb x (at + 1) past) refl in is
+    ]
 
 -- Arguments.
 
@@ -90,17 +116,17 @@ with_given-next frame bytes slots given i slot one below below' =
     (drop-cons given i one below')
     ∙ ap (λ (k : ℕ). with_given frame next (drop k slots) (drop k given)) (sym (add-one i)))
 
-pub known_with_given-next : (frame : ℕ) (known : ℕ → Bool) (slots : List Slot) (given : List (Option Arg)) (i : ℕ)
+pub marks_with_given-next : (frame : ℕ) (marks : ByteMap) (slots : List Slot) (given : List (Option Arg)) (i : ℕ)
     (slot : Slot) (one : Option Arg) → i < length slots → i < length given
-    → known_with_given frame known (drop i slots) (drop i given)
-    ≡ known_with_given frame (known_with_one frame known (slice_index_or slots i slot) (slice_index_or given i one))
+    → marks_with_given frame marks (drop i slots) (drop i given)
+    ≡ marks_with_given frame (marks_with_one frame marks (slice_index_or slots i slot) (slice_index_or given i one))
     (drop (i + 1) slots) (drop (i + 1) given)
-known_with_given-next frame known slots given i slot one below below' =
-    let next = known_with_one frame known (slice_index_or slots i slot) (slice_index_or given i one) in
-    ap (λ (s : List Slot). known_with_given frame known s (drop i given)) (drop-cons slots i slot below)
-    ∙ (ap (λ (g : List (Option Arg)). known_with_given frame known (slice_index_or slots i slot ∷ drop (suc i) slots)
+marks_with_given-next frame marks slots given i slot one below below' =
+    let next = marks_with_one frame marks (slice_index_or slots i slot) (slice_index_or given i one) in
+    ap (λ (s : List Slot). marks_with_given frame marks s (drop i given)) (drop-cons slots i slot below)
+    ∙ (ap (λ (g : List (Option Arg)). marks_with_given frame marks (slice_index_or slots i slot ∷ drop (suc i) slots)
     g) (drop-cons given i one below')
-    ∙ ap (λ (k : ℕ). known_with_given frame next (drop k slots) (drop k given)) (sym (add-one i)))
+    ∙ ap (λ (k : ℕ). marks_with_given frame next (drop k slots) (drop k given)) (sym (add-one i)))
 
 pub is_some-with_one : (frame : ℕ) (bytes : ByteMap) (slot : Slot) → HoldsSlot frame bytes slot → (one : Option Arg)
     → ((arg : Arg) → one ≡ Some arg → HasShape slot.param.form slot.param.length arg) → (x : ℕ)
@@ -109,17 +135,17 @@ is_some-with_one frame bytes slot holds (Some arg) shape x =
     is_some-with_argument frame bytes slot holds arg (shape arg refl) x
 is_some-with_one frame bytes slot holds None shape x = refl
 
--- what is known after one argument, where its bytes became unknown and where nothing was done
-pub forgotten : (frame : ℕ) (known : ℕ → Bool) (slot : Slot) (one : Option Arg) (none : Bool) → is_some one ≡ not none
-    → none ≡ true → with_bytes_known known (argument_bytes slot.param.form slot.param.kind slot.param.length)
-    (frame + slot.offset) false ≡ known_with_one frame known slot one
-forgotten frame known slot (Some arg) none is gone = absurd (false≢true (sym (is ∙ ap not gone)))
-forgotten frame known slot None none is gone = refl
+-- the marks after one argument, where its bytes became unknown and where nothing was done
+pub forgotten : (frame : ℕ) (marks : ByteMap) (slot : Slot) (one : Option Arg) (none : Bool) → is_some one ≡ not none
+    → none ≡ true → with_unknown marks (argument_bytes slot.param.form slot.param.kind slot.param.length)
+    (frame + slot.offset) ≡ marks_with_one frame marks slot one
+forgotten frame marks slot (Some arg) none is gone = absurd (false≢true (sym (is ∙ ap not gone)))
+forgotten frame marks slot None none is gone = refl
 
-pub left_known : (frame : ℕ) (known : ℕ → Bool) (slot : Slot) (one : Option Arg) (none : Bool)
-    → is_some one ≡ not none → none ≡ false → known ≡ known_with_one frame known slot one
-left_known frame known slot (Some arg) none is there = refl
-left_known frame known slot None none is there = absurd (false≢true (is ∙ ap not there))
+pub left_known : (frame : ℕ) (marks : ByteMap) (slot : Slot) (one : Option Arg) (none : Bool)
+    → is_some one ≡ not none → none ≡ false → marks ≡ marks_with_one frame marks slot one
+left_known frame marks slot (Some arg) none is there = refl
+left_known frame marks slot None none is there = absurd (false≢true (is ∙ ap not there))
 
 abbrev pub params_in : List Slot → List Param
 params_in slots = map (λ (slot : Slot). slot.param) slots
@@ -143,19 +169,9 @@ pub as_many : (slots : List Slot) (given : List (Option Arg)) → fault_of_given
 as_many slots given none = (fault_by-None rule_of_given (params_in slots) given none).0
     ∙ length-map slots (λ (slot : Slot). slot.param)
 
--- The frame.
+-- The state.
 
--- all of a new frame is known
-pub fresh_known : (frame n : ℕ) → known_bytes (zeros frame n) ≡ (λ a. is_some (zeros frame n a))
-fresh_known frame n =
-    fun_ext (λ a. elim (nat_le frame a && nat_lt a (frame + n)) as
-    (λ t. is_known_mark (cond t (Some 0) None) ≡ is_some {T = ℕ} (cond t (Some 0) None)) [
-      | true ↦
-          refl
-      | false ↦ refl
-    ])
-
-pub same_known : (p p' : ℕ) (r r' : ℕ → ℕ) (b b' : ByteMap) (f f' k k' : ℕ → Bool) (w w' : Shifts) → p ≡ p' → r ≡ r'
+pub same_known : (p p' : ℕ) (r r' : ℕ → ℕ) (b b' : ByteMap) (f f' : ℕ → ℕ) (k k' : ByteMap) (w w' : Shifts) → p ≡ p' → r ≡ r'
     → b ≡ b' → f ≡ f' → k ≡ k' → w ≡ w'
     → ◌≡◌ {A = KnownState} (record {
       state = record { pc = p; regs = r; bytes = b };

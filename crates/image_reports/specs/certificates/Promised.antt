@@ -1,7 +1,7 @@
 -- What a certificate promises of all arguments that have the given values.
 use Rattle.std.specs.Prelude.{◌≡◌, ℕ, List, length, Option, take}
-use Rattle.image_reports.specs.Below.{Arg, code_at, code_base, entries_of, Entry, Fields, frame_base, loaded_at}
-use Rattle.image_reports.specs.Below.{Observation, params_of, ShiftsBy, Stop}
+use Rattle.image_reports.specs.Below.{Arg, code_at, code_base, entries_of, Entry, Fields, frame_base}
+use Rattle.image_reports.specs.Below.{image_program, loaded_at, Observation, params_of, ShiftsBy, Stop}
 use Rattle.hepurita.specs.Uncut.{ImageEnds}
 use Rattle.image_reports.specs.certificates.Given.{Completes}
 
@@ -16,7 +16,8 @@ AllShow image given seen stop =
 abbrev pub AllShiftBy : Fields → List (Option Arg) → List ℕ → Type 0
 AllShiftBy image given amounts =
     (args : List Arg) → Completes (params_of image) given args
-    → ShiftsBy (code_at code_base image) image.max_steps (loaded_at code_base frame_base image args) amounts
+    → ShiftsBy (image_program (code_at code_base image)) image.max_steps (loaded_at code_base frame_base image args)
+    amounts
 
 -- the entries of every such run begin with these
 abbrev pub AllBegin : Fields → List (Option Arg) → List Entry → Type 0

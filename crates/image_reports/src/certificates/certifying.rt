@@ -3,7 +3,8 @@
 ghost use Rattle.std.specs.Prelude.{◌≡◌, IsTrue, OnOk, OnErr};
 ghost use Rattle.image_reports.specs.certificates.Certified.{Certified};
 ghost use Rattle.image_reports.specs.certificates.KnownImage.{known_at};
-ghost use Rattle.image_reports.specs.Below.{code_at, code_base, frame_base, GoesOnKnown, HasLines, IsTold};
+ghost use Rattle.image_reports.specs.Below.{code_at, code_base, frame_base, GoesOnKnown, HasLines};
+ghost use Rattle.image_reports.specs.Below.{image_program, IsTold};
 ghost use Rattle.streams.specs.Puts.{collected};
 
 use crate::certificates::faults::first_fault;
@@ -47,7 +48,7 @@ pub fn certify_telling<E: Sink>(
     ensures certified { Certified image.now given.now shifts result }
     ensures told { IsTrue E.TELLS
         → OnOk result (IsTold HasLines
-        (GoesOnKnown (code_at code_base image.now) image.now.max_steps
+        (GoesOnKnown (image_program (code_at code_base image.now)) image.now.max_steps
         (known_at code_base frame_base image.now given.now shifts))
         (collected (E.taken err.old) (E.failures err.old))
         (collected (E.taken err.new) (E.failures err.new))) }

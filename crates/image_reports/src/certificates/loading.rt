@@ -1,10 +1,11 @@
 // An image, loaded with what is given of its arguments, and what is known of that.
 
-ghost use Rattle.std.specs.Prelude.{◌≡◌, ℕ, ◌+◌, ◌^◌, ◌<◌, ◌≤◌, true, false, is_some, None, length, map, All, IfOk};
-ghost use Rattle.image_reports.specs.Below.{code_base, frame_base, HoldsSlot, known_bytes, known_of, paged_bytes};
-ghost use Rattle.image_reports.specs.Below.{params_of, state_of, with_bytes_known};
+ghost use Rattle.std.specs.Prelude.{◌≡◌, ℕ, ◌+◌, ◌^◌, ◌<◌, ◌≤◌, true, is_some, None, length, map, All, IfOk};
+ghost use Rattle.image_reports.specs.Below.{code_base, frame_base, HoldsSlot, known_of, paged_bytes, params_of};
+ghost use Rattle.image_reports.specs.Below.{state_of};
 ghost use Rattle.image_reports.specs.certificates.Given.{fault_of_given};
-ghost use Rattle.image_reports.specs.certificates.KnownImage.{argument_bytes, with_given, known_with_given, known_at};
+ghost use Rattle.image_reports.specs.certificates.KnownImage.{argument_bytes, known_at, marks_with_given, with_given};
+ghost use Rattle.image_reports.specs.certificates.KnownImage.{with_unknown};
 
 use certified_runs::{KnownParts, Shifts};
 use codegen::image_fields::Slot;
@@ -28,18 +29,17 @@ fn argument_bytes(param: Param) -> u32
     }
 }
 
-/// Makes so many bytes, from this address on, unknown.
+/// Makes each bit of so many bytes, from this address on, unknown.
 fn forget_bytes<M: Memory>(known: &mut KnownParts<M>, at: u32, bytes: u32)
     requires below { at + bytes < 2 ^ 32 }
     requires data { (x : ℕ) → at ≤ x → x < at + bytes → is_some (M.bytes known.old.marks x) ≡ true }
-    ensures bytes { known_bytes (M.bytes known.new.marks)
-        ≡ with_bytes_known (known_bytes (M.bytes known.old.marks)) bytes at false }
+    ensures bytes { M.bytes known.new.marks ≡ with_unknown (M.bytes known.old.marks) bytes at }
     ensures extent { (x : ℕ) → is_some (M.bytes known.new.marks x) ≡ is_some (M.bytes known.old.marks x) }
     ensures registers { known.new.registers ≡ known.old.registers }
     ensures shifts { known.new.shifts ≡ known.old.shifts }
 {
     for index in 0..bytes {
-        known.set_bytes(at + index, Size::Byte, false);
+        known.set_bytes(at + index, Size::Byte, u32::from(u8::MAX));
     }
 }
 
@@ -52,8 +52,8 @@ fn forget_unknown<M: Memory>(
 )
     requires count { length given.now ≡ length slots.now }
     requires data { All (HoldsSlot frame (M.bytes known.old.marks)) slots.now }
-    ensures bytes { known_bytes (M.bytes known.new.marks)
-        ≡ known_with_given frame (known_bytes (M.bytes known.old.marks)) slots.now given.now }
+    ensures bytes { M.bytes known.new.marks
+        ≡ marks_with_given frame (M.bytes known.old.marks) slots.now given.now }
     ensures extent { (x : ℕ) → is_some (M.bytes known.new.marks x) ≡ is_some (M.bytes known.old.marks x) }
     ensures registers { known.new.registers ≡ known.old.registers }
     ensures shifts { known.new.shifts ≡ known.old.shifts }

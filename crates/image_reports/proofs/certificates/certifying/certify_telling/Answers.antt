@@ -1,7 +1,7 @@
 use Rattle.std.proofs.Common.{◌≡◌, ℕ, List, Option, subst, arith}
 use Rattle.image_reports.specs.Below.{Arg, MachineCode, code_at, code_base, code_of, Counting, Fields, frame_base}
-use Rattle.image_reports.specs.Below.{GoesOnKnown, HasLines, IsTold, KnownState, known_of, paged_bytes, Shifts}
-use Rattle.image_reports.specs.Below.{state_of}
+use Rattle.image_reports.specs.Below.{GoesOnKnown, HasLines, image_program, IsTold, KnownState, known_of, paged_bytes}
+use Rattle.image_reports.specs.Below.{Shifts, state_of}
 use Rattle.image_reports.specs.certificates.KnownImage.{known_at}
 use Rattle.streams.specs.Streams.{Collected}
 use Rattle.language.proofs.Handed.{err_is}
@@ -45,15 +45,16 @@ returns-clause-certified g c =
 told_of_image : (Has : Counting) {code : MachineCode} {steps : ℕ} {k : KnownState} {before after : Collected}
     (image : Fields)
     (given : List (Option Arg)) (shifts : Shifts) → code ≡ code_at code_base image → steps ≡ image.max_steps
-    → k ≡ known_at code_base frame_base image given shifts → IsTold Has (GoesOnKnown code steps k) before after
+    → k ≡ known_at code_base frame_base image given shifts → IsTold Has (GoesOnKnown (image_program code) steps k) before after
     → IsTold Has
-    (GoesOnKnown (code_at code_base image) image.max_steps (known_at code_base frame_base image given shifts)) before
-    after
+    (GoesOnKnown (image_program (code_at code_base image)) image.max_steps
+    (known_at code_base frame_base image given shifts)) before after
 told_of_image Has {code} {steps} {k} {before} {after} image given shifts code_is steps_is known_is told =
     subst (λ (x : KnownState). IsTold Has
-    (GoesOnKnown (code_at code_base image) image.max_steps x) before after) known_is
-    (subst (λ (x : ℕ). IsTold Has (GoesOnKnown (code_at code_base image) x k) before after) steps_is
-    (subst (λ (x : MachineCode). IsTold Has (GoesOnKnown x steps k) before after) code_is told))
+    (GoesOnKnown (image_program (code_at code_base image)) image.max_steps x) before after) known_is
+    (subst (λ (x : ℕ). IsTold Has (GoesOnKnown (image_program (code_at code_base image)) x k) before after)
+    steps_is
+    (subst (λ (x : MachineCode). IsTold Has (GoesOnKnown (image_program x) steps k) before after) code_is told))
 
 pub returns-clause-told : goal.returns-clause-told
 returns-clause-told g c = λ tells.

@@ -1,9 +1,9 @@
-use Rattle.std.proofs.Common.{◌≡◌, ℕ, ◌+◌, ◌<◌, Bool, false, length, drop, slice_index_or, Option, is_some, ap, sym}
+use Rattle.std.proofs.Common.{◌≡◌, ℕ, ◌+◌, ◌<◌, length, drop, slice_index_or, Option, is_some, ap, sym}
 use Rattle.std.proofs.Common.{◌∙◌, arith}
-use Rattle.image_reports.specs.Below.{Arg, known_bytes, with_bytes_known}
+use Rattle.image_reports.specs.Below.{Arg, ByteMap}
 use Rattle.image_reports.proofs.certificates_lemmas.Below.{no_slot}
-use Rattle.image_reports.specs.certificates.KnownImage.{known_with_one, known_with_given}
-use Rattle.image_reports.proofs.certificates_lemmas.LoadedLemmas.{known_with_given-next, forgotten, left_known}
+use Rattle.image_reports.specs.certificates.KnownImage.{marks_with_one, marks_with_given, with_unknown}
+use Rattle.image_reports.proofs.certificates_lemmas.LoadedLemmas.{marks_with_given-next, forgotten, left_known}
 use Rattle.image_reports.proofs.certificates.loading.forget_unknown.Goals as goal
 use Rattle.image_reports.proofs.certificates.loading.forget_unknown.Goals.{then-is_none, else-is_none}
 
@@ -15,15 +15,15 @@ loop-index-preserved g c =
     let i = c.loop-index.index in
     let one = c.index-given-index.result in
     let slot = slice_index_or slots i no_slot in
-    let before = known_bytes (g.M.Memory.bytes c.loop-index.known.marks) in
+    let before = g.M.Memory.bytes c.loop-index.known.marks in
     let below : i < length given = omega (arith, c.loop-index-test.true, c.requires.count) in
-    let known : known_bytes (g.M.Memory.bytes c.if-is_none.known.marks) ≡ known_with_one frame before slot one =
+    let known : g.M.Memory.bytes c.if-is_none.known.marks ≡ marks_with_one frame before slot one =
     elim c.if-is_none.branch [
       | then-is_none w ↦
-          ap (λ k. known_bytes (g.M.Memory.bytes k.marks)) w.known-is ∙ w.forget_bytes.ensures.bytes
-          ∙ ap (λ n. with_bytes_known before n (frame + slot.offset) false) w.argument_bytes.ensures
+          ap (λ k. g.M.Memory.bytes k.marks) w.known-is ∙ w.forget_bytes.ensures.bytes
+          ∙ ap (λ n. with_unknown before n (frame + slot.offset)) w.argument_bytes.ensures
           ∙ forgotten frame before slot one c.is_none.result c.is_none.ensures w.if-is_none.true
-      | else-is_none w ↦ ap (λ k. known_bytes (g.M.Memory.bytes k.marks)) w.known-is
+      | else-is_none w ↦ ap (λ k. g.M.Memory.bytes k.marks) w.known-is
           ∙ left_known frame before slot one c.is_none.result c.is_none.ensures w.if-is_none.false
     ] in
     let extent : (x : ℕ) → is_some (g.M.Memory.bytes c.if-is_none.known.marks x)
@@ -45,10 +45,10 @@ loop-index-preserved g c =
     ] in
     record {
       rest =
-          ap (λ (k : ℕ → Bool). known_with_given frame k (drop (i + 1) slots) (drop (i + 1) given)) known
-          ∙ (ap (λ (o : Option Arg). known_with_given frame (known_with_one frame before slot o) (drop (i + 1) slots)
+          ap (λ (k : ByteMap). marks_with_given frame k (drop (i + 1) slots) (drop (i + 1) given)) known
+          ∙ (ap (λ (o : Option Arg). marks_with_given frame (marks_with_one frame before slot o) (drop (i + 1) slots)
           (drop (i + 1) given)) c.index-given-index.is
-          ∙ (sym (known_with_given-next frame before slots given i no_slot one c.loop-index-test.true below)
+          ∙ (sym (marks_with_given-next frame before slots given i no_slot one c.loop-index-test.true below)
           ∙ c.loop-index.invariant.rest));
       data_there = λ x. extent x ∙ c.loop-index.invariant.data_there x;
       registers = registers ∙ c.loop-index.invariant.registers;

@@ -1,10 +1,10 @@
-use Rattle.std.proofs.Common.{◌≡◌, ℕ, Bool, List, All, is_some, ap, sym, subst, ◌∙◌, arith}
+use Rattle.std.proofs.Common.{◌≡◌, ℕ, List, All, is_some, ap, sym, subst, ◌∙◌, arith}
 use Rattle.std.proofs.lemmas.List.Elements.{All-from_recursion}
 use Rattle.image_reports.specs.Below.{ByteMap, code_base, Fields, frame_base, HoldsSlot, initial_registers, IsImage}
-use Rattle.image_reports.specs.Below.{known_bytes, known_registers, paged_bytes, pc_of, regs_of, Slot, zeros}
+use Rattle.image_reports.specs.Below.{paged_bytes, pc_of, register_masks, regs_of, Slot, zeros}
 use Rattle.image_reports.proofs.certificates_lemmas.Below.{slots_hold}
-use Rattle.image_reports.specs.certificates.KnownImage.{with_given, known_with_given}
-use Rattle.image_reports.proofs.certificates_lemmas.LoadedLemmas.{fresh_known, same_known}
+use Rattle.image_reports.specs.certificates.KnownImage.{marks_with_given, with_given}
+use Rattle.image_reports.proofs.certificates_lemmas.LoadedLemmas.{same_known}
 use Rattle.image_reports.proofs.certificates.loading.load_given.Goals as goal
 
 -- each slot lies in a new frame
@@ -39,17 +39,13 @@ returns-clause-known c =
     ∙ c.in_ok-frame.ensures in
     let known =
     c.forget_unknown.ensures.bytes
-    ∙ (ap (λ (b : ByteMap). known_with_given frame_base (known_bytes b) c.slots-2.result.now given) marks
-    ∙ (ap (λ (k : ℕ → Bool). known_with_given frame_base k c.slots-2.result.now given)
-    (fresh_known frame_base image.frame_bytes)
-    ∙ ap (λ (xs : List Slot). known_with_given frame_base (λ a. is_some (begun a)) xs given)
-    c.slots-2.ensures.slots)) in
-    let flags = ap (λ (f : List Bool). known_registers f) c.forget_unknown.ensures.registers
-    ∙ c.new-known.ensures.registers in
+    ∙ (ap (λ (b : ByteMap). marks_with_given frame_base b c.slots-2.result.now given) marks
+    ∙ ap (λ (xs : List Slot). marks_with_given frame_base begun xs given) c.slots-2.ensures.slots) in
+    let masks = ap register_masks c.forget_unknown.ensures.registers ∙ c.new-known.ensures.registers in
     same_known (pc_of c.new.result) code_base (regs_of c.new.result) (initial_registers frame_base)
-    (paged_bytes c.put_given.new.memory) _ (known_registers c.forget_unknown.new.known.registers) _
-    (known_bytes (paged_bytes c.forget_unknown.new.known.marks)) _
-    c.forget_unknown.new.known.shifts c.args.shifts c.new.ensures.pc c.new.ensures.registers bytes flags known
+    (paged_bytes c.put_given.new.memory) _ (register_masks c.forget_unknown.new.known.registers) _
+    (paged_bytes c.forget_unknown.new.known.marks) _
+    c.forget_unknown.new.known.shifts c.args.shifts c.new.ensures.pc c.new.ensures.registers bytes masks known
     (c.forget_unknown.ensures.shifts ∙ c.new-known.ensures.shifts)
 
 pub returns-clause-extent : goal.returns-clause-extent
