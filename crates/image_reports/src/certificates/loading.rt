@@ -17,6 +17,9 @@ use rv_machine::memory::{Memory, Size};
 use rv_machine::{PagedMemory, Running};
 use std::alloc::{AllocError, Global};
 
+/// Each bit of a byte.
+const EACH_BIT: u32 = 0xff;
+
 /// How many bytes from its slot's offset on an argument takes.
 fn argument_bytes(param: Param) -> u32
     ensures { result ≡ argument_bytes param.form param.kind param.length }
@@ -39,7 +42,7 @@ fn forget_bytes<M: Memory>(known: &mut KnownParts<M>, at: u32, bytes: u32)
     ensures shifts { known.new.shifts ≡ known.old.shifts }
 {
     for index in 0..bytes {
-        known.set_bytes(at + index, Size::Byte, u32::from(u8::MAX));
+        known.set_bytes(at + index, Size::Byte, EACH_BIT);
     }
 }
 
