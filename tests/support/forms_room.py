@@ -24,6 +24,7 @@ from rattle_sources import calls_one, closing, functions, owners_for
 LOOPS = [
     ("elf/src/reading.rt", "segments_of", "the program headers, all of which lie in the file, as is checked before"),
     ("elf_runs/src/code.rt", "words_of", "the bytes that a file has of a segment: a word for every four"),
+    ("functions/src/function_code/copying.rt", "elements", "sixteen elements at most, by its precondition"),
     ("hepurita/src/elements.rt", "numbers", "the elements of an array of the frame, put into room that is there"),
     ("image/src/reading.rt", "slots", "the bytes that are left: a slot that they do not spell ends it"),
     ("image/src/reading.rt", "words", "the bytes that are left: a word that they do not spell ends it"),

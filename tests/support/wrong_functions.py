@@ -132,7 +132,7 @@ ALL = [
     Wrong("swap2", "the slots are zeroed before an array is copied back", slots_are_zeroed_before_copying_back, False),
     Wrong("add_one", "x28 is not cleared", x28_is_not_cleared, False),
     Wrong("pick", "a bool is its lowest bit", a_bool_is_its_lowest_bit, False),
-    Wrong("mixed", "an array of bytes is copied by words", bytes_are_copied_by_words, False),
+    Wrong("mixed", "an array of bytes is copied by words", bytes_are_copied_by_words, True),
     Wrong("mixed", "the first argument on the stack is taken from the next place", the_next_stack_argument_is_taken, False),
     Wrong("swap2", "one element more is copied back", one_element_more_is_copied_back, False),
     Wrong("swap2", "elements that are 0 are not copied", zeros_are_skipped, True),
