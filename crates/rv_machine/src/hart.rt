@@ -1,6 +1,6 @@
 // A hart: the program counter and the registers.
 
-ghost use Rattle.std.specs.Prelude.{◌≡◌, ◌+◌, ◌%◌, ◌^◌};
+ghost use Rattle.std.specs.Prelude.{◌≡◌, ◌+◌, ◌%◌, ◌^◌, slice_index};
 
 use rv_code::Reg;
 use std::marker::Model;
@@ -35,6 +35,16 @@ impl Hart {
     {
         let mut registers = [0; 32];
         registers[2] = x2;
+        Hart { pc, registers }
+    }
+
+    /// A hart at this program counter, whose registers read as these, but that x0 reads as 0.
+    pub fn with_registers(pc: u32, registers: [u32; 32]) -> Hart
+        ensures pc { pc_of result ≡ pc }
+        ensures registers { regs_of result ≡ register (slice_index registers) }
+    {
+        let mut registers = registers;
+        registers[0] = 0;
         Hart { pc, registers }
     }
 
