@@ -11,4 +11,4 @@ mod texts;
 pub use bounds::{broken_rule, first_fault_by, first_fault_of};
 pub use fault::{ArgumentFault, ArgumentRule};
 pub use laws::faultless_arguments;
-pub use texts::{ReadError, argument, broken_rule as broken_rule_of_text, read};
+pub use texts::{ReadError, argument, broken_rule as broken_rule_of_text, read, word_of};

@@ -97,8 +97,8 @@ fn first_fault(params: &[Param], texts: &[&str]) -> Option<ArgumentFault>
     })
 }
 
-/// The number that a text spells, where it fits a word.
-fn word(text: &str) -> Option<u32>
+/// The number that a text spells, decimal or behind `0x` hexadecimal, where it fits a word.
+pub fn word_of(text: &str) -> Option<u32>
     ensures { result ≡ word_of text.now }
 {
     match number(text) {
@@ -111,7 +111,7 @@ fn word(text: &str) -> Option<u32>
 fn words(alloc: Global, text: &str) -> Result<Vec<u32>, AllocError>
     ensures { IfOk result (λ words. words.items ≡ filter_map word_of (parts_of text.now)) }
 {
-    text.split(',').filter_map(word).collect(alloc)
+    text.split(',').filter_map(word_of).collect(alloc)
 }
 
 /// The argument that a text without fault spells.
