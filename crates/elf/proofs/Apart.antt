@@ -1,6 +1,6 @@
 -- Segments lie apart where no check of the program headers is broken.
 use Rattle.std.proofs.Common.{◌≡◌, ℕ, ◌+◌, ◌≤◌, ◌^◌, Bool, true, false, cond, List, [], ◌∷◌, ◌++◌, drop, nat_le}
-use Rattle.std.proofs.Common.{Option, None, Some, arith, refl}
+use Rattle.std.proofs.Common.{Option, None, Some, arith, length, nat_lt, refl}
 use Rattle.std.proofs.lemmas.Bool.Decides.{nat_tests}
 use Rattle.std.proofs.lemmas.List.{append-nil, length-take}
 use Rattle.std.specs.List.{list_all}
@@ -9,7 +9,8 @@ use Rattle.elf.specs.Header.{header_checks}
 use Rattle.elf.specs.Layout.{AreApart}
 use Rattle.elf.specs.Reading.{fault_of, program_of}
 use Rattle.elf.specs.Segments.{LoadedSegment, checks_from, is_load, lies_apart, load_checks, memory_of, most_memory}
-use Rattle.elf.specs.Segments.{other_checks, program_headers, segment_checks, segment_of, segments_in, segments_of}
+use Rattle.elf.specs.Segments.{most_segments, other_checks, program_headers, segment_checks, segment_of}
+use Rattle.elf.specs.Segments.{segments_in, segments_of}
 use Rattle.elf.specs.Symbols.{symbol_checks}
 use Rattle.elf.specs.declared.fault.Broken.{Broken}
 use Rattle.elf.specs.declared.program_header.ProgramHeader.{ProgramHeader}
@@ -32,12 +33,15 @@ parts (one ∷ others) back h =
     let later = parts others back now.1 in
     (rw now.0 later.0, later.1)
 
--- the second, the third and the fourth of five
-middle : (a b c d e : Bool) (f g h i j : Broken)
-    → cond a (cond b (cond c (cond d (cond e None (Some j)) (Some i)) (Some h)) (Some g)) (Some f) ≡ None
+-- the third, the fourth and the fifth of six
+middle : (z a b c d e : Bool) (y f g h i j : Broken)
+    → cond z (cond a (cond b (cond c (cond d (cond e None (Some j)) (Some i)) (Some h)) (Some g)) (Some f)) (Some y)
+    ≡ None
     → (b ≡ true) × (c ≡ true) × (d ≡ true)
-middle a b c d e f g h i j all =
-    let p = split a f (cond b (cond c (cond d (cond e None (Some j)) (Some i)) (Some h)) (Some g)) all in
+middle z a b c d e y f g h i j all =
+    let o = split z y (cond a (cond b (cond c (cond d (cond e None (Some j)) (Some i)) (Some h)) (Some g)) (Some f)) all
+    in
+    let p = split a f (cond b (cond c (cond d (cond e None (Some j)) (Some i)) (Some h)) (Some g)) o.1 in
     let q = split b g (cond c (cond d (cond e None (Some j)) (Some i)) (Some h)) p.1 in
     let r = split c h (cond d (cond e None (Some j)) (Some i)) q.1 in
     let s = split d i (cond e None (Some j)) r.1 in
@@ -54,9 +58,10 @@ apart_at file before header headers true is h later =
     parts (load_checks file before header)
     (checks_from file (before ++ segment_of file header ∷ []) headers) (rw is at h) in
     let facts =
-    middle (is_inside header.offset header.file_size file) (list_all (lies_apart (segment_of file header)) before)
+    middle (nat_lt (length before) most_segments) (is_inside header.offset header.file_size file)
+    (list_all (lies_apart (segment_of file header)) before)
     (nat_le (header.address + header.memory_size) (2 ^ 32)) (nat_le header.file_size header.memory_size)
-    (nat_le (memory_of before + header.memory_size) most_memory) _ _ _ _ _ both.0 in
+    (nat_le (memory_of before + header.memory_size) most_memory) _ _ _ _ _ _ both.0 in
     let high = at_most (header.address + header.memory_size) (2 ^ 32) facts.1 in
     let fits = at_most header.file_size header.memory_size facts.2 in
     let short = length-take header.file_size (drop header.offset file) in

@@ -1,7 +1,7 @@
 -- Segments: the program headers of type PT_LOAD (gABI, chapter 5, "Program Header": `Elf32_Phdr`), which say what the
 -- memory holds at the start.
 use Rattle.std.specs.Prelude.{ℕ, zero, suc, ◌+◌, ◌/◌, ◌%◌, ◌^◌, Bool, not, ◌||◌, List, [], ◌∷◌, ◌++◌, map, filter}
-use Rattle.std.specs.Prelude.{nat_le, ◌==◌, if◌then◌else◌}
+use Rattle.std.specs.Prelude.{length, nat_le, nat_lt, ◌==◌, if◌then◌else◌}
 use Rattle.std.specs.List.{list_all, sum_by}
 use Rattle.elf.specs.Checks.{Check, check, is_inside}
 use Rattle.elf.specs.Header.{program_header_count, program_headers_place}
@@ -80,10 +80,15 @@ memory_of segments = sum_by (λ segment. segment.size) segments
 abbrev pub most_memory : ℕ
 most_memory = 2 ^ 24
 
+-- the most segments that there may be, so that looking through them takes little time
+abbrev pub most_segments : ℕ
+most_segments = 64
+
 -- what has to hold of a header, by the segments of those before
 abbrev pub load_checks : List ℕ → List LoadedSegment → ProgramHeader → List Check
 load_checks file before header =
-    check rules.Truncated (header.place + 4) (is_inside header.offset header.file_size file)
+    check rules.Ranges header.place (nat_lt (length before) most_segments)
+    ∷ check rules.Truncated (header.place + 4) (is_inside header.offset header.file_size file)
     ∷ check rules.Ranges (header.place + 8) (list_all (lies_apart (segment_of file header)) before)
     ∷ check rules.Ranges (header.place + 8) (nat_le (header.address + header.memory_size) (2 ^ 32))
     ∷ check rules.NotProgram (header.place + 16) (nat_le header.file_size header.memory_size)

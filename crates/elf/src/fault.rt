@@ -12,7 +12,7 @@ pub enum ElfRule {
     NotProgram,
     /// A header, a table, a segment or the strings pass the end of the file.
     Truncated,
-    /// Segments overlap, pass the end of the address space, or are too large together.
+    /// Segments overlap, pass the end of the address space, or are too many or too large together.
     Ranges,
     /// No symbol has the name, or none of the wanted type.
     Symbol,

@@ -20,6 +20,9 @@ const INTERPRETER: u32 = 3;
 /// The most bytes of memory that the segments have together.
 const MOST_MEMORY: u64 = 1 << 24;
 
+/// The most segments that there may be.
+const MOST_SEGMENTS: usize = 64;
+
 /// A program header.
 #[derive(Clone, Copy)]
 pub struct ProgramHeader {
@@ -82,6 +85,7 @@ impl ProgramHeader {
         let offset = self.offset as usize;
         let size = self.file_size as usize;
         let place = self.place;
+        require(ElfRule::Ranges, place, before.len() < MOST_SEGMENTS)?;
         require(
             ElfRule::Truncated,
             place + 4,
