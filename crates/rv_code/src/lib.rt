@@ -2,11 +2,13 @@
 //
 // It promises that `encode` gives an instruction the word that the RISC-V Unprivileged ISA gives
 // it (`specs/Words.antt`), that `decode` gives back an instruction exactly for its word, and that
-// two instructions have two words; that an operation computes what its row says (`specs/Operations.antt`);
+// two instructions have two words; that `expand` gives a 16-bit instruction the one instruction that it
+// means (`specs/Compressed.antt`); that an operation computes what its row says (`specs/Operations.antt`);
 // and that a register, an immediate or another field is made exactly where it can hold the number, and
 // gives that number back. It stands on `word`.
 #![tactic(auto)]
 
+pub mod compressed;
 pub mod decoding;
 pub mod encoding;
 mod field_text;
@@ -22,6 +24,7 @@ pub mod small_fields;
 mod text;
 pub mod upper_immediates;
 
+pub use compressed::{begins_word, expand};
 pub use decoding::decode;
 pub use encoding::encode;
 pub use immediates::Immediate12;

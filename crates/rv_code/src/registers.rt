@@ -27,6 +27,9 @@ impl Reg {
     /// The register that always reads 0.
     pub const X0: Reg = Reg { number: 0 };
 
+    /// The return address of the standard calling convention.
+    pub const X1: Reg = Reg { number: 1 };
+
     /// The stack pointer of the standard calling convention.
     pub const X2: Reg = Reg { number: 2 };
 
