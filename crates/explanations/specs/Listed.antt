@@ -20,12 +20,13 @@ labels = codes "L1" ∷ codes "L2" ∷ codes "L3" ∷ codes "L4" ∷ codes "L5" 
 unfoldable pub limits : List (List ℕ)
 limits = codes "S1" ∷ codes "S2" ∷ codes "I1" ∷ codes "I2" ∷ codes "S3" ∷ codes "M1" ∷ []
 
--- errors of images, arguments, files of harts and of vectors, code from elsewhere, and functions for C
+-- errors of images, arguments, files of harts and of vectors, code from elsewhere, executables, and functions for C
 unfoldable pub files : List (List ℕ)
 files =
     codes "B1" ∷ codes "B2" ∷ codes "B3" ∷ codes "B4" ∷ codes "B5" ∷ codes "B6" ∷
     codes "A1" ∷ codes "A2" ∷ codes "A3" ∷ codes "H1" ∷ codes "H2" ∷ codes "H3" ∷ codes "H4" ∷ codes "V1" ∷
-    codes "C1" ∷ codes "C2" ∷ codes "C3" ∷ codes "F1" ∷ []
+    codes "C1" ∷ codes "C2" ∷ codes "C3" ∷ codes "G1" ∷ codes "G2" ∷ codes "G3" ∷ codes "G4" ∷ codes "G5" ∷
+    codes "F1" ∷ []
 
 -- errors of an evaluation, and the stops of a run by their names
 unfoldable pub runs : List (List ℕ)

@@ -9,7 +9,7 @@ use crate::row::Explanation;
 use crate::rows::{files, limits, names_and_types, reading, runs, secrecy};
 
 /// All codes, in the order of the tables.
-const CODES: [&str; 58] = [
+const CODES: [&str; 63] = [
     "X1",
     "X2",
     "X3",
@@ -58,6 +58,11 @@ const CODES: [&str; 58] = [
     "C1",
     "C2",
     "C3",
+    "G1",
+    "G2",
+    "G3",
+    "G4",
+    "G5",
     "F1",
     "E1",
     "E2",
