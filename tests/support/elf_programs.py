@@ -139,12 +139,12 @@ def returns():
 
 
 def stores():
-    store, code = [sw(0, 0, 10), RETURN], [auipc(5), sw(0, 8, 5), addi(0, 0, 0), RETURN]
+    store, code = [sw(0, 0, 10), RETURN], [auipc(5), sw(0, 8, 5), RETURN]
     yield same("a store to data", store, ["key"])
     yield same("a store to what may only be read", store, ["table"], stop="AccessFault")
     yield same("a store to code", store, ["f"], stop="AccessFault")
     yield same("a store behind all segments", store, ["key+32"], stop="AccessFault")
-    yield same("a store to code that may be written does not change it", code, code_flags=PF_R | PF_W | PF_X)
+    yield same("a store to code that may be written", code, stop="AccessFault", code_flags=PF_R | PF_W | PF_X)
     yield same("a store to the stack's last word", [sw(0, -4, 2), RETURN])
     yield same("a store behind the stack", [sw(0, 0, 2), RETURN], stop="AccessFault")
     yield same("a store to the stack's first word", [sw(0, -16, 2), RETURN], ["--stack", "16"])
