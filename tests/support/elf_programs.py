@@ -13,6 +13,9 @@ from machine_code import branch_word, immediate_word, register_word, store_word
 CODE, TABLE, DATA = 0x10000, 0x10800, 0x20000
 RETURN, ECALL, EBREAK, NONE = 0x00008067, 0x00000073, 0x00100073, 0x00000000
 
+# Where an instruction is that no function has.
+OUTSIDE = "at 0x{:x}"
+
 # What of a program is asked how (the words behind the file), and what is answered: what is printed, and the status.
 Case = collections.namedtuple("Case", "what program request printed status")
 
@@ -246,7 +249,7 @@ def places():
     chain = ", called from g+0x4, called from f+0x4"
     yield differs("a call in a call", calls, ["?"], 5, 6, "beq x10, x0, 8", "in local+0x0" + chain, functions=functions)
     functions = {"f": 3, "g": 3}
-    yield differs("in no function", calls, ["?"], 5, 6, "beq x10, x0, 8", "at 0x10018" + chain, functions=functions)
+    yield differs("in no function", calls, ["?"], 5, 6, "beq x10, x0, 8", OUTSIDE.format(0x10018) + chain, functions=functions)
     by_table, chain = [addi(5, 1, 0), jalr(1, 11), jalr(0, 5), *branch], ", called from f+0x4"
     yield differs("a call by a register", by_table, ["?", "g"], 3, 3, "beq x10, x0, 8", "in g+0x0" + chain, functions=functions)
     after = [addi(5, 1, 0), jal(1, 20), beq(10, 0, 8), jalr(0, 5), jalr(0, 5), jalr(0, 5), RETURN]
