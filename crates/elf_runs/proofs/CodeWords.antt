@@ -1,9 +1,9 @@
 -- The words of bytes, one after another.
-use Rattle.std.proofs.Common.{◌≡◌, ◌<◌, ◌≤◌, ◌+◌, ◌*◌, ◌/◌, ◌++◌, ◌∙◌, [], ◌∷◌, ℕ, List, ap, append_assoc}
+use Rattle.std.proofs.Common.{◌≡◌, ◌<◌, ◌≤◌, ◌+◌, ◌-◌, ◌*◌, ◌/◌, ◌^◌, ◌++◌, ◌∙◌, [], ◌∷◌, ℕ, List, ap, append_assoc}
 use Rattle.std.proofs.Common.{arith, drop, get_or, length, refl, w32}
 use Rattle.std.specs.Int.{from_le_bytes}
 use Rattle.std.proofs.lemmas.List.{append-nil, drop_more, length-drop}
-use Rattle.elf_runs.specs.Code.{words_of}
+use Rattle.elf_runs.specs.Code.{to_aligned, words_of}
 
 next : (bytes : List ℕ) (i j : ℕ) → j ≡ i + 1 → i < length bytes → drop i bytes ≡ get_or bytes i 0 ∷ drop j bytes
 next bytes i j is lt = rw is (drop_more bytes i 0 lt)
@@ -46,3 +46,19 @@ words_done bytes words k le before =
     let left = length-drop (4 * k) bytes in
     let none = short (drop (4 * k) bytes) (omega (arith, left, le)) in
     rw (before, none, append-nil) refl
+
+words_fit : (bytes : List ℕ) → 4 * length (words_of bytes) ≤ length bytes
+words_fit [] = omega arith
+words_fit (a ∷ []) = omega arith
+words_fit (a ∷ b ∷ []) = omega arith
+words_fit (a ∷ b ∷ c ∷ []) = omega arith
+words_fit (a ∷ b ∷ c ∷ d ∷ bytes) = omega (arith, words_fit bytes)
+
+-- the words of a segment end where it does, or before
+pub code_within : (address size : ℕ) (bytes rest words : List ℕ) → address + size ≤ 2 ^ 32 → length bytes ≤ size
+    → length rest ≤ length bytes - to_aligned address → words ≡ words_of rest
+    → address + to_aligned address + 4 * length words ≤ 2 ^ 32
+code_within address size bytes rest words fits few left are =
+    let fit = words_fit rest in
+    let count = ap length are in
+    omega (arith, fits, few, left, fit, count)

@@ -3,7 +3,7 @@
 use Rattle.std.specs.Prelude.{ℕ, ◌+◌, ◌-◌, ◌%◌, Bool, List, [], ◌∷◌, drop, filter, map}
 use Rattle.std.specs.Int.{from_le_bytes, w32}
 use Rattle.elf_runs.specs.Below.{Executable, LoadedSegment}
-use Rattle.elf_runs.specs.declared.code.Code.{Code}
+use Rattle.elf_runs.specs.declared.loaded_code.Code.{Code}
 
 -- words of code, and where they begin
 pub record CodeWords : Type 0 where

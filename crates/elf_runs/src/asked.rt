@@ -1,11 +1,5 @@
 // What a user asks a run to begin with.
 
-ghost use Rattle.std.specs.Prelude.{◌≡◌, Some};
-ghost use Rattle.std.specs.Option.{option_map};
-ghost use Rattle.elf_runs.specs.Naming.{name_of, symbol_in};
-
-use crate::fault::Part;
-
 /// An argument of the function.
 #[derive(Drop)]
 pub enum Argument {
@@ -39,29 +33,4 @@ pub struct Asked {
     pub secrets: Vec<Secret>,
     pub settings: Vec<Setting>,
     pub stack: u32,
-}
-
-/// The symbol that an argument names.
-fn symbol_of(argument: &Argument) -> Option<&[u8]>
-    ensures { option_map (λ name. name.now) result ≡ symbol_in (Some argument.now) }
-{
-    match argument {
-        Argument::Address { symbol, .. } => Some(symbol),
-        Argument::Number(_) | Argument::Unknown => None,
-    }
-}
-
-impl Asked {
-    /// The name that a part of the request has, of a function, a symbol or an object.
-    pub fn name_of(&self, part: Part) -> Option<&[u8]>
-        ensures { option_map (λ name. name.now) result ≡ name_of self.now part }
-    {
-        match part {
-            Part::Function => Some(&self.function),
-            Part::Argument(k) => symbol_of(self.arguments.get(k)?),
-            Part::Secret(k) => Some(&self.secrets.get(k)?.object),
-            Part::Setting(k) => Some(&self.settings.get(k)?.object),
-            Part::Stack => None,
-        }
-    }
 }

@@ -1,17 +1,12 @@
 // The code of a program.
 
-ghost use Rattle.std.specs.Prelude.{◌≡◌, ◌+◌, ◌*◌, ◌≤◌, ◌^◌, drop, length, map, vec_len, IfOk};
+ghost use Rattle.std.specs.Prelude.{◌≡◌, drop, length, map, IfOk};
+ghost use Rattle.elf_runs.specs.Below.{IsWithin};
 ghost use Rattle.elf_runs.specs.Code.{code_of, program_code, to_aligned, words_in, words_of};
 
+use crate::loaded_code::Code;
 use elf::{Program, Segment};
 use std::alloc::{AllocError, Global};
-
-/// Words of code, from an address on that is a multiple of 4.
-#[derive(Drop)]
-pub struct Code {
-    pub begin: u64,
-    pub words: Vec<u32>,
-}
 
 /// How many bytes behind an address the next multiple of 4 is.
 fn to_aligned(address: u32) -> u32
@@ -35,6 +30,7 @@ fn words_of(alloc: Global, bytes: &[u8]) -> Result<Vec<u32>, AllocError>
 
 /// The code of a segment: the words that the file has of it. Behind them no code stands.
 fn code_of(alloc: Global, segment: &Segment<'_>) -> Result<Code, AllocError>
+    requires { IsWithin segment.now }
     ensures { IfOk result (λ code. words_in code ≡ code_of segment.now) }
 {
     let skipped = to_aligned(segment.address());
@@ -56,7 +52,7 @@ pub fn program_code(alloc: Global, program: &Program<'_>) -> Result<Vec<Code>, A
     ensures code { IfOk result (λ code. map words_in code.items ≡ program_code program.now) }
 {
     let mut code = Vec::new(alloc);
-    'segments: for segment in program.segments() {
+    'each: for segment in program.segments() {
         if segment.access().executable {
             code.push(code_of(alloc, segment)?)?;
         }

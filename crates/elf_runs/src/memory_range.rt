@@ -1,6 +1,6 @@
 // Ranges of memory.
 
-ghost use Rattle.std.specs.Prelude.{◌≡◌, ◌+◌, ◌≤◌, ◌^◌, vec_len};
+ghost use Rattle.std.specs.Prelude.{◌≡◌, ◌+◌, ◌<◌, ◌≤◌, ◌^◌, vec_len};
 
 use elf::Access;
 
@@ -13,5 +13,6 @@ pub struct MemoryRange {
     pub unknown: Vec<u8>,
     pub access: Access,
     ghost within: { address + vec_len bytes ≤ 2 ^ 32 },
+    ghost few: { vec_len bytes < 2 ^ 32 },
     ghost masked: { vec_len unknown ≡ vec_len bytes },
 }

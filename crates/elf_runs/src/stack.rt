@@ -21,7 +21,7 @@ const STACK_END: u32 = 0xffff_fff0;
 
 /// The address that the function returns to. It lies behind the stack, where no segment is: so a run that comes to it
 /// stops there.
-pub(crate) const RETURN_ADDRESS: u32 = 0xffff_fff8;
+pub const RETURN_ADDRESS: u32 = 0xffff_fff8;
 
 /// The most bytes of memory that the segments and the stack have together.
 const MOST_MEMORY: u32 = 1 << 24;
