@@ -1,0 +1,11 @@
+-- What this crate defines, by file.
+-- Asking: what the words of a command ask of a run of a function.
+-- Loading: the program that an executable is to the machine, and what is known of the state in which a run begins.
+-- Certified: what is answered where such a run is certified; Promised: what a certificate says of all runs.
+-- Calls: the calls that lead to a step; Places: how addresses are written by the symbols.
+pub mod Below
+pub mod Loading
+pub mod Certified
+pub mod Promised
+pub mod Calls
+pub mod Places

@@ -1,0 +1,22 @@
+// Certified runs of functions of executables: from the words of a command to what is printed.
+//
+// A request that the executable meets gives a program, a state in which a run of the function begins, and which bits of
+// it are known (`specs/Loading.antt`). `certify_function` makes one run for all that is not known, and its answer is a
+// promise on every run that begins in a state which agrees with what is known (`laws.rt`). Where an entry may differ,
+// `calls_to` gives the calls that lead there, and `push_place` says by the symbols where that is.
+#![tactic(auto)]
+
+mod calls;
+mod certifying;
+mod laws;
+mod loading;
+mod options;
+mod places;
+mod stops;
+
+pub use calls::{Calls, calls_to};
+pub use certifying::{FunctionCertificate, certify_function, certify_function_telling};
+pub use laws::{certificates_of_functions_hold, function_certificates_agree};
+pub use options::RunOptions;
+pub use places::push_place;
+pub use stops::FunctionStop;

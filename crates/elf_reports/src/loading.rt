@@ -1,0 +1,138 @@
+// A function, loaded into a machine, and what is known of the state in which its run begins.
+
+ghost use Rattle.std.specs.Prelude.{◌≡◌, ◌+◌, ℕ, None, length, map, is_some, IfOk, IfErr};
+ghost use Rattle.elf_reports.specs.Below.{code_in, first_unmet, IsTold, known_of, lies_within, needs, no_code};
+ghost use Rattle.elf_reports.specs.Below.{program_of, range_of, ranged_bytes, state_of, words_in};
+ghost use Rattle.elf_reports.specs.Loading.{code_among, item_at, known_at_start, machine_program, may_be_stored_to};
+
+use crate::options::RunOptions;
+use certified_runs::{KnownParts, Shifts};
+use elf::Program;
+use elf_runs::{Asked, Code, MemoryRange, Start, StartFault, prepare, program_code};
+use rv_machine::hart::Hart;
+use rv_machine::{AddressRange, Running};
+use rv_programs::{CodeSegment, LoadedProgram, RangedMemory};
+use std::alloc::{AllocError, Global};
+use word::Profile;
+
+/// A run of a function that has not begun yet: the program, the machine, and what is known of its state.
+#[derive(Drop)]
+pub(crate) struct LoadedFunction {
+    pub program: LoadedProgram,
+    pub run: Running<RangedMemory>,
+    pub known: KnownParts<RangedMemory>,
+}
+
+/// The words of code, as segments of the machine's. Where there are no words there is no segment.
+fn code_segments(
+    alloc: Global,
+    codes: &[Code],
+    profile: Profile,
+) -> Result<Vec<CodeSegment>, AllocError>
+    ensures { IfOk result (λ segments.
+        code_in (no_code profile) segments.items ≡ code_among profile (map words_in codes.now)) }
+{
+    let mut segments = Vec::new(alloc);
+    'each: for code in codes {
+        if !code.words.is_empty() {
+            let begin = code.begin as u32;
+            let segment = CodeSegment::new(alloc, begin, code.words.as_slice(), profile)?;
+            segments.push(segment)?;
+        }
+    }
+    Ok(segments)
+}
+
+/// The addresses of a range.
+fn addresses_of(range: &MemoryRange) -> AddressRange
+    ensures begin { result.begin ≡ range.now.address }
+    ensures end { result.end ≡ range.now.address + length range.now.bytes.items }
+{
+    let begin = u64::from(range.address);
+    AddressRange {
+        begin,
+        end: begin + range.bytes.len() as u64,
+    }
+}
+
+/// The ranges that may be stored to.
+fn variable_ranges(alloc: Global, ranges: &[MemoryRange]) -> Result<Vec<AddressRange>, AllocError>
+    ensures { IfOk result (λ variable.
+        lies_within variable.items ≡ may_be_stored_to (map range_of ranges.now)) }
+{
+    let mut variable = Vec::new(alloc);
+    'each: for range in ranges {
+        if range.access.writable && !range.access.executable {
+            variable.push(addresses_of(range))?;
+        }
+    }
+    Ok(variable)
+}
+
+/// A memory of the ranges' bytes. The last range comes first in it: that is the stack, where most accesses are.
+fn memory_of(alloc: Global, ranges: &[MemoryRange]) -> Result<RangedMemory, AllocError>
+    ensures { IfOk result (λ memory.
+        ranged_bytes memory ≡ item_at (λ range. range.bytes) (map range_of ranges.now)) }
+{
+    let mut memory = RangedMemory::new(alloc);
+    'each: for k in (0..ranges.len()).rev() {
+        let range = &ranges[k];
+        let size = range.bytes.len() as u32;
+        memory.add(alloc, range.address, size, range.bytes.as_slice())?;
+    }
+    Ok(memory)
+}
+
+/// A memory of the masks of their bits that are not known.
+fn marks_of(alloc: Global, ranges: &[MemoryRange]) -> Result<RangedMemory, AllocError>
+    ensures { IfOk result (λ memory.
+        ranged_bytes memory ≡ item_at (λ range. range.unknown) (map range_of ranges.now)) }
+{
+    let mut memory = RangedMemory::new(alloc);
+    'each: for k in (0..ranges.len()).rev() {
+        let range = &ranges[k];
+        let size = range.unknown.len() as u32;
+        memory.add(alloc, range.address, size, range.unknown.as_slice())?;
+    }
+    Ok(memory)
+}
+
+/// A function, loaded as it is asked for; else what the request does not meet first.
+pub(crate) fn load_function(
+    alloc: Global,
+    program: &Program<'_>,
+    asked: &Asked,
+    options: RunOptions,
+) -> Result<LoadedFunction, StartFault>
+    ensures met { IfOk result (λ _. first_unmet (needs program.now asked.now) ≡ None) }
+    ensures program { IfOk result (λ loaded.
+        program_of loaded.program ≡ machine_program program.now asked.now options.profile) }
+    ensures known { IfOk result (λ loaded.
+        known_of (state_of loaded.run.hart (ranged_bytes loaded.run.memory)) loaded.known.registers
+        (ranged_bytes loaded.known.marks) loaded.known.shifts
+        ≡ known_at_start program.now asked.now options.shifts) }
+    ensures extent { IfOk result (λ loaded. (a : ℕ)
+        → is_some (ranged_bytes loaded.known.marks a) ≡ is_some (ranged_bytes loaded.run.memory a)) }
+    ensures steps { IfOk result (λ loaded. loaded.run.steps_left ≡ options.steps) }
+    ensures fault { IfErr result (λ fault. IsTold fault (needs program.now asked.now)) }
+{
+    let start = prepare(alloc, program, asked)?;
+    let codes = program_code(alloc, program)?;
+    let segments = code_segments(alloc, codes.as_slice(), options.profile)?;
+    let ranges = start.memory.as_slice();
+    let variable = variable_ranges(alloc, ranges)?;
+    let known = KnownParts {
+        registers: start.unknown,
+        marks: marks_of(alloc, ranges)?,
+        shifts: options.shifts,
+    };
+    Ok(LoadedFunction {
+        program: LoadedProgram::new(alloc, options.profile, segments, variable)?,
+        run: Running {
+            hart: Hart::with_registers(start.pc, start.registers),
+            memory: memory_of(alloc, ranges)?,
+            steps_left: options.steps,
+        },
+        known,
+    })
+}
