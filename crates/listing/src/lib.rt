@@ -15,4 +15,4 @@ pub use fault::LeakFault;
 pub use laws::{leaks_agree, listings_show_what_is_public};
 pub use leaking::leak;
 pub use lines::{Lines, lines_of, stop_line};
-pub use words::{line_at, list};
+pub use words::{line_at, list, word_line};

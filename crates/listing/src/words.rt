@@ -60,17 +60,22 @@ fn word_of(image: &Image, address: u32) -> Option<u32>
     }
 }
 
+/// The line of a word that stands at an address, as in a listing of code.
+pub fn word_line(alloc: Global, address: u32, word: u32) -> Result<Vec<u8>, AllocError>
+    ensures { IfOk result (λ line. IsLineOf address (Some word) (Some line.items)) }
+{
+    let mut line = Vec::new(alloc);
+    push_line(alloc, &mut line, address, word)?;
+    Ok(line)
+}
+
 /// The line of the word of an image that begins at an address, as in its listing. `None` where no word does.
 pub fn line_at(alloc: Global, image: &Image, address: u32) -> Result<Option<Vec<u8>>, AllocError>
     ensures { IfOk result (λ line.
         IsLineAt (code_at code_base image.now) address (option_map (λ line. line.items) line)) }
 {
     match word_of(image, address) {
-        Some(word) => {
-            let mut line = Vec::new(alloc);
-            push_line(alloc, &mut line, address, word)?;
-            Ok(Some(line))
-        }
+        Some(word) => Ok(Some(word_line(alloc, address, word)?)),
         None => Ok(None),
     }
 }
