@@ -30,7 +30,7 @@ LOOPS = [
     ("image/src/reading.rt", "words", "the bytes that are left: a word that they do not spell ends it"),
     ("input_files/src/harts_file/taking.rt", "take_rounds", "the turns that a line asks for, 1,048,576 at most with all before"),
     ("intervals/src/ranges.rt", "first_bounds", "what the body declares"),
-    ("listing/src/steps.rt", "write_run", "nothing is kept from step to step"),
+    ("listing/src/steps.rt", "write_steps", "nothing is kept from step to step"),
     ("optimisation/src/constants/statements.rt", "iterations", "the iterations of a loop that is unrolled, as `choice` counts"),
     ("optimisation/src/element_words/plan.rt", "push_words", "the elements of a declared array"),
     ("optimisation/src/element_words/statements.rt", "push_words", "the elements of a declared array"),

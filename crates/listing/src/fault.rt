@@ -1,10 +1,11 @@
 // Why a listing was not written to its end.
 
 ghost use Rattle.std.specs.Prelude.{◌≡◌};
-ghost use Rattle.listing.specs.declared.fault.LeakFault.TheVariants.{Argument, Memory};
+ghost use Rattle.listing.specs.declared.fault.LeakFault.TheVariants.{Argument, Memory, Write};
 
 use language::arguments::{ArgumentFault, ArgumentRule};
 use std::alloc::AllocError;
+use streams::SinkFault;
 
 /// Why the listing of a run was not written to its end.
 #[derive(Clone, Copy, Debug, PartialEq, Eq)]
@@ -36,5 +37,13 @@ impl From<AllocError> for LeakFault {
 
     fn from(_: AllocError) -> Self {
         LeakFault::Memory
+    }
+}
+
+impl From<SinkFault> for LeakFault {
+    ghost from_gives = { λ _ result. result ≡ Write };
+
+    fn from(_: SinkFault) -> Self {
+        LeakFault::Write
     }
 }

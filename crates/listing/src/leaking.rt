@@ -5,13 +5,14 @@ ghost use Rattle.listing.specs.Below.{one_more, Stop, Writes, WritesPart};
 ghost use Rattle.listing.specs.Leaked.{Leaks, IsLeak};
 
 use crate::fault::LeakFault;
-use crate::steps::write_run;
+use crate::lines::stop_line;
+use crate::steps::write_steps;
 use hepurita::{code, first_fault, load};
 use image::Image;
 use language::Args;
 use rv_machine::Stop;
 use std::alloc::Global;
-use streams::Sink;
+use streams::{Sink, put_all};
 
 /// Runs an image on arguments, writes what an observer sees, a line for each entry, and then the line
 /// of the stop, which it answers. Arguments are refused by their first fault, before memory is asked for.
@@ -39,15 +40,7 @@ pub fn leak<W: Sink>(
     }
     let code = code(alloc, image)?;
     let mut run = load(alloc, image, args)?;
-    match write_run(
-        alloc,
-        &mut run.hart,
-        &code,
-        &mut run.memory,
-        sink,
-        run.steps_left,
-    ) {
-        Ok(stop) => Ok(stop),
-        Err(_) => Err(LeakFault::Write),
-    }
+    let stop = write_steps(&code, &mut run, sink)?;
+    put_all(sink, stop_line(stop).as_slice())?;
+    Ok(stop)
 }
