@@ -6,3 +6,4 @@ pub mod Calling
 pub mod Ends
 pub mod Outside
 pub mod Promises
+pub mod Spelling

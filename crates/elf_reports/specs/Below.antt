@@ -31,6 +31,7 @@ pub use Rattle.certified_runs.specs.declared.shifts.Shifts.{Shifts}
 pub use Rattle.streams.specs.Puts.{collected}
 pub use Rattle.run_reports.specs.progress.Certified.{GoesOnKnown}
 pub use Rattle.run_reports.specs.progress.GoingOn.{HasLines, IsTold as LinesAreTold}
+pub use Rattle.language.specs.arguments.Texts.{word_of}
 pub use Rattle.elf.specs.Layout.{AreApart}
 pub use Rattle.elf.specs.Lookup.{function_at, function_named}
 pub use Rattle.elf.specs.Reading.{Executable}
@@ -39,10 +40,14 @@ pub use Rattle.elf_runs.specs.Arguments.{return_address, stack_begin}
 pub use Rattle.elf_runs.specs.Begin.{register_of}
 pub use Rattle.elf_runs.specs.Code.{CodeWords, program_code, words_in}
 pub use Rattle.elf_runs.specs.Memory.{memory_at_start, range_of, RangeState}
-pub use Rattle.elf_runs.specs.Needs.{first_unmet, IsTold, needs}
+pub use Rattle.elf_runs.specs.Needs.{each_from, first_unmet, IsTold, need, Need, needs}
 pub use Rattle.elf_runs.specs.Word.{known}
+pub use Rattle.elf_runs.specs.declared.asked.Argument.{Argument}
 pub use Rattle.elf_runs.specs.declared.asked.Asked.{Asked}
+pub use Rattle.elf_runs.specs.declared.asked.Setting.{Setting}
+pub use Rattle.elf_runs.specs.declared.fault.Part.{Part}
 pub use Rattle.elf_runs.specs.declared.fault.StartFault.{StartFault}
+pub use Rattle.elf_runs.specs.declared.fault.Unmet.{Unmet}
 pub use Rattle.elf_runs.specs.declared.loaded_code.Code.{Code}
 pub use Rattle.elf_runs.specs.declared.memory_range.MemoryRange.{MemoryRange}
 pub use Rattle.elf_runs.specs.declared.words.Word.{Word}

@@ -4,6 +4,7 @@
 -- Certified: what is answered where such a run is certified; Promised: what a certificate says of all runs.
 -- Calls: the calls that lead to a step; Places: how addresses are written by the symbols.
 pub mod Below
+pub mod Asking
 pub mod Loading
 pub mod Certified
 pub mod Promised

@@ -6,17 +6,21 @@
 // `calls_to` gives the calls that lead there, and `push_place` says by the symbols where that is.
 #![tactic(auto)]
 
+mod asking;
 mod calls;
 mod certifying;
 mod laws;
 mod loading;
 mod options;
+mod part_words;
 mod places;
 mod stops;
 
+pub use asking::{AskedWords, read_asked};
 pub use calls::{Calls, calls_to};
 pub use certifying::{FunctionCertificate, certify_function, certify_function_telling};
 pub use laws::{certificates_of_functions_hold, function_certificates_agree};
 pub use options::RunOptions;
+pub use part_words::push_part_word;
 pub use places::push_place;
 pub use stops::FunctionStop;
