@@ -29,7 +29,8 @@ pub use Rattle.linked_calls.specs.FunctionCode.{above_frame, added, argument_cod
 pub use Rattle.linked_calls.specs.FunctionCode.{kept_of, passed_of}
 pub use Rattle.linked_calls.specs.Written.{has_destination, is_written, writes, written_of}
 pub use Rattle.linked_calls.specs.FunctionCode.{clear_registers_code, copied_code, copied_in_code, copied_out_code}
-pub use Rattle.linked_calls.specs.FunctionCode.{elements_code}
+pub use Rattle.linked_calls.specs.FunctionCode.{array_code, by_alignment_code, by_words_code, elements_code}
+pub use Rattle.linked_calls.specs.FunctionCode.{goes_in_by_words, goes_out_by_words, passed_count}
 pub use Rattle.linked_calls.specs.FunctionCode.{copy_in_code, copy_out_code, down_code, element_meant_code}
 pub use Rattle.linked_calls.specs.FunctionCode.{frame_room, loads_code}
 pub use Rattle.linked_calls.specs.FunctionCode.{meant_code, next_code, places_code, rest_words, result_code, room_of}

@@ -2,6 +2,7 @@
 // RV32 and code that hands results back. Which words these are, and what a call of them does, is said in
 // `linked_calls`.
 
+mod arrays;
 mod copying;
 mod entering;
 mod kept;

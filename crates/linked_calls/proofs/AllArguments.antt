@@ -5,17 +5,18 @@ use Rattle.std.proofs.Common.{◌≡◌, ℕ, ◌+◌, ◌*◌, ◌≤◌, List,
 use Rattle.std.proofs.Common.{sym, ap, ◌∙◌, subst, arith}
 use Rattle.std.proofs.lemmas.List.{length-map}
 use Rattle.codegen.proofs.program_logic_lemmas.Counted.{no_code, Runs, Setting, then_runs, weaken_runs}
-use Rattle.linked_calls.proofs.Below.{AreData, Arg, argument_code, argument_offset, argument_steps, arguments_code}
+use Rattle.linked_calls.proofs.Below.{AreBytes, AreData, Arg, argument_code, argument_offset, arguments_code}
 use Rattle.linked_calls.proofs.Below.{arguments_end, Array, array_bytes, ByteMap, CanBeCopied, CanBePut, MachineCode}
 use Rattle.linked_calls.proofs.Below.{Data, element_bytes, elements_at, Fields, FixedArray, Form, frame_room, HasArray}
 use Rattle.linked_calls.proofs.Below.{is_some-with_number, IsBesides, IsOfCall, IsOnStack, LiesIn, meant, MutableArray}
 use Rattle.linked_calls.proofs.Below.{Pointed, ReadsAnArray, room_base, SingleWord, CallSite, Size, Slot, with_argument}
-use Rattle.linked_calls.proofs.Below.{with_number_outside, word_in, WritesAnArray}
+use Rattle.linked_calls.proofs.Below.{argument_steps, taken_steps, with_number_outside, word_in, WritesAnArray}
 use Rattle.language.specs.declared.values.Arg.TheVariants.{Word}
 use Rattle.rv_machine.specs.declared.memory.Size.TheVariants as sizes
 use Rattle.rv_machine.specs.declared.observation.Event.TheVariants as event
 use Rattle.linked_calls.proofs.Between.{AreReady, IsReady, saved_at}
 use Rattle.linked_calls.proofs.Bytes.{IsOutside, SameData, number_there, numbers_count, numbers_outside}
+use Rattle.linked_calls.proofs.ByteData.{number_stays, numbers_stay}
 use Rattle.linked_calls.proofs.Bytes.{is_some-with_numbers}
 use Rattle.linked_calls.proofs.Copies.{array_runs as copies_run}
 use Rattle.linked_calls.proofs.SectionSteps.{arguments_steps}
@@ -63,6 +64,12 @@ put_data frame bytes slot (Word word) there x =
 put_data frame bytes slot (Array words) there x =
     is_some-with_numbers bytes (element_bytes slot.param.kind) (frame + slot.offset) words there x
 
+put_stays : (frame : ℕ) (bytes : ByteMap) (slot : Slot) (arg : Arg) → AreBytes bytes
+    → AreBytes (with_argument frame bytes slot arg)
+put_stays frame bytes slot (Word word) are = number_stays bytes 4 (frame + slot.offset) word are
+put_stays frame bytes slot (Array words) are =
+    numbers_stay bytes (element_bytes slot.param.kind) (frame + slot.offset) words are
+
 module _ (image : Fields) (site : CallSite) where
   -- where the i-th argument points
   abbrev pub spot_at : ℕ → Pointed
@@ -99,9 +106,10 @@ module _ (image : Fields) (site : CallSite) where
   AreKnown i [] = Unit {0}
   AreKnown i (slot ∷ slots) = IsKnown i slot slot.param.form × AreKnown (i + 1) slots
 
-  -- x2 is the frame's base, room and arguments are data, and the arrays are ready
+  -- x2 is the frame's base, data is bytes, room and arguments are data, and the arrays are ready
   pub record ArgumentsBegin (Ready : ByteMap → Type 0) (s : Data) : Type 0 where
     pub stack : s.regs 2 ≡ room_base image site
+    pub bytes : AreBytes s.bytes
     pub there : AreData (room_base image site) (arguments_end image site) s.bytes
     pub ready : Ready s.bytes
 
@@ -172,6 +180,12 @@ module _ (image : Fields) (site : CallSite) where
       (λ y low high. same y ∙ there y low high) x
       ∙ same x
 
+  -- data stays bytes
+  taken_stays : (bytes : ByteMap) (i : ℕ) (slot : Slot) (form : Form) → AreBytes bytes
+      → AreBytes (taken bytes i slot form)
+  taken_stays bytes i slot form are =
+      put_stays (room_base image site) bytes slot (argument_in bytes i slot form) are
+
   -- One after another.
 
   module _ (code : MachineCode) (numbers : RoomNumbers image site) where
@@ -205,10 +219,11 @@ module _ (image : Fields) (site : CallSite) where
           argument = begins.ready.pointer;
           array_there = begins.ready.array;
           slot_there = λ x l h. begins.there x (omega arith) (omega arith);
+          bytes = begins.bytes;
         }
 
     array_runs : (i : ℕ) (slot : Slot) → KnownArray i slot
-        → Runs z (argument_steps image i slot FixedArray) (argument_code image i slot FixedArray)
+        → Runs z (taken_steps image i slot (site.pointers i)) (argument_code image i slot FixedArray)
         (ArgumentsBegin (λ bytes. IsReady image site bytes i slot FixedArray))
         (TakesArguments (λ s. taken s.bytes i slot FixedArray))
     array_runs i slot known =
@@ -226,7 +241,7 @@ module _ (image : Fields) (site : CallSite) where
         })
 
     argument_runs : (i : ℕ) (slot : Slot) (form : Form) → IsKnown i slot form
-        → Runs z (argument_steps image i slot form) (argument_code image i slot form)
+        → Runs z (argument_steps image site.pointers i slot form) (argument_code image i slot form)
         (ArgumentsBegin (λ bytes. IsReady image site bytes i slot form))
         (TakesArguments (λ s. taken s.bytes i slot form))
     argument_runs i slot SingleWord known =
@@ -247,7 +262,7 @@ module _ (image : Fields) (site : CallSite) where
 
     -- all of them
     pub arguments_runs : (i : ℕ) (slots : List Slot) → i + length slots ≡ length image.slots → AreKnown i slots
-        → Runs z (arguments_steps image i slots) (arguments_code image i slots)
+        → Runs z (arguments_steps image site.pointers i slots) (arguments_code image i slots)
         (ArgumentsBegin (λ bytes. AreReady image site bytes i slots)) (TakesArguments (λ s. all_taken s.bytes i slots))
     arguments_runs i [] count known = no_code z (λ s begins. record { bytes = refl; others = λ q none. refl })
     arguments_runs i (slot ∷ slots) count known =
@@ -255,13 +270,19 @@ module _ (image : Fields) (site : CallSite) where
         let under = room in
         then_runs z (weaken_runs z {P' = ArgumentsBegin (λ bytes. AreReady image site bytes i (slot ∷ slots))}
         {R' = TakesArguments (λ s. taken s.bytes i slot form)} (argument_runs i slot form known.0)
-        (λ s begins. record { stack = begins.stack; there = begins.there; ready = begins.ready.0 })
+        (λ s begins. record {
+          stack = begins.stack;
+          bytes = begins.bytes;
+          there = begins.there;
+          ready = begins.ready.0;
+        })
         (λ s t begins takes. takes))
         (arguments_runs (i + 1) slots (omega arith) known.1)
         (λ s t begins takes.
         let same = taken_data s.bytes i slot form known.0 (λ x l h. begins.there x l (omega arith)) in
         record {
           stack = still_base _ s t takes ∙ begins.stack;
+          bytes = subst AreBytes (sym takes.bytes) (taken_stays s.bytes i slot form begins.bytes);
           there = λ x l h. ap (λ (b : ByteMap). is_some (b x)) takes.bytes ∙ same x ∙ begins.there x l h;
           ready = subst (λ (b : ByteMap). AreReady image site b (i + 1) slots) (sym takes.bytes)
               (stay_ready image site numbers s.bytes (taken s.bytes i slot form)

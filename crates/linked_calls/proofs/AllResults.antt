@@ -4,14 +4,15 @@ use Rattle.std.specs.Prelude.{is_some}
 use Rattle.std.proofs.Common.{◌≡◌, ℕ, ◌+◌, ◌*◌, ◌<◌, ◌≤◌, List, [], ◌∷◌, ◌++◌, length, inl, inr, refl, sym, ap, ap₂}
 use Rattle.std.proofs.Common.{◌∙◌, subst, arith}
 use Rattle.codegen.proofs.program_logic_lemmas.Counted.{no_code, Runs, Setting, then_runs, weaken_runs}
-use Rattle.linked_calls.proofs.Below.{AreData, arguments_end, array_bytes, array_in, arrays_behind, arrays_in, ByteMap}
-use Rattle.linked_calls.proofs.Below.{MachineCode, copy_out_code, element_bytes, elements_at, Fields, FixedArray, Form}
+use Rattle.linked_calls.proofs.Below.{AreBytes, AreData, arguments_end, array_bytes, array_in, arrays_behind}
+use Rattle.linked_calls.proofs.Below.{arrays_in, ByteMap, MachineCode, copy_out_code, element_bytes, elements_at, Fields, FixedArray, Form}
 use Rattle.linked_calls.proofs.Below.{IsBesides, IsOnStack, MutableArray, results_code, room_base, SingleWord, CallSite}
 use Rattle.linked_calls.proofs.Below.{Size, Slot, with_array, with_arrays, with_numbers}
 use Rattle.linked_calls.proofs.AllArguments.{AreKnown, ArgumentsBegin, IsKnown, TakesArguments, array_begins}
 use Rattle.linked_calls.proofs.AllArguments.{call_setting, on_stack, place_allowed, slot_within, spot_at, still_base}
 use Rattle.linked_calls.proofs.Between.{AreReady, IsReady}
 use Rattle.linked_calls.proofs.Bytes.{IsOutside, SameData, numbers_count, numbers_outside, is_some-with_numbers}
+use Rattle.linked_calls.proofs.ByteData.{numbers_stay}
 use Rattle.linked_calls.proofs.Bytes.{numbers_same}
 use Rattle.linked_calls.proofs.Copies.{handed_runs as handed_by}
 use Rattle.linked_calls.proofs.SectionSteps.{output_steps, outputs_steps}
@@ -48,7 +49,7 @@ module _ (image : Fields) (code : MachineCode) (site : CallSite) (numbers : Room
   longer a size lies = ((lies.0.0, omega (arith, lies.0.1)), lies.1)
 
   output_runs : (i : ℕ) (slot : Slot) (form : Form) → IsKnown image site i slot form
-      → Runs z (output_steps image i slot form) (copy_out_code image i slot form)
+      → Runs z (output_steps image site.pointers i slot form) (copy_out_code image i slot form)
       (ArgumentsBegin image site (λ bytes. IsReady image site bytes i slot form))
       (TakesArguments (λ s. handed s.bytes i slot form))
   output_runs i slot MutableArray known =
@@ -86,6 +87,12 @@ module _ (image : Fields) (code : MachineCode) (site : CallSite) (numbers : Room
       → base ≤ x → x < end → handed bytes i slot form x ≡ bytes x
   handed_apart bytes i slot MutableArray x known low up = array_apart bytes i slot x known.beside low up
   handed_apart bytes i slot form x known low up = refl
+
+  handed_stays : (bytes : ByteMap) (i : ℕ) (slot : Slot) (form : Form) → AreBytes bytes
+      → AreBytes (handed bytes i slot form)
+  handed_stays bytes i slot MutableArray are =
+      numbers_stay bytes (element_bytes slot.param.kind) (site.pointers i) (outcome_at bytes slot) are
+  handed_stays bytes i slot form are = are
 
   handed_data : (bytes : ByteMap) (i : ℕ) (slot : Slot) (form : Form) → IsReady image site bytes i slot form
       → SameData bytes (handed bytes i slot form)
@@ -145,7 +152,7 @@ module _ (image : Fields) (code : MachineCode) (site : CallSite) (numbers : Room
       (sym (one_handed bytes i slot form rest)) (sym (one_behind bytes slot form rest))
 
   handed_runs : (i : ℕ) (slots : List Slot) → i + length slots ≡ length image.slots → AreKnown image site i slots
-      → Runs z (outputs_steps image i slots) (results_code image i slots)
+      → Runs z (outputs_steps image site.pointers i slots) (results_code image i slots)
       (ArgumentsBegin image site (λ bytes. AreReady image site bytes i slots))
       (TakesArguments (λ s. all_handed s.bytes i slots))
   handed_runs i [] count known = no_code z (λ s begins. record { bytes = refl; others = λ q none. refl })
@@ -154,13 +161,19 @@ module _ (image : Fields) (code : MachineCode) (site : CallSite) (numbers : Room
       then_runs z
       (weaken_runs z {P' = ArgumentsBegin image site (λ bytes. AreReady image site bytes i (slot ∷ slots))}
       {R' = TakesArguments (λ s. handed s.bytes i slot form)} (output_runs i slot form known.0)
-      (λ s begins. record { stack = begins.stack; there = begins.there; ready = begins.ready.0 })
+      (λ s begins. record {
+        stack = begins.stack;
+        bytes = begins.bytes;
+        there = begins.there;
+        ready = begins.ready.0;
+      })
       (λ s t begins takes. takes))
       (handed_runs (i + 1) slots (omega arith) known.1)
       (λ s t begins takes.
       let same = handed_data s.bytes i slot form begins.ready.0 in
       record {
         stack = still_base _ s t takes ∙ begins.stack;
+        bytes = subst AreBytes (sym takes.bytes) (handed_stays s.bytes i slot form begins.bytes);
         there = λ x l h. ap (λ (b : ByteMap). is_some (b x)) takes.bytes ∙ same x ∙ begins.there x l h;
         ready = subst (λ (b : ByteMap). AreReady image site b (i + 1) slots) (sym takes.bytes)
             (stay_ready image site numbers s.bytes (handed s.bytes i slot form)
@@ -174,7 +187,7 @@ module _ (image : Fields) (code : MachineCode) (site : CallSite) (numbers : Room
 
   -- the outcome of each, as the slots hold it at the beginning
   pub results_runs : AreKnown image site 0 image.slots
-      → Runs z (outputs_steps image 0 image.slots) (results_code image 0 image.slots)
+      → Runs z (outputs_steps image site.pointers 0 image.slots) (results_code image 0 image.slots)
       (ArgumentsBegin image site (λ bytes. AreReady image site bytes 0 image.slots))
       (TakesArguments (λ s. with_arrays site s.bytes 0 image.slots (arrays_in base s.bytes image.slots)))
   results_runs known =

@@ -46,12 +46,14 @@ pub use Rattle.linked_calls.specs.Convention.{argument_registers, saved_register
 pub use Rattle.linked_calls.specs.Written.{is_written, written_of}
 pub use Rattle.linked_calls.specs.Copies.{AreApart, ArrayIsHandedBack, ArrayIsTaken, CanBeCopied, elements_at}
 pub use Rattle.linked_calls.specs.Copies.{HasArray, IsCopying, IsHandedBack, IsArrayTaken, OthersAsBefore, place_of}
-pub use Rattle.linked_calls.specs.Copies.{Pointed, slot_of}
+pub use Rattle.linked_calls.specs.Copies.{AreShort, CopiesAreShort, Pointed, slot_of}
 pub use Rattle.linked_calls.specs.Does.{AreThere, at, Data, Does}
 pub use Rattle.linked_calls.specs.FunctionCode.{above_frame, added, argument_code, argument_offset, arguments_code}
 pub use Rattle.linked_calls.specs.FunctionCode.{array_bytes, kept_of, passed_of}
 pub use Rattle.linked_calls.specs.FunctionCode.{clear_registers_code, copied_code, copied_in_code, copied_out_code, elements_code}
 pub use Rattle.linked_calls.specs.FunctionCode.{next_code, places_code, rounds_code}
+pub use Rattle.linked_calls.specs.FunctionCode.{array_code, by_alignment_code, by_words_code, goes_in_by_words}
+pub use Rattle.linked_calls.specs.FunctionCode.{goes_out_by_words, passed_count, per_word}
 pub use Rattle.linked_calls.specs.FunctionCode.{copy_out_code, down_code, enter_code, entry_code, frame_code, frame_room}
 pub use Rattle.linked_calls.specs.FunctionCode.{leave_code, loads_code, meant_code, restore_code}
 unfoldable pub use Rattle.linked_calls.specs.FunctionCode.{function_words}
@@ -59,10 +61,10 @@ pub use Rattle.linked_calls.specs.FunctionCode.{result_code, results_code, room_
 pub use Rattle.linked_calls.specs.FunctionCode.{rest_words, runs_code, up_code, wipe_code, zeros_code}
 pub use Rattle.linked_calls.specs.Meant.{meant}
 pub use Rattle.linked_calls.specs.Sections.{argument_sections, argument_steps, around_steps, array_section}
-pub use Rattle.linked_calls.specs.Sections.{array_sections, array_steps, code_of, copied_steps, rest_steps}
-pub use Rattle.linked_calls.specs.Sections.{rounds_steps, runs_steps}
+pub use Rattle.linked_calls.specs.Sections.{array_sections, array_steps, by_alignment_steps, by_words_steps, code_of}
+pub use Rattle.linked_calls.specs.Sections.{copied_steps, handed_steps, rest_steps, rounds_steps, runs_steps, taken_steps}
 pub use Rattle.linked_calls.specs.Sections.{enter_sections, frame_sections, leave_sections, section_steps}
-pub use Rattle.linked_calls.specs.Stretches.{AreData, AreZeroed, LiesIn}
+pub use Rattle.linked_calls.specs.Stretches.{AreBytes, AreData, AreZeroed, LiesIn}
 pub use Rattle.linked_calls.specs.Words.{CanBePut, HasResultSlot, HasWordArgument, IsLoadOf, IsArgumentPut, IsPutting}
 pub use Rattle.linked_calls.specs.Words.{IsReturned, ResultIsHandedBack, WordIsTaken}
 pub use Rattle.linked_calls.specs.Zeros.{frame_steps, FrameIsZeroed, HasFrame, HasRoomBounds, IsStoreIn, IsWiped}

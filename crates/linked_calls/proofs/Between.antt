@@ -3,8 +3,8 @@
 use Rattle.std.specs.Prelude.{sum}
 use Rattle.std.proofs.Common.{◌≡◌, ℕ, suc, ◌+◌, ◌-◌, ◌*◌, ◌%◌, ◌^◌, ◌<◌, List, [], ◌∷◌, length, map, Some}
 use Rattle.std.proofs.Common.{false, None}
-use Rattle.linked_calls.proofs.Below.{AreData, argument_offset, arguments_end, arguments_of, array_bytes, body_words}
-use Rattle.linked_calls.proofs.Below.{ByteMap, MachineCode, enter_code, enter_sections, Fields, FixedArray, Form}
+use Rattle.linked_calls.proofs.Below.{AreBytes, AreData, argument_offset, arguments_end, arguments_of, array_bytes}
+use Rattle.linked_calls.proofs.Below.{body_words, ByteMap, MachineCode, enter_code, enter_sections, Fields, FixedArray, Form}
 use Rattle.linked_calls.proofs.Below.{frame_room, function_words, goes_on, IsCalled, IsImage, IsLeft, IsLoaded}
 use Rattle.linked_calls.proofs.Below.{is_written, kept_of}
 use Rattle.linked_calls.proofs.Below.{IsOfCall, IsSite, LeadsWithin, leave_sections, moved_to, MutableArray, number_at}
@@ -20,11 +20,13 @@ body_at image site = site.entry + 4 * length (enter_code image)
 abbrev pub leave_at : Fields → CallSite → ℕ
 leave_at image site = body_at image site + 4 * length (body_words image.words)
 
-abbrev pub enter_steps : Fields → ℕ
-enter_steps image = sum (map (section_steps image) (enter_sections image))
+-- their steps, by where the arguments point
 
-abbrev pub leave_steps : Fields → ℕ
-leave_steps image = sum (map (section_steps image) (leave_sections image))
+abbrev pub enter_steps : Fields → (ℕ → ℕ) → ℕ
+enter_steps image pointers = sum (map (section_steps image pointers) (enter_sections image))
+
+abbrev pub leave_steps : Fields → (ℕ → ℕ) → ℕ
+leave_steps image pointers = sum (map (section_steps image pointers) (leave_sections image))
 
 -- what registers held stands in words from an address on
 abbrev pub AreSaved : ByteMap → (ℕ → ℕ) → ℕ → List ℕ → Type 0
@@ -80,7 +82,7 @@ pub record IsEntered (image : Fields) (site : CallSite) (s t : State) : Type 0 w
 pub record EntersFrom (image : Fields) (code : MachineCode) (site : CallSite) (list : List Observation) (s : State) :
     Type 0 where
   pub end : State
-  pub leads : LeadsWithin code (IsOfCall image site) (enter_steps image) s list end
+  pub leads : LeadsWithin code (IsOfCall image site) (enter_steps image site.pointers) s list end
   pub entered : IsEntered image site s end
 
 pub record Enters (image : Fields) (code : MachineCode) (site : CallSite) : Type 0 where
@@ -103,13 +105,14 @@ pub record CanLeave (image : Fields) (site : CallSite) (regs : ℕ → ℕ) (s :
   pub saved : AreSaved s.bytes regs (saved_at image site) (kept_of image)
   -- the others that the caller may count on are as they were
   pub left : AreLeft (body_words image.words) s.regs regs saved_registers
+  pub bytes : AreBytes s.bytes
   pub there : AreData (room_base image site) (arguments_end image site) s.bytes
   pub ready : AreReady image site s.bytes 0 image.slots
 
 pub record LeavesFrom (image : Fields) (code : MachineCode) (site : CallSite) (list : List Observation) (regs : ℕ
     → ℕ) (s : State) : Type 0 where
   pub step_count : ℕ
-  pub counted : suc step_count ≡ leave_steps image
+  pub counted : suc step_count ≡ leave_steps image site.pointers
   pub end : State
   pub leads : LeadsWithin code (IsOfCall image site) step_count s list end
   pub at_last : end.pc ≡ site.entry + 4 * (length (function_words image) - 1)

@@ -22,6 +22,7 @@ use Rattle.linked_calls.proofs.Rooms.{room_numbers}
 use Rattle.linked_calls.proofs.SameRegisters.{same_then}
 use Rattle.linked_calls.proofs.SavedRegisters.{saved_same}
 use Rattle.linked_calls.proofs.Standing.{body_stands}
+use Rattle.linked_calls.proofs.StayingBytes.{bytes_stay}
 use Rattle.linked_calls.proofs.Unwritten.{alone, alone_writes_none, IsPartOf, part_of, stands_alone, steps_in}
 use Rattle.linked_calls.proofs.Unwritten.{steps_keep}
 use Rattle.linked_calls.proofs.Staying.{arrays_agree, stay_ready}
@@ -63,11 +64,12 @@ inside_is_of_call image code site is sp (Some event) at inside = tt
 
 -- Steps.
 
-steps_around : (image : Fields) → around_steps image ≡ enter_steps image + leave_steps image
-steps_around image =
-    ap sum (map-append (section_steps image) (enter_sections image) (leave_sections image))
-    ∙ sum_by-append (λ x. x) (map (section_steps image) (enter_sections image))
-    (map (section_steps image) (leave_sections image))
+steps_around : (image : Fields) (pointers : ℕ → ℕ)
+    → around_steps image pointers ≡ enter_steps image pointers + leave_steps image pointers
+steps_around image pointers =
+    ap sum (map-append (section_steps image pointers) (enter_sections image) (leave_sections image))
+    ∙ sum_by-append (λ x. x) (map (section_steps image pointers) (enter_sections image))
+    (map (section_steps image pointers) (leave_sections image))
 
 steps_counted : (enter body leave around : ℕ) (rest : ℕ) → around ≡ enter + leave → suc rest ≡ leave
     → suc (enter + (body + rest)) ≡ around + body
@@ -133,6 +135,7 @@ module _ (image : Fields) (code : MachineCode) (site : CallSite) (is : IsSite im
         (λ r none. steps_keep r
         (alone_writes_none r code (body_at image site) (body_words image.words) none) run.at_base))
         (left_same (body_words image.words) saved_registers entered.end.regs s.regs entered.entered.still);
+    bytes = bytes_stay (bytes_stay called.bytes entered.leads) run.at_base;
     there = all_there;
     ready = stay_ready image site (room_numbers image code site is) entered.end.bytes run.end.bytes
         (λ x low high. same_above x low) data_same 0 image.slots (omega arith) entered.entered.ready;
@@ -175,14 +178,13 @@ module _ (program : ProgramTree) (p : ProcedureTree) (image : Fields) (code : Ma
       record {
         results = results_in (room_base image site) image run.end.bytes;
         means = body.outcome;
-        step_count = enter_steps image + (run.step_count + left.step_count);
+        step_count = enter_steps image site.pointers + (run.step_count + left.step_count);
         end = left.end;
         leads = LeadsBy-append entered.leads (LeadsBy-append (steps_in (body_part image code site is) body_within) left.leads);
         body_steps = run.step_count;
         within_steps = run.within_steps;
-        counted = steps_counted (enter_steps image) run.step_count (leave_steps image)
-            (around_steps image) left.step_count
-            (steps_around image) left.counted;
+        counted = steps_counted (enter_steps image site.pointers) run.step_count (leave_steps image site.pointers)
+            (around_steps image site.pointers) left.step_count (steps_around image site.pointers) left.counted;
         at_last = left.at_last;
         left = is_left image code site is s called enters.shown entered (linked.shown args) run _ left.end left.left;
         goes_back = left.goes_back;

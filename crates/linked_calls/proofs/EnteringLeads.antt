@@ -6,7 +6,8 @@ use Rattle.std.proofs.Common.{◌∷◌, ◌++◌, length, map, Some, inl, inr, 
 use Rattle.std.proofs.lemmas.Bool.{cases_lt, ltb-false, ltb-true}
 use Rattle.std.proofs.lemmas.List.{length-map}
 use Rattle.codegen.proofs.program_logic_lemmas.Counted.{in_steps, makes_then, Runs, Setting, then_runs}
-use Rattle.linked_calls.proofs.Below.{above_frame, AreData, argument_offset, argument_registers, arguments_end, arguments_of, at}
+use Rattle.linked_calls.proofs.Below.{above_frame, AreBytes, AreData, argument_offset, argument_registers}
+use Rattle.linked_calls.proofs.Below.{arguments_end, arguments_of, at}
 use Rattle.linked_calls.proofs.Below.{ByteMap, MachineCode, Data, enter_code, entry_code, Fields, found, frame_code}
 use Rattle.linked_calls.proofs.Below.{frame_room, frame_steps, HasFrame, IsCalled, IsImage, IsLoaded, IsOfCall, IsSite}
 use Rattle.linked_calls.proofs.Below.{IsZeroFrame, LeadsWithin, number_at, number_at_same, room_base, saved_registers}
@@ -17,6 +18,7 @@ use Rattle.linked_calls.proofs.AllArguments.{taken_registers}
 use Rattle.linked_calls.proofs.Between.{AreReady, AreSaved, EnteringLeads, IsEntered, IsOutsideRoom, body_at}
 use Rattle.linked_calls.proofs.Between.{enter_steps, saved_at, untouched_registers}
 use Rattle.linked_calls.proofs.Bytes.{IsOutside, SameData, number_there, numbers_outside, is_some-with_numbers}
+use Rattle.linked_calls.proofs.ByteData.{numbers_stay, zeroed_stays}
 use Rattle.linked_calls.proofs.Bytes.{zero_byte}
 use Rattle.linked_calls.proofs.SectionSteps.{arguments_steps, enter_steps_are, entry_steps}
 use Rattle.linked_calls.proofs.Entering.{entered, entered_bytes, entry_runs, taken_count}
@@ -116,6 +118,11 @@ module _ (image : Fields) (code : MachineCode) (site : CallSite) (is : IsImage i
       is_some-with_numbers d.bytes 4 above (map d.regs kept)
       (λ y low up. above_there d called y low (omega arith)) x
 
+  stored_stays : (d : Data) → AreBytes d.bytes → AreBytes (stored d)
+  stored_stays d are =
+      numbers_stay (stored_first d) 4 high (map d.regs given)
+      (numbers_stay d.bytes 4 above (map d.regs kept) are)
+
   stored_data : (d : Data) → Called d → SameData d.bytes (stored d)
   stored_data d called x =
       let few = given_count d in
@@ -158,7 +165,7 @@ module _ (image : Fields) (code : MachineCode) (site : CallSite) (is : IsImage i
   abbrev entering : Data → Data
   entering d = entered kept (length image.slots) above high d
 
-  entry_part : Runs z (entry_steps image) (entry_code image) Called (λ d t. t ≡ entering d)
+  entry_part : Runs z (entry_steps image site.pointers) (entry_code image) Called (λ d t. t ≡ entering d)
   entry_part =
       entry_runs kept (length image.slots) z above beyond (omega arith) numbers.above_whole numbers.above_least
       numbers.above_most (kept_fitting (body_words image.words)) (omega arith)
@@ -175,6 +182,7 @@ module _ (image : Fields) (code : MachineCode) (site : CallSite) (is : IsImage i
     stack : t.regs 2 ≡ frame
     untouched : AreSame t.regs d.regs untouched_registers
     still : AreSame t.regs d.regs saved_registers
+    bytes : AreBytes t.bytes
     zeros : (x : ℕ) → frame ≤ x → x < above → t.bytes x ≡ Some 0
     outside : (x : ℕ) → IsOutside frame above x → t.bytes x ≡ stored d x
 
@@ -189,11 +197,12 @@ module _ (image : Fields) (code : MachineCode) (site : CallSite) (is : IsImage i
         untouched_registers refl;
     still = same_beside (2 ∷ 5 ∷ []) u.regs (entering d).regs (λ q none. zeroed.others q none.0 none.1.0)
         saved_registers refl;
+    bytes = zeroed_stays frame (frame + room) (stored d) u.bytes zeroed.zeroed (stored_stays d called.bytes);
     zeros = zeroed.zeroed.inside;
     outside = zeroed.zeroed.outside;
   }
 
-  framed_part : Runs z (entry_steps image + frame_steps room) (entry_code image ++ frame_code room) Called IsFramed
+  framed_part : Runs z (entry_steps image site.pointers + frame_steps room) (entry_code image ++ frame_code room) Called IsFramed
   framed_part = makes_then z {f = entering} entry_part frame_part frame_begins framed
 
   -- The arguments.
@@ -213,6 +222,7 @@ module _ (image : Fields) (code : MachineCode) (site : CallSite) (is : IsImage i
       → ArgumentsBegin image site (λ bytes. AreReady image site bytes 0 image.slots) t
   taking_begins d t called frames = record {
     stack = frames.stack;
+    bytes = frames.bytes;
     there = framed_there d t called frames;
     ready = all_ready image site (at_call d) t.bytes (framed_passed d t called frames) 0 image.slots (omega arith)
         is_site.arrays called.arguments;
@@ -263,7 +273,7 @@ module _ (image : Fields) (code : MachineCode) (site : CallSite) (is : IsImage i
       there = room_there;
     }
 
-  enter_part : Runs z (entry_steps image + frame_steps room + arguments_steps image 0 image.slots) (enter_code image) Called
+  enter_part : Runs z (entry_steps image site.pointers + frame_steps room + arguments_steps image site.pointers 0 image.slots) (enter_code image) Called
       (λ d t. IsEntered image site (at_call d) (at (body_at image site) t))
   enter_part =
       then_runs z {S = λ d t. IsEntered image site (at_call d) (at (body_at image site) t)} framed_part
@@ -280,7 +290,7 @@ pub enters : EnteringLeads
 enters image code site is is_site =
     let z = call_setting image code site in
     let part = does z site.entry (enter_code image) (enter_placed image code site is_site)
-    (in_steps z (sym (enter_steps_are image))
+    (in_steps z (sym (enter_steps_are image site.pointers))
     (enter_part image code site is is_site (room_numbers image code site is_site))) in
     record {
       shown = part.shown;
@@ -291,7 +301,8 @@ enters image code site is is_site =
           let end = at (body_at image site) run.end in
           record {
             end = end;
-            leads = subst (λ (x : State). LeadsWithin code (IsOfCall image site) (enter_steps image) x part.shown end)
+            leads = subst (λ (x : State). LeadsWithin code (IsOfCall image site) (enter_steps image site.pointers) x
+                part.shown end)
                 own run.leads;
             entered = subst (λ (x : State). IsEntered image site x end) own run.done;
           };

@@ -4,9 +4,9 @@ use Rattle.std.specs.List.{AllByRecursion}
 use Rattle.std.proofs.Common.{◌≡◌, ℕ, ◌+◌, ◌*◌, ◌%◌, ◌<◌, ◌≤◌, nat_le, true, ◌&&◌, List, [], ◌∷◌, length}
 use Rattle.std.proofs.Common.{inl, inr, arith}
 use Rattle.std.proofs.lemmas.Bool.Decides.{nat_tests}
-use Rattle.linked_calls.proofs.Below.{AreApart, arguments_end, array_bytes, array_words, Boolean, bytes_within}
-use Rattle.linked_calls.proofs.Below.{CanBeCopied, element_bytes, Fields, FixedArray, Form, IsBesides, IsImage}
-use Rattle.linked_calls.proofs.Below.{IsReadable, Kind, LiesWell, LieWell, most_elements, MutableArray, ReadsAnArray}
+use Rattle.linked_calls.proofs.Below.{AreApart, arguments_end, array_bytes, array_words, bytes_within}
+use Rattle.linked_calls.proofs.Below.{CanBeCopied, Fields, FixedArray, Form, IsBesides, IsImage}
+use Rattle.linked_calls.proofs.Below.{IsReadable, LiesWell, LieWell, most_elements, MutableArray, ReadsAnArray}
 use Rattle.linked_calls.proofs.Below.{ReadsArray, room_base, SingleWord, CallSite, Size, Slot, WritesAnArray}
 use Rattle.linked_calls.proofs.Below.{WritesArray}
 use Rattle.linked_calls.specs.Below.{AreSlots, is_length, slot_bytes, slot_end}
@@ -15,11 +15,6 @@ use Rattle.linked_calls.proofs.CopyElements.{elements_fit, some_bytes}
 use Rattle.linked_calls.proofs.Rooms.{RoomNumbers, place_inside}
 
 -- Slots.
-
--- an array may begin wherever a word may
-element_aligned : (kind : Kind) (a : ℕ) → a % 4 ≡ 0 → a % element_bytes kind ≡ 0
-element_aligned Boolean a even = omega arith
-element_aligned kind a even = omega arith
 
 some_elements : (n : ℕ) → (nat_le 1 n && nat_le n most_elements) ≡ true → 0 < n
 some_elements n h = grind (arith, nat_tests)
@@ -66,7 +61,7 @@ module _ (image : Fields) (site : CallSite) (is : IsImage image) (lie_well : Lie
             some = some;
             frame_aligned = omega arith;
             array_aligned = readable.aligned;
-            slot_aligned = element_aligned slot.param.kind (frame + slot.offset) (omega arith);
+            slot_aligned = omega arith;
             place_ends = omega arith;
             array_ends = readable.ends;
             slot_ends = omega arith;

@@ -105,13 +105,18 @@ module _ (image : Fields) (code : MachineCode) (site : CallSite) (is : IsImage i
     bytes : t.bytes ≡ left_bytes s.bytes
     others : (q : ℕ) → IsNone (10 ∷ taken_registers) q → t.regs q ≡ s.regs q
 
-  handed_runs : Runs z (length (result_code image.returned) + outputs_steps image 0 image.slots)
+  handed_runs : Runs z (length (result_code image.returned) + outputs_steps image site.pointers 0 image.slots)
       (result_code image.returned ++ results_code image 0 image.slots) Starts Handed
   handed_runs =
       makes_then z {P = Starts} {f = λ s. with_result 10 (result_of s.bytes image.returned) s} {S = Handed}
       (result_runs image.returned (slots_end 0 image.slots) is.returned is.returned_inside)
       (results_runs image code site numbers known)
-      (λ s begins. record { stack = begins.stack; there = begins.there; ready = begins.ready })
+      (λ s begins. record {
+        stack = begins.stack;
+        bytes = begins.bytes;
+        there = begins.there;
+        ready = begins.ready;
+      })
       (λ s u begins takes. record {
         result = (same_beside taken_registers u.regs (with_register s.regs 10 (result_of s.bytes image.returned))
             takes.others (10 ∷ []) refl).0;
@@ -133,7 +138,7 @@ module _ (image : Fields) (code : MachineCode) (site : CallSite) (is : IsImage i
 
   abbrev front_steps : ℕ
   front_steps =
-      length (result_code image.returned) + outputs_steps image 0 image.slots +
+      length (result_code image.returned) + outputs_steps image site.pointers 0 image.slots +
       (length (constant_code 5 (frame_room image) ++ Register Add 5 5 2 ∷ []) + length (kept_of image) + 1 +
       runs_steps (frame_room image + above_frame image) + 14)
 
@@ -188,9 +193,9 @@ module _ (image : Fields) (code : MachineCode) (site : CallSite) (is : IsImage i
       (leave_placed image code site at_site) in
       record { aligned = last.0; word = last.2; in_range = (omega arith, omega arith, omega arith) }
 
-  steps_counted : suc front_steps ≡ leave_steps image
+  steps_counted : suc front_steps ≡ leave_steps image site.pointers
   steps_counted =
-      let all = leave_steps_are image in
+      let all = leave_steps_are image site.pointers in
       omega arith
 
   leaves_here : Leaves image code site
@@ -202,7 +207,12 @@ module _ (image : Fields) (code : MachineCode) (site : CallSite) (is : IsImage i
         shown = one.shown;
         runs = λ regs s can.
             let d = data_of s in
-            let a = one.runs d (record { stack = can.base; there = can.there; ready = can.ready }) in
+            let a = one.runs d (record {
+              stack = can.base;
+              bytes = can.bytes;
+              there = can.there;
+              ready = can.ready;
+            }) in
             let there : at (leave_at image site) d ≡ s = ap (λ p. at p d) (sym can.at_leave) in
             let left = a.done regs (subst (λ (x : State). CanLeave image site regs x) (sym there) can) in
             let last = at last_at a.end in

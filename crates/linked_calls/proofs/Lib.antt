@@ -3,7 +3,13 @@ pub mod Pieces
 pub mod Bytes
 pub mod Parts
 pub mod Zeros
+pub mod ByteData
 pub mod CopyElements
+pub mod CopyNumbers
+pub mod CopyLengths
+pub mod MovedBytes
+pub mod Alignment
+pub mod CopyArrays
 pub mod Copies
 pub mod Words
 pub mod Cleared
@@ -12,6 +18,7 @@ pub mod Between
 pub mod Rooms
 pub mod Standing
 pub mod Unwritten
+pub mod StayingBytes
 pub mod Staying
 pub mod SavedRegisters
 pub mod SectionSteps

@@ -4,7 +4,7 @@ use Rattle.std.proofs.Common.{◌≡◌, ℕ, ◌+◌, ◌-◌, ◌==◌, Bool, 
 use Rattle.std.proofs.Common.{refl, ap, ap₂, ◌∙◌, arith, length-append}
 use Rattle.std.proofs.lemmas.List.Sums.{sum_by-cons, sum_by-append, sum-map}
 use Rattle.linked_calls.proofs.Below.{Add, argument_sections, argument_steps, ArgumentIn, array_section, array_sections}
-use Rattle.linked_calls.proofs.Below.{array_steps, CallersStack, ClearedFrame, ClearedRegisters}
+use Rattle.linked_calls.proofs.Below.{handed_steps, CallersStack, ClearedFrame, ClearedRegisters}
 use Rattle.linked_calls.proofs.Below.{constant_code, Fields, FixedArray, Form, frame_room, frame_sections, frame_steps}
 use Rattle.linked_calls.proofs.Below.{FrameBase, FrameTop, leave_sections, MutableArray, Register, RestoredRegisters}
 use Rattle.linked_calls.proofs.Below.{result_code, ResultOut, Return, room_of, runs_steps, Section, section_steps, SingleWord, Slot}
@@ -14,9 +14,9 @@ use Rattle.linked_calls.proofs.Below.{above_frame, kept_of, passed_of}
 use Rattle.linked_calls.proofs.Between.{enter_steps, leave_steps}
 use Rattle.linked_calls.proofs.Parts.{loads_length, stores_length}
 
-module _ (image : Fields) where
+module _ (image : Fields) (pointers : ℕ → ℕ) where
   abbrev steps_of : List Section → ℕ
-  steps_of sections = sum_by (section_steps image) sections
+  steps_of sections = sum_by (section_steps image pointers) sections
 
   abbrev room : ℕ
   room = frame_room image
@@ -24,13 +24,13 @@ module _ (image : Fields) where
   -- of all arguments from the i-th on
   abbrev pub arguments_steps : ℕ → List Slot → ℕ
   arguments_steps i [] = 0
-  arguments_steps i (slot ∷ slots) = argument_steps image i slot slot.param.form + arguments_steps (i + 1) slots
+  arguments_steps i (slot ∷ slots) = argument_steps image pointers i slot slot.param.form + arguments_steps (i + 1) slots
 
   -- of an array that is handed back
   abbrev pub output_steps : ℕ → Slot → Form → ℕ
   output_steps i slot SingleWord = 0
   output_steps i slot FixedArray = 0
-  output_steps i slot MutableArray = array_steps image i slot
+  output_steps i slot MutableArray = handed_steps image i slot (pointers i)
 
   abbrev pub outputs_steps : ℕ → List Slot → ℕ
   outputs_steps i [] = 0
@@ -50,15 +50,15 @@ module _ (image : Fields) where
   arguments_steps_are : (i : ℕ) (slots : List Slot) → steps_of (argument_sections i slots) ≡ arguments_steps i slots
   arguments_steps_are i [] = refl
   arguments_steps_are i (slot ∷ slots) =
-      sum_by-cons (section_steps image) (ArgumentIn i slot) (argument_sections (i + 1) slots)
-      ∙ ap (λ n. argument_steps image i slot slot.param.form + n) (arguments_steps_are (i + 1) slots)
+      sum_by-cons (section_steps image pointers) (ArgumentIn i slot) (argument_sections (i + 1) slots)
+      ∙ ap (λ n. argument_steps image pointers i slot slot.param.form + n) (arguments_steps_are (i + 1) slots)
 
   -- one, and one for each register that is stored
   abbrev pub entry_steps : ℕ
   entry_steps = 1 + (length (kept_of image) + length (passed_of image))
 
   -- the entry's, and then the frame's and the arguments'
-  pub enter_steps_are : enter_steps image ≡ entry_steps + frame_steps room + arguments_steps 0 image.slots
+  pub enter_steps_are : enter_steps image pointers ≡ entry_steps + frame_steps room + arguments_steps 0 image.slots
   enter_steps_are =
       let entry = RoomAboveFrame ∷ SavedRegisters ∷ ArgumentRegisters ∷ [] in
       let framed = frame_sections room in
@@ -66,9 +66,9 @@ module _ (image : Fields) where
       let kept = stores_length 2 0 (kept_of image) in
       let passed = stores_length 2 (above_frame image - 32) (passed_of image) in
       let counted : steps_of entry ≡ entry_steps = omega arith in
-      sum-map (section_steps image) (entry ++ framed ++ arguments)
-      ∙ sum_by-append (section_steps image) (entry ++ framed) arguments
-      ∙ ap₂ (λ a b. a + b) (sum_by-append (section_steps image) entry framed
+      sum-map (section_steps image pointers) (entry ++ framed ++ arguments)
+      ∙ sum_by-append (section_steps image pointers) (entry ++ framed) arguments
+      ∙ ap₂ (λ a b. a + b) (sum_by-append (section_steps image pointers) entry framed
       ∙ ap₂ (λ a b. a + b) counted (frame_steps_by (room == 0))) (arguments_steps_are 0 image.slots)
 
   -- Behind it.
@@ -81,7 +81,7 @@ module _ (image : Fields) where
   arrays_steps_are : (i : ℕ) (slots : List Slot) → steps_of (array_sections i slots) ≡ outputs_steps i slots
   arrays_steps_are i [] = refl
   arrays_steps_are i (slot ∷ slots) =
-      sum_by-append (section_steps image) (array_section i slot slot.param.form) (array_sections (i + 1) slots)
+      sum_by-append (section_steps image pointers) (array_section i slot slot.param.form) (array_sections (i + 1) slots)
       ∙ ap₂ (λ m n. m + n) (array_steps_are i slot slot.param.form) (arrays_steps_are (i + 1) slots)
 
   abbrev lasts : List Section
@@ -92,13 +92,13 @@ module _ (image : Fields) where
   last_steps = length (constant_code 5 room ++ Register Add 5 5 2 ∷ []) + runs_steps (room_of image)
       + (length (kept_of image) + 16)
 
-  pub leave_steps_are : leave_steps image ≡ length (result_code image.returned) +
+  pub leave_steps_are : leave_steps image pointers ≡ length (result_code image.returned) +
       (outputs_steps 0 image.slots + last_steps)
   leave_steps_are =
       let kept = loads_length 5 0 (kept_of image) in
       let counted : steps_of lasts ≡ last_steps = omega arith in
-      sum-map (section_steps image) (leave_sections image)
-      ∙ sum_by-cons (section_steps image) ResultOut (array_sections 0 image.slots ++ lasts)
+      sum-map (section_steps image pointers) (leave_sections image)
+      ∙ sum_by-cons (section_steps image pointers) ResultOut (array_sections 0 image.slots ++ lasts)
       ∙ ap (λ n. length (result_code image.returned) + n)
-      (sum_by-append (section_steps image) (array_sections 0 image.slots) lasts
+      (sum_by-append (section_steps image pointers) (array_sections 0 image.slots) lasts
       ∙ ap₂ (λ m n. m + n) (arrays_steps_are 0 image.slots) counted)

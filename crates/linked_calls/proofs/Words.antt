@@ -1,11 +1,11 @@
 -- The code that takes a word: a load, what it means, and a store; and the code that hands a result back.
 use Rattle.std.specs.Prelude.{bit_and}
-use Rattle.std.proofs.Common.{◌≡◌, ℕ, ◌+◌, ◌%◌, ◌^◌, ◌==◌, nat_lt, true, Some, refl, sym, ap, ◌∙◌, arith}
+use Rattle.std.proofs.Common.{◌≡◌, ℕ, ◌+◌, ◌%◌, ◌^◌, ◌==◌, length, nat_lt, true, Some, refl, sym, ap, ◌∙◌, arith}
 use Rattle.std.proofs.Math.Path.{fun_ext}
 use Rattle.std.proofs.lemmas.Bool.Decides.{nat_tests}
 use Rattle.std.proofs.lemmas.Nat.{and_mask}
 use Rattle.codegen.proofs.program_logic_lemmas.Counted.{computes_runs, makes_on, Runs, Setting, weaken_runs}
-use Rattle.linked_calls.proofs.Below.{argument_code, argument_offset, argument_steps, Boolean, ByteMap, CanBePut}
+use Rattle.linked_calls.proofs.Below.{argument_code, argument_offset, Boolean, ByteMap, CanBePut}
 use Rattle.linked_calls.proofs.Below.{Data, Fields, HasResultSlot, HasWordArgument, IsLoadOf, IsArgumentPut, IsPutting}
 use Rattle.linked_calls.proofs.Below.{IsReturned, Kind, load_code, meant, meant_code, number_at, number_or_zero}
 use Rattle.linked_calls.proofs.Below.{only_computes, registers_after, ResultIsHandedBack, shift_value, SingleWord}
@@ -49,7 +49,7 @@ meant_made kind regs = refl
 pub word_runs : (z : Setting) (image : Fields) (slot : Slot) (frame i : ℕ) → CanBePut image slot frame i
     → z.allowed frame (Some (event.Load (frame + argument_offset image i) Word))
     → z.allowed frame (Some (event.Store (frame + slot.offset) Word))
-    → Runs z (argument_steps image i slot SingleWord) (argument_code image i slot SingleWord)
+    → Runs z (length (argument_code image i slot SingleWord)) (argument_code image i slot SingleWord)
     (HasWordArgument image slot frame i) (IsArgumentPut image slot frame i)
 word_runs z image slot frame i can loads stores =
     let kind = slot.param.kind in

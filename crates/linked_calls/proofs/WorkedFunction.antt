@@ -1,6 +1,6 @@
 -- The function that adds one to its argument, as it is worked out by hand: 47 words, and 43 steps around the 4 of its
 -- body.
-use Rattle.std.proofs.Common.{◌≡◌, [], ◌∷◌, length, Some, refl}
+use Rattle.std.proofs.Common.{◌≡◌, ℕ, [], ◌∷◌, length, Some, refl}
 use Rattle.linked_calls.proofs.Below.{around_steps, Fields, function_words, P1, room_of, Secret, SingleWord, Uint32}
 
 abbrev add_one : Fields
@@ -20,5 +20,5 @@ words : length (function_words add_one) ≡ 47
 unfolding function_words
 words = refl
 
-steps : around_steps add_one ≡ 43
-steps = refl
+steps : (pointers : ℕ → ℕ) → around_steps add_one pointers ≡ 43
+steps pointers = refl

@@ -28,6 +28,7 @@ pub use Rattle.codegen.specs.expression_code.TermCode.{constant_code, cut_code, 
 pub use Rattle.codegen.specs.expression_code.TermCode.{store_code}
 pub use Rattle.codegen.specs.image_fields.Fields.{AreSlots, Fields, is_length, IsImage, IsResultSlot, result_end}
 pub use Rattle.codegen.specs.image_fields.Fields.{slot_bytes, slot_end, slots_end}
+pub use Rattle.codegen.specs.program_logic.Jumps.{over}
 pub use Rattle.codegen.specs.program_logic.StraightCode.{Contents}
 pub use Rattle.codegen.specs.program_logic.StraightCode.{state_at}
 pub use Rattle.codegen.specs.program_logic.MachineSteps.{LeadsWithin}

@@ -25,7 +25,7 @@ pub record CallReturns (program : ProgramTree) (image : Fields) (code : MachineC
   -- those of the body: ECALL would be one step more
   pub body_steps : ℕ
   pub within_steps : body_steps < image.max_steps
-  pub counted : suc step_count ≡ around_steps image + body_steps
+  pub counted : suc step_count ≡ around_steps image site.pointers + body_steps
   pub at_last : end.pc ≡ site.entry + 4 * (length (function_words image) - 1)
   pub left : IsLeft image site s.regs s.bytes results end
   -- a caller of code without compressed instructions stands at a multiple of 4

@@ -8,7 +8,7 @@ use Rattle.linked_calls.specs.Below.{numbers_at, SingleWord, Slot, Stand, State,
 use Rattle.language.specs.declared.values.Arg.TheVariants.{Word}
 use Rattle.linked_calls.specs.FunctionCode.{function_words, room_of, array_bytes}
 use Rattle.linked_calls.specs.Meant.{meant}
-use Rattle.linked_calls.specs.Stretches.{AreData}
+use Rattle.linked_calls.specs.Stretches.{AreBytes, AreData}
 
 -- where a function's words begin, where the stack pointer is at the call, and where the i-th argument points if it is
 -- an array
@@ -84,12 +84,13 @@ abbrev pub ArePassed : CallSite → State → ℕ → List Slot → Type 0
 ArePassed site s i [] = Unit {0}
 ArePassed site s i (slot ∷ slots) = IsPassed site s i slot slot.param.form × ArePassed site s (i + 1) slots
 
--- the function is called: the registers hold words, room and arguments on the stack are data, among whatever other
--- data
+-- the function is called: the registers hold words, and data is bytes; room and arguments on the stack are data, among
+-- whatever other data
 pub record IsCalled (image : Fields) (site : CallSite) (s : State) : Type 0 where
   pub at_entry : s.pc ≡ site.entry
   pub stack : s.regs 2 ≡ site.stack
   pub words : (r : ℕ) → s.regs r < 2 ^ 32
+  pub bytes : AreBytes s.bytes
   pub there : AreData (room_base image site) (arguments_end image site) s.bytes
   pub arguments : ArePassed site s 0 image.slots
 

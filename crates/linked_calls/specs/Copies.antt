@@ -1,13 +1,16 @@
 -- An argument that points to an array: the array is copied into its slot before the body, and back behind it where it
 -- may be changed.
-use Rattle.std.specs.Prelude.{◌≡◌, ◌≢◌, ◌⊎◌, ℕ, ◌+◌, ◌%◌, ◌^◌, ◌<◌, ◌≤◌, List, map, Option, Some, None}
+use Rattle.std.specs.Prelude.{◌≡◌, ◌≢◌, ◌⊎◌, ℕ, ◌+◌, ◌%◌, ◌^◌, ◌<◌, ◌≤◌, List, length, map, Option, Some}
+use Rattle.std.specs.Prelude.{None}
 use Rattle.linked_calls.specs.Below.{Array, ByteMap, MachineCode, Div, element_bytes, Event, Fields, FixedArray, Load}
-use Rattle.linked_calls.specs.Below.{Mul, MutableArray, number_at, numbers_at, Slot, Store, with_argument, with_numbers}
-use Rattle.linked_calls.specs.FunctionCode.{argument_offset, array_bytes, argument_code, copy_out_code}
-use Rattle.linked_calls.specs.Sections.{argument_steps, array_steps}
+use Rattle.linked_calls.specs.Below.{Kind, Mul, MutableArray, number_at, numbers_at, Slot, Store, with_argument}
+use Rattle.linked_calls.specs.Below.{with_numbers}
+use Rattle.linked_calls.specs.FunctionCode.{argument_offset, array_bytes, argument_code, by_words_code, copied_code}
+use Rattle.linked_calls.specs.FunctionCode.{copied_in_code, copied_out_code, copy_out_code}
+use Rattle.linked_calls.specs.Sections.{handed_steps, taken_steps}
 use Rattle.linked_calls.specs.Does.{Data, Does, AreThere}
 use Rattle.linked_calls.specs.Meant.{meant}
-use Rattle.linked_calls.specs.Stretches.{AreData, LiesIn}
+use Rattle.linked_calls.specs.Stretches.{AreBytes, AreData, LiesIn}
 
 -- where the frame of a call lies, which argument it is, and where the argument points
 pub record Pointed : Type 0 where
@@ -32,18 +35,19 @@ pub record CanBeCopied (image : Fields) (slot : Slot) (spot : Pointed) : Type 0 
   pub some : 0 < slot.param.length
   pub frame_aligned : spot.frame % 4 ≡ 0
   pub array_aligned : spot.pointer % element_bytes slot.param.kind ≡ 0
-  pub slot_aligned : slot_of slot spot % element_bytes slot.param.kind ≡ 0
+  pub slot_aligned : slot_of slot spot % 4 ≡ 0
   pub place_ends : place_of image spot < 2 ^ 32
   pub array_ends : spot.pointer + array_bytes slot ≤ 2 ^ 32
   pub slot_ends : slot_of slot spot + array_bytes slot < 2 ^ 32
   pub apart : AreApart (array_bytes slot) spot.pointer (slot_of slot spot)
 
--- the frame's base is in x2, the pointer where the raw argument stands, and array and slot are data
+-- the frame's base is in x2, the pointer where the raw argument stands, array and slot are data, and data is bytes
 pub record HasArray (image : Fields) (slot : Slot) (spot : Pointed) (s : Data) : Type 0 where
   pub stack : s.regs 2 ≡ spot.frame
   pub argument : number_at s.bytes 4 (place_of image spot) ≡ Some spot.pointer
   pub array_there : AreData spot.pointer (spot.pointer + array_bytes slot) s.bytes
   pub slot_there : AreData (slot_of slot spot) (slot_of slot spot + array_bytes slot) s.bytes
+  pub bytes : AreBytes s.bytes
 
 -- the elements from an address on, as many as the slot's array has
 abbrev pub elements_at : Slot → ByteMap → ℕ → List ℕ
@@ -75,7 +79,7 @@ ArrayIsTaken =
     → AreThere code start (argument_code image spot.index slot FixedArray)
     → CanBeCopied image slot spot
     → Does code start (argument_code image spot.index slot FixedArray)
-    (argument_steps image spot.index slot FixedArray)
+    (taken_steps image spot.index slot spot.pointer)
     (IsCopying spot.frame (place_of image spot) (array_bytes slot) spot.pointer (slot_of slot spot))
     (HasArray image slot spot) (IsArrayTaken slot spot)
 
@@ -91,6 +95,18 @@ ArrayIsHandedBack =
     (code : MachineCode) (start : ℕ) (image : Fields) (slot : Slot) (spot : Pointed)
     → AreThere code start (copy_out_code image spot.index slot MutableArray)
     → CanBeCopied image slot spot
-    → Does code start (copy_out_code image spot.index slot MutableArray) (array_steps image spot.index slot)
+    → Does code start (copy_out_code image spot.index slot MutableArray)
+    (handed_steps image spot.index slot spot.pointer)
     (IsCopying spot.frame (place_of image spot) (array_bytes slot) (slot_of slot spot) spot.pointer)
     (HasArray image slot spot) (IsHandedBack slot spot)
+
+-- The code that copies elements, one by one or by words, for so many of them.
+pub record AreShort (kind : Kind) (count : ℕ) : Type 0 where
+  pub taken : length (copied_code (copied_in_code kind) kind count) ≤ 64
+  pub taken_by_words : length (by_words_code copied_in_code kind count) ≤ 64
+  pub handed : length (copied_code (copied_out_code kind) kind count) ≤ 64
+  pub handed_by_words : length (by_words_code copied_out_code kind count) ≤ 64
+
+-- a branch and a jump go over it
+abbrev pub CopiesAreShort : Type 0
+CopiesAreShort = (kind : Kind) (count : ℕ) → AreShort kind count

@@ -4,12 +4,15 @@
 -- The room of a call lies below the caller's sp: the image's frame at its lower end, in whole blocks of 16 bytes,
 -- then those of the caller's s0 to s11 that the body writes, and at its upper end words for a0 to a7, so that argument
 -- i stands in the i-th word from there on, also where C passes it on the stack.
+--
+-- An array of elements that are smaller than a word is copied by words where its pointer is a multiple of 4, which is
+-- tested when the function runs: pointers are public.
 use Rattle.std.specs.Prelude.{ℕ, ◌+◌, ◌-◌, ◌*◌, ◌/◌, ◌%◌, ◌^◌, ◌==◌, List, [], ◌∷◌, ◌++◌, length, map, replicate, take}
-use Rattle.std.specs.Prelude.{nat_lt, Option, Some, None, if◌then◌else◌}
+use Rattle.std.specs.Prelude.{Bool, true, false, ◌&&◌, nat_le, nat_lt, Option, Some, None, if◌then◌else◌}
 use Rattle.std.proofs.Common.{zero, suc}
-use Rattle.linked_calls.specs.Below.{Add, Addi, Bne, body_words, Boolean, Branch, constant_code, cut_code}
+use Rattle.linked_calls.specs.Below.{Add, Addi, Andi, Beq, Bne, body_words, Boolean, Branch, constant_code, cut_code}
 use Rattle.linked_calls.specs.Below.{element_bytes, Fields, FixedArray, Form, Immediate, Instr, is_not_zero_code}
-use Rattle.linked_calls.specs.Below.{JumpRegister, Kind, load_by, load_code, MutableArray, Register, ResultSlot}
+use Rattle.linked_calls.specs.Below.{JumpRegister, Kind, load_by, load_code, MutableArray, over, Register, ResultSlot}
 use Rattle.linked_calls.specs.Below.{SingleWord, Slot, store_code, Sub, Uint16, Uint32, Uint8, word_of}
 use Rattle.linked_calls.specs.Convention.{link_register, stack_register, saved_registers, argument_registers}
 use Rattle.linked_calls.specs.Convention.{result_register, scratch_registers, whole_blocks}
@@ -161,15 +164,57 @@ rounds_code code kind count =
     constant_code 7 (bytes * (8 * (count / 8))) ++ Register Add 7 7 5
     ∷ until_equal 5 7 (elements_code code bytes 0 8 ++ next_code kind) ++ elements_code code bytes 0 (count % 8)
 
--- all elements of an array: by straight code if they are few
+-- so many elements: by straight code if they are few
 abbrev pub copied_code : (ℕ → List Instr) → Kind → ℕ → List Instr
 copied_code code kind count =
     if nat_lt count 16 then elements_code code (element_bytes kind) 0 count else rounds_code code kind count
 
+-- how many of them lie behind where x5 and x6 are then
+abbrev pub passed_count : ℕ → ℕ
+passed_count count = if nat_lt count 16 then count else count % 8
+
+-- how many elements a word has
+abbrev pub per_word : Kind → ℕ
+per_word kind = 4 / element_bytes kind
+
+-- so many elements word by word, and those that are no whole word
+abbrev pub by_words_code : (Kind → ℕ → List Instr) → Kind → ℕ → List Instr
+by_words_code code kind count =
+    let words = count / per_word kind in
+    copied_code (code Uint32) Uint32 words
+    ++ elements_code (code kind) (element_bytes kind) (4 * passed_count words) (count % per_word kind)
+
+-- one code where the pointer in x5 is no multiple of 4, and another where it is
+abbrev pub by_alignment_code : List Instr → List Instr → List Instr
+by_alignment_code elements words =
+    Immediate Andi 28 5 3 ∷ Branch Beq 28 0 (2 * length elements + 4) ∷ elements ++ over (length words) ∷ words
+
+-- elements that are smaller than a word go by words; but a bool that is passed means whether it is not 0, so it goes
+-- alone
+abbrev pub goes_in_by_words : Kind → Bool
+goes_in_by_words Boolean = false
+goes_in_by_words Uint8 = true
+goes_in_by_words Uint16 = true
+goes_in_by_words Uint32 = false
+
+abbrev pub goes_out_by_words : Kind → Bool
+goes_out_by_words Boolean = true
+goes_out_by_words Uint8 = true
+goes_out_by_words Uint16 = true
+goes_out_by_words Uint32 = false
+
+-- all elements of an array: element by element, or as the pointer is where they go by words and are not too few
+abbrev pub array_code : (Kind → ℕ → List Instr) → Bool → Kind → ℕ → List Instr
+array_code code by_words kind count =
+    if by_words && nat_le 4 count
+    then by_alignment_code (copied_code (code kind) kind count) (by_words_code code kind count)
+    else copied_code (code kind) kind count
+
 -- an array that the argument points to into its slot
 abbrev pub copy_in_code : Fields → ℕ → Slot → List Instr
 copy_in_code image i slot =
-    places_code image i slot ++ copied_code (copied_in_code slot.param.kind) slot.param.kind slot.param.length
+    places_code image i slot
+    ++ array_code copied_in_code (goes_in_by_words slot.param.kind) slot.param.kind slot.param.length
 
 abbrev pub argument_code : Fields → ℕ → Slot → Form → List Instr
 argument_code image i slot SingleWord = word_code image i slot
@@ -197,7 +242,8 @@ abbrev pub copy_out_code : Fields → ℕ → Slot → Form → List Instr
 copy_out_code image i slot SingleWord = []
 copy_out_code image i slot FixedArray = []
 copy_out_code image i slot MutableArray =
-    places_code image i slot ++ copied_code (copied_out_code slot.param.kind) slot.param.kind slot.param.length
+    places_code image i slot
+    ++ array_code copied_out_code (goes_out_by_words slot.param.kind) slot.param.kind slot.param.length
 
 -- all arrays that may be changed, from the i-th argument on
 abbrev pub results_code : Fields → ℕ → List Slot → List Instr

@@ -1,15 +1,16 @@
 -- The code of a function in sections, each with one purpose: what its text says of them, and how many steps they
 -- make.
-use Rattle.std.specs.Prelude.{ℕ, ◌+◌, ◌-◌, ◌*◌, ◌/◌, ◌%◌, ◌==◌, List, [], ◌∷◌, ◌++◌, length, map, sum, nat_lt}
-use Rattle.std.specs.Prelude.{if◌then◌else◌}
+use Rattle.std.specs.Prelude.{ℕ, ◌+◌, ◌-◌, ◌*◌, ◌/◌, ◌%◌, ◌==◌, Bool, ◌&&◌, nat_le, nat_lt, List, [], ◌∷◌, ◌++◌}
+use Rattle.std.specs.Prelude.{length, map, sum, if◌then◌else◌}
 use Rattle.std.specs.List.{flat_map}
 use Rattle.linked_calls.specs.Below.{Add, constant_code, element_bytes, Fields, FixedArray, Form, Instr, JumpRegister}
-use Rattle.linked_calls.specs.Below.{Kind, MutableArray, Register, SingleWord, Slot, Sub}
+use Rattle.linked_calls.specs.Below.{Kind, MutableArray, Register, SingleWord, Slot, Sub, Uint32}
 use Rattle.linked_calls.specs.Convention.{link_register, stack_register}
 use Rattle.linked_calls.specs.Convention.{scratch_registers}
 use Rattle.linked_calls.specs.FunctionCode.{above_frame, frame_room, room_of, stores_code, loads_code, runs_code}
 use Rattle.linked_calls.specs.FunctionCode.{added, argument_code, copied_in_code}
-use Rattle.linked_calls.specs.FunctionCode.{copied_out_code, down_code, elements_code, kept_of, passed_of}
+use Rattle.linked_calls.specs.FunctionCode.{copied_out_code, down_code, elements_code, goes_in_by_words}
+use Rattle.linked_calls.specs.FunctionCode.{goes_out_by_words, kept_of, passed_count, passed_of, per_word}
 use Rattle.linked_calls.specs.FunctionCode.{places_code, result_code, copy_out_code}
 use Rattle.linked_calls.specs.FunctionCode.{clear_registers_code, rest_words, wipe_code}
 use Rattle.linked_calls.specs.declared.section.Section.{Section}
@@ -69,7 +70,8 @@ section_code image Return = JumpRegister 0 link_register 0 ∷ []
 abbrev pub code_of : Fields → List Section → List Instr
 code_of image sections = flat_map (section_code image) sections
 
--- Steps. A loop makes its steps once for each run of 16 words, or for each eight elements.
+-- Steps. A loop makes its steps once for each run of 16 words, or for each eight elements. Of an array that is copied
+-- as its pointer is, they hang on whether that is a multiple of 4: `pointers` is where each argument points.
 
 -- so many instructions, and one that moves x2
 abbrev pub rest_steps : ℕ → ℕ
@@ -91,28 +93,44 @@ abbrev pub copied_steps : (ℕ → List Instr) → Kind → ℕ → ℕ
 copied_steps code kind count =
     if nat_lt count 16 then length (elements_code code (element_bytes kind) 0 count) else rounds_steps code kind count
 
-abbrev pub taken_steps : Fields → ℕ → Slot → ℕ
-taken_steps image i slot =
+abbrev pub by_words_steps : (Kind → ℕ → List Instr) → Kind → ℕ → ℕ
+by_words_steps code kind count =
+    let words = count / per_word kind in
+    copied_steps (code Uint32) Uint32 words
+    + length (elements_code (code kind) (element_bytes kind) (4 * passed_count words) (count % per_word kind))
+
+-- the test, and the words; or the elements, and the jump over the words
+abbrev pub by_alignment_steps : (Kind → ℕ → List Instr) → Kind → ℕ → ℕ → ℕ
+by_alignment_steps code kind count pointer =
+    2 + (if pointer % 4 == 0 then by_words_steps code kind count else copied_steps (code kind) kind count + 1)
+
+abbrev pub array_steps : (Kind → ℕ → List Instr) → Bool → Kind → ℕ → ℕ → ℕ
+array_steps code by_words kind count pointer =
+    if by_words && nat_le 4 count then by_alignment_steps code kind count pointer
+    else copied_steps (code kind) kind count
+
+abbrev pub taken_steps : Fields → ℕ → Slot → ℕ → ℕ
+taken_steps image i slot pointer =
     length (places_code image i slot)
-    + copied_steps (copied_in_code slot.param.kind) slot.param.kind slot.param.length
+    + array_steps copied_in_code (goes_in_by_words slot.param.kind) slot.param.kind slot.param.length pointer
 
-abbrev pub argument_steps : Fields → ℕ → Slot → Form → ℕ
-argument_steps image i slot SingleWord = length (argument_code image i slot SingleWord)
-argument_steps image i slot FixedArray = taken_steps image i slot
-argument_steps image i slot MutableArray = taken_steps image i slot
+abbrev pub argument_steps : Fields → (ℕ → ℕ) → ℕ → Slot → Form → ℕ
+argument_steps image pointers i slot SingleWord = length (argument_code image i slot SingleWord)
+argument_steps image pointers i slot FixedArray = taken_steps image i slot (pointers i)
+argument_steps image pointers i slot MutableArray = taken_steps image i slot (pointers i)
 
-abbrev pub array_steps : Fields → ℕ → Slot → ℕ
-array_steps image i slot =
+abbrev pub handed_steps : Fields → ℕ → Slot → ℕ → ℕ
+handed_steps image i slot pointer =
     length (places_code image i slot)
-    + copied_steps (copied_out_code slot.param.kind) slot.param.kind slot.param.length
+    + array_steps copied_out_code (goes_out_by_words slot.param.kind) slot.param.kind slot.param.length pointer
 
-abbrev pub section_steps : Fields → Section → ℕ
-section_steps image ClearedFrame = runs_steps (frame_room image)
-section_steps image (ArgumentIn i slot) = argument_steps image i slot slot.param.form
-section_steps image (ArrayOut i slot) = array_steps image i slot
-section_steps image WipedRoom = runs_steps (room_of image)
-section_steps image section = length (section_code image section)
+abbrev pub section_steps : Fields → (ℕ → ℕ) → Section → ℕ
+section_steps image pointers ClearedFrame = runs_steps (frame_room image)
+section_steps image pointers (ArgumentIn i slot) = argument_steps image pointers i slot slot.param.form
+section_steps image pointers (ArrayOut i slot) = handed_steps image i slot (pointers i)
+section_steps image pointers WipedRoom = runs_steps (room_of image)
+section_steps image pointers section = length (section_code image section)
 
 -- of all that stands around the body
-abbrev pub around_steps : Fields → ℕ
-around_steps image = sum (map (section_steps image) (enter_sections image ++ leave_sections image))
+abbrev pub around_steps : Fields → (ℕ → ℕ) → ℕ
+around_steps image pointers = sum (map (section_steps image pointers) (enter_sections image ++ leave_sections image))

@@ -1,7 +1,11 @@
 -- Stretches of bytes: data, zeros, and accesses that lie in them.
-use Rattle.std.specs.Prelude.{◌≡◌, ◌⊎◌, ℕ, ◌+◌, ◌<◌, ◌≤◌, true, Some, is_some}
+use Rattle.std.specs.Prelude.{◌≡◌, ◌⊎◌, ℕ, ◌+◌, ◌^◌, ◌<◌, ◌≤◌, true, Some, is_some}
 use Rattle.linked_calls.specs.Below.{ByteMap, Size}
 use Rattle.rv_machine.specs.Sizes.{byte_count}
+
+-- data is bytes, as in every real machine: a byte map could hold greater numbers
+abbrev pub AreBytes : ByteMap → Type 0
+AreBytes bytes = (x byte : ℕ) → bytes x ≡ Some byte → byte < 2 ^ 8
 
 -- all bytes of a stretch are data
 abbrev pub AreData : ℕ → ℕ → ByteMap → Type 0

@@ -3,7 +3,6 @@ use Rattle.std.specs.Prelude.{◌≡◌, ◌≢◌, ℕ, ◌+◌, ◌%◌, ◌^�
 use Rattle.linked_calls.specs.Below.{MachineCode, Event, Fields, ResultSlot, SingleWord, Slot, with_argument, word_in}
 use Rattle.linked_calls.specs.Convention.{result_register}
 use Rattle.linked_calls.specs.FunctionCode.{argument_offset, argument_code, result_code}
-use Rattle.linked_calls.specs.Sections.{argument_steps}
 use Rattle.language.specs.declared.values.Arg.TheVariants.{Word}
 use Rattle.linked_calls.specs.Does.{Data, Does, AreThere}
 use Rattle.linked_calls.specs.Meant.{meant}
@@ -47,7 +46,7 @@ WordIsTaken =
     (code : MachineCode) (start : ℕ) (image : Fields) (slot : Slot) (frame i : ℕ)
     → AreThere code start (argument_code image i slot SingleWord)
     → CanBePut image slot frame i
-    → Does code start (argument_code image i slot SingleWord) (argument_steps image i slot SingleWord)
+    → Does code start (argument_code image i slot SingleWord) (length (argument_code image i slot SingleWord))
     (IsPutting (frame + argument_offset image i) (frame + slot.offset)) (HasWordArgument image slot frame i)
     (IsArgumentPut image slot frame i)
 

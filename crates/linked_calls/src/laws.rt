@@ -4,7 +4,7 @@ ghost use Rattle.std.specs.Prelude.{◌≡◌, ◌++◌, map};
 ghost use Rattle.linked_calls.specs.Below.{body_words, Fields, word_of};
 ghost use Rattle.linked_calls.specs.Callable.{CallsAreLinked};
 ghost use Rattle.linked_calls.specs.Cleared.{RegistersAreCleared};
-ghost use Rattle.linked_calls.specs.Copies.{ArrayIsTaken, ArrayIsHandedBack};
+ghost use Rattle.linked_calls.specs.Copies.{ArrayIsTaken, ArrayIsHandedBack, CopiesAreShort};
 ghost use Rattle.linked_calls.specs.FunctionCode.{function_words};
 ghost use Rattle.linked_calls.specs.Sections.{code_of, enter_sections, leave_sections};
 ghost use Rattle.linked_calls.specs.Words.{ResultIsHandedBack, WordIsTaken};
@@ -44,7 +44,7 @@ pub fn word_is_taken()
 {}
 
 /// The code that takes an argument that points to an array puts what its elements mean into its slot. What it shows is
-/// one list, which frame, index and pointer decide.
+/// one list, and its number of steps one number, which frame, index and pointer decide.
 pub fn array_is_taken()
     ensures { ArrayIsTaken }
 {}
@@ -52,6 +52,11 @@ pub fn array_is_taken()
 /// The code that hands an array back puts the elements of its slot where the argument points.
 pub fn array_is_handed_back()
     ensures { ArrayIsHandedBack }
+{}
+
+/// The code that copies elements, one by one or by words, has at most 64 instructions, however many they are.
+pub fn copies_are_short()
+    ensures { CopiesAreShort }
 {}
 
 /// The code that wipes the room of a call behind the body leaves zeros there, x2 behind it, and all else as it was.

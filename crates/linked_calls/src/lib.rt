@@ -6,7 +6,8 @@ mod laws;
 mod section;
 
 pub use laws::{
-    array_is_handed_back, array_is_taken, calls_are_linked, frame_is_zeroed, registers_are_cleared,
-    result_is_handed_back, room_is_wiped, sections_are_the_function, word_is_taken,
+    array_is_handed_back, array_is_taken, calls_are_linked, copies_are_short, frame_is_zeroed,
+    registers_are_cleared, result_is_handed_back, room_is_wiped, sections_are_the_function,
+    word_is_taken,
 };
 pub use section::Section;

@@ -1,25 +1,21 @@
-// Arrays between the caller's memory and the frame: few elements by straight code, many by a loop over eight at a time.
+// Elements between the caller's memory and the frame: few by straight code, many by a loop over eight at a time.
 
 ghost use Rattle.std.specs.Prelude.{◌≡◌, ◌≤◌, ◌<◌, ◌+◌, ◌*◌, ◌++◌, OnOk, IfOk};
-ghost use Rattle.functions.specs.Below.{copied_code, copy_in_code, copy_out_code, element_bytes, element_meant_code};
-ghost use Rattle.functions.specs.Below.{elements_code, load_by, MutableArray, next_code, places_code, rounds_code};
-ghost use Rattle.functions.specs.Below.{store_by};
+ghost use Rattle.functions.specs.Below.{copied_code, element_bytes, element_meant_code, elements_code, load_by};
+ghost use Rattle.functions.specs.Below.{next_code, rounds_code, store_by};
 ghost use Rattle.functions.specs.function_code.private.Ways.{element_code};
-ghost use Rattle.functions.specs.function_code.Above.{IsAbove};
 
 use crate::function_code::pieces::{added, store_by, until_equal};
-use crate::function_code::room::argument_offset;
-use codegen::expression_code::emit::{constant, load, load_by};
-use codegen::image_fields::{ImageFields, Slot};
+use codegen::expression_code::emit::{constant, load_by};
 use language::Kind;
 use rv_code::{Immediate12, Instr, Reg, RegisterOperation};
 use std::alloc::{AllocError, Global};
 
 /// The elements that one round of the loop copies.
-const ROUND: u32 = 8;
+pub const ROUND: u32 = 8;
 
 /// From how many elements on they are copied by a loop.
-const MANY: u32 = 16;
+pub const MANY: u32 = 16;
 
 /// Which way an array is copied.
 #[derive(Clone, Copy, Debug, PartialEq, Eq)]
@@ -28,23 +24,6 @@ pub enum Way {
     In,
     /// From the slot into the caller's array.
     Out,
-}
-
-/// The caller's array in x5, and its slot in x6.
-fn places(
-    code: &mut Vec<Instr>,
-    image: &ImageFields,
-    above: u32,
-    index: u16,
-    slot: Slot,
-) -> Result<(), AllocError>
-    requires { IsAbove image.now above }
-    ensures { OnOk result (code.new.items ≡ code.old.items ++ places_code image.now index slot) }
-{
-    load(code, Reg::X5, argument_offset(image, above, index))?;
-    constant(code, Reg::X6, slot.offset)?;
-    code.push(Instr::Register(RegisterOperation::Add, Reg::X6, Reg::X6, Reg::X2))?;
-    Ok(())
 }
 
 /// Eight elements more are done.
@@ -91,13 +70,19 @@ fn element(code: &mut Vec<Instr>, way: Way, kind: Kind, offset: u32) -> Result<(
     Ok(())
 }
 
-/// So many elements, the first where x5 and x6 are.
-fn elements(code: &mut Vec<Instr>, way: Way, kind: Kind, count: u32) -> Result<(), AllocError>
-    requires { count ≤ 16 }
+/// So many elements, the first at an offset of where x5 and x6 are.
+pub fn elements(
+    code: &mut Vec<Instr>,
+    way: Way,
+    kind: Kind,
+    first: u32,
+    count: u32,
+) -> Result<(), AllocError>
+    requires { first + 4 * count ≤ 128 }
     ensures { OnOk result (code.new.items
-        ≡ code.old.items ++ elements_code (element_code way kind) (element_bytes kind) 0 count) }
+        ≡ code.old.items ++ elements_code (element_code way kind) (element_bytes kind) first count) }
 {
-    let mut offset = 0;
+    let mut offset = first;
     let mut left = count;
     'elements: while left != 0 {
         element(code, way, kind, offset)?;
@@ -122,14 +107,14 @@ fn rounds(
     constant(code, Reg::X7, bytes * (ROUND * (count / ROUND)))?;
     code.push(Instr::Register(RegisterOperation::Add, Reg::X7, Reg::X7, Reg::X5))?;
     let mut round = Vec::new(alloc);
-    elements(&mut round, way, kind, ROUND)?;
+    elements(&mut round, way, kind, 0, ROUND)?;
     next(&mut round, kind)?;
     until_equal(code, Reg::X5, Reg::X7, round.as_slice())?;
-    elements(code, way, kind, count % ROUND)
+    elements(code, way, kind, 0, count % ROUND)
 }
 
-/// All elements of an array.
-fn copied(
+/// So many elements.
+pub fn copied(
     alloc: Global,
     code: &mut Vec<Instr>,
     way: Way,
@@ -140,52 +125,8 @@ fn copied(
     ensures { OnOk result (code.new.items ≡ code.old.items ++ copied_code (element_code way kind) kind count) }
 {
     if count < MANY {
-        elements(code, way, kind, count)
+        elements(code, way, kind, 0, count)
     } else {
         rounds(alloc, code, way, kind, count)
     }
-}
-
-/// The array that an argument points to into its slot.
-pub fn copy_in(
-    alloc: Global,
-    code: &mut Vec<Instr>,
-    image: &ImageFields,
-    above: u32,
-    index: u16,
-    slot: Slot,
-) -> Result<(), AllocError>
-    requires { IsAbove image.now above }
-    ensures { OnOk result (code.new.items ≡ code.old.items ++ copy_in_code image.now index slot) }
-{
-    places(code, image, above, index, slot)?;
-    copied(
-        alloc,
-        code,
-        Way::In,
-        slot.param.kind,
-        u32::from(slot.param.length),
-    )
-}
-
-/// An array from its slot to where the argument points.
-pub fn copy_out(
-    alloc: Global,
-    code: &mut Vec<Instr>,
-    image: &ImageFields,
-    above: u32,
-    index: u16,
-    slot: Slot,
-) -> Result<(), AllocError>
-    requires { IsAbove image.now above }
-    ensures { OnOk result (code.new.items ≡ code.old.items ++ copy_out_code image.now index slot MutableArray) }
-{
-    places(code, image, above, index, slot)?;
-    copied(
-        alloc,
-        code,
-        Way::Out,
-        slot.param.kind,
-        u32::from(slot.param.length),
-    )
 }

@@ -5,7 +5,7 @@ ghost use Rattle.functions.specs.Below.{above_frame, added, argument_code, const
 ghost use Rattle.functions.specs.Below.{stack_register, Sub, word_code};
 ghost use Rattle.functions.specs.function_code.Above.{IsAbove};
 
-use crate::function_code::copying::copy_in;
+use crate::function_code::arrays::copy_in;
 use crate::function_code::pieces::added;
 use crate::function_code::room::argument_offset;
 use codegen::expression_code::emit::{constant, load, store};

@@ -5,7 +5,7 @@ ghost use Rattle.functions.specs.Below.{above_frame, Add, added, constant_code, 
 ghost use Rattle.functions.specs.Below.{link_register, Register, result_code, stack_register};
 ghost use Rattle.functions.specs.function_code.Above.{IsAbove};
 
-use crate::function_code::copying::copy_out;
+use crate::function_code::arrays::copy_out;
 use crate::function_code::pieces::added;
 use crate::function_code::registers;
 use codegen::expression_code::emit::{constant, load};
