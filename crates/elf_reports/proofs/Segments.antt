@@ -1,11 +1,11 @@
 -- The code of segments, one after another.
-use Rattle.std.proofs.Common.{◌≡◌, ◌<◌, ◌+◌, ◌*◌, ◌++◌, ◌∙◌, [], ◌∷◌, ℕ, List, ap, arith, drop, false, get_or, inl, inr, length, map, refl, sym}
+use Rattle.std.proofs.Common.{◌≡◌, ◌<◌, ◌+◌, ◌*◌, ◌++◌, ◌∙◌, [], ◌∷◌, ℕ, List, ap, arith, drop, false, get_or, inl, inr, length, map, refl, sym, true}
 use Rattle.std.specs.Prelude.{if◌then◌else◌}
 use Rattle.std.proofs.lemmas.Bool.{cases_lt, le-leb, lt-leb, le-ltb}
 use Rattle.std.proofs.lemmas.List.{drop_more}
 use Rattle.elf_reports.specs.Below.{AddressRange, Code, code_in, code_of, CodeSegment, CodeWords, lies_in, MachineCode}
-use Rattle.elf_reports.specs.Below.{Profile, words_in}
-use Rattle.elf_reports.specs.Loading.{code_among, has_code}
+use Rattle.elf_reports.specs.Below.{P1, Profile, words_in}
+use Rattle.elf_reports.specs.Loading.{code_among, code_by, has_code}
 
 pub code_in-more : (other : MachineCode) (segments : List CodeSegment) (segment : CodeSegment) (p : ℕ)
     → code_in other (segments ++ segment ∷ []) p
@@ -63,3 +63,24 @@ nothing_more profile codes segments k code whole a lt is none before =
     left_at profile codes k code a lt ∙ ap (λ (c : Code). code_or profile (words_in c) rest a) (sym is)
     ∙ rw (no_code_there a (words_in code) none) refl in
     ap (λ (c : MachineCode). code_in c segments a) (sym left) ∙ before
+
+-- Code at an address.
+
+-- the first code that has it is the whole's there
+pub found_there : (codes : List Code) (k : ℕ) (code : Code) (whole : MachineCode) (a : ℕ) → k < length codes
+    → code ≡ get_or codes k code → has_code a (words_in code) ≡ true
+    → code_among P1 (map words_in (drop k codes)) a ≡ whole → code_by (words_in code) ≡ whole
+found_there codes k code whole a lt is there before =
+    let rest = code_among P1 (map words_in (drop (k + 1) codes)) a in
+    let left = left_at P1 codes k code a lt ∙ ap (λ (c : Code). code_or P1 (words_in c) rest a) (sym is) in
+    ap (λ b. if b then code_by (words_in code) else rest) (sym there) ∙ sym left ∙ before
+
+-- and code that has it not is passed by
+pub passed_by : (codes : List Code) (k : ℕ) (code : Code) (whole : MachineCode) (a : ℕ) → k < length codes
+    → code ≡ get_or codes k code → has_code a (words_in code) ≡ false
+    → code_among P1 (map words_in (drop k codes)) a ≡ whole
+    → code_among P1 (map words_in (drop (k + 1) codes)) a ≡ whole
+passed_by codes k code whole a lt is none before =
+    let rest = code_among P1 (map words_in (drop (k + 1) codes)) a in
+    let left = left_at P1 codes k code a lt ∙ ap (λ (c : Code). code_or P1 (words_in c) rest a) (sym is) in
+    ap (λ b. if b then code_by (words_in code) else rest) (sym none) ∙ sym left ∙ before

@@ -1,5 +1,6 @@
 -- What this crate takes from the specs of the crates below, in one place.
 pub use Rattle.word.specs.declared.profile.Profile.{Profile}
+pub use Rattle.word.specs.declared.profile.Profile.TheVariants.{P1}
 pub use Rattle.rv_code.specs.declared.instructions.Instr.{Instr}
 pub use Rattle.rv_code.specs.declared.instructions.Instr.TheVariants.{Jump, JumpRegister}
 pub use Rattle.rv_machine.specs.Bytes.{ByteMap}

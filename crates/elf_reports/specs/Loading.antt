@@ -5,8 +5,8 @@ use Rattle.std.specs.Prelude.{nat_lt, slice_get, if◌then◌else◌}
 use Rattle.std.specs.List.{list_any}
 use Rattle.std.specs.Option.{option_or}
 use Rattle.elf_reports.specs.Below.{Asked, ByteMap, CodeWords, Executable, function_named, known, KnownState}
-use Rattle.elf_reports.specs.Below.{MachineCode, MachineProgram, memory_at_start, no_code, Profile, program_code}
-use Rattle.elf_reports.specs.Below.{RangeState, register_of, Shifts, State, Word}
+use Rattle.elf_reports.specs.Below.{MachineCode, MachineProgram, memory_at_start, no_code, P1, Profile, program_code}
+use Rattle.elf_reports.specs.Below.{RangeState, register_of, Shifts, State, Word, word_at}
 
 -- the address is one of those at which the words stand
 abbrev pub has_code : ℕ → CodeWords → Bool
@@ -18,6 +18,13 @@ code_among profile [] a = no_code profile
 code_among profile (code ∷ codes) a =
     if has_code a code then record { profile = profile; base = code.begin; words = code.words }
     else code_among profile codes a
+
+-- the word of code that begins at an address. Whoever observes it, it is the same
+abbrev pub code_by : CodeWords → MachineCode
+code_by code = record { profile = P1; base = code.begin; words = code.words }
+
+abbrev pub code_word_at : Executable → ℕ → Option ℕ
+code_word_at program address = word_at (code_among P1 (program_code program) address) address
 
 -- the range may be stored to. What is executed stays as it is, so a range that may be executed may not be stored to
 abbrev pub is_variable : RangeState → Bool

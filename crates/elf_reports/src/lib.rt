@@ -9,6 +9,7 @@
 mod asking;
 mod calls;
 mod certifying;
+mod code_words;
 mod laws;
 mod loading;
 mod options;
@@ -19,6 +20,7 @@ mod stops;
 pub use asking::{AskedWords, read_asked};
 pub use calls::{Calls, calls_to};
 pub use certifying::{FunctionCertificate, certify_function, certify_function_telling};
+pub use code_words::code_word_at;
 pub use laws::{certificates_of_functions_hold, function_certificates_agree};
 pub use options::RunOptions;
 pub use part_words::push_part_word;
