@@ -8,3 +8,4 @@ pub use Rattle.certified_runs.proofs.FirstEntry.{entries_in_common}
 pub use Rattle.certified_runs.proofs.OneEnd.{KnownStep-determined, one_end}
 pub use Rattle.certified_runs.proofs.Runs.{every_run, stops_there}
 pub use Rattle.elf_runs.proofs.Answering.{segments_below}
+pub use Rattle.listing.proofs.Pieces.{cut_before_line, cut_in_line, with_line}

@@ -7,3 +7,4 @@ pub mod Ends
 pub mod Outside
 pub mod Promises
 pub mod Spelling
+pub mod EndLines

@@ -1,4 +1,5 @@
 -- What this crate takes from the specs of the crates below, in one place.
+pub use Rattle.word.specs.Counts.{one_more}
 pub use Rattle.word.specs.declared.profile.Profile.{Profile}
 pub use Rattle.word.specs.declared.profile.Profile.TheVariants.{P1}
 pub use Rattle.rv_code.specs.declared.instructions.Instr.{Instr}
@@ -30,6 +31,7 @@ pub use Rattle.certified_runs.specs.Parts.{known_of, register_masks}
 pub use Rattle.certified_runs.specs.declared.certifying.CertifiedEnd.{CertifiedEnd}
 pub use Rattle.certified_runs.specs.declared.shifts.Shifts.{Shifts}
 pub use Rattle.streams.specs.Puts.{collected}
+pub use Rattle.streams.specs.Streams.{GainsPart, Writes, WritesPart}
 pub use Rattle.run_reports.specs.progress.Certified.{GoesOnKnown}
 pub use Rattle.run_reports.specs.progress.GoingOn.{HasLines, IsTold as LinesAreTold}
 pub use Rattle.language.specs.arguments.Texts.{word_of}
@@ -52,3 +54,5 @@ pub use Rattle.elf_runs.specs.declared.fault.Unmet.{Unmet}
 pub use Rattle.elf_runs.specs.declared.loaded_code.Code.{Code}
 pub use Rattle.elf_runs.specs.declared.memory_range.MemoryRange.{MemoryRange}
 pub use Rattle.elf_runs.specs.declared.words.Word.{Word}
+pub use Rattle.listing.specs.Lines.{lines_of}
+pub use Rattle.listing.specs.Listings.{AreLines}

@@ -3,6 +3,7 @@
 -- Loading: the program that an executable is to the machine, and what is known of the state in which a run begins.
 -- Certified: what is answered where such a run is certified; Promised: what a certificate says of all runs.
 -- Calls: the calls that lead to a step; Places: how addresses are written by the symbols.
+-- Leaked: the listing of a function's run.
 pub mod Below
 pub mod Asking
 pub mod Loading
@@ -10,3 +11,4 @@ pub mod Certified
 pub mod Promised
 pub mod Calls
 pub mod Places
+pub mod Leaked

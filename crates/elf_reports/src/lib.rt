@@ -1,9 +1,13 @@
-// Certified runs of functions of executables: from the words of a command to what is printed.
+// Runs of functions of executables, for all that is not known when they begin and one by one: from the words of a
+// command to what is printed.
 //
 // A request that the executable meets gives a program, a state in which a run of the function begins, and which bits of
 // it are known (`specs/Loading.antt`). `certify_function` makes one run for all that is not known, and its answer is a
 // promise on every run that begins in a state which agrees with what is known (`laws.rt`). Where an entry may differ,
 // `calls_to` gives the calls that lead there, and `push_place` says by the symbols where that is.
+//
+// `leak_function` writes what an observer sees of the run in which all that is not known is as it stands when the run
+// begins.
 #![tactic(auto)]
 
 mod asking;
@@ -11,6 +15,7 @@ mod calls;
 mod certifying;
 mod code_words;
 mod laws;
+mod leaking;
 mod loading;
 mod options;
 mod part_words;
@@ -22,6 +27,7 @@ pub use calls::{Calls, calls_to};
 pub use certifying::{FunctionCertificate, certify_function, certify_function_telling};
 pub use code_words::code_word_at;
 pub use laws::{certificates_of_functions_hold, function_certificates_agree};
+pub use leaking::{FunctionLeakFault, leak_function};
 pub use options::RunOptions;
 pub use part_words::push_part_word;
 pub use places::push_place;

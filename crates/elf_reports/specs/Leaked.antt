@@ -1,0 +1,36 @@
+-- What is answered where the run of a function is to be listed, and which bytes are its listing.
+use Rattle.std.specs.Prelude.{◌≡◌, ℕ, List, ◌++◌, codes, None, Result, Ok, Err}
+use Rattle.elf_reports.specs.Below.{Asked, Executable, first_unmet, IsTold, lines_of, needs, Observation, StartFault}
+use Rattle.elf_reports.specs.Below.{State, Stop}
+use Rattle.elf_reports.specs.Certified.{function_stop, stop_name}
+use Rattle.elf_reports.specs.Loading.{state_at_start}
+use Rattle.elf_reports.specs.Promised.{RunsUncut}
+use Rattle.elf_reports.specs.declared.leaking.FunctionLeakFault.{FunctionLeakFault}
+use Rattle.elf_reports.specs.declared.leaking.FunctionLeakFault.TheVariants.{Start, Write}
+use Rattle.elf_reports.specs.declared.options.RunOptions.{RunOptions}
+use Rattle.elf_reports.specs.declared.stops.FunctionStop.{FunctionStop}
+
+-- the line of how a function's run stops
+abbrev pub end_line : FunctionStop → List ℕ
+end_line how = codes "stop " ++ stop_name how ++ codes "\n"
+
+-- the function's run in which each bit that is not known is as it stands when it begins shows this and stops so
+abbrev pub FunctionEnds : Executable → Asked → RunOptions → List Observation → FunctionStop → Type 0
+FunctionEnds program asked options seen how =
+    (stop : Stop) × (end : State) × RunsUncut program asked options (state_at_start program asked) seen stop end
+    × (how ≡ function_stop stop end.pc)
+
+-- these bytes are the listing of that run, which stops so
+abbrev pub IsFunctionLeak : Executable → Asked → RunOptions → FunctionStop → List ℕ → Type 0
+IsFunctionLeak program asked options how bytes =
+    (seen : List Observation) × FunctionEnds program asked options seen how × (bytes ≡ lines_of seen ++ end_line how)
+
+-- what is answered: the request is refused by what it does not meet first, or memory was wanting; else it is how the
+-- run stops, or the sink failed
+pub data LeaksFunction (program : Executable) (asked : Asked) (options : RunOptions)
+    : Result FunctionStop FunctionLeakFault → Type 0 where
+  refused : {fault : StartFault} → IsTold fault (needs program asked)
+      → LeaksFunction program asked options (Err (Start fault))
+  cut_off : first_unmet (needs program asked) ≡ None → LeaksFunction program asked options (Err Write)
+  ran : {seen : List Observation} {how : FunctionStop} → first_unmet (needs program asked) ≡ None
+      → FunctionEnds program asked options seen how → LeaksFunction program asked options (Ok how)
