@@ -1,11 +1,15 @@
 -- What these proofs take from the proofs of the crates below, in one place.
-pub use Rattle.rv_machine.proofs.Face.{effect_own, entries_of-append, goes_own, IsOwn, stops_own}
+pub use Rattle.rv_machine.proofs.Face.{count-few, effect_own, entries_of-append, entry_count-append, goes_own, IsOwn}
+pub use Rattle.rv_machine.proofs.Face.{one-ends, other-ends, stops_own}
+pub use Rattle.rv_machine.proofs.Shown.{after_common}
 pub use Rattle.rv_programs.proofs.Guards.{machine_step}
-pub use Rattle.rv_programs.proofs.RunLaws.{goes_on-determined, goes_on≢stops, Halts-determined, Runs-determined}
+pub use Rattle.rv_programs.proofs.RunLaws.{goes_on-determined, goes_on≢stops, Halts-determined, run_of_state}
+pub use Rattle.rv_programs.proofs.RunLaws.{Runs-determined, Runs-more, Runs-stop, step_stops}
 pub use Rattle.certified_runs.proofs.Amounts.{shifts_agree, some_amounts}
 pub use Rattle.certified_runs.proofs.Covering.{itself}
 pub use Rattle.certified_runs.proofs.FirstEntry.{entries_in_common}
 pub use Rattle.certified_runs.proofs.OneEnd.{KnownStep-determined, one_end}
 pub use Rattle.certified_runs.proofs.Runs.{every_run, stops_there}
 pub use Rattle.elf_runs.proofs.Answering.{segments_below}
+pub use Rattle.elf_runs.proofs.Meeting.{held_before, met_behind, split}
 pub use Rattle.listing.proofs.Pieces.{cut_before_line, cut_in_line, with_line}

@@ -7,4 +7,8 @@ pub mod Ends
 pub mod Outside
 pub mod Promises
 pub mod Spelling
+pub mod InStep
+pub mod Trying
+pub mod MoreSet
+pub mod Found
 pub mod EndLines

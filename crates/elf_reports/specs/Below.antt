@@ -5,9 +5,9 @@ pub use Rattle.word.specs.declared.profile.Profile.TheVariants.{P1}
 pub use Rattle.rv_code.specs.declared.instructions.Instr.{Instr}
 pub use Rattle.rv_code.specs.declared.instructions.Instr.TheVariants.{Jump, JumpRegister}
 pub use Rattle.rv_machine.specs.Bytes.{ByteMap}
-pub use Rattle.rv_machine.specs.Entries.{entries_of, Entry, program_counter}
+pub use Rattle.rv_machine.specs.Entries.{entries_of, Entry, IsFirstDifference, program_counter}
 pub use Rattle.rv_machine.specs.Harts.{pc_of, regs_of, state_of}
-pub use Rattle.rv_machine.specs.Leakage.{followed_by}
+pub use Rattle.rv_machine.specs.Leakage.{Done, followed_by, refused, stopped, went_on}
 pub use Rattle.rv_machine.specs.Machine.{goes_on, MachineCode, State, StepEnding, stops, word_at}
 pub use Rattle.rv_machine.specs.Paged.{first_of, lies_in}
 pub use Rattle.rv_machine.specs.Regions.{code_of}
@@ -20,7 +20,8 @@ pub use Rattle.rv_machine.specs.declared.stops.Stop.TheVariants.{AccessFault, Bu
 pub use Rattle.rv_programs.specs.Loaded.{code_in, lies_within, no_code, program_of}
 pub use Rattle.rv_programs.specs.Programs.{MachineProgram, ProgramStep, StandsAt}
 pub use Rattle.rv_programs.specs.Ranged.{loaded_bytes, ranged_bytes}
-pub use Rattle.rv_programs.specs.Runs.{HasReturned, ProgramHalts, ProgramLeads, ProgramRuns}
+pub use Rattle.rv_programs.specs.Runs.{cut_short, halted, halts, HasReturned, ProgramHalts, ProgramLeads, ProgramRuns}
+pub use Rattle.rv_programs.specs.Runs.{spent, stays}
 pub use Rattle.rv_programs.specs.declared.loaded.CodeSegment.{CodeSegment}
 pub use Rattle.certified_runs.specs.Amounts.{ShiftsBy}
 pub use Rattle.certified_runs.specs.Bits.{Agree}
@@ -36,17 +37,20 @@ pub use Rattle.run_reports.specs.progress.Certified.{GoesOnKnown}
 pub use Rattle.run_reports.specs.progress.GoingOn.{HasLines, IsTold as LinesAreTold}
 pub use Rattle.language.specs.arguments.Texts.{word_of}
 pub use Rattle.elf.specs.Layout.{AreApart}
-pub use Rattle.elf.specs.Lookup.{function_at, function_named}
+pub use Rattle.elf.specs.Lookup.{function_at, function_named, object_named}
 pub use Rattle.elf.specs.Reading.{Executable}
 pub use Rattle.elf.specs.Segments.{LoadedSegment}
+pub use Rattle.elf.specs.declared.symbol.Object.{Object}
 pub use Rattle.elf_runs.specs.Arguments.{return_address, stack_begin}
 pub use Rattle.elf_runs.specs.Begin.{register_of}
 pub use Rattle.elf_runs.specs.Code.{CodeWords, program_code, words_in}
 pub use Rattle.elf_runs.specs.Memory.{memory_at_start, range_of, RangeState}
 pub use Rattle.elf_runs.specs.Needs.{each_from, first_unmet, IsTold, need, Need, needs}
+pub use Rattle.elf_runs.specs.Objects.{size_of}
 pub use Rattle.elf_runs.specs.Word.{known}
 pub use Rattle.elf_runs.specs.declared.asked.Argument.{Argument}
 pub use Rattle.elf_runs.specs.declared.asked.Asked.{Asked}
+pub use Rattle.elf_runs.specs.declared.asked.Secret.{Secret}
 pub use Rattle.elf_runs.specs.declared.asked.Setting.{Setting}
 pub use Rattle.elf_runs.specs.declared.fault.Part.{Part}
 pub use Rattle.elf_runs.specs.declared.fault.StartFault.{StartFault}

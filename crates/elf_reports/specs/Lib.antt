@@ -3,7 +3,9 @@
 -- Loading: the program that an executable is to the machine, and what is known of the state in which a run begins.
 -- Certified: what is answered where such a run is certified; Promised: what a certificate says of all runs.
 -- Calls: the calls that lead to a step; Places: how addresses are written by the symbols.
--- Leaked: the listing of a function's run.
+-- Leaked: the listing of a function's run. Compared: where what two runs show differs; Witnessed: two runs that differ
+--   in what is secret alone, and of which an observer sees not the same.
+-- private: for contracts of private functions alone.
 pub mod Below
 pub mod Asking
 pub mod Loading
@@ -12,3 +14,6 @@ pub mod Promised
 pub mod Calls
 pub mod Places
 pub mod Leaked
+pub mod Compared
+pub mod Witnessed
+pub mod private

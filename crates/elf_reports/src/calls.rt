@@ -74,7 +74,7 @@ fn entries_in(seen: Option<Observation>) -> u64
 }
 
 /// The calls that lead to the step behind so many entries.
-fn calls_behind_entries<P: MachineProgram, M: Memory>(
+pub(crate) fn calls_behind_entries<P: MachineProgram, M: Memory>(
     program: &P,
     hart: &mut Hart,
     memory: &mut M,

@@ -7,28 +7,34 @@
 // `calls_to` gives the calls that lead there, and `push_place` says by the symbols where that is.
 //
 // `leak_function` writes what an observer sees of the run in which all that is not known is as it stands when the run
-// begins.
+// begins. `find_witness` looks for two runs that differ in what is secret alone, and of which an observer sees not the
+// same; that it finds none promises nothing.
 #![tactic(auto)]
 
 mod asking;
 mod calls;
 mod certifying;
 mod code_words;
+mod comparing;
 mod laws;
 mod leaking;
 mod loading;
 mod options;
 mod part_words;
 mod places;
+mod secrets;
 mod stops;
+mod witnessing;
 
 pub use asking::{AskedWords, read_asked};
 pub use calls::{Calls, calls_to};
 pub use certifying::{FunctionCertificate, certify_function, certify_function_telling};
 pub use code_words::code_word_at;
+pub use comparing::Reached;
 pub use laws::{certificates_of_functions_hold, function_certificates_agree};
 pub use leaking::{FunctionLeakFault, leak_function};
 pub use options::RunOptions;
 pub use part_words::push_part_word;
 pub use places::push_place;
 pub use stops::FunctionStop;
+pub use witnessing::{Witness, find_witness};

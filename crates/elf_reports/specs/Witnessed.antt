@@ -1,0 +1,56 @@
+-- Two runs of a function, each on secrets of its own, of which an observer sees not the same.
+use Rattle.std.specs.Prelude.{◌≡◌, ℕ, List, length, map, None, ◌++◌}
+use Rattle.elf_reports.specs.Below.{Asked, Executable, first_unmet, needs, object_named, Observation, Secret, Setting}
+use Rattle.elf_reports.specs.Below.{size_of}
+use Rattle.elf_reports.specs.Calls.{LeadThere}
+use Rattle.elf_reports.specs.Compared.{Compares, IsShown}
+use Rattle.elf_reports.specs.Loading.{machine_program, state_at_start}
+use Rattle.elf_reports.specs.declared.comparing.Comparison.TheVariants.{Differ}
+use Rattle.elf_reports.specs.declared.options.RunOptions.{RunOptions}
+use Rattle.elf_reports.specs.declared.witnessing.Witness.{Witness}
+
+-- a request with more that is set, behind what is
+pub record SetsBesides (asked : Asked) (more : List Setting) (besides : Asked) : Type 0 where
+  pub function : besides.function ≡ asked.function
+  pub arguments : besides.arguments ≡ asked.arguments
+  pub secrets : besides.secrets ≡ asked.secrets
+  pub settings : besides.settings.items ≡ asked.settings.items ++ more
+  pub stack : besides.stack ≡ asked.stack
+
+-- the object that is set, and how many of its bytes are
+abbrev pub set_size : Setting → List ℕ × ℕ
+set_size setting = (setting.object.items, length setting.bytes.items)
+
+-- a secret, and how many bytes it has
+abbrev pub secret_size : Executable → Secret → List ℕ × ℕ
+secret_size program secret = (secret.object.items, size_of (object_named program secret.object.items))
+
+-- one setting for each secret, of all its bytes
+abbrev pub SetEachSecret : Executable → List Secret → List Setting → Type 0
+SetEachSecret program secrets settings = map set_size settings ≡ map (secret_size program) secrets
+
+-- what the function's run shows in which each bit that is not known is as it stands when it begins
+abbrev pub ShowsAsItStands : Executable → Asked → RunOptions → List Observation → Type 0
+ShowsAsItStands program asked options seen =
+    IsShown (machine_program program asked options.profile) options.steps (state_at_start program asked) seen
+
+-- a run where the secrets are set so
+pub record RunsSo (program : Executable) (asked : Asked) (options : RunOptions) (secrets : List Setting)
+    (besides : Asked) (seen : List Observation) : Type 0 where
+  pub each : SetEachSecret program asked.secrets.items secrets
+  pub sets : SetsBesides asked secrets besides
+  pub met : first_unmet (needs program besides) ≡ None
+  pub shows : ShowsAsItStands program besides options seen
+
+-- two runs of which the entries differ first at this one; behind these calls is the last step of the first run that
+-- begins before it
+pub record IsWitness (program : Executable) (asked : Asked) (options : RunOptions) (witness : Witness) : Type 0 where
+  pub one : Asked
+  pub other : Asked
+  pub seen : List Observation
+  pub seen' : List Observation
+  pub runs : RunsSo program asked options witness.one.items one seen
+  pub runs' : RunsSo program asked options witness.other.items other seen'
+  pub differ : Compares seen seen' (Differ witness.entry witness.step)
+  pub calls : LeadThere (machine_program program one options.profile) (state_at_start program one) witness.step.entries
+      witness.calls.items
