@@ -83,8 +83,9 @@ def outcome(program, source, words):
 class Call:
     """A call: where the stack and the arrays are, what registers hold, and the memory before and after it."""
 
-    def __init__(self, function, signature, arguments, seed=0, contents=0, below=BELOW):
-        """`seed` decides the places of the stack and of arrays, `contents` what is left open in registers and around data."""
+    def __init__(self, function, signature, arguments, seed=0, contents=0, below=BELOW, beyond=None):
+        """`seed` decides the places of the stack and of arrays, `contents` what is left open in registers and around data. Where
+        `beyond` is given, each array begins so far behind a multiple of 4, as far as its elements let it."""
         self.function, self.signature, self.arguments = function, signature, arguments
         chance, filler = random.Random(seed), random.Random(contents)
         self.registers = [0] + [filler.randrange(2**32) for _ in range(31)]
@@ -97,7 +98,9 @@ class Call:
             if parameter.form != "word":
                 changes = parameter.form == "mut"
                 size = SIZES[parameter.kind]
-                at = (place[changes] + 4 * chance.randrange(1, 4) + 3) // 4 * 4 + size * chance.randrange(4 // size + 1)
+                drawn = size * chance.randrange(4 // size + 1)
+                after = drawn if beyond is None else (beyond + size - 1) // size * size % 4
+                at = (place[changes] + 4 * chance.randrange(1, 4) + 3) // 4 * 4 + after
                 self.places[number] = at
                 self.parts.append((at, parameter.bytes, changes))
                 place[changes] = at + parameter.bytes

@@ -90,10 +90,11 @@ def near(number):
     return number < 2_048
 
 
-def wrapper_steps(parameters, offsets, frame, result, kept):
+def wrapper_steps(parameters, offsets, frame, result, kept, pointers=None):
     """The steps of the code around a body, by the sizes of what it moves: parameters are pairs of a form and a type, in which an
     array's type has a length behind it, offsets are those of their slots, and of the result's where there is one, and so many of
-    the caller's registers are kept."""
+    the caller's registers are kept. Pointers are those of the arrays, by their numbers; those that are not given are multiples
+    of 4."""
     low, above = (frame + 15) // 16 * 16, (4 * kept + 32 + 15) // 16 * 16
     steps = 1 + kept + min(len(parameters), 8) + (constant(low) + 1 + zeroed(low) if low else 0)
     for number, (form, kind, length) in enumerate(parameters):
@@ -102,8 +103,9 @@ def wrapper_steps(parameters, offsets, frame, result, kept):
             steps += place + {"bool": 1, "uint8": 1, "uint16": 2, "uint32": 0}[kind] + load(offsets[number])
         else:
             head = place + constant(offsets[number]) + 1
-            steps += head + copied(kind, length, 3 if kind == "bool" else 2)
-            steps += head + copied(kind, length, 2) if form == "mut" else 0
+            aligned = (pointers or {}).get(number, 0) % 4 == 0
+            steps += head + (copied(kind, length, 3) if kind == "bool" else as_pointed(kind, length, aligned))
+            steps += head + as_pointed(kind, length, aligned) if form == "mut" else 0
     steps += load(result) if result is not None else 1
     return steps + constant(low) + 2 + kept + zeroed(low + above) + 15
 
@@ -120,6 +122,15 @@ def copied(kind, length, each):
         return each * length
     rounds = length // 8
     return constant(SIZES[kind] * 8 * rounds) + 1 + (8 * each + 3) * rounds + each * (length % 8)
+
+
+def as_pointed(kind, length, aligned):
+    """Elements that are smaller than words are copied by words, from four on, where the pointer is a multiple of 4, and those
+    that are no whole word behind them; else one by one, with a jump over the words. The test takes two steps."""
+    by_word = 4 // SIZES[kind]
+    if by_word == 1 or length < 4:
+        return copied(kind, length, 2)
+    return 2 + (copied("uint32", length // by_word, 2) + 2 * (length % by_word) if aligned else copied(kind, length, 2) + 1)
 
 
 def load(offset):
