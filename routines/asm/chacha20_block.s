@@ -1,4 +1,4 @@
-# chacha20_block: made by factc function; 1010 words, 416 bytes of stack, profile 1
+# chacha20_block: made by factc function; 1086 words, 416 bytes of stack, profile 1
     .option push
     .option norvc
     .option norelax
@@ -61,6 +61,8 @@ chacha20_block:
     .word 0x18012283  # lw x5, 384(x2)
     .word 0x00000313  # addi x6, x0, 0
     .word 0x00230333  # add x6, x6, x2
+    .word 0x0032fe13  # andi x28, x5, 3
+    .word 0x040e0e63  # beq x28, x0, 92
     .word 0x02000393  # addi x7, x0, 32
     .word 0x005383b3  # add x7, x7, x5
     .word 0x0002ce03  # lbu x28, 0(x5)
@@ -82,6 +84,23 @@ chacha20_block:
     .word 0x00828293  # addi x5, x5, 8
     .word 0x00830313  # addi x6, x6, 8
     .word 0xfa729ce3  # bne x5, x7, -72
+    .word 0x0440006f  # jal x0, 68
+    .word 0x0002ae03  # lw x28, 0(x5)
+    .word 0x01c32023  # sw x28, 0(x6)
+    .word 0x0042ae03  # lw x28, 4(x5)
+    .word 0x01c32223  # sw x28, 4(x6)
+    .word 0x0082ae03  # lw x28, 8(x5)
+    .word 0x01c32423  # sw x28, 8(x6)
+    .word 0x00c2ae03  # lw x28, 12(x5)
+    .word 0x01c32623  # sw x28, 12(x6)
+    .word 0x0102ae03  # lw x28, 16(x5)
+    .word 0x01c32823  # sw x28, 16(x6)
+    .word 0x0142ae03  # lw x28, 20(x5)
+    .word 0x01c32a23  # sw x28, 20(x6)
+    .word 0x0182ae03  # lw x28, 24(x5)
+    .word 0x01c32c23  # sw x28, 24(x6)
+    .word 0x01c2ae03  # lw x28, 28(x5)
+    .word 0x01c32e23  # sw x28, 28(x6)
     # parameter 1: a word
     .word 0x18412283  # lw x5, 388(x2)
     .word 0x02512023  # sw x5, 32(x2)
@@ -89,6 +108,8 @@ chacha20_block:
     .word 0x18812283  # lw x5, 392(x2)
     .word 0x02400313  # addi x6, x0, 36
     .word 0x00230333  # add x6, x6, x2
+    .word 0x0032fe13  # andi x28, x5, 3
+    .word 0x060e0463  # beq x28, x0, 104
     .word 0x0002ce03  # lbu x28, 0(x5)
     .word 0x01c30023  # sb x28, 0(x6)
     .word 0x0012ce03  # lbu x28, 1(x5)
@@ -113,10 +134,19 @@ chacha20_block:
     .word 0x01c30523  # sb x28, 10(x6)
     .word 0x00b2ce03  # lbu x28, 11(x5)
     .word 0x01c305a3  # sb x28, 11(x6)
+    .word 0x01c0006f  # jal x0, 28
+    .word 0x0002ae03  # lw x28, 0(x5)
+    .word 0x01c32023  # sw x28, 0(x6)
+    .word 0x0042ae03  # lw x28, 4(x5)
+    .word 0x01c32223  # sw x28, 4(x6)
+    .word 0x0082ae03  # lw x28, 8(x5)
+    .word 0x01c32423  # sw x28, 8(x6)
     # parameter 3: an array
     .word 0x18c12283  # lw x5, 396(x2)
     .word 0x03000313  # addi x6, x0, 48
     .word 0x00230333  # add x6, x6, x2
+    .word 0x0032fe13  # andi x28, x5, 3
+    .word 0x040e0e63  # beq x28, x0, 92
     .word 0x04000393  # addi x7, x0, 64
     .word 0x005383b3  # add x7, x7, x5
     .word 0x0002ce03  # lbu x28, 0(x5)
@@ -137,6 +167,28 @@ chacha20_block:
     .word 0x01c303a3  # sb x28, 7(x6)
     .word 0x00828293  # addi x5, x5, 8
     .word 0x00830313  # addi x6, x6, 8
+    .word 0xfa729ce3  # bne x5, x7, -72
+    .word 0x0580006f  # jal x0, 88
+    .word 0x04000393  # addi x7, x0, 64
+    .word 0x005383b3  # add x7, x7, x5
+    .word 0x0002ae03  # lw x28, 0(x5)
+    .word 0x01c32023  # sw x28, 0(x6)
+    .word 0x0042ae03  # lw x28, 4(x5)
+    .word 0x01c32223  # sw x28, 4(x6)
+    .word 0x0082ae03  # lw x28, 8(x5)
+    .word 0x01c32423  # sw x28, 8(x6)
+    .word 0x00c2ae03  # lw x28, 12(x5)
+    .word 0x01c32623  # sw x28, 12(x6)
+    .word 0x0102ae03  # lw x28, 16(x5)
+    .word 0x01c32823  # sw x28, 16(x6)
+    .word 0x0142ae03  # lw x28, 20(x5)
+    .word 0x01c32a23  # sw x28, 20(x6)
+    .word 0x0182ae03  # lw x28, 24(x5)
+    .word 0x01c32c23  # sw x28, 24(x6)
+    .word 0x01c2ae03  # lw x28, 28(x5)
+    .word 0x01c32e23  # sw x28, 28(x6)
+    .word 0x02028293  # addi x5, x5, 32
+    .word 0x02030313  # addi x6, x6, 32
     .word 0xfa729ce3  # bne x5, x7, -72
     # the body
     .word 0x00000293  # addi x5, x0, 0
@@ -968,6 +1020,8 @@ chacha20_block:
     .word 0x18c12283  # lw x5, 396(x2)
     .word 0x03000313  # addi x6, x0, 48
     .word 0x00230333  # add x6, x6, x2
+    .word 0x0032fe13  # andi x28, x5, 3
+    .word 0x040e0e63  # beq x28, x0, 92
     .word 0x04000393  # addi x7, x0, 64
     .word 0x005383b3  # add x7, x7, x5
     .word 0x00034e03  # lbu x28, 0(x6)
@@ -988,6 +1042,28 @@ chacha20_block:
     .word 0x01c283a3  # sb x28, 7(x5)
     .word 0x00828293  # addi x5, x5, 8
     .word 0x00830313  # addi x6, x6, 8
+    .word 0xfa729ce3  # bne x5, x7, -72
+    .word 0x0580006f  # jal x0, 88
+    .word 0x04000393  # addi x7, x0, 64
+    .word 0x005383b3  # add x7, x7, x5
+    .word 0x00032e03  # lw x28, 0(x6)
+    .word 0x01c2a023  # sw x28, 0(x5)
+    .word 0x00432e03  # lw x28, 4(x6)
+    .word 0x01c2a223  # sw x28, 4(x5)
+    .word 0x00832e03  # lw x28, 8(x6)
+    .word 0x01c2a423  # sw x28, 8(x5)
+    .word 0x00c32e03  # lw x28, 12(x6)
+    .word 0x01c2a623  # sw x28, 12(x5)
+    .word 0x01032e03  # lw x28, 16(x6)
+    .word 0x01c2a823  # sw x28, 16(x5)
+    .word 0x01432e03  # lw x28, 20(x6)
+    .word 0x01c2aa23  # sw x28, 20(x5)
+    .word 0x01832e03  # lw x28, 24(x6)
+    .word 0x01c2ac23  # sw x28, 24(x5)
+    .word 0x01c32e03  # lw x28, 28(x6)
+    .word 0x01c2ae23  # sw x28, 28(x5)
+    .word 0x02028293  # addi x5, x5, 32
+    .word 0x02030313  # addi x6, x6, 32
     .word 0xfa729ce3  # bne x5, x7, -72
     # above the frame
     .word 0x17000293  # addi x5, x0, 368

@@ -1,4 +1,4 @@
-# hmac_sha256: made by factc function; 1619 words, 992 bytes of stack, profile 1
+# hmac_sha256: made by factc function; 1721 words, 992 bytes of stack, profile 1
     .option push
     .option norvc
     .option norelax
@@ -64,6 +64,8 @@ hmac_sha256:
     .word 0x3c012283  # lw x5, 960(x2)
     .word 0x00000313  # addi x6, x0, 0
     .word 0x00230333  # add x6, x6, x2
+    .word 0x0032fe13  # andi x28, x5, 3
+    .word 0x040e0e63  # beq x28, x0, 92
     .word 0x04000393  # addi x7, x0, 64
     .word 0x005383b3  # add x7, x7, x5
     .word 0x0002ce03  # lbu x28, 0(x5)
@@ -85,6 +87,28 @@ hmac_sha256:
     .word 0x00828293  # addi x5, x5, 8
     .word 0x00830313  # addi x6, x6, 8
     .word 0xfa729ce3  # bne x5, x7, -72
+    .word 0x0580006f  # jal x0, 88
+    .word 0x04000393  # addi x7, x0, 64
+    .word 0x005383b3  # add x7, x7, x5
+    .word 0x0002ae03  # lw x28, 0(x5)
+    .word 0x01c32023  # sw x28, 0(x6)
+    .word 0x0042ae03  # lw x28, 4(x5)
+    .word 0x01c32223  # sw x28, 4(x6)
+    .word 0x0082ae03  # lw x28, 8(x5)
+    .word 0x01c32423  # sw x28, 8(x6)
+    .word 0x00c2ae03  # lw x28, 12(x5)
+    .word 0x01c32623  # sw x28, 12(x6)
+    .word 0x0102ae03  # lw x28, 16(x5)
+    .word 0x01c32823  # sw x28, 16(x6)
+    .word 0x0142ae03  # lw x28, 20(x5)
+    .word 0x01c32a23  # sw x28, 20(x6)
+    .word 0x0182ae03  # lw x28, 24(x5)
+    .word 0x01c32c23  # sw x28, 24(x6)
+    .word 0x01c2ae03  # lw x28, 28(x5)
+    .word 0x01c32e23  # sw x28, 28(x6)
+    .word 0x02028293  # addi x5, x5, 32
+    .word 0x02030313  # addi x6, x6, 32
+    .word 0xfa729ce3  # bne x5, x7, -72
     # parameter 1: a word
     .word 0x3c412283  # lw x5, 964(x2)
     .word 0x04512023  # sw x5, 64(x2)
@@ -92,6 +116,8 @@ hmac_sha256:
     .word 0x3c812283  # lw x5, 968(x2)
     .word 0x04400313  # addi x6, x0, 68
     .word 0x00230333  # add x6, x6, x2
+    .word 0x0032fe13  # andi x28, x5, 3
+    .word 0x080e0a63  # beq x28, x0, 148
     .word 0x07000393  # addi x7, x0, 112
     .word 0x005383b3  # add x7, x7, x5
     .word 0x0002ce03  # lbu x28, 0(x5)
@@ -127,6 +153,44 @@ hmac_sha256:
     .word 0x01c302a3  # sb x28, 5(x6)
     .word 0x0062ce03  # lbu x28, 6(x5)
     .word 0x01c30323  # sb x28, 6(x6)
+    .word 0x0980006f  # jal x0, 152
+    .word 0x06000393  # addi x7, x0, 96
+    .word 0x005383b3  # add x7, x7, x5
+    .word 0x0002ae03  # lw x28, 0(x5)
+    .word 0x01c32023  # sw x28, 0(x6)
+    .word 0x0042ae03  # lw x28, 4(x5)
+    .word 0x01c32223  # sw x28, 4(x6)
+    .word 0x0082ae03  # lw x28, 8(x5)
+    .word 0x01c32423  # sw x28, 8(x6)
+    .word 0x00c2ae03  # lw x28, 12(x5)
+    .word 0x01c32623  # sw x28, 12(x6)
+    .word 0x0102ae03  # lw x28, 16(x5)
+    .word 0x01c32823  # sw x28, 16(x6)
+    .word 0x0142ae03  # lw x28, 20(x5)
+    .word 0x01c32a23  # sw x28, 20(x6)
+    .word 0x0182ae03  # lw x28, 24(x5)
+    .word 0x01c32c23  # sw x28, 24(x6)
+    .word 0x01c2ae03  # lw x28, 28(x5)
+    .word 0x01c32e23  # sw x28, 28(x6)
+    .word 0x02028293  # addi x5, x5, 32
+    .word 0x02030313  # addi x6, x6, 32
+    .word 0xfa729ce3  # bne x5, x7, -72
+    .word 0x0002ae03  # lw x28, 0(x5)
+    .word 0x01c32023  # sw x28, 0(x6)
+    .word 0x0042ae03  # lw x28, 4(x5)
+    .word 0x01c32223  # sw x28, 4(x6)
+    .word 0x0082ae03  # lw x28, 8(x5)
+    .word 0x01c32423  # sw x28, 8(x6)
+    .word 0x00c2ae03  # lw x28, 12(x5)
+    .word 0x01c32623  # sw x28, 12(x6)
+    .word 0x0102ae03  # lw x28, 16(x5)
+    .word 0x01c32823  # sw x28, 16(x6)
+    .word 0x0142ce03  # lbu x28, 20(x5)
+    .word 0x01c30a23  # sb x28, 20(x6)
+    .word 0x0152ce03  # lbu x28, 21(x5)
+    .word 0x01c30aa3  # sb x28, 21(x6)
+    .word 0x0162ce03  # lbu x28, 22(x5)
+    .word 0x01c30b23  # sb x28, 22(x6)
     # parameter 3: a word
     .word 0x3cc12283  # lw x5, 972(x2)
     .word 0x0a512e23  # sw x5, 188(x2)
@@ -134,6 +198,8 @@ hmac_sha256:
     .word 0x3d012283  # lw x5, 976(x2)
     .word 0x0c000313  # addi x6, x0, 192
     .word 0x00230333  # add x6, x6, x2
+    .word 0x0032fe13  # andi x28, x5, 3
+    .word 0x040e0e63  # beq x28, x0, 92
     .word 0x02000393  # addi x7, x0, 32
     .word 0x005383b3  # add x7, x7, x5
     .word 0x0002ce03  # lbu x28, 0(x5)
@@ -155,6 +221,23 @@ hmac_sha256:
     .word 0x00828293  # addi x5, x5, 8
     .word 0x00830313  # addi x6, x6, 8
     .word 0xfa729ce3  # bne x5, x7, -72
+    .word 0x0440006f  # jal x0, 68
+    .word 0x0002ae03  # lw x28, 0(x5)
+    .word 0x01c32023  # sw x28, 0(x6)
+    .word 0x0042ae03  # lw x28, 4(x5)
+    .word 0x01c32223  # sw x28, 4(x6)
+    .word 0x0082ae03  # lw x28, 8(x5)
+    .word 0x01c32423  # sw x28, 8(x6)
+    .word 0x00c2ae03  # lw x28, 12(x5)
+    .word 0x01c32623  # sw x28, 12(x6)
+    .word 0x0102ae03  # lw x28, 16(x5)
+    .word 0x01c32823  # sw x28, 16(x6)
+    .word 0x0142ae03  # lw x28, 20(x5)
+    .word 0x01c32a23  # sw x28, 20(x6)
+    .word 0x0182ae03  # lw x28, 24(x5)
+    .word 0x01c32c23  # sw x28, 24(x6)
+    .word 0x01c2ae03  # lw x28, 28(x5)
+    .word 0x01c32e23  # sw x28, 28(x6)
     # the body
     .word 0x0e000313  # addi x6, x0, 224
     .word 0x00230333  # add x6, x6, x2
@@ -1578,6 +1661,8 @@ hmac_sha256:
     .word 0x3d012283  # lw x5, 976(x2)
     .word 0x0c000313  # addi x6, x0, 192
     .word 0x00230333  # add x6, x6, x2
+    .word 0x0032fe13  # andi x28, x5, 3
+    .word 0x040e0e63  # beq x28, x0, 92
     .word 0x02000393  # addi x7, x0, 32
     .word 0x005383b3  # add x7, x7, x5
     .word 0x00034e03  # lbu x28, 0(x6)
@@ -1599,6 +1684,23 @@ hmac_sha256:
     .word 0x00828293  # addi x5, x5, 8
     .word 0x00830313  # addi x6, x6, 8
     .word 0xfa729ce3  # bne x5, x7, -72
+    .word 0x0440006f  # jal x0, 68
+    .word 0x00032e03  # lw x28, 0(x6)
+    .word 0x01c2a023  # sw x28, 0(x5)
+    .word 0x00432e03  # lw x28, 4(x6)
+    .word 0x01c2a223  # sw x28, 4(x5)
+    .word 0x00832e03  # lw x28, 8(x6)
+    .word 0x01c2a423  # sw x28, 8(x5)
+    .word 0x00c32e03  # lw x28, 12(x6)
+    .word 0x01c2a623  # sw x28, 12(x5)
+    .word 0x01032e03  # lw x28, 16(x6)
+    .word 0x01c2a823  # sw x28, 16(x5)
+    .word 0x01432e03  # lw x28, 20(x6)
+    .word 0x01c2aa23  # sw x28, 20(x5)
+    .word 0x01832e03  # lw x28, 24(x6)
+    .word 0x01c2ac23  # sw x28, 24(x5)
+    .word 0x01c32e03  # lw x28, 28(x6)
+    .word 0x01c2ae23  # sw x28, 28(x5)
     # above the frame
     .word 0x3b000293  # addi x5, x0, 944
     .word 0x002282b3  # add x5, x5, x2

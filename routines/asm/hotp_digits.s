@@ -1,4 +1,4 @@
-# hotp_digits: made by factc function; 206 words, 112 bytes of stack, profile 1
+# hotp_digits: made by factc function; 219 words, 112 bytes of stack, profile 1
     .option push
     .option norvc
     .option norelax
@@ -45,6 +45,8 @@ hotp_digits:
     .word 0x05012283  # lw x5, 80(x2)
     .word 0x00000313  # addi x6, x0, 0
     .word 0x00230333  # add x6, x6, x2
+    .word 0x0032fe13  # andi x28, x5, 3
+    .word 0x060e0e63  # beq x28, x0, 124
     .word 0x01000393  # addi x7, x0, 16
     .word 0x005383b3  # add x7, x7, x5
     .word 0x0002ce03  # lbu x28, 0(x5)
@@ -74,6 +76,17 @@ hotp_digits:
     .word 0x01c30123  # sb x28, 2(x6)
     .word 0x0032ce03  # lbu x28, 3(x5)
     .word 0x01c301a3  # sb x28, 3(x6)
+    .word 0x02c0006f  # jal x0, 44
+    .word 0x0002ae03  # lw x28, 0(x5)
+    .word 0x01c32023  # sw x28, 0(x6)
+    .word 0x0042ae03  # lw x28, 4(x5)
+    .word 0x01c32223  # sw x28, 4(x6)
+    .word 0x0082ae03  # lw x28, 8(x5)
+    .word 0x01c32423  # sw x28, 8(x6)
+    .word 0x00c2ae03  # lw x28, 12(x5)
+    .word 0x01c32623  # sw x28, 12(x6)
+    .word 0x0102ae03  # lw x28, 16(x5)
+    .word 0x01c32823  # sw x28, 16(x6)
     # the body
     .word 0x01300293  # addi x5, x0, 19
     .word 0x002282b3  # add x5, x5, x2

@@ -1,4 +1,4 @@
-# pkcs7_unpad: made by factc function; 147 words, 96 bytes of stack, profile 1
+# pkcs7_unpad: made by factc function; 158 words, 96 bytes of stack, profile 1
     .option push
     .option norvc
     .option norelax
@@ -40,6 +40,8 @@ pkcs7_unpad:
     .word 0x04012283  # lw x5, 64(x2)
     .word 0x00000313  # addi x6, x0, 0
     .word 0x00230333  # add x6, x6, x2
+    .word 0x0032fe13  # andi x28, x5, 3
+    .word 0x040e0e63  # beq x28, x0, 92
     .word 0x01000393  # addi x7, x0, 16
     .word 0x005383b3  # add x7, x7, x5
     .word 0x0002ce03  # lbu x28, 0(x5)
@@ -61,6 +63,15 @@ pkcs7_unpad:
     .word 0x00828293  # addi x5, x5, 8
     .word 0x00830313  # addi x6, x6, 8
     .word 0xfa729ce3  # bne x5, x7, -72
+    .word 0x0240006f  # jal x0, 36
+    .word 0x0002ae03  # lw x28, 0(x5)
+    .word 0x01c32023  # sw x28, 0(x6)
+    .word 0x0042ae03  # lw x28, 4(x5)
+    .word 0x01c32223  # sw x28, 4(x6)
+    .word 0x0082ae03  # lw x28, 8(x5)
+    .word 0x01c32423  # sw x28, 8(x6)
+    .word 0x00c2ae03  # lw x28, 12(x5)
+    .word 0x01c32623  # sw x28, 12(x6)
     # the body
     .word 0x00f00293  # addi x5, x0, 15
     .word 0x002282b3  # add x5, x5, x2

@@ -1,4 +1,4 @@
-# sha3_256_short: made by factc function; 2131 words, 1136 bytes of stack, profile 1
+# sha3_256_short: made by factc function; 2201 words, 1136 bytes of stack, profile 1
     .option push
     .option norvc
     .option norelax
@@ -49,6 +49,8 @@ sha3_256_short:
     .word 0x45012283  # lw x5, 1104(x2)
     .word 0x00000313  # addi x6, x0, 0
     .word 0x00230333  # add x6, x6, x2
+    .word 0x0032fe13  # andi x28, x5, 3
+    .word 0x080e0a63  # beq x28, x0, 148
     .word 0x08000393  # addi x7, x0, 128
     .word 0x005383b3  # add x7, x7, x5
     .word 0x0002ce03  # lbu x28, 0(x5)
@@ -84,6 +86,36 @@ sha3_256_short:
     .word 0x01c302a3  # sb x28, 5(x6)
     .word 0x0062ce03  # lbu x28, 6(x5)
     .word 0x01c30323  # sb x28, 6(x6)
+    .word 0x0780006f  # jal x0, 120
+    .word 0x08000393  # addi x7, x0, 128
+    .word 0x005383b3  # add x7, x7, x5
+    .word 0x0002ae03  # lw x28, 0(x5)
+    .word 0x01c32023  # sw x28, 0(x6)
+    .word 0x0042ae03  # lw x28, 4(x5)
+    .word 0x01c32223  # sw x28, 4(x6)
+    .word 0x0082ae03  # lw x28, 8(x5)
+    .word 0x01c32423  # sw x28, 8(x6)
+    .word 0x00c2ae03  # lw x28, 12(x5)
+    .word 0x01c32623  # sw x28, 12(x6)
+    .word 0x0102ae03  # lw x28, 16(x5)
+    .word 0x01c32823  # sw x28, 16(x6)
+    .word 0x0142ae03  # lw x28, 20(x5)
+    .word 0x01c32a23  # sw x28, 20(x6)
+    .word 0x0182ae03  # lw x28, 24(x5)
+    .word 0x01c32c23  # sw x28, 24(x6)
+    .word 0x01c2ae03  # lw x28, 28(x5)
+    .word 0x01c32e23  # sw x28, 28(x6)
+    .word 0x02028293  # addi x5, x5, 32
+    .word 0x02030313  # addi x6, x6, 32
+    .word 0xfa729ce3  # bne x5, x7, -72
+    .word 0x0002ae03  # lw x28, 0(x5)
+    .word 0x01c32023  # sw x28, 0(x6)
+    .word 0x0042ce03  # lbu x28, 4(x5)
+    .word 0x01c30223  # sb x28, 4(x6)
+    .word 0x0052ce03  # lbu x28, 5(x5)
+    .word 0x01c302a3  # sb x28, 5(x6)
+    .word 0x0062ce03  # lbu x28, 6(x5)
+    .word 0x01c30323  # sb x28, 6(x6)
     # parameter 1: a word
     .word 0x45412283  # lw x5, 1108(x2)
     .word 0x08512423  # sw x5, 136(x2)
@@ -91,6 +123,8 @@ sha3_256_short:
     .word 0x45812283  # lw x5, 1112(x2)
     .word 0x08c00313  # addi x6, x0, 140
     .word 0x00230333  # add x6, x6, x2
+    .word 0x0032fe13  # andi x28, x5, 3
+    .word 0x040e0e63  # beq x28, x0, 92
     .word 0x02000393  # addi x7, x0, 32
     .word 0x005383b3  # add x7, x7, x5
     .word 0x0002ce03  # lbu x28, 0(x5)
@@ -112,6 +146,23 @@ sha3_256_short:
     .word 0x00828293  # addi x5, x5, 8
     .word 0x00830313  # addi x6, x6, 8
     .word 0xfa729ce3  # bne x5, x7, -72
+    .word 0x0440006f  # jal x0, 68
+    .word 0x0002ae03  # lw x28, 0(x5)
+    .word 0x01c32023  # sw x28, 0(x6)
+    .word 0x0042ae03  # lw x28, 4(x5)
+    .word 0x01c32223  # sw x28, 4(x6)
+    .word 0x0082ae03  # lw x28, 8(x5)
+    .word 0x01c32423  # sw x28, 8(x6)
+    .word 0x00c2ae03  # lw x28, 12(x5)
+    .word 0x01c32623  # sw x28, 12(x6)
+    .word 0x0102ae03  # lw x28, 16(x5)
+    .word 0x01c32823  # sw x28, 16(x6)
+    .word 0x0142ae03  # lw x28, 20(x5)
+    .word 0x01c32a23  # sw x28, 20(x6)
+    .word 0x0182ae03  # lw x28, 24(x5)
+    .word 0x01c32c23  # sw x28, 24(x6)
+    .word 0x01c2ae03  # lw x28, 28(x5)
+    .word 0x01c32e23  # sw x28, 28(x6)
     # the body
     .word 0x0ac00313  # addi x6, x0, 172
     .word 0x00230333  # add x6, x6, x2
@@ -2084,6 +2135,8 @@ sha3_256_short:
     .word 0x45812283  # lw x5, 1112(x2)
     .word 0x08c00313  # addi x6, x0, 140
     .word 0x00230333  # add x6, x6, x2
+    .word 0x0032fe13  # andi x28, x5, 3
+    .word 0x040e0e63  # beq x28, x0, 92
     .word 0x02000393  # addi x7, x0, 32
     .word 0x005383b3  # add x7, x7, x5
     .word 0x00034e03  # lbu x28, 0(x6)
@@ -2105,6 +2158,23 @@ sha3_256_short:
     .word 0x00828293  # addi x5, x5, 8
     .word 0x00830313  # addi x6, x6, 8
     .word 0xfa729ce3  # bne x5, x7, -72
+    .word 0x0440006f  # jal x0, 68
+    .word 0x00032e03  # lw x28, 0(x6)
+    .word 0x01c2a023  # sw x28, 0(x5)
+    .word 0x00432e03  # lw x28, 4(x6)
+    .word 0x01c2a223  # sw x28, 4(x5)
+    .word 0x00832e03  # lw x28, 8(x6)
+    .word 0x01c2a423  # sw x28, 8(x5)
+    .word 0x00c32e03  # lw x28, 12(x6)
+    .word 0x01c2a623  # sw x28, 12(x5)
+    .word 0x01032e03  # lw x28, 16(x6)
+    .word 0x01c2a823  # sw x28, 16(x5)
+    .word 0x01432e03  # lw x28, 20(x6)
+    .word 0x01c2aa23  # sw x28, 20(x5)
+    .word 0x01832e03  # lw x28, 24(x6)
+    .word 0x01c2ac23  # sw x28, 24(x5)
+    .word 0x01c32e03  # lw x28, 28(x6)
+    .word 0x01c2ae23  # sw x28, 28(x5)
     # above the frame
     .word 0x44000293  # addi x5, x0, 1088
     .word 0x002282b3  # add x5, x5, x2

@@ -1,4 +1,4 @@
-# siphash24: made by factc function; 753 words, 288 bytes of stack, profile 1
+# siphash24: made by factc function; 817 words, 288 bytes of stack, profile 1
     .option push
     .option norvc
     .option norelax
@@ -61,6 +61,8 @@ siphash24:
     .word 0x10012283  # lw x5, 256(x2)
     .word 0x00000313  # addi x6, x0, 0
     .word 0x00230333  # add x6, x6, x2
+    .word 0x0032fe13  # andi x28, x5, 3
+    .word 0x040e0e63  # beq x28, x0, 92
     .word 0x01000393  # addi x7, x0, 16
     .word 0x005383b3  # add x7, x7, x5
     .word 0x0002ce03  # lbu x28, 0(x5)
@@ -82,10 +84,21 @@ siphash24:
     .word 0x00828293  # addi x5, x5, 8
     .word 0x00830313  # addi x6, x6, 8
     .word 0xfa729ce3  # bne x5, x7, -72
+    .word 0x0240006f  # jal x0, 36
+    .word 0x0002ae03  # lw x28, 0(x5)
+    .word 0x01c32023  # sw x28, 0(x6)
+    .word 0x0042ae03  # lw x28, 4(x5)
+    .word 0x01c32223  # sw x28, 4(x6)
+    .word 0x0082ae03  # lw x28, 8(x5)
+    .word 0x01c32423  # sw x28, 8(x6)
+    .word 0x00c2ae03  # lw x28, 12(x5)
+    .word 0x01c32623  # sw x28, 12(x6)
     # parameter 1: an array
     .word 0x10412283  # lw x5, 260(x2)
     .word 0x01000313  # addi x6, x0, 16
     .word 0x00230333  # add x6, x6, x2
+    .word 0x0032fe13  # andi x28, x5, 3
+    .word 0x080e0a63  # beq x28, x0, 148
     .word 0x03800393  # addi x7, x0, 56
     .word 0x005383b3  # add x7, x7, x5
     .word 0x0002ce03  # lbu x28, 0(x5)
@@ -121,6 +134,43 @@ siphash24:
     .word 0x01c302a3  # sb x28, 5(x6)
     .word 0x0062ce03  # lbu x28, 6(x5)
     .word 0x01c30323  # sb x28, 6(x6)
+    .word 0x0940006f  # jal x0, 148
+    .word 0x0002ae03  # lw x28, 0(x5)
+    .word 0x01c32023  # sw x28, 0(x6)
+    .word 0x0042ae03  # lw x28, 4(x5)
+    .word 0x01c32223  # sw x28, 4(x6)
+    .word 0x0082ae03  # lw x28, 8(x5)
+    .word 0x01c32423  # sw x28, 8(x6)
+    .word 0x00c2ae03  # lw x28, 12(x5)
+    .word 0x01c32623  # sw x28, 12(x6)
+    .word 0x0102ae03  # lw x28, 16(x5)
+    .word 0x01c32823  # sw x28, 16(x6)
+    .word 0x0142ae03  # lw x28, 20(x5)
+    .word 0x01c32a23  # sw x28, 20(x6)
+    .word 0x0182ae03  # lw x28, 24(x5)
+    .word 0x01c32c23  # sw x28, 24(x6)
+    .word 0x01c2ae03  # lw x28, 28(x5)
+    .word 0x01c32e23  # sw x28, 28(x6)
+    .word 0x0202ae03  # lw x28, 32(x5)
+    .word 0x03c32023  # sw x28, 32(x6)
+    .word 0x0242ae03  # lw x28, 36(x5)
+    .word 0x03c32223  # sw x28, 36(x6)
+    .word 0x0282ae03  # lw x28, 40(x5)
+    .word 0x03c32423  # sw x28, 40(x6)
+    .word 0x02c2ae03  # lw x28, 44(x5)
+    .word 0x03c32623  # sw x28, 44(x6)
+    .word 0x0302ae03  # lw x28, 48(x5)
+    .word 0x03c32823  # sw x28, 48(x6)
+    .word 0x0342ae03  # lw x28, 52(x5)
+    .word 0x03c32a23  # sw x28, 52(x6)
+    .word 0x0382ae03  # lw x28, 56(x5)
+    .word 0x03c32c23  # sw x28, 56(x6)
+    .word 0x03c2ce03  # lbu x28, 60(x5)
+    .word 0x03c30e23  # sb x28, 60(x6)
+    .word 0x03d2ce03  # lbu x28, 61(x5)
+    .word 0x03c30ea3  # sb x28, 61(x6)
+    .word 0x03e2ce03  # lbu x28, 62(x5)
+    .word 0x03c30f23  # sb x28, 62(x6)
     # parameter 2: a word
     .word 0x10812283  # lw x5, 264(x2)
     .word 0x04512823  # sw x5, 80(x2)
@@ -128,6 +178,8 @@ siphash24:
     .word 0x10c12283  # lw x5, 268(x2)
     .word 0x05400313  # addi x6, x0, 84
     .word 0x00230333  # add x6, x6, x2
+    .word 0x0032fe13  # andi x28, x5, 3
+    .word 0x040e0463  # beq x28, x0, 72
     .word 0x0002ce03  # lbu x28, 0(x5)
     .word 0x01c30023  # sb x28, 0(x6)
     .word 0x0012ce03  # lbu x28, 1(x5)
@@ -144,6 +196,11 @@ siphash24:
     .word 0x01c30323  # sb x28, 6(x6)
     .word 0x0072ce03  # lbu x28, 7(x5)
     .word 0x01c303a3  # sb x28, 7(x6)
+    .word 0x0140006f  # jal x0, 20
+    .word 0x0002ae03  # lw x28, 0(x5)
+    .word 0x01c32023  # sw x28, 0(x6)
+    .word 0x0042ae03  # lw x28, 4(x5)
+    .word 0x01c32223  # sw x28, 4(x6)
     # the body
     .word 0x00000293  # addi x5, x0, 0
     .word 0x04512e23  # sw x5, 92(x2)
@@ -716,6 +773,8 @@ siphash24:
     .word 0x10c12283  # lw x5, 268(x2)
     .word 0x05400313  # addi x6, x0, 84
     .word 0x00230333  # add x6, x6, x2
+    .word 0x0032fe13  # andi x28, x5, 3
+    .word 0x040e0463  # beq x28, x0, 72
     .word 0x00034e03  # lbu x28, 0(x6)
     .word 0x01c28023  # sb x28, 0(x5)
     .word 0x00134e03  # lbu x28, 1(x6)
@@ -732,6 +791,11 @@ siphash24:
     .word 0x01c28323  # sb x28, 6(x5)
     .word 0x00734e03  # lbu x28, 7(x6)
     .word 0x01c283a3  # sb x28, 7(x5)
+    .word 0x0140006f  # jal x0, 20
+    .word 0x00032e03  # lw x28, 0(x6)
+    .word 0x01c2a023  # sw x28, 0(x5)
+    .word 0x00432e03  # lw x28, 4(x6)
+    .word 0x01c2a223  # sw x28, 4(x5)
     # above the frame
     .word 0x0f000293  # addi x5, x0, 240
     .word 0x002282b3  # add x5, x5, x2
