@@ -8,7 +8,7 @@ ghost use Rattle.run_reports.specs.progress.GoingOn.{HasLines, IsTold};
 
 use crate::progress::lines::{ProgressLines, STEPS_A_LINE};
 use certified_runs::{CertifiedEnd, KnownParts, certify};
-use rv_machine::{Memory, Running};
+use rv_machine::{Memory, Running, Stop};
 use rv_programs::Program;
 use streams::Sink;
 
@@ -57,6 +57,8 @@ pub fn certify_in_pieces<P: Program, M: Memory, E: Sink>(
     ensures stopped { 0 < run.new.steps_left → ComesTo (P.program program.now)
         (known_of (state_of run.old.hart (M.bytes run.old.memory)) known.old.registers (M.bytes known.old.marks)
         known.old.shifts) (state_of run.new.hart (M.bytes run.new.memory)) result }
+    ensures spent { run.new.steps_left ≡ 0
+        → (entries : ℕ) × (result ≡ CertifiedEnd.Same Stop.Budget entries) }
     ensures told { IsTrue E.TELLS
         → IsTold HasLines
         (GoesOnKnown (P.program program.now) run.old.steps_left

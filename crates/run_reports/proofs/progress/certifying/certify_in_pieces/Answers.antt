@@ -48,6 +48,7 @@ returns-then-run-gt0 g c =
       stopped = λ left.
           rw c.end_behind.ensures (comes_after c.loop-left.entries c.certify-end.result led.1
           (c.certify-end.ensures.stopped left));
+      spent = λ none. absurd (omega (arith, none, some));
       told = λ tells. (
         lines.count,
         lines_of_known (led.0, led.1) c.loop-left.invariant.made c.loop-left.invariant.more
@@ -106,6 +107,13 @@ returns-clause-stopped g c = λ left.
     let led = c.loop-left.invariant.led in
     rw c.end_behind-2.ensures (comes_after c.loop-left.entries c.certify-end-2.result led.1
     (c.certify-end-2.ensures.stopped left))
+
+pub returns-clause-spent : goal.returns-clause-spent
+returns-clause-spent g c = λ none.
+    let spent = c.certify-end-2.ensures.spent none in (
+      c.loop-left.entries + length (entries_of spent.0),
+      c.end_behind-2.ensures ∙ ap (end_behind c.loop-left.entries) spent.2,
+    )
 
 pub returns-clause-told : goal.returns-clause-told
 returns-clause-told g c = λ tells.
