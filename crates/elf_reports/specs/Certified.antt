@@ -1,5 +1,5 @@
 -- What is answered where a run of a function is to be certified for all that is not known when it begins.
-use Rattle.std.specs.Prelude.{◌≡◌, ℕ, ◌==◌, Bool, false, true, List, codes, None, Result, Ok, Err, if◌then◌else◌}
+use Rattle.std.specs.Prelude.{◌≡◌, ℕ, ◌==◌, List, codes, None, Result, Ok, Err, if◌then◌else◌}
 use Rattle.elf_reports.specs.Below.{AccessFault, Asked, Budget, CertifiedEnd, CertifiedRun, ComesTo, end_of, Executable}
 use Rattle.elf_reports.specs.Below.{first_unmet, IsTold, KnownState, MachineProgram, needs, Observation, return_address}
 use Rattle.elf_reports.specs.Below.{machine_stop_name, RunEnding, StartFault, State, Stop}
@@ -26,11 +26,6 @@ stop_name (Stopped stop) = machine_stop_name stop
 abbrev pub certificate_at : ℕ → CertifiedEnd → FunctionCertificate
 certificate_at address (ends.Same stop entries) = Same (function_stop stop address) entries
 certificate_at address (ends.MayDiffer entry pc) = MayDiffer entry pc
-
--- it stops by an access fault: then alone its certificate goes by the address
-abbrev pub is_access_fault : CertifiedEnd → Bool
-is_access_fault (ends.Same AccessFault entries) = true
-is_access_fault _ = false
 
 -- a run of which this is known ends so, at this address: the next step from there ends it, or its steps are spent
 pub data EndsAt (program : MachineProgram) (k : KnownState) : CertifiedEnd → ℕ → Type 0 where

@@ -1,9 +1,8 @@
 // One run of a function for all that is not known when it begins.
 
-ghost use Rattle.std.specs.Prelude.{◌≡◌, ◌^◌, ◌<◌, ◌≢◌, IfErr, IsTrue, OnOk};
+ghost use Rattle.std.specs.Prelude.{◌≡◌, ◌^◌, ◌<◌, IsTrue, OnErr, OnOk};
 ghost use Rattle.elf_reports.specs.Below.{collected, GoesOnKnown, HasLines, LinesAreTold};
-ghost use Rattle.elf_reports.specs.Certified.{certificate_at, CertifiedFunction, is_access_fault};
-ghost use Rattle.elf_runs.specs.declared.fault.StartFault.TheVariants.{Memory};
+ghost use Rattle.elf_reports.specs.Certified.{certificate_at, CertifiedFunction};
 ghost use Rattle.elf_reports.specs.Loading.{known_at_start, machine_program};
 
 use crate::loading::load_function;
@@ -13,7 +12,6 @@ use certified_runs::{CertifiedEnd, certify};
 use elf::Program;
 use elf_runs::{Asked, StartFault};
 use run_reports::progress::certify_in_pieces;
-use rv_machine::Stop;
 use std::alloc::Global;
 use streams::Sink;
 
@@ -38,16 +36,6 @@ fn certificate_at(address: u32, end: CertifiedEnd) -> FunctionCertificate
             entries,
         },
         CertifiedEnd::MayDiffer { entry, pc } => FunctionCertificate::MayDiffer { entry, pc },
-    }
-}
-
-/// Whether it stops by an access fault.
-fn is_access_fault(end: CertifiedEnd) -> bool
-    ensures { result ≡ is_access_fault end }
-{
-    match end {
-        CertifiedEnd::Same { stop, .. } => stop == Stop::AccessFault,
-        CertifiedEnd::MayDiffer { .. } => false,
     }
 }
 
@@ -83,13 +71,9 @@ pub fn certify_function_telling<E: Sink>(
         (known_at_start program.now asked.now options.shifts))
         (collected (E.taken err.old) (E.failures err.old))
         (collected (E.taken err.new) (E.failures err.new))) }
-    ensures untold { IfErr result (λ fault. fault ≢ Memory → err.new ≡ err.old) }
+    ensures untold { OnErr result (err.new ≡ err.old) }
 {
     let mut loaded = load_function(alloc, program, asked, options)?;
     let end = certify_in_pieces(&loaded.program, &mut loaded.run, &mut loaded.known, err);
-    if loaded.run.steps_left == 0 && is_access_fault(end) {
-        // Where no step is left, none has ended the run; but what was promised here does not say so.
-        return certify_function(alloc, program, asked, options);
-    }
     Ok(certificate_at(loaded.run.hart.pc(), end))
 }

@@ -1,6 +1,5 @@
-use Rattle.std.proofs.Common.{◌≡◌, Err, ap, rules}
-use Rattle.elf_reports.specs.Below.{known_of, program_of, ranged_bytes, state_of}
-use Rattle.elf_reports.specs.Certified.{is_access_fault}
+use Rattle.std.proofs.Common.{◌≡◌, Err, length, rules}
+use Rattle.elf_reports.specs.Below.{entries_of, known_of, program_of, ranged_bytes, state_of}
 use Rattle.elf_reports.proofs.Ends.{answered, refused_so}
 use Rattle.elf_reports.proofs.certifying.certify_function.Goals as goal
 
@@ -21,5 +20,5 @@ returns c =
     loaded.run.steps_left run.steps_left (state_of run.hart (ranged_bytes run.memory)) c.certify-end.result
     c.certificate_at.result c.in_ok-loaded.ensures.program c.in_ok-loaded.ensures.known c.in_ok-loaded.ensures.steps
     c.in_ok-loaded.ensures.met c.certify-end.ensures.certified
-    (λ none. ap is_access_fault (c.certify-end.ensures.spent none).2) c.certify-end.ensures.stopped
+    (λ none. let over = c.certify-end.ensures.spent none in (length (entries_of over.0), over.2)) c.certify-end.ensures.stopped
     (rw c.pc.ensures at c.certificate_at.ensures)

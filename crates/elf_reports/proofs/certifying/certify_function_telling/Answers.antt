@@ -1,13 +1,9 @@
-use Rattle.std.proofs.Common.{◌≡◌, ◌∙◌, Err, rules, subst, sym}
+use Rattle.std.proofs.Common.{◌≡◌, Err, rules, subst}
 use Rattle.elf_reports.specs.Below.{collected, GoesOnKnown, HasLines, known_of, KnownState, LinesAreTold}
 use Rattle.elf_reports.specs.Below.{MachineProgram, program_of, ranged_bytes, state_of}
 use Rattle.elf_reports.specs.Loading.{known_at_start}
-use Rattle.elf_reports.proofs.Ends.{answered, anyway, faultless, refused_so}
+use Rattle.elf_reports.proofs.Ends.{answered, refused_so}
 use Rattle.elf_reports.proofs.certifying.certify_function_telling.Goals as goal
-use Rattle.elf_reports.proofs.certifying.certify_function_telling.Goals.{
-  else-loaded-eq0-via-then-loaded-eq0+else-is_access_fault,
-  else-loaded-eq0-via-else-loaded-eq0,
-}
 
 pub returns-in_err-loaded-clause-certified : goal.returns-in_err-loaded-clause-certified
 returns-in_err-loaded-clause-certified g c =
@@ -15,25 +11,6 @@ returns-in_err-loaded-clause-certified g c =
     let is : c.from_residual.result ≡ Err fault = search rules in
     refused_so c.args.program.now c.args.asked.now c.args.options fault c.from_residual.result is
     c.in_err-loaded.ensures.fault
-
-pub returns-then-is_access_fault-clause-told : goal.returns-then-is_access_fault-clause-told
-returns-then-is_access_fault-clause-told g c = λ tells.
-    let loaded = c.in_ok-loaded.loaded in
-    let before = collected (g.E.Sink.taken c.args.err.now) (g.E.Sink.failures c.args.err.now) in
-    let err = c.certify_in_pieces-end.new.err in
-    let after = collected (g.E.Sink.taken err) (g.E.Sink.failures err) in
-    let known = known_at_start c.args.program.now c.args.asked.now c.args.options.shifts in
-    anyway c.certify_function.result _
-    (subst (λ (p : MachineProgram). LinesAreTold HasLines (GoesOnKnown p c.args.options.steps known) before after)
-    c.in_ok-loaded.ensures.program
-    (subst (λ (k : KnownState). LinesAreTold HasLines (GoesOnKnown (program_of loaded.program) c.args.options.steps k)
-    before after) c.in_ok-loaded.ensures.known
-    (rw c.in_ok-loaded.ensures.steps at (c.certify_in_pieces-end.ensures.told tells))))
-
-pub returns-then-is_access_fault-clause-untold : goal.returns-then-is_access_fault-clause-untold
-returns-then-is_access_fault-clause-untold g c =
-    faultless c.args.program.now c.args.asked.now c.args.options c.certify_function.result _ c.in_ok-loaded.ensures.met
-    c.certify_function.ensures
 
 pub returns-clause-certified : goal.returns-clause-certified
 returns-clause-certified g c =
@@ -45,12 +22,7 @@ returns-clause-certified g c =
     loaded.run.steps_left run.steps_left (state_of run.hart (ranged_bytes run.memory)) c.certify_in_pieces-end.result
     c.certificate_at.result c.in_ok-loaded.ensures.program c.in_ok-loaded.ensures.known c.in_ok-loaded.ensures.steps
     c.in_ok-loaded.ensures.met c.certify_in_pieces-end.ensures.certified
-    (λ none. elim c.else-loaded-eq0.branch [
-      | else-loaded-eq0-via-then-loaded-eq0+else-is_access_fault w ↦
-          sym w.is_access_fault.ensures ∙ w.if-is_access_fault.false
-      | else-loaded-eq0-via-else-loaded-eq0 w ↦ absurd (w.if-loaded-eq0.false none)
-    ])
-    c.certify_in_pieces-end.ensures.stopped
+    c.certify_in_pieces-end.ensures.spent c.certify_in_pieces-end.ensures.stopped
     (rw c.pc.ensures at c.certificate_at.ensures)
 
 pub returns-clause-told : goal.returns-clause-told
