@@ -14,7 +14,7 @@ CODE, TABLE, DATA = 0x10000, 0x10800, 0x20000
 RETURN, ECALL, EBREAK, NONE = 0x00008067, 0x00000073, 0x00100073, 0x00000000
 
 # Where an instruction is that no function has.
-OUTSIDE = "at 0x{:x}"
+OUTSIDE = "in 0x{:x}"
 
 # What of a program is asked how (the words behind the file), and what is answered: what is printed, and the status.
 Case = collections.namedtuple("Case", "what program request printed status")
