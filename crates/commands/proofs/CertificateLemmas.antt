@@ -17,7 +17,8 @@ depends_at program k ending (decided i at sure step) is = cc
 depends_at program k ending (stopped known step) is = cc
 depends_at program k ending (undecided i at unknown) is = λ none. none-some (word_of i) (sym none ∙ at.word)
 
-cut_at : (program : MachineProgram) (n : ℕ) (k : KnownState) (seen : List Observation) (ending : RunEnding) (pc : ℕ)
+-- a word begins where a certified run of a program is cut
+pub cut_at : (program : MachineProgram) (n : ℕ) (k : KnownState) (seen : List Observation) (ending : RunEnding) (pc : ℕ)
     → CertifiedRun program n k seen ending → ending ≡ may_differ pc → word_at (program.code pc) pc ≢ None
 cut_at program n k seen ending pc spent is = cc
 cut_at program n k seen ending pc (halts step) is = cc

@@ -11,7 +11,7 @@ use Rattle.commands.specs.Unread.{IsOutOfMemory}
 use Rattle.commands.specs.Written.{IsWriteFault}
 use Rattle.commands.specs.declared.fault.Fault.{Fault}
 use Rattle.commands.specs.declared.fault.Fault.TheVariants.{Text, Explained, Image, Run, Eval, Plan, Harts, Vectors}
-use Rattle.commands.specs.declared.fault.Fault.TheVariants.{Code, Name, File}
+use Rattle.commands.specs.declared.fault.Fault.TheVariants.{Code, Name, Elf, Unmet, File}
 use Rattle.commands.specs.declared.fault.FileFault.TheVariants.{CannotRead, CannotWrite, NotUtf8}
 use Rattle.commands.specs.Below.{BuildFault, one_more, Read, Refusal, Refused}
 use Rattle.input_files.specs.declared.stream_build.fault.BuildFault.TheVariants.{Write}
@@ -30,6 +30,8 @@ memory_calm (Harts why) memory same = same
 memory_calm (Vectors why) memory same = same
 memory_calm (Code rule) memory same = same
 memory_calm (Name place) memory same = same
+memory_calm (Elf why) memory same = same
+memory_calm (Unmet rule word) memory same = same
 memory_calm (File file) memory same = absurd memory
 
 pub explained_calm : (source : List ℕ) (refusal : Refusal) (fault : Fault) {before after : Store}
@@ -44,6 +46,8 @@ explained_calm source refusal (Harts why) is same = same
 explained_calm source refusal (Vectors why) is same = same
 explained_calm source refusal (Code rule) is same = same
 explained_calm source refusal (Name place) is same = same
+explained_calm source refusal (Elf why) is same = same
+explained_calm source refusal (Unmet rule word) is same = same
 explained_calm source refusal (File file) is same = absurd is
 
 -- where a source is refused, explained or not, none did
@@ -67,6 +71,8 @@ counted_by (Harts why) before after read = ap (λ (s : Store). s.failures) read
 counted_by (Vectors why) before after read = ap (λ (s : Store). s.failures) read
 counted_by (Code rule) before after read = ap (λ (s : Store). s.failures) read
 counted_by (Name place) before after read = ap (λ (s : Store). s.failures) read
+counted_by (Elf why) before after read = ap (λ (s : Store). s.failures) read
+counted_by (Unmet rule word) before after read = ap (λ (s : Store). s.failures) read
 counted_by (File (CannotRead path)) before after read = ap (λ (s : Store). s.failures) read
 counted_by (File (CannotWrite path)) before after read = absurd read
 counted_by (File (NotUtf8 path)) before after read = ap (λ (s : Store). s.failures) read
@@ -83,6 +89,8 @@ kept_by (Harts why) before after read = ap (λ (s : Store). s.contents) read
 kept_by (Vectors why) before after read = ap (λ (s : Store). s.contents) read
 kept_by (Code rule) before after read = ap (λ (s : Store). s.contents) read
 kept_by (Name place) before after read = ap (λ (s : Store). s.contents) read
+kept_by (Elf why) before after read = ap (λ (s : Store). s.contents) read
+kept_by (Unmet rule word) before after read = ap (λ (s : Store). s.contents) read
 kept_by (File (CannotRead path)) before after read = ap (λ (s : Store). s.contents) read
 kept_by (File (CannotWrite path)) before after read = absurd read
 kept_by (File (NotUtf8 path)) before after read = ap (λ (s : Store). s.contents) read
@@ -136,6 +144,8 @@ ends (Harts why) (of_files is same) status = calm is same
 ends (Vectors why) (of_files is same) status = calm is same
 ends (Code rule) (of_files is same) status = calm is same
 ends (Name place) (of_files is same) status = calm is same
+ends (Elf why) (of_files is same) status = calm is same
+ends (Unmet rule word) (of_files is same) status = calm is same
 ends (File (CannotRead path)) (of_files is same) status = files_failed is same status
 ends (File (CannotWrite path)) (of_files is same) status = files_failed is same status
 ends (File (NotUtf8 path)) (of_files is same) status = calm is same

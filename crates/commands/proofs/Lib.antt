@@ -2,6 +2,7 @@ pub mod Beginnings
 pub mod WordLemmas
 pub mod CertificateLemmas
 mod CodeLemmas
+mod ExecutableLemmas
 mod LeakFaults
 pub mod ImageLemmas
 mod Writing

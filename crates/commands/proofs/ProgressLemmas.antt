@@ -1,12 +1,15 @@
 -- What goes out while an image runs, case by case.
 use Rattle.std.proofs.Common.{◌≡◌, ℕ, Bool, true, false, List, Option, Result, Ok, Err, OnOk, OnErr, subst}
-use Rattle.commands.specs.Below.{Arg, BothGoOn, MachineCode, code_at, code_base, Collected, Counting, Fields}
-use Rattle.commands.specs.Below.{frame_base, GoesOn, HasLines, IsTold, loaded_at, params_of, Reaches, State}
+use Rattle.commands.specs.Below.{Arg, AskedRun, AskedWords, AsksFor, BothGoOn, MachineCode, code_at, code_base, Collected}
+use Rattle.commands.specs.Below.{Counting}
+use Rattle.commands.specs.Below.{Executable, Fields}
+use Rattle.commands.specs.Below.{frame_base, GoesOn, HasLines, IsTold, loaded_at, params_of, Reaches, RunOptions, State}
 use Rattle.commands.specs.Certificates.{shifts_seen}
 use Rattle.commands.specs.Contents.{Contents}
+use Rattle.commands.specs.Executables.{HoldsExecutable}
 use Rattle.commands.specs.Images.{HoldsImage}
-use Rattle.commands.specs.Progress.{RunGoesOn, PairGoesOn, CertificateGoesOn, Tells}
-use Rattle.commands.specs.Progress.{FileRunTells, FilePairTells, FileCertificateTells}
+use Rattle.commands.specs.Progress.{RunGoesOn, PairGoesOn, CertificateGoesOn, FunctionGoesOn, Tells}
+use Rattle.commands.specs.Progress.{FileRunTells, FilePairTells, FileCertificateTells, FileFunctionTells}
 use Rattle.commands.specs.Words.{AreSpelled, AreBothSpelled, AreGiven}
 use Rattle.run_reports.proofs.progress_lemmas.Told.{reaches}
 
@@ -66,6 +69,16 @@ module _ (Has : Counting) (before after : Collected) {files : Contents} {path : 
   file_certificate_tells false shifts as_said told = told
   file_certificate_tells {given} true shifts as_said told = (image, given, held, as_said, told)
 
+-- those of a program are those of its file
+pub file_function_tells : (Has : Counting) (before after : Collected) {files : Contents} {path : List ℕ}
+    {words : AskedWords} {program : Executable} {asked : AskedRun} (options : RunOptions) (progress : Bool)
+    → HoldsExecutable files path program → AsksFor words asked
+    → Tells Has progress (FunctionGoesOn program asked options) before after
+    → FileFunctionTells Has progress options files path words before after
+file_function_tells Has before after options false held as_said told = told
+file_function_tells Has before after {program = program} {asked = asked} options true held as_said told =
+    (program, asked, held, as_said, told)
+
 -- all lines are some
 pub run_reaches : (files : Contents) (path : List ℕ) (words : List (List ℕ)) (before after : Collected)
     (progress : Bool) → FileRunTells HasLines progress files path words before after
@@ -84,3 +97,21 @@ pub certificate_reaches : (files : Contents) (path : List ℕ) (words : List (Li
     → FileCertificateTells Reaches progress shifts files path words before after
 certificate_reaches files path words before after false shifts told = told
 certificate_reaches files path words before after true shifts told = (told.0, told.1, told.2, told.3, reaches told.4)
+
+pub function_reaches : (files : Contents) (path : List ℕ) (words : AskedWords) (options : RunOptions)
+    (before after : Collected) (progress : Bool)
+    → FileFunctionTells HasLines progress options files path words before after
+    → FileFunctionTells Reaches progress options files path words before after
+function_reaches files path words options before after false told = told
+function_reaches files path words options before after true told =
+    (told.0, told.1, told.2, told.3, reaches told.4)
+
+-- where they are asked for, a certified run's lines are told
+pub function_told : {A E : Type 0} (program : Executable) (asked : AskedRun) (before after : Collected)
+    (answer : Result A E) (progress : Bool) {run : RunOptions} (options : RunOptions) → progress ≡ true
+    → run ≡ options → OnOk answer (IsTold HasLines (FunctionGoesOn program asked run) before after)
+    → OnOk answer (Tells HasLines progress (FunctionGoesOn program asked options) before after)
+function_told program asked before after (Ok done) progress options wanted same told =
+    rw wanted
+    (subst (λ (o : RunOptions). IsTold HasLines (FunctionGoesOn program asked o) before after) same told)
+function_told program asked before after (Err fault) progress options wanted same told = tt

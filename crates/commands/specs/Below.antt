@@ -51,7 +51,7 @@ pub use Rattle.hepurita.specs.Told.{IsRefusalOf}
 pub use Rattle.hepurita.specs.declared.fault.RunFault.{RunFault}
 pub use Rattle.hepurita.specs.declared.fault.RunFault.TheVariants.{Argument, Memory, Stopped}
 pub use Rattle.hepurita.specs.declared.optimised.Optimisation.{Optimisation}
-pub use Rattle.listing.specs.Code.{IsLineAt, ListsCode}
+pub use Rattle.listing.specs.Code.{IsLineAt, IsLineOf, ListsCode}
 pub use Rattle.listing.specs.Leaked.{IsLeak, Leaks}
 pub use Rattle.listing.specs.Lines.{lines_of, stop_line}
 pub use Rattle.listing.specs.declared.fault.LeakFault.{LeakFault}
@@ -83,3 +83,19 @@ pub use Rattle.image_reports.specs.vectors.Lines.{NamedVector, vectors_in}
 pub use Rattle.image_reports.specs.vectors.Verdicts.{IsReport}
 pub use Rattle.image_reports.specs.declared.vectors.fault.VectorsFault.{VectorsFault}
 pub use Rattle.image_reports.specs.declared.vectors.fault.VectorsFault.TheVariants.{Line}
+pub use Rattle.elf.specs.Reading.{Executable}
+pub use Rattle.elf.specs.declared.fault.ElfFault.{ElfFault}
+pub use Rattle.elf.specs.declared.fault.ElfRule.{ElfRule}
+pub use Rattle.elf_runs.specs.Needs.{first_unmet, needs}
+pub use Rattle.elf_runs.specs.declared.asked.Asked.{Asked as AskedRun}
+pub use Rattle.elf_runs.specs.declared.fault.StartFault.{StartFault}
+pub use Rattle.elf_runs.specs.declared.fault.Unmet.{Unmet}
+pub use Rattle.elf_reports.specs.Asking.{AsksFor, part_word, spelling}
+pub use Rattle.elf_reports.specs.Calls.{LeadThere}
+pub use Rattle.elf_reports.specs.Certified.{CertifiedFunction}
+pub use Rattle.elf_reports.specs.Loading.{code_word_at, known_at_start, machine_program, state_at_start}
+pub use Rattle.elf_reports.specs.Places.{place_line}
+pub use Rattle.elf_reports.specs.declared.asking.AskedWords.{AskedWords}
+pub use Rattle.elf_reports.specs.declared.certifying.FunctionCertificate.{FunctionCertificate}
+pub use Rattle.elf_reports.specs.declared.options.RunOptions.{RunOptions}
+pub use Rattle.elf_reports.specs.declared.stops.FunctionStop.{FunctionStop}

@@ -5,13 +5,17 @@ use Rattle.std.specs.String.{string_bytes}
 use Rattle.language.specs.arguments.Text as arguments
 use Rattle.commands.specs.declared.fault.Fault.{Fault}
 use Rattle.commands.specs.declared.fault.Fault.TheVariants.{Text, Explained, Image, Run, Eval, Plan, Harts, Vectors}
-use Rattle.commands.specs.declared.fault.Fault.TheVariants.{Code, Name, File}
+use Rattle.commands.specs.declared.fault.Fault.TheVariants.{Code, Name, Elf, Unmet, File}
 use Rattle.commands.specs.declared.fault.FileFault.{FileFault}
 use Rattle.commands.specs.declared.fault.FileFault.TheVariants.{CannotRead, CannotWrite, NotUtf8}
+use Rattle.elf.specs.RuleNames as elf_rules
+use Rattle.elf.specs.Text as executables
+use Rattle.elf.specs.declared.fault.ElfFault.TheVariants as elf_faults
 use Rattle.functions.specs.function_text.FaultText as functions
 use Rattle.functions.specs.declared.function_text.fault.FunctionFault.TheVariants as function_faults
 use Rattle.harts.specs.RuleNames as rules
-use Rattle.commands.specs.Below.{EvalFault, HartsFault, ImageFault, PlanFault, RunFault, VectorsFault}
+use Rattle.commands.specs.Below.{ElfFault, ElfRule, EvalFault, HartsFault, ImageFault, PlanFault, RunFault}
+use Rattle.commands.specs.Below.{VectorsFault}
 use Rattle.harts.specs.declared.fault.HartsFault.TheVariants as harts
 use Rattle.input_files.specs.harts_file.Text.{plan_fault_text}
 use Rattle.input_files.specs.declared.harts_file.fault.PlanFault.TheVariants as plans
@@ -48,6 +52,10 @@ run_line (runs.Argument rule index) = codes "refused: " ++ run_fault_text (runs.
 run_line runs.Memory = codes "refused: " ++ run_fault_text runs.Memory
 run_line (runs.Stopped stop) = codes "stopped: " ++ stop_name stop
 
+-- a rule that is broken by a word
+abbrev pub unmet_text : ElfRule → List ℕ → List ℕ
+unmet_text rule word = elf_rules.code_of rule ++ codes ": " ++ elf_rules.name_of rule ++ codes ": " ++ word
+
 -- a fault's line, and those that explain it, without the last one's end
 abbrev pub fault_line : Fault → List ℕ
 fault_line (Text refusal) = codes "refused: " ++ refusal_text refusal.rule refusal.place
@@ -61,6 +69,8 @@ fault_line (Harts fault) = codes "refused: " ++ harts_fault_text fault
 fault_line (Vectors fault) = codes "refused: " ++ vectors_fault_text fault
 fault_line (Code rule) = codes "refused: " ++ rule_text rule
 fault_line (Name place) = codes "refused: " ++ functions.fault_text (function_faults.Name place)
+fault_line (Elf fault) = codes "refused: " ++ executables.fault_text fault
+fault_line (Unmet rule word) = codes "refused: " ++ unmet_text rule (string_bytes word)
 fault_line (File fault) = codes "file: " ++ file_fault_text fault
 
 -- 1 refused by a rule, 4 memory
@@ -97,6 +107,10 @@ abbrev pub vectors_status : VectorsFault → ℕ
 vectors_status (vectors.Line line) = 1
 vectors_status vectors.Memory = 4
 
+abbrev pub elf_status : ElfFault → ℕ
+elf_status (elf_faults.File rule at) = 1
+elf_status elf_faults.Memory = 4
+
 -- the exit status; 3 is that of a file that failed
 abbrev pub fault_status : Fault → ℕ
 fault_status (Text refusal) = rule_status refusal.rule
@@ -109,4 +123,6 @@ fault_status (Harts fault) = harts_status fault
 fault_status (Vectors fault) = vectors_status fault
 fault_status (Code rule) = 1
 fault_status (Name place) = 1
+fault_status (Elf fault) = elf_status fault
+fault_status (Unmet rule word) = 1
 fault_status (File fault) = 3

@@ -2,12 +2,12 @@
 -- Commanded: what a command line leads to; Requests: what each request prints and writes, and its exit status;
 --   Contents: what files hold, and how that changes; Answered, Failures, FaultText: what is printed, and which calls
 --   have failed.
--- Read from files: FileTexts a source, Images an image, ImageArguments and Words arguments; ImageRefusals, Unread: why
---   not.
+-- Read from files: FileTexts a source, Images an image, Executables an executable, ImageArguments and Words arguments;
+--   ImageRefusals, FunctionRunRefusals, Unread: why not.
 -- What a command prints: Judged of check, Costs of stat, Meanings of eval, Runs and OutcomeText of run, Leaks of leak,
---   Pairs of pair, Certificates of certify, Pictures of picture, Harts and HartsText of harts, Vectors of vectors;
---   Stops has exit statuses, Progress the lines of progress. What it writes: Written one file, TwoFiles two,
---   FunctionFiles those of function, WrappedCode the image of wrap.
+--   Pairs of pair, Certificates of certify, Pictures of picture, Harts and HartsText of harts, Vectors of vectors,
+--   FunctionCertificates of elf certify; Stops has exit statuses, Progress the lines of progress. What it writes:
+--   Written one file, TwoFiles two, FunctionFiles those of function, WrappedCode the image of wrap.
 -- command_line: the words of a command line.
 pub mod command_line
 pub mod Contents
@@ -23,6 +23,9 @@ pub mod Runs
 pub mod Leaks
 pub mod Pairs
 pub mod Certificates
+pub mod Executables
+pub mod FunctionCertificates
+pub mod FunctionRunRefusals
 pub mod Pictures
 pub mod FileTexts
 pub mod Meanings

@@ -1,13 +1,17 @@
--- What goes out on standard error while an image runs, where that is asked for: a line behind each so many steps
--- after which the run goes on.
+-- What goes out on standard error while an image or a function runs, where that is asked for: a line behind each so
+-- many steps after which the run goes on.
 use Rattle.std.specs.Prelude.{◌≡◌, ℕ, Bool, true, false, List, map, Option}
 use Rattle.image_reports.specs.certificates.KnownImage.{known_at}
-use Rattle.commands.specs.Below.{Arg, BothGoOn, code_at, code_base, Collected, Counting, Fields, frame_base, GoesOn}
-use Rattle.commands.specs.Below.{image_program, IsTold, loaded_at, params_of, Shifts}
+use Rattle.commands.specs.Below.{Arg, AskedRun, AskedWords, AsksFor, BothGoOn, code_at, code_base, Collected}
+use Rattle.commands.specs.Below.{Counting, Executable, Fields}
+use Rattle.commands.specs.Below.{frame_base, GoesOn, image_program, IsTold, known_at_start, loaded_at, machine_program}
+use Rattle.commands.specs.Below.{params_of, RunOptions, Shifts}
 use Rattle.commands.specs.declared.command_line.words.Request.{Request}
 use Rattle.commands.specs.declared.command_line.words.Request.TheVariants as requests
 use Rattle.commands.specs.Certificates.{shifts_seen}
 use Rattle.commands.specs.Contents.{Contents}
+use Rattle.commands.specs.Executables.{HoldsExecutable}
+use Rattle.commands.specs.FunctionCertificates.{run_options}
 use Rattle.commands.specs.Images.{HoldsImage}
 use Rattle.commands.specs.Words.{AreSpelled, AreBothSpelled, AreGiven}
 use Rattle.run_reports.specs.progress.Certified.{GoesOnKnown}
@@ -28,6 +32,12 @@ CertificateGoesOn image given shifts =
     GoesOnKnown (image_program (code_at code_base image)) image.max_steps
     (known_at code_base frame_base image given shifts)
 
+-- and a function's certified run on what is asked
+abbrev pub FunctionGoesOn : Executable → AskedRun → RunOptions → ℕ → Type 0
+FunctionGoesOn program asked options =
+    GoesOnKnown (machine_program program asked options.profile) options.steps
+    (known_at_start program asked options.shifts)
+
 -- what goes out of a run, where it is asked for
 abbrev pub Tells : Counting → Bool → (ℕ → Type 0) → Collected → Collected → Type 0
 Tells Has false GoesOnAfter before after = after ≡ before
@@ -47,7 +57,7 @@ FilePairTells Has true files path words before after =
     (image : Fields) × (one other : List Arg) × HoldsImage files path image
     × AreBothSpelled (params_of image) words one other × IsTold Has (PairGoesOn image one other) before after
 
--- and of its certified run on what they give
+-- of its certified run on what they give
 abbrev pub FileCertificateTells : Counting → Bool → Bool → Contents → List ℕ → List (List ℕ) → Collected
     → Collected → Type 0
 FileCertificateTells Has false shifts files path words before after = after ≡ before
@@ -55,6 +65,14 @@ FileCertificateTells Has true shifts files path words before after =
     (image : Fields) × (given : List (Option Arg)) × HoldsImage files path image
     × AreGiven (params_of image) words given
     × IsTold Has (CertificateGoesOn image given (shifts_seen shifts)) before after
+
+-- and of the certified run of a function of the file's program, as the words ask
+abbrev pub FileFunctionTells : Counting → Bool → RunOptions → Contents → List ℕ → AskedWords → Collected
+    → Collected → Type 0
+FileFunctionTells Has false options files path words before after = after ≡ before
+FileFunctionTells Has true options files path words before after =
+    (program : Executable) × (asked : AskedRun) × HoldsExecutable files path program × AsksFor words asked
+    × IsTold Has (FunctionGoesOn program asked options) before after
 
 -- what goes out for a request, by what files hold
 abbrev pub RequestTells : Counting → Request → Contents → Collected → Collected → Type 0
@@ -64,4 +82,6 @@ RequestTells Has (requests.Pair image arguments options) files before after =
     FilePairTells Has options.progress files image.now (map (λ word. word.now) arguments.now) before after
 RequestTells Has (requests.Certify image arguments shifts progress) files before after =
     FileCertificateTells Has progress shifts files image.now (map (λ word. word.now) arguments.now) before after
+RequestTells Has (requests.ElfCertify file words options) files before after =
+    FileFunctionTells Has options.progress (run_options options) files file.now words before after
 RequestTells Has request files before after = after ≡ before

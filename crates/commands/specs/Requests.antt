@@ -7,7 +7,9 @@ use Rattle.commands.specs.Contents.{Contents, Store}
 use Rattle.commands.specs.Costs.{SaysFileCosts, RefusesCosts}
 use Rattle.commands.specs.Failures.{failures_by}
 use Rattle.commands.specs.FaultText.{fault_line, fault_status}
+use Rattle.commands.specs.FunctionCertificates.{SaysFunctionCertificate}
 use Rattle.commands.specs.FunctionFiles.{AreFunctionTexts, RefusesFunction}
+use Rattle.commands.specs.FunctionRunRefusals.{RefusesFunctionRun}
 use Rattle.commands.specs.Harts.{SaysHarts, RefusesHarts}
 use Rattle.commands.specs.Images.{NoImage}
 use Rattle.commands.specs.Judged.{IsAccepted, IsRefusedSo, IsImageOf}
@@ -52,6 +54,8 @@ Answers (requests.Vectors file vectors profile) files text status =
     SaysVectors profile files file.now vectors.now text status
 Answers (requests.Explain explanation) files text status = (text ≡ explanation_text explanation ++ codes "\n")
     × (status ≡ 0)
+Answers (requests.ElfCertify file words options) files text status =
+    SaysFunctionCertificate files file.now words options text status
 
 -- what files hold once a request is done: an image or a function's texts that were written, and else what they held
 abbrev pub Leaves : Request → Contents → Contents → Type 0
@@ -75,6 +79,7 @@ Leaves (requests.Wrap file code image frame steps profile) before after =
 Leaves (requests.Harts file) before after = after ≡ before
 Leaves (requests.Vectors file vectors profile) before after = after ≡ before
 Leaves (requests.Explain explanation) before after = after ≡ before
+Leaves (requests.ElfCertify file words options) before after = after ≡ before
 
 -- why a request is not done, and what files hold then
 abbrev pub Refuses : Request → Contents → Contents → Fault → Type 0
@@ -110,6 +115,8 @@ Refuses (requests.Harts file) before after fault = RefusesHarts before file.now 
 Refuses (requests.Vectors file vectors profile) before after fault =
     RefusesVectors profile before file.now vectors.now fault × (after ≡ before)
 Refuses (requests.Explain explanation) before after fault = IsOutOfMemory fault × (after ≡ before)
+Refuses (requests.ElfCertify file words options) before after fault = RefusesFunctionRun before file.now words fault
+    × (after ≡ before)
 
 -- how a fault is reported on standard error, with which exit status: by its lines; or, where there is no memory for
 -- that, as out of memory

@@ -2,9 +2,10 @@
 use Rattle.std.specs.Prelude.{◌≡◌, ℕ, List}
 use Rattle.commands.specs.declared.fault.Fault.{Fault}
 use Rattle.commands.specs.declared.fault.Fault.TheVariants.{Text, Explained, Image, Run, Eval, Plan, Harts, Vectors}
-use Rattle.commands.specs.declared.fault.Fault.TheVariants.{Code, Name, File}
+use Rattle.commands.specs.declared.fault.Fault.TheVariants.{Code, Name, Elf, Unmet, File}
 use Rattle.commands.specs.declared.fault.FileFault.{FileFault}
 use Rattle.commands.specs.declared.fault.FileFault.TheVariants.{CannotRead, CannotWrite, NotUtf8}
+use Rattle.elf.specs.declared.fault.ElfFault.TheVariants as elf_faults
 use Rattle.harts.specs.declared.fault.HartsFault.TheVariants as harts
 use Rattle.input_files.specs.declared.harts_file.fault.PlanFault.TheVariants as plans
 use Rattle.hepurita.specs.declared.fault.RunFault.TheVariants as runs
@@ -25,6 +26,8 @@ IsOutOfMemory (Harts fault) = fault ≡ harts.Memory
 IsOutOfMemory (Vectors fault) = fault ≡ vectors.Memory
 IsOutOfMemory (Code rule) = ⊥
 IsOutOfMemory (Name place) = ⊥
+IsOutOfMemory (Elf fault) = fault ≡ elf_faults.Memory
+IsOutOfMemory (Unmet rule word) = ⊥
 IsOutOfMemory (File fault) = ⊥
 
 -- the file at a path cannot be read

@@ -61,7 +61,7 @@ pub fn certify_image<'a, F: Files, E: Sink>(
 }
 
 /// Whether the observer sees amounts of shifts.
-fn shifts_seen(shifts: bool) -> Shifts
+pub fn shifts_seen(shifts: bool) -> Shifts
     ensures { result ≡ shifts_seen shifts }
 {
     if shifts { Shifts::Seen } else { Shifts::Hidden }

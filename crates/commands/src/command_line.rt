@@ -3,8 +3,9 @@
 mod asked;
 mod commands;
 mod grammar;
+mod on_executables;
 mod options;
 mod words;
 
-pub use options::{CompileOptions, PairOptions};
-pub use words::{NoRequest, Request, parse};
+pub use options::{CompileOptions, FunctionOptions, PairOptions};
+pub use words::{Matched, NoRequest, Request, parse};

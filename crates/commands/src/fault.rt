@@ -1,7 +1,9 @@
 ghost use Rattle.std.specs.Prelude.{◌≡◌};
 ghost use Rattle.commands.specs.Unread.{IsOutOfMemory};
-ghost use Rattle.commands.specs.declared.fault.Fault.TheVariants.{Text, Image, Run, Eval, Plan, Harts, Vectors, File};
+ghost use Rattle.commands.specs.declared.fault.Fault.TheVariants.{Text, Image, Run, Eval, Plan, Harts, Vectors, Elf};
+ghost use Rattle.commands.specs.declared.fault.Fault.TheVariants.{File};
 
+use elf::{ElfFault, ElfRule};
 use functions::function_text::FunctionFault;
 use harts::HartsFault;
 use hepurita::RunFault;
@@ -42,6 +44,10 @@ pub enum Fault<'a> {
     Code(CodeRule),
     /// The export has a name that C or an assembler cannot take; it stands there.
     Name(Place),
+    /// A file is no executable.
+    Elf(ElfFault),
+    /// What is asked of a run of a function breaks this rule, by this word.
+    Unmet { rule: ElfRule, word: String },
     File(FileFault<'a>),
 }
 
@@ -82,6 +88,9 @@ impl Fault<'_> {
             Fault::Vectors(VectorsFault::Memory) => 4,
             Fault::Code(_) => 1,
             Fault::Name(_) => 1,
+            Fault::Elf(ElfFault::File { .. }) => 1,
+            Fault::Elf(ElfFault::Memory) => 4,
+            Fault::Unmet { .. } => 1,
             Fault::File(_) => 3,
         }
     }
@@ -122,6 +131,11 @@ impl fmt::Display for Fault<'_> {
             Fault::Name(place) => {
                 let fault: FunctionFault<Refusal> = FunctionFault::Name(*place);
                 write!(f, "refused: {fault}")
+            }
+            Fault::Elf(fault) => write!(f, "refused: {fault}"),
+            Fault::Unmet { rule, word } => {
+                let name = rule.name();
+                write!(f, "refused: {rule}: {name}: {word}")
             }
             Fault::File(FileFault::CannotRead(path)) => write!(f, "file: cannot read {path}"),
             Fault::File(FileFault::CannotWrite(path)) => write!(f, "file: cannot write {path}"),
@@ -183,6 +197,14 @@ impl From<VectorsFault> for Fault<'_> {
 
     fn from(fault: VectorsFault) -> Self {
         Fault::Vectors(fault)
+    }
+}
+
+impl From<ElfFault> for Fault<'_> {
+    ghost from_gives = { λ inner fault. fault ≡ Elf inner };
+
+    fn from(fault: ElfFault) -> Self {
+        Fault::Elf(fault)
     }
 }
 

@@ -7,11 +7,14 @@
 mod answer;
 mod certifying;
 pub mod command_line;
+mod elf_certifying;
 mod evaluating;
+mod executables;
 mod fault;
 mod files;
 mod foreign_code;
 mod function_files;
+mod function_words;
 mod images;
 mod measuring;
 mod outcome;

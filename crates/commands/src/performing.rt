@@ -12,6 +12,7 @@ ghost use Rattle.commands.specs.Below.{collected, HasLines, one_more, Reaches};
 use crate::answer::{Answer, DONE};
 use crate::certifying::certify_image;
 use crate::command_line::{NoRequest, Request, parse};
+use crate::elf_certifying::certify_elf;
 use crate::evaluating::evaluate_text;
 use crate::fault::{Fault, FileFault};
 use crate::files::Files;
@@ -53,7 +54,8 @@ pub fn command<'a, F: Files, O: Sink, E: Sink>(
     ensures counted { EndsByStatus (F.store files.old).failures (F.store files.new).failures (O.failures out.old)
         (O.failures out.new) result }
 {
-    match parse(alloc, words) {
+    let mut matched = None;
+    match parse(alloc, words, &mut matched) {
         Ok(request) => perform(alloc, request, files, out, err),
         Err(said) => explain(alloc, said, out, err),
     }
@@ -232,6 +234,11 @@ fn answer<'a, F: Files, O: Sink, E: Sink>(
             profile,
         } => print(out, try_file(alloc, file, vectors, profile, files)),
         Request::Explain { explanation } => print(out, lines_of(alloc, explanation)),
+        Request::ElfCertify {
+            file,
+            words,
+            options,
+        } => print(out, certify_elf(alloc, file, &words, options, files, err)),
     }
 }
 

@@ -4,6 +4,7 @@ ghost use Rattle.std.specs.Prelude.{◌≡◌, None, Some, codes, map, IfOk, IfS
 ghost use Rattle.clap.specs.Matches.{first_value, found_of, one_text};
 ghost use Rattle.commands.specs.command_line.Words.{arguments_of, profile_named};
 
+use crate::command_line::on_executables::request_on_executable;
 use crate::command_line::options::{CompileOptions, PairOptions};
 use crate::command_line::words::Request;
 use clap::ArgMatches;
@@ -12,16 +13,22 @@ use explanations::explanation;
 use hepurita::Optimisation;
 use word::Profile;
 
+/// What is wrong where there is no command, and its text.
+pub(super) const NO_COMMAND: (ErrorKind, &str) = (
+    ErrorKind::MissingSubcommand,
+    "a command is required",
+);
+
 /// What the words ask for, where these are the arguments behind a path; else the kind of what is wrong, and its text.
 pub(crate) fn request_of<'a>(
-    matches: &ArgMatches<'a>,
+    matches: &'a ArgMatches<'_>,
     arguments: &'a [&'a str],
 ) -> Result<Request<'a>, (ErrorKind, &'static str)>
     ensures { IfOk result (λ request.
         IfSome (arguments_of request) (λ given. given ≡ map (λ word. word.now) arguments.now)) }
 {
     let Some((name, given)) = matches.subcommand() else {
-        return Err((ErrorKind::MissingSubcommand, "a command is required"));
+        return Err(NO_COMMAND);
     };
     match request_with(name, given, arguments) {
         Some(request) => Ok(request),
@@ -32,7 +39,7 @@ pub(crate) fn request_of<'a>(
 /// The request of a command that takes arguments of a run.
 fn request_with<'a>(
     name: &str,
-    given: &ArgMatches<'a>,
+    given: &'a ArgMatches<'_>,
     arguments: &'a [&'a str],
 ) -> Option<Request<'a>>
     ensures { IfSome result (λ request.
@@ -78,7 +85,7 @@ fn request_with<'a>(
 /// The request of a command that takes none.
 fn request_without<'a>(
     name: &str,
-    given: &ArgMatches<'a>,
+    given: &'a ArgMatches<'_>,
 ) -> Result<Request<'a>, (ErrorKind, &'static str)>
     ensures { IfOk result (λ request. arguments_of request ≡ None) }
 {
@@ -96,11 +103,12 @@ fn request_without<'a>(
         }),
         "vectors" => Ok(vectors(given)),
         "explain" => explain(given),
-        _ => Err((ErrorKind::MissingSubcommand, "a command is required")),
+        "elf" => request_on_executable(given),
+        _ => Err(NO_COMMAND),
     }
 }
 
-fn check<'a>(given: &ArgMatches<'a>) -> Request<'a>
+fn check<'a>(given: &'a ArgMatches<'_>) -> Request<'a>
     ensures { arguments_of result ≡ None }
 {
     Request::Check {
@@ -110,7 +118,7 @@ fn check<'a>(given: &ArgMatches<'a>) -> Request<'a>
     }
 }
 
-fn build<'a>(given: &ArgMatches<'a>) -> Request<'a>
+fn build<'a>(given: &'a ArgMatches<'_>) -> Request<'a>
     ensures { arguments_of result ≡ None }
 {
     Request::Build {
@@ -120,7 +128,7 @@ fn build<'a>(given: &ArgMatches<'a>) -> Request<'a>
     }
 }
 
-fn stat<'a>(given: &ArgMatches<'a>) -> Request<'a>
+fn stat<'a>(given: &'a ArgMatches<'_>) -> Request<'a>
     ensures { arguments_of result ≡ None }
 {
     Request::Stat {
@@ -129,7 +137,7 @@ fn stat<'a>(given: &ArgMatches<'a>) -> Request<'a>
     }
 }
 
-fn function<'a>(given: &ArgMatches<'a>) -> Request<'a>
+fn function<'a>(given: &'a ArgMatches<'_>) -> Request<'a>
     ensures { arguments_of result ≡ None }
 {
     Request::Function {
@@ -140,7 +148,7 @@ fn function<'a>(given: &ArgMatches<'a>) -> Request<'a>
     }
 }
 
-fn wrap<'a>(given: &ArgMatches<'a>) -> Request<'a>
+fn wrap<'a>(given: &'a ArgMatches<'_>) -> Request<'a>
     ensures { arguments_of result ≡ None }
 {
     Request::Wrap {
@@ -153,7 +161,7 @@ fn wrap<'a>(given: &ArgMatches<'a>) -> Request<'a>
     }
 }
 
-fn vectors<'a>(given: &ArgMatches<'a>) -> Request<'a>
+fn vectors<'a>(given: &'a ArgMatches<'_>) -> Request<'a>
     ensures { arguments_of result ≡ None }
 {
     Request::Vectors {
@@ -173,8 +181,11 @@ fn explain<'a>(given: &ArgMatches<'_>) -> Result<Request<'a>, (ErrorKind, &'stat
 }
 
 /// The value of a required argument.
-fn text_of<'a>(matches: &ArgMatches<'a>, id: &str) -> &'a str {
-    matches.get_str(id).unwrap_or("")
+pub(super) fn text_of<'a>(matches: &'a ArgMatches<'_>, id: &str) -> &'a str {
+    match matches.get_str(id) {
+        Some(text) => text,
+        None => "",
+    }
 }
 
 /// The value of a required option that is a number.
@@ -183,7 +194,7 @@ fn number_of(matches: &ArgMatches<'_>, id: &str) -> u64 {
 }
 
 /// The profile of this number, which is 1 where none is given.
-fn profile_of(matches: &ArgMatches<'_>) -> Profile
+pub(super) fn profile_of(matches: &ArgMatches<'_>) -> Profile
     ensures { result ≡ profile_named (first_value (found_of matches.now) (codes "profile")) }
 {
     match matches.get_str("profile") {

@@ -8,6 +8,10 @@ pub(crate) enum CommandWord {
     Code(&'static str, &'static str),
     /// A number, required, after its name.
     Number(&'static str, &'static str),
+    /// A number after its name, at most so large; and the text of the number that it is where it is not given.
+    NumberUpTo(&'static str, u64, &'static str, &'static str),
+    /// A text after its name, which may be given several times, and what it is called in the help.
+    Texts(&'static str, &'static str, &'static str),
     /// The observer's profile.
     Profile,
     /// Whether optimised code is asked for.
@@ -16,6 +20,8 @@ pub(crate) enum CommandWord {
     Flag(&'static str, &'static str),
     /// All further words: arguments of a run.
     Arguments(&'static str),
+    /// All further words that are no options: arguments of a function.
+    Operands(&'static str),
 }
 
 /// A command, and the words that it takes, in their order.
@@ -44,7 +50,14 @@ const EXPLAIN_FIRST: &str =
 const PROGRESS: &str =
     "Prints a line to standard error after each 134217728 steps, as long as the run goes on; must come before IMAGE";
 
-/// All commands, in the order of the help.
+/// The same of a command whose options may stand anywhere.
+const PROGRESS_ANYWHERE: &str =
+    "Prints a line to standard error after each 134217728 steps, as long as the run goes on";
+
+/// The most steps that a run of a function may be allowed.
+pub(crate) const MOST_STEPS: u64 = (1 << 62) - 1;
+
+/// All commands but those on executables, in the order of the help.
 pub(crate) static COMMANDS: [CommandRow; 15] = [
     CommandRow {
         name: "check",
@@ -237,3 +250,54 @@ pub(crate) static COMMANDS: [CommandRow; 15] = [
         )],
     },
 ];
+
+/// What the commands on executables are together.
+pub(crate) const ELF_ABOUT: &str =
+    "Commands on functions of a linked RISC-V program, an ELF file as compilers and linkers make it";
+
+/// The commands on executables, in the order of the help.
+pub(crate) static ELF_COMMANDS: [CommandRow; 1] = [CommandRow {
+    name: "certify",
+    about: "Runs a function of a program once for all values of what is not known when it begins, and says that an \
+            observer sees the same for all, or from where on that is not shown, which is no proof of a leak",
+    words: &[
+        CommandWord::Path(
+            "ELF",
+            "A linked program for RV32 with a symbol table; nothing of it is run but the function",
+        ),
+        CommandWord::Path("FUNCTION", "The name of the function in the symbol table"),
+        CommandWord::Operands(
+            "The function's arguments, one for each register or word of the stack: a number (decimal, or hexadecimal \
+             after 0x), `?` for any word, NAME for the address of a symbol, or NAME+N for N bytes behind it",
+        ),
+        CommandWord::Texts(
+            "secret",
+            "NAME",
+            "An object of the program of which no byte is known; may be given several times",
+        ),
+        CommandWord::Texts(
+            "set",
+            "NAME=hex:BYTES",
+            "Bytes that an object of the program begins with in place of the file's, two hexadecimal digits each; what \
+             is also secret stays unknown; may be given several times",
+        ),
+        CommandWord::NumberUpTo(
+            "stack",
+            u32::MAX as u64,
+            "65536",
+            "The size of the stack in bytes, a multiple of 16",
+        ),
+        CommandWord::NumberUpTo(
+            "steps",
+            MOST_STEPS,
+            "100000000",
+            "How many instructions the run executes at most",
+        ),
+        CommandWord::Profile,
+        CommandWord::Flag(
+            "shifts",
+            "Counts the amounts of shifts by a register as visible, for cores that shift bit by bit",
+        ),
+        CommandWord::Flag("progress", PROGRESS_ANYWHERE),
+    ],
+}];

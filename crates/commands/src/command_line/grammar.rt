@@ -1,6 +1,7 @@
 // The commands of `factc`, a row for each, and what `clap` makes of the rows.
 
-use crate::command_line::commands::{COMMANDS, CommandRow, CommandWord};
+use crate::command_line::commands::{COMMANDS, CommandRow, CommandWord, ELF_ABOUT, ELF_COMMANDS};
+use clap::builder::ValueParser;
 use clap::{Arg, ArgAction, Command, value_parser};
 use explanations::codes;
 use std::alloc::{AllocError, Global};
@@ -17,7 +18,18 @@ pub fn factc<'a>(alloc: Global) -> Result<Command<'a>, AllocError> {
     for row in &COMMANDS {
         factc = factc.subcommand(command(alloc, row)?)?;
     }
-    Ok(factc)
+    factc.subcommand(elf(alloc)?)
+}
+
+/// The commands on executables.
+fn elf<'a>(alloc: Global) -> Result<Command<'a>, AllocError> {
+    let mut elf = Command::new(alloc, "elf")
+        .about(ELF_ABOUT)
+        .subcommand_required(true);
+    for row in &ELF_COMMANDS {
+        elf = elf.subcommand(command(alloc, row)?)?;
+    }
+    Ok(elf)
 }
 
 /// The command of a row.
@@ -35,10 +47,15 @@ fn argument<'a>(alloc: Global, word: &CommandWord) -> Arg<'a> {
         CommandWord::Path(name, help) => path(alloc, name, help),
         CommandWord::Code(name, help) => path(alloc, name, help).value_parser(codes()),
         CommandWord::Number(name, help) => number(alloc, name, help),
+        CommandWord::NumberUpTo(name, most, default, help) => {
+            number_up_to(alloc, name, most, default).help(help)
+        }
+        CommandWord::Texts(name, value, help) => texts(alloc, name, value, help),
         CommandWord::Profile => profile(alloc),
         CommandWord::Optimisation => optimisation(alloc),
         CommandWord::Flag(name, help) => flag(alloc, name, help),
         CommandWord::Arguments(help) => arguments(alloc, help),
+        CommandWord::Operands(help) => operands(alloc, help),
     }
 }
 
@@ -57,6 +74,35 @@ fn number<'a>(alloc: Global, name: &'static str, help: &'static str) -> Arg<'a> 
         .action(ArgAction::Set)
         .required(true)
         .value_parser(value_parser!(u64))
+        .help(help)
+}
+
+/// A number, at most so large, that may be given after its name.
+fn number_up_to<'a>(
+    alloc: Global,
+    name: &'static str,
+    most: u64,
+    default: &'static str,
+) -> Arg<'a> {
+    Arg::new(alloc, name)
+        .long(name)
+        .value_name("N")
+        .action(ArgAction::Set)
+        .value_parser(ValueParser::unsigned(0, most))
+        .default_value(default)
+}
+
+/// A text that may be given after its name, several times.
+fn texts<'a>(
+    alloc: Global,
+    name: &'static str,
+    value: &'static str,
+    help: &'static str,
+) -> Arg<'a> {
+    Arg::new(alloc, name)
+        .long(name)
+        .value_name(value)
+        .action(ArgAction::Append)
         .help(help)
 }
 
@@ -102,5 +148,13 @@ fn arguments<'a>(alloc: Global, help: &'static str) -> Arg<'a> {
         .num_args(0..)
         .allow_hyphen_values(true)
         .trailing_var_arg(true)
+        .help(help)
+}
+
+/// Every further word that is no option.
+fn operands<'a>(alloc: Global, help: &'static str) -> Arg<'a> {
+    Arg::new(alloc, "ARG")
+        .action(ArgAction::Append)
+        .num_args(0..)
         .help(help)
 }

@@ -1,4 +1,6 @@
-// How a source is to be compiled, and what is asked of a comparison.
+// How a source is to be compiled, and what is asked of a comparison and of a run of a function.
+
+ghost use Rattle.std.specs.Prelude.{◌<◌, ◌^◌};
 
 use hepurita::Optimisation;
 use word::Profile;
@@ -17,4 +19,15 @@ pub struct CompileOptions {
 pub struct PairOptions {
     pub explain: bool,
     pub progress: bool,
+}
+
+/// Who observes a run of a function, whether that observer sees the amounts of shifts by registers, how many steps the
+/// run has at most, and whether it says how far it is.
+#[derive(Clone, Copy, Debug)]
+pub struct FunctionOptions {
+    pub profile: Profile,
+    pub shifts: bool,
+    pub steps: u64,
+    pub progress: bool,
+    ghost bounded: { steps < 2 ^ 62 },
 }

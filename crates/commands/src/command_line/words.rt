@@ -3,9 +3,10 @@ ghost use Rattle.commands.specs.command_line.Words.{is_flag, behind_flags, after
 
 use crate::command_line::asked::request_of;
 use crate::command_line::grammar::factc;
-use crate::command_line::options::{CompileOptions, PairOptions};
-use clap::Error;
+use crate::command_line::options::{CompileOptions, FunctionOptions, PairOptions};
 use clap::error::ErrorKind;
+use clap::{ArgMatches, Error};
+use elf_reports::AskedWords;
 use explanations::Explanation;
 use std::alloc::Global;
 use word::Profile;
@@ -83,6 +84,11 @@ pub enum Request<'a> {
     Explain {
         explanation: Explanation,
     },
+    ElfCertify {
+        file: &'a str,
+        words: AskedWords<'a>,
+        options: FunctionOptions,
+    },
 }
 
 /// Why the words ask for no command, with the text that is to be printed.
@@ -96,12 +102,20 @@ pub enum NoRequest {
     Memory,
 }
 
+/// The words that `clap` has matched, once there are any. A request of a command on executables is made of slices of
+/// them.
+pub type Matched<'a> = Option<ArgMatches<'a>>;
+
 /// Reads the words, of which the first is the program's own name. The arguments of a request are the words behind its
-/// path.
-pub fn parse<'a>(alloc: Global, words: &'a [&'a str]) -> Result<Request<'a>, NoRequest>
+/// path, except of one on an executable.
+pub fn parse<'a, 'w>(
+    alloc: Global,
+    words: &'w [&'w str],
+    matched: &'a mut Matched<'w>,
+) -> Result<Request<'a>, NoRequest>
     ensures { IfOk result (IsAskedBy (map (λ word. word.now) words.now)) }
 {
-    match asked(alloc, words) {
+    match asked(alloc, words, matched) {
         Ok(request) => Ok(request),
         Err(error) => Err(said(alloc, &error)),
     }
@@ -120,12 +134,16 @@ fn said(alloc: Global, error: &Error) -> NoRequest {
 }
 
 /// What the words ask for, as `clap` reads them.
-fn asked<'a>(alloc: Global, words: &'a [&'a str]) -> Result<Request<'a>, Error>
+fn asked<'a, 'w>(
+    alloc: Global,
+    words: &'w [&'w str],
+    matched: &'a mut Matched<'w>,
+) -> Result<Request<'a>, Error>
     ensures { IfOk result (IsAskedBy (map (λ word. word.now) words.now)) }
 {
     let mut command = factc(alloc)?;
-    let matches = command.try_get_matches_from_mut(words)?;
-    match request_of(&matches, after_path(words)) {
+    let matches = matched.insert(command.try_get_matches_from_mut(words)?);
+    match request_of(matches, after_path(words)) {
         Ok(request) => Ok(request),
         Err((kind, why)) => Err(command.error(kind, why)?),
     }

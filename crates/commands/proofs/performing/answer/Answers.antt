@@ -1,7 +1,7 @@
 use Rattle.std.proofs.Common.{refl}
 use Rattle.commands.proofs.AnswerLemmas.{does_read, ends_read, does_fault, ends_fault, does_silently, told_after}
 use Rattle.commands.proofs.AnswerLemmas.{part_after}
-use Rattle.commands.proofs.ProgressLemmas.{run_reaches, pair_reaches, certificate_reaches}
+use Rattle.commands.proofs.ProgressLemmas.{run_reaches, pair_reaches, certificate_reaches, function_reaches}
 use Rattle.commands.proofs.performing.answer.Goals as goal
 
 pub returns-in-Check-clause-does : goal.returns-in-Check-clause-does
@@ -168,3 +168,21 @@ returns-in-Certify-clause-part g c = λ files err.
     part_after c.in-Certify.is _ _ _ _ c.print-in-Certify.ensures (c.certify_image.ensures.part files err)
     (c.certify_image.ensures.told files err)
     (certificate_reaches _ _ _ _ _ c.in-Certify.progress c.in-Certify.shifts)
+
+pub returns-in-ElfCertify-clause-does : goal.returns-in-ElfCertify-clause-does
+returns-in-ElfCertify-clause-does g c = λ files out.
+    does_read _ _ c.in-ElfCertify.is (c.certify_elf.ensures.finds files) c.certify_elf.ensures.read out
+    c.print-in-ElfCertify.ensures
+
+pub returns-in-ElfCertify-clause-ended : goal.returns-in-ElfCertify-clause-ended
+returns-in-ElfCertify-clause-ended g c = ends_read _ _ c.certify_elf.ensures.read c.print-in-ElfCertify.ensures
+
+pub returns-in-ElfCertify-clause-told : goal.returns-in-ElfCertify-clause-told
+returns-in-ElfCertify-clause-told g c = λ files err.
+    told_after c.in-ElfCertify.is _ _ _ c.print-in-ElfCertify.ensures (c.certify_elf.ensures.told files err)
+
+pub returns-in-ElfCertify-clause-part : goal.returns-in-ElfCertify-clause-part
+returns-in-ElfCertify-clause-part g c = λ files err.
+    part_after c.in-ElfCertify.is _ _ _ _ c.print-in-ElfCertify.ensures (c.certify_elf.ensures.part files err)
+    (c.certify_elf.ensures.told files err)
+    (function_reaches _ _ _ _ _ _ c.in-ElfCertify.options.progress)

@@ -6,5 +6,5 @@ pub returns-in-Ok-clause-commanded : goal.returns-in-Ok-clause-commanded
 returns-in-Ok-clause-commanded g c = λ files out err.
     performed c.in-Ok.ensures (c.perform.ensures.performed files out err)
 
-pub returns-in-Err-clause-commanded : goal.returns-in-Err-clause-commanded
-returns-in-Err-clause-commanded g c = λ files out err. said refl (c.explain.ensures.told out err)
+pub returns-clause-commanded : goal.returns-clause-commanded
+returns-clause-commanded g c = λ files out err. said refl (c.explain.ensures.told out err)

@@ -1,0 +1,66 @@
+// What each command on executables asks for, by its words as `clap` matched them.
+
+ghost use Rattle.std.specs.Prelude.{◌≡◌, [], None, map, IfOk};
+ghost use Rattle.std.specs.Option.{option_map_or};
+ghost use Rattle.clap.specs.Matches.{found_of, matched_of, raw_values};
+ghost use Rattle.commands.specs.command_line.Words.{arguments_of};
+
+use crate::command_line::asked::{NO_COMMAND, profile_of, text_of};
+use crate::command_line::commands::MOST_STEPS;
+use crate::command_line::options::FunctionOptions;
+use crate::command_line::words::Request;
+use clap::ArgMatches;
+use clap::error::ErrorKind;
+use elf_reports::AskedWords;
+
+/// The request of a command on executables.
+pub(super) fn request_on_executable<'a>(
+    matches: &'a ArgMatches<'_>,
+) -> Result<Request<'a>, (ErrorKind, &'static str)>
+    ensures { IfOk result (λ request. arguments_of request ≡ None) }
+{
+    let Some((name, given)) = matches.subcommand() else {
+        return Err(NO_COMMAND);
+    };
+    match name {
+        "certify" => Ok(Request::ElfCertify {
+            file: text_of(given, "ELF"),
+            words: words_of(given),
+            options: options_of(given),
+        }),
+        _ => Err(NO_COMMAND),
+    }
+}
+
+/// What the words ask of a run of a function.
+fn words_of<'a>(given: &'a ArgMatches<'_>) -> AskedWords<'a> {
+    AskedWords {
+        function: text_of(given, "FUNCTION"),
+        arguments: texts_of(given, "ARG"),
+        secrets: texts_of(given, "secret"),
+        settings: texts_of(given, "set"),
+        stack: given.get_one("stack").unwrap_or(0),
+    }
+}
+
+/// All values of an argument, in their order.
+fn texts_of<'a>(given: &'a ArgMatches<'_>, id: &str) -> &'a [&'a str]
+    ensures { map (λ text. text.now) result.now
+        ≡ option_map_or raw_values (matched_of (found_of given.now) id.now) [] }
+{
+    if let Some(texts) = given.get_strs(id) {
+        return texts;
+    }
+    &[]
+}
+
+/// How the function is to be run. More steps than may be allowed are no value of the option.
+fn options_of(given: &ArgMatches<'_>) -> FunctionOptions {
+    let steps: u64 = given.get_one("steps").unwrap_or(0);
+    FunctionOptions {
+        profile: profile_of(given),
+        shifts: given.get_flag("shifts"),
+        steps: steps.min(MOST_STEPS),
+        progress: given.get_flag("progress"),
+    }
+}
