@@ -34,7 +34,7 @@ pub use comparing::Reached;
 pub use laws::{certificates_of_functions_hold, function_certificates_agree};
 pub use leaking::{FunctionLeakFault, leak_function};
 pub use options::RunOptions;
-pub use part_words::push_part_word;
+pub use part_words::part_word;
 pub use places::push_place;
 pub use stops::FunctionStop;
 pub use witnessing::{Witness, find_witness};

@@ -1,6 +1,7 @@
 // The words of the parts of a request, as they are printed.
 
-ghost use Rattle.std.specs.Prelude.{◌≡◌, ◌++◌, slice_get, OnOk};
+ghost use Rattle.std.specs.Prelude.{◌≡◌, slice_get, IfOk};
+ghost use Rattle.std.specs.String.{string_bytes};
 ghost use Rattle.elf_reports.specs.Asking.{part_word, text_or_none, texts};
 
 use crate::asking::AskedWords;
@@ -17,23 +18,15 @@ fn word_at<'a>(words: &[&'a str], k: usize) -> &'a str
     }
 }
 
-/// Puts the word of a part at the end, as the user wrote it; of the stack its size.
-pub fn push_part_word(
-    alloc: Global,
-    text: &mut Vec<u8>,
-    words: &AskedWords<'_>,
-    part: Part,
-) -> Result<(), AllocError>
-    ensures { OnOk result (text.new.items ≡ text.old.items ++ part_word words.now part) }
+/// The word of a part, as the user wrote it; of the stack its size.
+pub fn part_word(alloc: Global, words: &AskedWords<'_>, part: Part) -> Result<String, AllocError>
+    ensures { IfOk result (λ word. string_bytes word ≡ part_word words.now part) }
 {
     match part {
-        Part::Function => text.extend_from_slice(words.function.as_bytes()),
-        Part::Argument(k) => text.extend_from_slice(word_at(words.arguments, k).as_bytes()),
-        Part::Secret(k) => text.extend_from_slice(word_at(words.secrets, k).as_bytes()),
-        Part::Setting(k) => text.extend_from_slice(word_at(words.settings, k).as_bytes()),
-        Part::Stack => {
-            let size = format!(in alloc; "{}", words.stack)?;
-            text.extend_from_slice(size.as_bytes())
-        }
+        Part::Function => String::from_str(alloc, words.function),
+        Part::Argument(k) => String::from_str(alloc, word_at(words.arguments, k)),
+        Part::Secret(k) => String::from_str(alloc, word_at(words.secrets, k)),
+        Part::Setting(k) => String::from_str(alloc, word_at(words.settings, k)),
+        Part::Stack => format!(in alloc; "{}", words.stack),
     }
 }
