@@ -6,16 +6,18 @@
 // bytes into a sink in memory. It prints what they gave, or which call wanted memory.
 //
 // Given a text, it compiles that one, and prints what comes of the image's bytes with each of them changed to each
-// value.
+// value. Given `halfwords`, it prints what each halfword means.
 #![tactic(auto)]
 
 mod calls;
 mod changes;
 mod fault;
+mod halfwords;
 
 use calls::{arguments, bytes_of, fault_of_pair, image_of, keep, observe};
 use changes::print_changes;
 use fault::RequestsFault;
+use halfwords::print_halfwords;
 use hepurita::RunFault;
 use image::Image;
 use language::{Args, Outcome};
@@ -30,10 +32,13 @@ const TEXT: &str = "export secret uint32 f(secret bool s, secret uint32 a, secre
 
 fn main(rt: HostRuntime) -> anyhow::Result<()> {
     let alloc = rt.alloc();
-    if let Some(text) = env::args(&rt)?.nth(1) {
-        return print_changes(alloc, &rt, bytes_of(alloc, text.as_str())?);
+    let Some(text) = env::args(&rt)?.nth(1) else {
+        return print_answers(&rt, &ask(alloc)?);
+    };
+    if text.as_str() == "halfwords" {
+        return print_halfwords(&rt);
     }
-    print_answers(&rt, &ask(alloc)?)
+    print_changes(alloc, &rt, bytes_of(alloc, text.as_str())?)
 }
 
 /// What the calls gave.
