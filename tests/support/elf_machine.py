@@ -1,14 +1,17 @@
 """What a function of an executable shows, by the machine of rv_machine.py: a loader apart from the one that is tested, for files that
-are sound and have code in one segment.
+are sound.
 """
 
 import collections
+import functools
 import struct
 
+from compressed import EBREAK, expanded
 from elf_files import PF_W, PF_X, PT_LOAD, SHT_SYMTAB, STB_LOCAL, STT_FUNC, SYMBOL
-from rv_machine import MASK, Machine, Part
+from rv_machine import MASK, Machine, Part, Stopped
 
 STACK_END, RETURN, STACK = 0xFFFFFFF0, 0xFFFFFFF8, 65_536
+EF_RISCV_RVC, ECALL = 1, 0x00000073
 
 Named = collections.namedtuple("Named", "value size kind")
 
@@ -40,18 +43,21 @@ class Executable:
             if section and info % 16 <= STT_FUNC and (text not in self.names or info // 16 != STB_LOCAL):
                 self.names[text] = Named(value, size, info % 16)
 
+    def alignment(self):
+        """What addresses of instructions are multiples of: 2 where the file's flags say that some have 16 bits."""
+        return 2 if struct.unpack_from("<I", self.data, 36)[0] & EF_RISCV_RVC else 4
+
     def parts(self):
         """The memory: of each segment what the file has, and zeros behind it."""
         for _, offset, address, _, in_file, size, flags, _ in self.segments:
             held = bytearray(self.data[offset : offset + in_file] + bytes(size - in_file))
-            yield Part(address, held, bool(flags & PF_W))
+            yield Part(address, held, bool(flags & PF_W) and not flags & PF_X)
 
     def code(self):
-        """Where the code begins, and its words."""
-        ((_, offset, address, _, in_file, _, _, _),) = [each for each in self.segments if each[6] & PF_X]
-        skipped = -address % 4
-        count = (in_file - skipped) // 4
-        return address + skipped, struct.unpack_from(f"<{count}I", self.data, offset + skipped)
+        """What the file has of the segments that can be executed: where each begins, and its bytes."""
+        for _, offset, address, _, in_file, _, flags, _ in self.segments:
+            if flags & PF_X:
+                yield address, self.data[offset : offset + in_file]
 
     def word_of(self, argument):
         """What an argument of `factc elf leak` is."""
@@ -63,13 +69,70 @@ class Executable:
         return self.names[name].value + int(offset or "0", 0) & MASK
 
 
+@functools.cache
+def is_instruction(word):
+    """Whether a word is an instruction of RV32IM, by the manual's listings."""
+    opcode, funct3, funct7 = word & 0x7F, word >> 12 & 7, word >> 25
+    if opcode == 0x73:
+        return word in (ECALL, EBREAK)
+    if opcode == 0x13 and funct3 in (1, 5):
+        return funct7 == 0 or (funct3, funct7) == (5, 0x20)
+    if opcode == 0x33:
+        return funct7 in (0, 1) or funct7 == 0x20 and funct3 in (0, 5)
+    allowed = {0x37: range(8), 0x17: range(8), 0x6F: range(8), 0x13: range(8), 0x67: (0,), 0x0F: (0,), 0x23: range(3)}
+    return funct3 in {**allowed, 0x63: (0, 1, 4, 5, 6, 7), 0x03: (0, 1, 2, 4, 5)}.get(opcode, ())
+
+
 class ElfMachine(Machine):
-    """The machine with AUIPC, which the functions of this project do not have, but programs of lld do."""
+    """The machine on code in several places, each with where it begins and its bytes, with all of RV32IM and, where addresses are
+    multiples of 2, the 16-bit instructions."""
+
+    def __init__(self, code, alignment, registers, parts, profile=1):
+        super().__init__([], 0, registers, parts, profile)
+        self.code, self.alignment = list(code), alignment
+
+    def code_at(self, size):
+        """The number that so many bytes of code at pc are."""
+        for begin, held in self.code:
+            if begin <= self.pc and self.pc + size <= begin + len(held):
+                return int.from_bytes(held[self.pc - begin : self.pc - begin + size], "little")
+        raise Stopped(f"no code at pc {self.pc:08x}", "AccessFault")
+
+    def fetched(self):
+        """The word at pc, or that of the 16-bit instruction there; 0, which is none, where there is no instruction."""
+        if self.pc % self.alignment:
+            raise Stopped(f"misaligned pc {self.pc:08x}", "Misaligned")
+        self.length = 4
+        if self.alignment == 4 or self.code_at(2) % 4 == 3:
+            return self.code_at(4)
+        self.length = 2
+        return expanded(self.code_at(2)) or 0
 
     def done(self, word, opcode, funct3, a, b):
+        if not is_instruction(word):
+            raise Stopped(f"no instruction {word:08x} at pc {self.pc:08x}", "Illegal")
+        if opcode == 0x73:
+            raise Stopped(f"the end at pc {self.pc:08x}", "Ecall" if word == ECALL else "Break")
         if opcode == 0x17:
-            return self.pc + (word & 0xFFFFF000), self.pc + 4
+            return self.pc + (word & 0xFFFFF000), self.pc + self.length
+        if opcode == 0x0F:
+            return None, self.pc + self.length
         return super().done(word, opcode, funct3, a, b)
+
+    def run(self, back, steps):
+        """Runs until it comes to an address, or as many steps as are allowed: the name of the stop."""
+        try:
+            while self.pc != back and steps:
+                self.step()
+                steps -= 1
+        except Stopped as stopped:
+            return stopped.stop
+        return "Return" if self.pc == back else "Budget"
+
+    def lines(self):
+        """The lines of what an observer has seen, as `factc elf leak` prints them."""
+        forms = {"pc": "pc {:08x}", "load": "load {:08x} {}", "store": "store {:08x} {}"}
+        return [forms.get(kind, kind + " {:08x} {:08x}").format(*shown) for kind, *shown in self.seen]
 
 
 def put(parts, address, data):
@@ -92,18 +155,13 @@ def machine_of(executable, function, arguments, settings, profile):
     for name, data in settings.items():
         put(parts, executable.names[name].value, data)
     put(parts, top, pushed)
-    base, code = executable.code()
-    machine = ElfMachine(code, base, registers, parts, profile)
+    machine = ElfMachine(executable.code(), executable.alignment(), registers, parts, profile)
     machine.pc = executable.names[function].value
     return machine
 
 
 def listing(data, function, arguments, settings, profile=1, steps=1_000_000):
-    """The lines that `factc elf leak` has of a run that comes back."""
+    """The lines that `factc elf leak` has of a run."""
     machine = machine_of(Executable(data), function, arguments, settings, profile)
-    while machine.pc != RETURN and steps:
-        machine.step()
-        steps -= 1
-    forms = {"pc": "pc {:08x}", "load": "load {:08x} {}", "store": "store {:08x} {}"}
-    lines = [forms.get(kind, kind + " {:08x} {:08x}").format(*shown) for kind, *shown in machine.seen]
-    return [*lines, "stop Return" if machine.pc == RETURN else "stop Budget"]
+    stop = machine.run(RETURN, steps)
+    return [*machine.lines(), f"stop {stop}"]
