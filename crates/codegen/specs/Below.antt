@@ -27,8 +27,8 @@ unfoldable pub use Rattle.rv_machine.specs.Bytes.{number_at, with_number}
 pub use Rattle.rv_machine.specs.Effects.{address_of, branch_target, holds, immediate_value, jump_target, load_size}
 pub use Rattle.rv_machine.specs.Effects.{loaded_value, register_value, shift_value, sign_extended, store_size}
 pub use Rattle.rv_machine.specs.Leakage.{Halts, Leads, stays, steps_on}
-pub use Rattle.rv_machine.specs.Machine.{MachineCode, goes_on, IsAt, next, State, Step, word_at}
-unfoldable pub use Rattle.rv_machine.specs.Machine.{moved_to, with_link, with_stored}
+pub use Rattle.rv_machine.specs.Machine.{MachineCode, goes_on, IsAt, next, State, Step, with_link, with_stored, word_at}
+unfoldable pub use Rattle.rv_machine.specs.Machine.{moved_to}
 pub use Rattle.rv_machine.specs.Registers.{initial_registers, register, with_register}
 pub use Rattle.rv_machine.specs.Sizes.{byte_count}
 pub use Rattle.rv_machine.specs.declared.observation.Event.{Event}

@@ -90,7 +90,8 @@ unfoldable pub use Rattle.rv_machine.specs.Bytes.{with_number}
 pub use Rattle.rv_machine.specs.Effects.{difference_of, register_target, register_value}
 pub use Rattle.rv_machine.specs.Effects.{shift_value, sign_extended, sum_of}
 pub use Rattle.rv_machine.specs.Machine.{MachineCode, goes_on, IsAt, next, observed, State, Step}
-unfoldable pub use Rattle.rv_machine.specs.Machine.{moved_to, with_link}
+pub use Rattle.rv_machine.specs.Machine.{with_link}
+unfoldable pub use Rattle.rv_machine.specs.Machine.{moved_to, with_link_after}
 pub use Rattle.rv_machine.specs.Registers.{register, with_register}
 pub use Rattle.rv_machine.specs.declared.memory.Size.{Size}
 pub use Rattle.rv_machine.specs.declared.observation.Event.{Event}

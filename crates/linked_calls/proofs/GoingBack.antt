@@ -3,7 +3,7 @@ use Rattle.std.proofs.Common.{◌≡◌, ℕ, ◌+◌, ◌%◌, ◌^◌, ◌<◌
 use Rattle.std.proofs.Math.Path.{fun_ext}
 use Rattle.linked_calls.proofs.Below.{MachineCode, goes_on, IsAt, jump_done, JumpRegister, moved_to, near_address, next}
 use Rattle.linked_calls.proofs.Below.{observed, register_target, sign_extended, State, sum_of, Step, step_of}
-use Rattle.linked_calls.proofs.Below.{with_link}
+use Rattle.linked_calls.proofs.Below.{with_link, with_link_after}
 
 either : (b : Bool) (v x : ℕ) → cond b x (cond b v x) ≡ x
 either true v x = refl
@@ -11,7 +11,7 @@ either false v x = refl
 
 -- a link that is put into x0 is none
 link_dropped : (s : State) (target : ℕ) → with_link s 0 target ≡ moved_to s target
-unfolding with_link moved_to
+unfolding with_link_after moved_to
 link_dropped s target =
     ap (λ (regs : ℕ → ℕ). record { pc = target; regs = regs; bytes = s.bytes })
     (fun_ext (λ r. either (nat_eq r 0) (next s) (s.regs r)))

@@ -8,12 +8,14 @@ use Rattle.rv_code.specs.declared.operations.LoadOperation.{LoadOperation}
 use Rattle.rv_machine.proofs.Face.{moved_to-bytes, with_link-bytes, with_value-bytes}
 use Rattle.rv_machine.specs.Effects.{effect_of, load_size, store_size}
 use Rattle.rv_machine.specs.Sizes.{byte_count}
-use Rattle.rv_machine.specs.Machine.{executes, here, loaded, StepEnding, stored, stops}
-unfoldable use Rattle.rv_machine.specs.Machine.{ending_of, moved_to, with_link, with_stored, with_value}
+use Rattle.rv_machine.specs.Machine.{ending_of, executes, here, loaded, StepEnding, stored, stops, with_link}
+use Rattle.rv_machine.specs.Machine.{with_stored, with_value}
+unfoldable use Rattle.rv_machine.specs.Machine.{ending_by, moved_to, with_stored_after}
 use Rattle.rv_machine.specs.declared.effects.Effect.{Effect}
 use Rattle.rv_machine.specs.declared.effects.Effect.TheVariants.{Branches, Breaks, Calls, Computes, Divides, Jumps, Loads}
 use Rattle.rv_machine.specs.declared.effects.Effect.TheVariants.{Multiplies, Passes, Stores}
 use Rattle.rv_machine.specs.declared.memory.Size.{Size}
+use Rattle.rv_machine.specs.declared.memory.Size.TheVariants.{Word}
 use Rattle.rv_machine.specs.declared.stops.Stop.TheVariants.{Misaligned}
 use Rattle.word.specs.declared.profile.Profile.{Profile}
 
@@ -33,23 +35,23 @@ module _ (s : State) (are : AreBytes s.bytes) where
   link_has rd target = subst AreBytes (sym (with_link-bytes s rd target)) are
 
   store_has : (n : Size) (a value : ℕ) → AreBytes (with_stored s n a value).bytes
-  unfolding with_stored
+  unfolding with_stored_after
   store_has n a value = number_stays s.bytes (byte_count n) a value are
 
   if_has : (b : Bool) (one other : StepEnding) → HasBytes one → HasBytes other → HasBytes (if b then one else other)
   if_has true one other first second = first
   if_has false one other first second = second
 
-  loaded_has : (operation : LoadOperation) (a rd : ℕ) (found : Option ℕ) → HasBytes (loaded s operation a rd found)
+  loaded_has : (operation : LoadOperation) (a rd : ℕ) (found : Option ℕ) → HasBytes (loaded Word s operation a rd found)
   loaded_has operation a rd (Some value) = value_has rd _
   loaded_has operation a rd None = tt
 
-  stored_has : (n : Size) (a value : ℕ) (found : Option ℕ) → HasBytes (stored s n a value found)
+  stored_has : (n : Size) (a value : ℕ) (found : Option ℕ) → HasBytes (stored Word s n a value found)
   stored_has n a value (Some old) = store_has n a value
   stored_has n a value None = tt
 
   ending_has : (profile : Profile) (effect : Effect) → HasBytes (ending_of profile effect s)
-  unfolding ending_of
+  unfolding ending_by
   ending_has profile (Computes rd value) = value_has rd value
   ending_has profile (Multiplies rd a b value) = value_has rd value
   ending_has profile (Divides rd a b value) = value_has rd value
@@ -58,11 +60,11 @@ module _ (s : State) (are : AreBytes s.bytes) where
   ending_has profile Passes = moved_has (next s)
   ending_has profile (Loads operation rd a) =
       let n = byte_count (load_size operation) in
-      if_has (a % n == 0) (loaded s operation a rd (number_at s.bytes n a)) (stops (here s) Misaligned)
+      if_has (a % n == 0) (loaded Word s operation a rd (number_at s.bytes n a)) (stops (here s) Misaligned)
       (loaded_has operation a rd (number_at s.bytes n a)) tt
   ending_has profile (Stores operation a value) =
       let n = byte_count (store_size operation) in
-      if_has (a % n == 0) (stored s (store_size operation) a value (number_at s.bytes n a)) (stops (here s) Misaligned)
+      if_has (a % n == 0) (stored Word s (store_size operation) a value (number_at s.bytes n a)) (stops (here s) Misaligned)
       (stored_has (store_size operation) a value (number_at s.bytes n a)) tt
   ending_has profile Calls = tt
   ending_has profile Breaks = tt

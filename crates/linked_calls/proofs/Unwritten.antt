@@ -20,17 +20,19 @@ use Rattle.rv_code.specs.declared.operations.UpperOperation.TheVariants.{Auipc, 
 use Rattle.rv_machine.proofs.Face.{moved_to-regs, with_link-regs, with_value-regs}
 use Rattle.rv_machine.specs.Effects.{effect_of, load_size, store_size}
 use Rattle.rv_machine.specs.Sizes.{byte_count}
-use Rattle.rv_machine.specs.Machine.{executes, here, loaded, StepEnding, stored, stops, word_at}
-unfoldable use Rattle.rv_machine.specs.Machine.{ending_of, moved_to, with_link, with_stored, with_value}
+use Rattle.rv_machine.specs.Machine.{ending_of, executes, here, loaded, StepEnding, stored, stops, with_stored}
+use Rattle.rv_machine.specs.Machine.{with_value, word_at}
+unfoldable use Rattle.rv_machine.specs.Machine.{ending_by, moved_to, with_stored_after}
 use Rattle.rv_machine.specs.declared.effects.Effect.{Effect}
 use Rattle.rv_machine.specs.declared.effects.Effect.TheVariants.{Branches, Breaks, Calls, Computes, Divides, Jumps, Loads}
 use Rattle.rv_machine.specs.declared.effects.Effect.TheVariants.{Multiplies, Passes, Stores}
 use Rattle.rv_machine.specs.declared.memory.Size.{Size}
+use Rattle.rv_machine.specs.declared.memory.Size.TheVariants.{Word}
 use Rattle.rv_machine.specs.declared.stops.Stop.TheVariants.{Misaligned}
 use Rattle.word.specs.declared.profile.Profile.{Profile}
 
 stored_regs : (s : State) (n : Size) (a value : ℕ) → (with_stored s n a value).regs ≡ s.regs
-unfolding with_stored
+unfolding with_stored_after
 stored_regs s n a value = refl
 
 neither : (one other : Bool) → (one || other) ≡ false → (one ≡ false) × (other ≡ false)
@@ -68,17 +70,17 @@ module _ (r : ℕ) where
   if_keeps false s one other first second = second
 
   loaded_keeps : (s : State) (operation : LoadOperation) (a rd : ℕ) (found : Option ℕ) → r ≢ rd
-      → Keeps s (loaded s operation a rd found)
+      → Keeps s (loaded Word s operation a rd found)
   loaded_keeps s operation a rd (Some value) other = value_keeps s rd _ other
   loaded_keeps s operation a rd None other = tt
 
-  stored_keeps : (s : State) (n : Size) (a value : ℕ) (found : Option ℕ) → Keeps s (stored s n a value found)
+  stored_keeps : (s : State) (n : Size) (a value : ℕ) (found : Option ℕ) → Keeps s (stored Word s n a value found)
   stored_keeps s n a value (Some old) = ap (λ (f : ℕ → ℕ). f r) (stored_regs s n a value)
   stored_keeps s n a value None = tt
 
   ending_keeps : (profile : Profile) (effect : Effect) (s : State) → LeavesIt effect
       → Keeps s (ending_of profile effect s)
-  unfolding ending_of
+  unfolding ending_by
   ending_keeps profile (Computes rd value) s other = value_keeps s rd value other
   ending_keeps profile (Multiplies rd a b value) s other = value_keeps s rd value other
   ending_keeps profile (Divides rd a b value) s other = value_keeps s rd value other
@@ -90,11 +92,11 @@ module _ (r : ℕ) where
   ending_keeps profile Passes s other = ap (λ (f : ℕ → ℕ). f r) (moved_to-regs s (next s))
   ending_keeps profile (Loads operation rd a) s other =
       let n = byte_count (load_size operation) in
-      if_keeps (a % n == 0) s (loaded s operation a rd (number_at s.bytes n a)) (stops (here s) Misaligned)
+      if_keeps (a % n == 0) s (loaded Word s operation a rd (number_at s.bytes n a)) (stops (here s) Misaligned)
       (loaded_keeps s operation a rd (number_at s.bytes n a) other) tt
   ending_keeps profile (Stores operation a value) s other =
       let n = byte_count (store_size operation) in
-      if_keeps (a % n == 0) s (stored s (store_size operation) a value (number_at s.bytes n a)) (stops (here s) Misaligned)
+      if_keeps (a % n == 0) s (stored Word s (store_size operation) a value (number_at s.bytes n a)) (stops (here s) Misaligned)
       (stored_keeps s (store_size operation) a value (number_at s.bytes n a)) tt
   ending_keeps profile Calls s other = tt
   ending_keeps profile Breaks s other = tt

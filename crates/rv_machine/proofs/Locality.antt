@@ -6,14 +6,16 @@ use Rattle.std.proofs.lemmas.Bool.{both_ways}
 use Rattle.rv_machine.specs.declared.effects.Effect.{Effect}
 use Rattle.rv_machine.specs.declared.effects.Effect.TheVariants.{Jumps, Branches, Loads, Stores, Calls, Breaks}
 use Rattle.rv_machine.specs.declared.memory.Size.{Size}
+use Rattle.rv_machine.specs.declared.memory.Size.TheVariants.{Word}
 use Rattle.rv_machine.specs.declared.observation.Observation.{Observation}
 use Rattle.rv_machine.specs.declared.stops.Stop.{Stop}
 use Rattle.rv_machine.specs.declared.stops.Stop.TheVariants.{AccessFault}
 use Rattle.rv_machine.specs.Apart.{Covers, Changes}
 use Rattle.rv_machine.specs.Bytes.{ByteMap, number_at, with_number}
 use Rattle.rv_machine.specs.Effects.{effect_of, load_size, store_size}
-use Rattle.rv_machine.specs.Machine.{State, MachineCode, StepEnding, goes_on, stops, loaded, stored, with_value}
-use Rattle.rv_machine.specs.Machine.{with_stored, with_link, moved_to, ending_of, Step, pc_misaligned, not_code}
+use Rattle.rv_machine.specs.Machine.{State, MachineCode, StepEnding, goes_on, stops, loaded, stored, with_value_after}
+use Rattle.rv_machine.specs.Machine.{with_stored_after, with_link_after, moved_to, ending_by, ending_of, Step}
+use Rattle.rv_machine.specs.Machine.{pc_misaligned, not_code}
 use Rattle.rv_machine.specs.Machine.{no_instruction, executes}
 use Rattle.rv_machine.specs.Sizes.{byte_count}
 use Rattle.rv_machine.specs.Below.{Profile}
@@ -71,18 +73,18 @@ either_same false one other = other
 
 module _ (s : State) (bytes : ByteMap) (covers : Covers s.bytes bytes) where
   load_same : (operation : _) (a rd n : ℕ) (value : Option ℕ) → number_at s.bytes n a ≡ value
-      → IsSameStep s bytes (loaded s operation a rd value)
-      (loaded (over bytes s) operation a rd (number_at bytes n a))
-  unfolding with_value
+      → IsSameStep s bytes (loaded Word s operation a rd value)
+      (loaded Word (over bytes s) operation a rd (number_at bytes n a))
+  unfolding with_value_after
   load_same operation a rd n (Some value) there =
       rw (number_at_covered s.bytes bytes covers n a (ap is_some there) ∙ there)
       (both_go refl refl (changes_nothing s.bytes bytes covers))
   load_same operation a rd n None none = reaches_out
 
   store_same : (size : Size) (a v : ℕ) (old : Option ℕ) → number_at s.bytes (byte_count size) a ≡ old
-      → IsSameStep s bytes (stored s size a v old)
-      (stored (over bytes s) size a v (number_at bytes (byte_count size) a))
-  unfolding with_stored
+      → IsSameStep s bytes (stored Word s size a v old)
+      (stored Word (over bytes s) size a v (number_at bytes (byte_count size) a))
+  unfolding with_stored_after
   store_same size a v (Some old) there =
       rw (number_at_covered s.bytes bytes covers (byte_count size) a (ap is_some there) ∙ there)
       (both_go refl refl (put_changes s.bytes bytes covers (byte_count size) a v (ap is_some there)))
@@ -90,7 +92,7 @@ module _ (s : State) (bytes : ByteMap) (covers : Covers s.bytes bytes) where
 
   effect_same : (profile : Profile) (e : Effect)
       → IsSameStep s bytes (ending_of profile e s) (ending_of profile e (over bytes s))
-  unfolding ending_of with_value with_link moved_to
+  unfolding ending_by with_value_after with_link_after moved_to
   effect_same profile (Jumps rd target) =
       either_same (nat_eq (target % 4) 0) (both_go refl refl (changes_nothing s.bytes bytes covers)) both_stop
   effect_same profile (Branches target) =

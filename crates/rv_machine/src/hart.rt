@@ -2,6 +2,7 @@
 
 ghost use Rattle.std.specs.Prelude.{◌≡◌, ◌+◌, ◌%◌, ◌^◌, slice_index};
 
+use crate::memory::Size;
 use rv_code::Reg;
 use std::marker::Model;
 use word::Width;
@@ -27,6 +28,7 @@ impl Model for Hart {
 impl Hart {
     ghost use Rattle.rv_machine.specs.Harts.{pc_of, regs_of};
     ghost use Rattle.rv_machine.specs.Registers.{register, with_register, initial_registers};
+    ghost use Rattle.rv_machine.specs.Sizes.{byte_count};
 
     /// A hart at this program counter, with this number in x2 and 0 in the other registers.
     pub fn new(pc: u32, x2: u32) -> Hart
@@ -72,12 +74,13 @@ impl Hart {
         }
     }
 
-    // Goes on to the next instruction.
-    pub(crate) fn advance(&mut self)
-        ensures pc { pc_of self.new ≡ (pc_of self.old + 4) % 2 ^ 32 }
+    // Goes on to the address behind an instruction of this length.
+    #[inline(always)]
+    pub(crate) fn advance(&mut self, length: Size)
+        ensures pc { pc_of self.new ≡ (pc_of self.old + byte_count length) % 2 ^ 32 }
         ensures registers { regs_of self.new ≡ regs_of self.old }
     {
-        self.pc = self.next();
+        self.pc = self.next(length);
     }
 
     // Goes on to this address.
@@ -88,10 +91,11 @@ impl Hart {
         self.pc = target;
     }
 
-    // The next instruction's address.
-    pub(crate) fn next(&self) -> u32
-        ensures { result ≡ (pc_of self.now + 4) % 2 ^ 32 }
+    // The address behind an instruction of this length.
+    #[inline(always)]
+    pub(crate) fn next(&self, length: Size) -> u32
+        ensures { result ≡ (pc_of self.now + byte_count length) % 2 ^ 32 }
     {
-        word::add(Width::W32, self.pc, 4)
+        word::add(Width::W32, self.pc, length.bytes())
     }
 }

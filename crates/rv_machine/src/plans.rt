@@ -3,11 +3,12 @@
 ghost use Rattle.std.specs.Prelude.{◌≡◌, ◌≢◌, ℕ, ◌%◌, Some, None};
 ghost use Rattle.rv_machine.specs.Bytes.{ByteMap};
 ghost use Rattle.rv_machine.specs.Decoded.{spelled, IsDecoded};
-ghost use Rattle.rv_machine.specs.Effects.{load_size, store_size};
+ghost use Rattle.rv_machine.specs.Effects.{effect_of, load_size, store_size};
 ghost use Rattle.rv_machine.specs.Harts.{state_of};
-ghost use Rattle.rv_machine.specs.Machine.{State, Step, word_at, product_shown, ending_of};
+ghost use Rattle.rv_machine.specs.Machine.{State, Step, word_at, product_shown, ending_by};
 ghost use Rattle.rv_machine.specs.Plans.{ends_as, stop_of, IsPossible};
 ghost use Rattle.rv_machine.specs.Regions.{code_of};
+ghost use Rattle.rv_machine.specs.Sizes.{byte_count};
 ghost use Rattle.rv_machine.specs.Below.{Profile};
 
 use crate::code::{CodeRegion, CodeWord};
@@ -16,8 +17,31 @@ use crate::hart::Hart;
 use crate::memory::{Memory, Size};
 use crate::observation::Event;
 use crate::stops::Stop;
-use rv_code::{LoadOperation, Reg, StoreOperation};
+use rv_code::{Instr, LoadOperation, Reg, StoreOperation};
 use word::Profile;
+
+/// How long an instruction is, of what the addresses of instructions are multiples in the code that it stands in, and
+/// who observes it run.
+#[derive(Clone, Copy)]
+pub struct InstructionForm {
+    pub length: Size,
+    pub alignment: Size,
+    pub profile: Profile,
+}
+
+impl InstructionForm {
+    /// That of an instruction in code of words, which is one of them.
+    #[inline(always)]
+    pub fn word(profile: Profile) -> InstructionForm
+        ensures { result ≡ record { length = Size.Word; alignment = Size.Word; profile = profile } }
+    {
+        InstructionForm {
+            length: Size::Word,
+            alignment: Size::Word,
+            profile,
+        }
+    }
+}
 
 /// What a step changes, where the recorder takes what it shows.
 #[derive(Clone, Copy)]
@@ -56,9 +80,10 @@ fn unseen(change: Change) -> Plan
 /// The plan of a load. For each size there is code of its own.
 #[inline(always)]
 fn load_plan<M: Memory>(memory: &M, operation: LoadOperation, rd: Reg, a: u32) -> Plan
-    ensures ends { (profile : Profile) (pc : ℕ) (regs : ℕ → ℕ)
+    ensures ends { (length alignment : Size) (profile : Profile) (pc : ℕ) (regs : ℕ → ℕ)
         → let s : State = record { pc = pc; regs = regs; bytes = M.bytes memory.now } in
-        ends_as result.event result.change s ≡ ending_of profile (Effect.Loads operation rd a) s }
+        ends_as length result.event result.change s
+        ≡ ending_by length alignment profile (Effect.Loads operation rd a) s }
     ensures possible { IsPossible (M.bytes memory.now) result.change }
     ensures calm { stop_of result.change ≢ Some Stop.RecorderRefused }
 {
@@ -71,7 +96,7 @@ fn load_plan<M: Memory>(memory: &M, operation: LoadOperation, rd: Reg, a: u32) -
 
 /// The plan of a load of this size.
 #[inline(always)]
-#[tactic(auto, unfolding(crate::specs::Machine::ending_of))]
+#[tactic(auto, unfolding(crate::specs::Machine::ending_by))]
 fn sized_load_plan<M: Memory>(
     memory: &M,
     size: Size,
@@ -80,9 +105,10 @@ fn sized_load_plan<M: Memory>(
     a: u32,
 ) -> Plan
     requires { size ≡ load_size operation }
-    ensures ends { (profile : Profile) (pc : ℕ) (regs : ℕ → ℕ)
+    ensures ends { (length alignment : Size) (profile : Profile) (pc : ℕ) (regs : ℕ → ℕ)
         → let s : State = record { pc = pc; regs = regs; bytes = M.bytes memory.now } in
-        ends_as result.event result.change s ≡ ending_of profile (Effect.Loads operation rd a) s }
+        ends_as length result.event result.change s
+        ≡ ending_by length alignment profile (Effect.Loads operation rd a) s }
     ensures possible { IsPossible (M.bytes memory.now) result.change }
     ensures calm { stop_of result.change ≢ Some Stop.RecorderRefused }
 {
@@ -101,9 +127,10 @@ fn sized_load_plan<M: Memory>(
 /// The plan of a store. For each size there is code of its own.
 #[inline(always)]
 fn store_plan<M: Memory>(memory: &M, operation: StoreOperation, a: u32, value: u32) -> Plan
-    ensures ends { (profile : Profile) (pc : ℕ) (regs : ℕ → ℕ)
+    ensures ends { (length alignment : Size) (profile : Profile) (pc : ℕ) (regs : ℕ → ℕ)
         → let s : State = record { pc = pc; regs = regs; bytes = M.bytes memory.now } in
-        ends_as result.event result.change s ≡ ending_of profile (Effect.Stores operation a value) s }
+        ends_as length result.event result.change s
+        ≡ ending_by length alignment profile (Effect.Stores operation a value) s }
     ensures possible { IsPossible (M.bytes memory.now) result.change }
     ensures calm { stop_of result.change ≢ Some Stop.RecorderRefused }
 {
@@ -116,7 +143,7 @@ fn store_plan<M: Memory>(memory: &M, operation: StoreOperation, a: u32, value: u
 
 /// The plan of a store of this size.
 #[inline(always)]
-#[tactic(auto, unfolding(crate::specs::Machine::ending_of))]
+#[tactic(auto, unfolding(crate::specs::Machine::ending_by))]
 fn sized_store_plan<M: Memory>(
     memory: &M,
     size: Size,
@@ -125,9 +152,10 @@ fn sized_store_plan<M: Memory>(
     value: u32,
 ) -> Plan
     requires { size ≡ store_size operation }
-    ensures ends { (profile : Profile) (pc : ℕ) (regs : ℕ → ℕ)
+    ensures ends { (length alignment : Size) (profile : Profile) (pc : ℕ) (regs : ℕ → ℕ)
         → let s : State = record { pc = pc; regs = regs; bytes = M.bytes memory.now } in
-        ends_as result.event result.change s ≡ ending_of profile (Effect.Stores operation a value) s }
+        ends_as length result.event result.change s
+        ≡ ending_by length alignment profile (Effect.Stores operation a value) s }
     ensures possible { IsPossible (M.bytes memory.now) result.change }
     ensures calm { stop_of result.change ≢ Some Stop.RecorderRefused }
 {
@@ -143,16 +171,17 @@ fn sized_store_plan<M: Memory>(
     }
 }
 
-/// The plan of a jump or a taken branch, whose target has to be a multiple of 4.
+/// The plan of a jump or a taken branch in code of this alignment, of which its target has to be a multiple.
 #[inline(always)]
-fn arriving(target: u32, change: Change) -> Plan
+fn arriving(alignment: Size, target: u32, change: Change) -> Plan
     requires { stop_of change ≡ None }
-    ensures arrives { target % 4 ≡ 0 → result ≡ record { event = None; change = change } }
-    ensures misaligned { target % 4 ≢ 0 → result ≡ record { event = None; change = Change.Stops Stop.Misaligned } }
+    ensures arrives { target % byte_count alignment ≡ 0 → result ≡ record { event = None; change = change } }
+    ensures misaligned { target % byte_count alignment ≢ 0
+        → result ≡ record { event = None; change = Change.Stops Stop.Misaligned } }
     ensures possible { (bytes : ByteMap) → IsPossible bytes change → IsPossible bytes result.change }
     ensures calm { stop_of result.change ≢ Some Stop.RecorderRefused }
 {
-    if target % 4 == 0 {
+    if target % alignment.bytes() == 0 {
         unseen(change)
     } else {
         unseen(Change::Stops(Stop::Misaligned))
@@ -170,33 +199,51 @@ fn product_event(profile: Profile, a: u32, b: u32) -> Option<Event>
     }
 }
 
-/// The plan of an instruction of the code that does this.
+/// The plan of an instruction of this form that does this.
 #[inline(always)]
-#[tactic(auto, unfolding(crate::specs::Machine::ending_of))]
-fn effect_plan<M: Memory>(hart: &Hart, code: &CodeRegion, effect: Effect, memory: &M) -> Plan
+#[tactic(auto, unfolding(crate::specs::Machine::ending_by))]
+fn effect_plan<M: Memory>(hart: &Hart, form: InstructionForm, effect: Effect, memory: &M) -> Plan
     ensures ends { let s = state_of hart.now (M.bytes memory.now) in
-        ends_as result.event result.change s ≡ ending_of (code_of code.now).profile effect s }
+        ends_as form.length result.event result.change s
+        ≡ ending_by form.length form.alignment form.profile effect s }
     ensures possible { IsPossible (M.bytes memory.now) result.change }
     ensures calm { stop_of result.change ≢ Some Stop.RecorderRefused }
 {
     match effect {
         Effect::Computes(rd, value) => unseen(Change::Writes(rd, value)),
         Effect::Multiplies(rd, a, b, value) => Plan {
-            event: product_event(code.profile(), a, b),
+            event: product_event(form.profile, a, b),
             change: Change::Writes(rd, value),
         },
         Effect::Divides(rd, a, b, value) => Plan {
             event: Some(Event::Div(a, b)),
             change: Change::Writes(rd, value),
         },
-        Effect::Jumps(rd, target) => arriving(target, Change::Links(rd, target)),
-        Effect::Branches(target) => arriving(target, Change::Goes(target)),
-        Effect::Passes => unseen(Change::Goes(hart.next())),
+        Effect::Jumps(rd, target) => arriving(form.alignment, target, Change::Links(rd, target)),
+        Effect::Branches(target) => arriving(form.alignment, target, Change::Goes(target)),
+        Effect::Passes => unseen(Change::Goes(hart.next(form.length))),
         Effect::Loads(operation, rd, a) => load_plan(memory, operation, rd, a),
         Effect::Stores(operation, a, value) => store_plan(memory, operation, a, value),
         Effect::Calls => unseen(Change::Stops(Stop::Ecall)),
         Effect::Breaks => unseen(Change::Stops(Stop::Break)),
     }
+}
+
+/// The plan of this instruction, of this form.
+#[inline(always)]
+pub(crate) fn instruction_plan<M: Memory>(
+    hart: &Hart,
+    instr: &Instr,
+    form: InstructionForm,
+    memory: &M,
+) -> Plan
+    ensures ends { let s = state_of hart.now (M.bytes memory.now) in
+        ends_as form.length result.event result.change s
+        ≡ ending_by form.length form.alignment form.profile (effect_of instr.now s.pc s.regs) s }
+    ensures possible { IsPossible (M.bytes memory.now) result.change }
+    ensures calm { stop_of result.change ≢ Some Stop.RecorderRefused }
+{
+    effect_plan(hart, form, effect_of(hart, instr), memory)
 }
 
 /// The plan of a step, where this word of the code stands at the hart's program counter.
@@ -209,12 +256,14 @@ pub(crate) fn plan_of<M: Memory>(
 ) -> Plan
     ensures step { let s = state_of hart.now (M.bytes memory.now) in
         s.pc % 4 ≡ 0 → word_at (code_of code.now) s.pc ≡ Some (spelled word.now) → IsDecoded word.now
-        → Step (code_of code.now) s (ends_as result.event result.change s) }
+        → Step (code_of code.now) s (ends_as Size.Word result.event result.change s) }
     ensures possible { IsPossible (M.bytes memory.now) result.change }
     ensures calm { stop_of result.change ≢ Some Stop.RecorderRefused }
 {
     match word {
-        CodeWord::Instruction(instr) => effect_plan(hart, code, effect_of(hart, instr), memory),
+        CodeWord::Instruction(instr) => {
+            instruction_plan(hart, instr, InstructionForm::word(code.profile()), memory)
+        }
         CodeWord::Other(_) => unseen(Change::Stops(Stop::Illegal)),
     }
 }

@@ -14,7 +14,7 @@ use Rattle.codegen.specs.Below.{Load, load_size, loaded_value, LoadOperation, Lu
 use Rattle.codegen.specs.Below.{State, stays, Store, store_size, StoreOperation, Upper, with_number, with_stored}
 use Rattle.codegen.proofs.program_logic_lemmas.Below.{Leads-append, upper_leads, immediate_leads, shift_leads}
 use Rattle.codegen.proofs.program_logic_lemmas.Below.{register_leads, load_leads, store_leads}
-use Rattle.rv_machine.specs.Machine.{with_value}
+use Rattle.rv_machine.specs.Machine.{with_stored_after, with_value, with_value_after}
 use Rattle.rv_machine.specs.declared.observation.Event.TheVariants as event
 
 pub both_left : (a b : Bool) → (a && b) ≡ true → a ≡ true
@@ -35,7 +35,7 @@ range works i h = search (arith, nat_tests)
 module _ (code : MachineCode) (p : ℕ) (below : p + 4 < 2 ^ 32) (c : Contents) where
   -- at the next instruction
   valued : (rd value : ℕ) → with_value (state_at p c) rd value ≡ state_at (p + 4) (with_result rd value c)
-  unfolding with_value
+  unfolding with_value_after
   valued rd value =
       let e : (p + 4) % 2 ^ 32 ≡ p + 4 = omega arith in
       ap (λ q. state_at q (with_result rd value c)) e
@@ -46,7 +46,7 @@ module _ (code : MachineCode) (p : ℕ) (below : p + 4 < 2 ^ 32) (c : Contents) 
         regs = c.regs;
         bytes = with_number c.bytes (byte_count (store_size operation)) a value;
       })
-  unfolding with_stored
+  unfolding with_stored_after
   stored operation a value =
       let e : (p + 4) % 2 ^ 32 ≡ p + 4 = omega arith in
       ap
