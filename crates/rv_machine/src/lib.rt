@@ -28,7 +28,7 @@ pub mod stops;
 pub mod system;
 pub mod turn_recorder;
 
-pub use code::CodeRegion;
+pub use code::{CodeRegion, CodeWord};
 pub use effects::{Effect, address, load_size, store_size};
 pub use flat::FlatMemory;
 pub use hart::Hart;
