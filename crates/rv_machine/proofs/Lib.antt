@@ -4,6 +4,7 @@ pub mod Calls
 pub mod EntryLaws
 pub mod Fresh
 pub mod Halting
+pub mod LoadedBytes
 pub mod Locality
 pub mod Pages
 pub mod Pairs

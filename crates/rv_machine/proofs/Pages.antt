@@ -1,7 +1,7 @@
 -- Bytes of pages, and of ranges.
 use Rattle.std.specs.Prelude.{is_some, slice_get}
 use Rattle.std.proofs.Common.{◌≡◌, ℕ, zero, suc, ◌+◌, ◌-◌, ◌^◌, ◌<◌, ◌≤◌, true, List, [], ◌∷◌, ◌++◌, take, get_or}
-use Rattle.std.proofs.Common.{length, Option, Some, None, refl, sym, ap, ap₂, ◌∙◌, inl, inr, arith}
+use Rattle.std.proofs.Common.{drop, length, Option, Some, None, refl, sym, ap, ap₂, ◌∙◌, inl, inr, arith}
 use Rattle.std.proofs.Math.ListN.{set}
 use Rattle.std.proofs.Math.Path.{fun_ext}
 use Rattle.std.proofs.lemmas.Bool.{cases_lt, le-leb, lt-leb, lt-ltb, le-ltb}
@@ -79,6 +79,14 @@ pub first_at : (memory : PagedMemory) (page : FlatMemory) → page ≡ get_or me
 first_at memory page read =
     let some : 0 < length memory.pages.items = omega (arith, memory.first, memory.pages.ok.0) in
     slice_get_read memory.pages.items _ _ page refl some read
+
+-- a first page without data has none in front of the others
+pub behind_empty : (pages : List FlatMemory) (page : FlatMemory) (a : ℕ) → slice_get pages 0 ≡ Some page
+    → flat_bytes page a ≡ None → bytes_in (drop 1 pages) a ≡ bytes_in pages a
+behind_empty [] page a at none = cc
+behind_empty (p ∷ pages) page a at none =
+    let same : p ≡ page = cc in
+    sym (ap (λ o. first_of o (bytes_in pages a)) (ap (λ q. flat_bytes q a) same ∙ none))
 
 -- the page that has all bytes of a number, where none before it has one of them
 module _ (pages : List FlatMemory) (i : ℕ) (page : FlatMemory) (n a : ℕ) (at : slice_get pages i ≡ Some page)

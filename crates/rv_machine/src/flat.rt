@@ -17,7 +17,7 @@ pub struct FlatMemory {
 }
 
 impl FlatMemory {
-    ghost use Rattle.rv_machine.specs.Flat.{flat_bytes};
+    ghost use Rattle.rv_machine.specs.Flat.{flat_bytes, loaded_bytes};
     ghost use Rattle.rv_machine.specs.Bytes.{number_at, with_number, zeros};
 
     /// So many zero bytes from the base on.
@@ -27,6 +27,31 @@ impl FlatMemory {
     {
         let bytes = vec![in alloc; 0u8; bytes as usize]?;
         Ok(FlatMemory { base, bytes })
+    }
+
+    /// So many bytes from the base on: these, and zeros behind them.
+    pub fn with_bytes(
+        alloc: Global,
+        base: u32,
+        size: u32,
+        bytes: &[u8],
+    ) -> Result<FlatMemory, AllocError>
+        requires within { base + size ≤ 2 ^ 32 }
+        requires fits { length bytes.now ≤ size }
+        ensures { IfOk result (λ memory. flat_bytes memory ≡ loaded_bytes base size bytes.now) }
+    {
+        let mut memory = FlatMemory::new(alloc, base, size)?;
+        for k in 0..bytes.len() {
+            memory.store(base + k as u32, Size::Byte, u32::from(bytes[k]));
+        }
+        Ok(memory)
+    }
+
+    // Whether there is no byte.
+    pub(crate) fn is_empty(&self) -> bool
+        ensures { result ≡ true → (a : ℕ) → flat_bytes self.now a ≡ None }
+    {
+        self.bytes.is_empty()
     }
 
     // Whether one of these bytes is data.

@@ -1,11 +1,11 @@
 // A memory whose data are ranges of addresses, in pages.
 
 ghost use Rattle.std.specs.Prelude.{◌≡◌, ℕ, ◌+◌, ◌^◌, ◌≤◌, ◌<◌, true, false, vec_len, [], ◌∷◌, Some, None, is_some};
-ghost use Rattle.std.specs.Prelude.{slice_get, take, IfOk, OnOk, IfSome, IsSome, IsTrue};
+ghost use Rattle.std.specs.Prelude.{length, slice_get, take, IfOk, OnErr, OnOk, IfSome, IsSome, IsTrue};
 ghost use Rattle.std.specs.List.{All};
 ghost use Rattle.rv_machine.specs.declared.flat.FlatMemory.{FlatMemory};
 ghost use Rattle.rv_machine.specs.Bytes.{number_at, with_number};
-ghost use Rattle.rv_machine.specs.Flat.{flat_bytes};
+ghost use Rattle.rv_machine.specs.Flat.{flat_bytes, loaded_bytes};
 ghost use Rattle.rv_machine.specs.Sizes.{byte_count};
 
 use crate::flat::FlatMemory;
@@ -74,6 +74,29 @@ impl PagedMemory {
         }
         PagedMemory::add_first(alloc, &mut pages)?;
         Ok(PagedMemory { pages })
+    }
+
+    /// Makes so many bytes from the address on data, in one page: these, and zeros behind them. Addresses that are
+    /// data already stay as they are. Where memory is wanting nothing changes.
+    pub fn add(
+        &mut self,
+        alloc: Global,
+        address: u32,
+        size: u32,
+        bytes: &[u8],
+    ) -> Result<(), AllocError>
+        requires within { address + size ≤ 2 ^ 32 }
+        requires fits { length bytes.now ≤ size }
+        ensures added { OnOk result ((a : ℕ)
+            → paged_bytes self.new a ≡ first_of (paged_bytes self.old a) (loaded_bytes address size bytes.now a)) }
+        ensures unchanged { OnErr result (paged_bytes self.new ≡ paged_bytes self.old) }
+    {
+        let page = FlatMemory::with_bytes(alloc, address, size, bytes)?;
+        self.pages.push(page)?;
+        if self.pages[0].is_empty() {
+            self.pages.remove(0);
+        }
+        Ok(())
     }
 
     // The page that has all these bytes, where no page before it has one of them.
