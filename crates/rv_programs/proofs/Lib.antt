@@ -1,5 +1,10 @@
 pub mod Calls
+pub mod CodeSteps
+pub mod Endings
+pub mod Fetching
 pub mod Guards
 pub mod Images
 pub mod Loading
+pub mod Parcels
 pub mod RunLaws
+pub mod Standing

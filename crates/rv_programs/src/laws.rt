@@ -1,15 +1,26 @@
 // Laws of programs, which hold of the definitions alone.
 
 ghost use Rattle.std.specs.Prelude.{◌≡◌, ◌≢◌, ◌↔◌, ℕ, ◌+◌, ◌≤◌, true, false, List, ◌∷◌, ◌++◌, length};
-ghost use Rattle.rv_programs.specs.Below.{Halts, here, Leads, MachineCode, Observation, RunsWithin, State, Step};
-ghost use Rattle.rv_programs.specs.Below.{StepEnding, Stop};
-ghost use Rattle.rv_programs.specs.Programs.{allows_shown, image_program, MachineProgram, ProgramStep};
+ghost use Rattle.rv_programs.specs.Below.{Halts, here, Instr, IsInstr, Leads, MachineCode, Observation, RunsWithin};
+ghost use Rattle.rv_programs.specs.Below.{Size, State, Step, StepEnding, Stop};
+ghost use Rattle.rv_programs.specs.Code.{ProgramCode, StandsIn};
+ghost use Rattle.rv_programs.specs.Programs.{allows_shown, CodeStep, image_program, MachineProgram, ProgramStep};
 ghost use Rattle.rv_programs.specs.Runs.{ProgramLeads, ProgramHalts, ProgramRuns};
 
 use rv_machine::Stop;
 
+/// At an address of code one instruction stands at most, of one length, and its fields are in range.
+pub fn one_instruction_stands()
+    ensures one { (code : ProgramCode) (p : ℕ) (i j : Instr) (length other : Size)
+        → StandsIn code p i length → StandsIn code p j other → (i ≡ j) × (length ≡ other) }
+    ensures in_range { (code : ProgramCode) (p : ℕ) (i : Instr) (length : Size)
+        → StandsIn code p i length → IsInstr i }
+{}
+
 /// The steps and the runs of an image, as a program, are those of the machine over its code.
 pub fn images_are_programs()
+    ensures code { (code : MachineCode) (s : State) (ending : StepEnding)
+        → CodeStep (ProgramCode.words code) s ending ↔ Step code s ending }
     ensures step { (code : MachineCode) (s : State) (ending : StepEnding)
         → ProgramStep (image_program code) s ending ↔ Step code s ending }
     ensures leads { (code : MachineCode) (n : ℕ) (s t : State) (seen : List Observation)
@@ -20,18 +31,18 @@ pub fn images_are_programs()
         → ProgramRuns (image_program code) budget s seen stop t ↔ RunsWithin code budget s seen stop t }
 {}
 
-/// What is refused is stores alone: a step that goes on is the machine's, and one that the machine makes is made unless
+/// What is refused is stores alone: a step that goes on is that of its code, and one that its code makes is made unless
 /// it shows a store to a byte that may not be stored to.
 pub fn stores_alone_are_refused()
     ensures goes_on { (program : MachineProgram) (s t : State) (o : Observation)
         → ProgramStep program s (StepEnding.goes_on o t)
-        ↔ Step (program.code s.pc) s (StepEnding.goes_on o t) × (allows_shown program.writable o.event ≡ true) }
+        ↔ CodeStep (program.code s.pc) s (StepEnding.goes_on o t) × (allows_shown program.writable o.event ≡ true) }
     ensures refused { (program : MachineProgram) (s t : State) (o : Observation)
-        → Step (program.code s.pc) s (StepEnding.goes_on o t)
+        → CodeStep (program.code s.pc) s (StepEnding.goes_on o t)
         → allows_shown program.writable o.event ≡ false
         → ProgramStep program s (StepEnding.stops (here s) Stop.AccessFault) }
     ensures stops { (program : MachineProgram) (s : State) (seen : List Observation) (stop : Stop)
-        → Step (program.code s.pc) s (StepEnding.stops seen stop)
+        → CodeStep (program.code s.pc) s (StepEnding.stops seen stop)
         → ProgramStep program s (StepEnding.stops seen stop) }
 {}
 
