@@ -1,8 +1,8 @@
 -- By how much covered states shift: where the amounts are seen, by what is known.
 use Rattle.std.specs.Prelude.{◌||◌, not, if◌then◌else◌}
 use Rattle.std.proofs.Common.{◌≡◌, ℕ, zero, suc, ◌%◌, Bool, true, false, List, [], ◌∷◌, ◌++◌, refl, sym, ap₂, ◌∙◌, inl, inr}
-use Rattle.certified_runs.specs.Below.{goes_on, Instr, MachineProgram, Observation, Profile, ProgramStep, Register}
-use Rattle.certified_runs.specs.Below.{register, StandsAt, State, StepEnding, Stop, stops}
+use Rattle.certified_runs.specs.Below.{goes_on, Instr, MachineProgram, Observation, Profile, profile_of, ProgramStep}
+use Rattle.certified_runs.specs.Below.{Register, register, StandsAt, State, StepEnding, Stop, stops}
 use Rattle.certified_runs.proofs.Below.{goes_on-determined, goes_on≢stops, step_of_state}
 use Rattle.certified_runs.specs.Amounts.{is_shift, amounts_of, ShiftsBy, spent, halts, steps_on}
 use Rattle.certified_runs.specs.Known.{KnownState, part, Covers}
@@ -75,7 +75,7 @@ all_step {program} {k = k} {o = o} shown (decided {t = t} i at sure step) rest =
   λ s covers.
       let first = leads_kept program k s covers o (known_after i k t) (decided i at sure step) in
       let there : StandsAt program s.pc i = rw covers.pc at in
-      rw (sym (amounts_same k s covers (program.code k.state.pc).profile i shown sure))
+      rw (sym (amounts_same k s covers (profile_of (program.code k.state.pc)) i shown sure))
       (steps_on i there first.1 (rest first.0 first.2)),
 )
 

@@ -1,10 +1,7 @@
 -- What these proofs take from the proofs of the crates below, in one place.
 pub use Rattle.rv_machine.proofs.Face.{
   IsOwn,
-  IsSameStep,
-  both_go,
   count-few,
-  effect_own,
   entries_of-append,
   entry_count-append,
   goes_own,
@@ -13,12 +10,12 @@ pub use Rattle.rv_machine.proofs.Face.{
   is_some-with_number,
   place,
   stops_own,
-  step_same,
   with_number_inside,
   with_number_outside,
 }
-pub use Rattle.rv_machine.proofs.RunLaws.{Step-determined as machine_determined}
-pub use Rattle.rv_programs.proofs.Guards.{machine_step, stops_so}
+pub use Rattle.rv_programs.proofs.CodeSteps.{CodeStep-determined}
+pub use Rattle.rv_programs.proofs.Endings.{ending_own}
+pub use Rattle.rv_programs.proofs.Guards.{code_step, executed, stops_so}
 pub use Rattle.rv_programs.proofs.RunLaws.{
   Runs-determined,
   Runs-more,
@@ -30,3 +27,4 @@ pub use Rattle.rv_programs.proofs.RunLaws.{
   step_of_state,
   step_stops,
 }
+pub use Rattle.rv_programs.proofs.Standing.{one_stands, stands_aligned, stands_in_code, stands_in_range}

@@ -5,12 +5,12 @@ use Rattle.std.proofs.Common.{subst, ap, ◌∙◌, inl, inr, arith}
 use Rattle.std.proofs.lemmas.Bool.{and_parts, eq-eqb, eqb-true, le-leb, le-ltb, or_cases}
 use Rattle.std.proofs.lemmas.Nat.{mod_below, pow_pos}
 use Rattle.certified_runs.specs.Below.{address_of, Branch, branch_target, Branches, byte_count, ByteMap, Divide, Ebreak}
-use Rattle.certified_runs.specs.Below.{Ecall, effect_of, StepEnding, ending_of, Fence, goes_on, holds, Immediate, Instr}
+use Rattle.certified_runs.specs.Below.{Ecall, effect_of, StepEnding, ending_by, Fence, goes_on, holds, Immediate, Instr}
 use Rattle.certified_runs.specs.Below.{IsInstr, Jump, jump_target, JumpRegister, Load, load_size, loaded, loaded_value}
-use Rattle.certified_runs.specs.Below.{moved_to, Multiply, next, number_at, Observation, P1, P2, Passes, product_shown}
+use Rattle.certified_runs.specs.Below.{moved_to, Multiply, next_after, number_at, Observation, P1, P2, Passes, product_shown}
 use Rattle.certified_runs.specs.Below.{Profile, Register, register, register_target, Shift, sign_extended, State, Stop}
-use Rattle.certified_runs.specs.Below.{stops, Store, store_size, stored, StoreOperation, Upper, with_link}
-use Rattle.certified_runs.specs.Below.{with_stored, with_value}
+use Rattle.certified_runs.specs.Below.{stops, Store, store_size, stored, StoreOperation, Size, Upper}
+use Rattle.certified_runs.specs.Below.{with_link_after, with_stored_after, with_value_after}
 use Rattle.rv_code.specs.Operations.{divide_value, immediate_value, multiply_value, register_value, shift_value}
 use Rattle.rv_code.specs.Operations.{upper_value}
 use Rattle.rv_code.specs.Signed.{signed}
@@ -101,8 +101,8 @@ changed k t registers bytes = record { state = t; registers = registers; bytes =
 abbrev at_same_place : KnownState → (ℕ → ℕ) → ByteMap → State
 at_same_place k regs bytes = record { pc = k.state.pc; regs = regs; bytes = bytes }
 
-module _ (k : KnownState) (regs : ℕ → ℕ) (bytes : ByteMap) (covers : Covers k (at_same_place k regs bytes))
-    (words : AreWords k (at_same_place k regs bytes)) where
+module _ (length alignment : Size) (k : KnownState) (regs : ℕ → ℕ) (bytes : ByteMap)
+    (covers : Covers k (at_same_place k regs bytes)) (words : AreWords k (at_same_place k regs bytes)) where
   fits : (r : ℕ) → register k.state.regs r < 2 ^ 32
   fits r = words.known.registers r
 
@@ -120,9 +120,9 @@ module _ (k : KnownState) (regs : ℕ → ℕ) (bytes : ByteMap) (covers : Cover
   both_same r1 r2 h = both_known (covers.registers r1) (covers.registers r2) h
 
   value_covered : (rd v v' mask : ℕ) → Agree mask v v' → v < 2 ^ 32 → v' < 2 ^ 32
-      → Covers (changed k (with_value k.state rd v) (with_register_unknown k.registers rd mask) k.bytes)
-      (with_value (at_same_place k regs bytes) rd v')
-  unfolding with_value
+      → Covers (changed k (with_value_after length k.state rd v) (with_register_unknown k.registers rd mask) k.bytes)
+      (with_value_after length (at_same_place k regs bytes) rd v')
+  unfolding with_value_after
   value_covered rd v v' mask agree v-fits v'-fits = record {
     pc = refl;
     registers = λ r. pick_agrees (nat_eq r 0) (nat_eq r rd) (k.registers r) mask (k.state.regs r) (regs r) v v'
@@ -143,12 +143,12 @@ module _ (k : KnownState) (regs : ℕ → ℕ) (bytes : ByteMap) (covers : Cover
   }
 
   link_covered : (rd target : ℕ)
-      → Covers (changed k (with_link k.state rd target) (with_register_unknown k.registers rd 0) k.bytes)
-      (with_link (at_same_place k regs bytes) rd target)
-  unfolding with_link
+      → Covers (changed k (with_link_after length k.state rd target) (with_register_unknown k.registers rd 0) k.bytes)
+      (with_link_after length (at_same_place k regs bytes) rd target)
+  unfolding with_link_after
   link_covered rd target =
-      let n = next k.state in
-      let n-fits : n < 2 ^ 32 = mod_below (k.state.pc + 4) (2 ^ 32) (pow_pos 32) in
+      let n = next_after length k.state in
+      let n-fits : n < 2 ^ 32 = mod_below (k.state.pc + byte_count length) (2 ^ 32) (pow_pos 32) in
       record {
         pc = refl;
         registers = λ r. pick_agrees (nat_eq r 0) (nat_eq r rd) (k.registers r) 0 (k.state.regs r) (regs r) n n
@@ -186,8 +186,8 @@ module _ (k : KnownState) (regs : ℕ → ℕ) (bytes : ByteMap) (covers : Cover
   load_kept : (operation : LoadOperation) (rd rs1 offset : ℕ) (value value' : Option ℕ)
       → let n = byte_count (load_size operation) in let a = address_of k.state.regs rs1 offset in
       number_at k.state.bytes n a ≡ value → number_at bytes n a ≡ value' → is_some value' ≡ is_some value
-      → StaysCovered (Load operation rd rs1 offset) k (loaded k.state operation a rd value)
-      (loaded (at_same_place k regs bytes) operation a rd value')
+      → StaysCovered (Load operation rd rs1 offset) k (loaded length k.state operation a rd value)
+      (loaded length (at_same_place k regs bytes) operation a rd value')
   load_kept operation rd rs1 offset (Some v) (Some v') there there' extent =
       let size = load_size operation in
       let a = address_of k.state.regs rs1 offset in
@@ -205,9 +205,9 @@ module _ (k : KnownState) (regs : ℕ → ℕ) (bytes : ByteMap) (covers : Cover
       → let n = store_size operation in let a = address_of k.state.regs rs1 offset in
       number_at k.state.bytes (byte_count n) a ≡ old → number_at bytes (byte_count n) a ≡ old'
       → is_some old' ≡ is_some old
-      → StaysCovered (Store operation rs2 rs1 offset) k (stored k.state n a (register k.state.regs rs2) old)
-      (stored (at_same_place k regs bytes) n a (register regs rs2) old')
-  unfolding with_stored
+      → StaysCovered (Store operation rs2 rs1 offset) k (stored length k.state n a (register k.state.regs rs2) old)
+      (stored length (at_same_place k regs bytes) n a (register regs rs2) old')
+  unfolding with_stored_after
   store_kept operation rs2 rs1 offset (Some old) (Some old') there there' extent =
       let n = byte_count (store_size operation) in
       let a = address_of k.state.regs rs1 offset in
@@ -231,12 +231,12 @@ module _ (k : KnownState) (regs : ℕ → ℕ) (bytes : ByteMap) (covers : Cover
   store_kept operation rs2 rs1 offset None None there there' extent = stops_alike
 
   branch_kept : (test : BranchTest) (rs1 rs2 offset : ℕ) (profile : Profile) (b : Bool) (target : ℕ)
-      → StaysCovered (Branch test rs1 rs2 offset) k (ending_of profile (cond b (Branches target) Passes) k.state)
-      (ending_of profile (cond b (Branches target) Passes) (at_same_place k regs bytes))
-  unfolding ending_of
+      → StaysCovered (Branch test rs1 rs2 offset) k (ending_by length alignment profile (cond b (Branches target) Passes) k.state)
+      (ending_by length alignment profile (cond b (Branches target) Passes) (at_same_place k regs bytes))
+  unfolding ending_by
   branch_kept test rs1 rs2 offset profile true target =
-      either_kept (nat_eq (target % 4) 0) (goes_alike (move_covered target)) stops_alike
-  branch_kept test rs1 rs2 offset profile false target = goes_alike (move_covered (next k.state))
+      either_kept (nat_eq (target % byte_count alignment) 0) (goes_alike (move_covered target)) stops_alike
+  branch_kept test rs1 rs2 offset profile false target = goes_alike (move_covered (next_after length k.state))
 
   -- a branch that is decided goes alike
   test_same : (test : BranchTest) (rs1 rs2 : ℕ) → (nat_eq rs1 rs2 || decides_branch test (part k rs1) (part k rs2)) ≡ true
@@ -275,17 +275,17 @@ module _ (k : KnownState) (regs : ℕ → ℕ) (bytes : ByteMap) (covers : Cover
 
   -- the step of an instruction of which all is known that decides
   effect_kept : (profile : Profile) (i : Instr) → IsInstr i → decides profile i k ≡ true
-      → StaysCovered i k (ending_of profile (effect_of i k.state.pc k.state.regs) k.state)
-      (ending_of profile (effect_of i k.state.pc regs) (at_same_place k regs bytes))
-  unfolding ending_of
+      → StaysCovered i k (ending_by length alignment profile (effect_of i k.state.pc k.state.regs) k.state)
+      (ending_by length alignment profile (effect_of i k.state.pc regs) (at_same_place k regs bytes))
+  unfolding ending_by
   effect_kept profile (Upper operation rd immediate) ok h =
       let v = upper_value operation k.state.pc immediate in
       let v-fits = upper_fits operation k.state.pc immediate ok.1 in
       goes_alike (value_covered rd v v 0 (agree_itself 0 v) v-fits v-fits)
   effect_kept profile (Jump rd offset) ok h =
-      either_kept (nat_eq (jump_target k.state.pc offset % 4) 0) (goes_alike (link_covered rd _)) stops_alike
+      either_kept (nat_eq (jump_target k.state.pc offset % byte_count alignment) 0) (goes_alike (link_covered rd _)) stops_alike
   effect_kept profile (JumpRegister rd rs1 offset) ok h =
-      rw (same rs1 h) (either_kept (nat_eq (register_target k.state.regs rs1 offset % 4) 0)
+      rw (same rs1 h) (either_kept (nat_eq (register_target k.state.regs rs1 offset % byte_count alignment) 0)
       (goes_alike (link_covered rd _)) stops_alike)
   effect_kept profile (Branch test rs1 rs2 offset) ok h =
       rw (test_same test rs1 rs2 h) (branch_kept test rs1 rs2 offset profile
@@ -340,23 +340,23 @@ module _ (k : KnownState) (regs : ℕ → ℕ) (bytes : ByteMap) (covers : Cover
       let both = both_same rs1 rs2 h in
       rw (both.0, both.1) (goes_alike (value_covered rd v v (divide_unknown operation (part k rs1) (part k rs2))
       (agree_itself _ v) v-fits v-fits))
-  effect_kept profile (Fence mode before after rs1 rd) ok h = goes_alike (move_covered (next k.state))
+  effect_kept profile (Fence mode before after rs1 rd) ok h = goes_alike (move_covered (next_after length k.state))
   effect_kept profile Ecall ok h = stops_alike
   effect_kept profile Ebreak ok h = stops_alike
 
 -- of any covered state
-pub step_kept : (k : KnownState) (s : State) → Covers k s → (profile : Profile) (i : Instr) → IsInstr i
-    → decides profile i k ≡ true
-    → StaysCovered i k (ending_of profile (effect_of i k.state.pc k.state.regs) k.state)
-    (ending_of profile (effect_of i s.pc s.regs) s)
-step_kept k s covers profile i ok h = elim covers.words [
+pub step_kept : (length alignment : Size) (k : KnownState) (s : State) → Covers k s → (profile : Profile) (i : Instr)
+    → IsInstr i → decides profile i k ≡ true
+    → StaysCovered i k (ending_by length alignment profile (effect_of i k.state.pc k.state.regs) k.state)
+    (ending_by length alignment profile (effect_of i s.pc s.regs) s)
+step_kept length alignment k s covers profile i ok h = elim covers.words [
   | inl words ↦
       let same : s ≡ at_same_place k s.regs s.bytes = rw (sym covers.pc) in
       let there : Covers k (at_same_place k s.regs s.bytes) = subst (Covers k) same covers in
       let words' : AreWords k (at_same_place k s.regs s.bytes) = subst (AreWords k) same words in
-      rw same (effect_kept k s.regs s.bytes there words' profile i ok h)
+      rw same (effect_kept length alignment k s.regs s.bytes there words' profile i ok h)
   | inr one ↦
-      subst (λ t. StaysCovered i k (ending_of profile (effect_of i k.state.pc k.state.regs) k.state)
-      (ending_of profile (effect_of i t.pc t.regs) t)) (sym one)
-      (ends_itself i k (ending_of profile (effect_of i k.state.pc k.state.regs) k.state))
+      subst (λ t. StaysCovered i k (ending_by length alignment profile (effect_of i k.state.pc k.state.regs) k.state)
+      (ending_by length alignment profile (effect_of i t.pc t.regs) t)) (sym one)
+      (ends_itself i k (ending_by length alignment profile (effect_of i k.state.pc k.state.regs) k.state))
 ]

@@ -1,9 +1,10 @@
 -- The step that may differ shows its program counter first, whatever is unknown.
 use Rattle.std.proofs.Common.{◌≡◌, ◌≢◌, ℕ, suc, Bool, true, false, cond, List, [], ◌∷◌, ◌++◌, None, refl, ap, ◌∙◌, subst}
-use Rattle.certified_runs.specs.Below.{AccessFault, allows_shown, effect_of, entries_of, Entry, events_of, goes_on}
+use Rattle.certified_runs.specs.Below.{AccessFault, alignment_of, allows_shown, effect_of, entries_of, Entry}
+use Rattle.certified_runs.specs.Below.{events_of, goes_on, profile_of}
 use Rattle.certified_runs.specs.Below.{guarded, here, MachineProgram, Observation, observed, program_counter}
 use Rattle.certified_runs.specs.Below.{ProgramRuns, ProgramStep, RecorderRefused, State, StepEnding, Stop, stops}
-use Rattle.certified_runs.proofs.Below.{effect_own, entries_of-append, goes_own, IsOwn, run_of_state, Runs-determined}
+use Rattle.certified_runs.proofs.Below.{ending_own, entries_of-append, goes_own, IsOwn, run_of_state, Runs-determined}
 use Rattle.certified_runs.proofs.Below.{Runs-more, Runs-stop, stops_own}
 use Rattle.certified_runs.specs.Known.{KnownState, Covers}
 use Rattle.certified_runs.specs.Certified.{undecided, may_differ, CertifiedRun, cut, steps_on}
@@ -36,7 +37,8 @@ pub runs_past : {program : MachineProgram} {budget : ℕ} {k : KnownState} {s : 
 runs_past {program} {s = s} (cut {n = n} {k = k} (undecided i at unknown)) covers =
     subst (RunsPast program (suc n) s []) covers.pc
     (begins_run n (step_at program k s covers i at)
-    (guarded_own program.writable (effect_own (program.code k.state.pc).profile (effect_of i s.pc s.regs) s)))
+    (guarded_own program.writable (ending_own at.0 (alignment_of (program.code k.state.pc)) (profile_of (program.code k.state.pc))
+    (effect_of i s.pc s.regs) s)))
 runs_past {program} {s = s} (steps_on {k = k} {next = next} {o = o} step rest) covers =
     let first = leads_kept program k s covers o next step in
     let then = runs_past rest first.2 in

@@ -1,10 +1,11 @@
 -- Steps and runs of covered states.
 use Rattle.std.proofs.Common.{◌≡◌, ◌≢◌, ℕ, suc, ◌<◌, Bool, true, false, cond, List, ◌++◌, ◌+◌, refl, sym, ap, ◌∙◌, add-one, arith}
-use Rattle.certified_runs.specs.Below.{AccessFault, allows_shown, effect_of, ending_of, executes, goes_on, guarded}
-use Rattle.certified_runs.specs.Below.{halts, here, Instr, IsInstr, MachineProgram, no_instruction, not_code}
-use Rattle.certified_runs.specs.Below.{Observation, pc_misaligned, ProgramHalts, ProgramLeads, ProgramRuns}
-use Rattle.certified_runs.specs.Below.{ProgramStep, RecorderRefused, spent, StandsAt, State, stays, Step, StepEnding}
-use Rattle.certified_runs.specs.Below.{steps_on, Stop, stops}
+use Rattle.certified_runs.specs.Below.{AccessFault, alignment_of, allows_shown, CodeStep, ending_in, executes, goes_on}
+use Rattle.certified_runs.specs.Below.{guarded, halts, here, Instr, MachineProgram, no_instruction, not_code}
+use Rattle.certified_runs.specs.Below.{Observation, pc_misaligned, profile_of, ProgramHalts, ProgramLeads, ProgramRuns}
+use Rattle.certified_runs.specs.Below.{ProgramStep, RecorderRefused, Size, spent, StandsAt, StandsIn, State, stays}
+use Rattle.certified_runs.specs.Below.{StepEnding, steps_on, Stop, stops}
+use Rattle.certified_runs.proofs.Below.{executed, stands_in_range}
 use Rattle.certified_runs.proofs.Below.{Runs-determined, Runs-more, Runs-stop, Step-determined, step_stops, stops_so}
 use Rattle.certified_runs.specs.Known.{KnownState, Covers}
 use Rattle.certified_runs.specs.Certified as certified
@@ -14,25 +15,19 @@ use Rattle.certified_runs.proofs.Covering.{StaysCovered, goes_alike, stops_alike
 
 module _ (program : MachineProgram) (k : KnownState) (s : State) (covers : Covers k s) where
   -- the step of an instruction at the program counter
-  pub step_at : (i : Instr) → StandsAt program k.state.pc i
-      → ProgramStep program s (guarded program.writable s
-      (ending_of (program.code k.state.pc).profile (effect_of i s.pc s.regs) s))
-  step_at i at =
-      let there : StandsAt program s.pc i = rw covers.pc at in
+  step_of : (i : Instr) (length : Size) → StandsIn (program.code k.state.pc) k.state.pc i length
+      → ProgramStep program s (guarded program.writable s (ending_in (program.code k.state.pc) i length s))
+  step_of i length at =
+      let there : StandsIn (program.code s.pc) s.pc i length = rw covers.pc at in
       record {
-        unguarded = ending_of (program.code s.pc).profile (effect_of i s.pc s.regs) s;
-        step = executes i there.aligned there.word there.in_range refl;
+        unguarded = ending_in (program.code s.pc) i length s;
+        step = executes i length there refl;
         end = rw covers.pc refl;
       }
 
-  is_step : (i : Instr) → StandsAt program k.state.pc i
-      → ProgramStep program k.state (guarded program.writable k.state
-      (ending_of (program.code k.state.pc).profile (effect_of i k.state.pc k.state.regs) k.state))
-  is_step i at = record {
-    unguarded = ending_of (program.code k.state.pc).profile (effect_of i k.state.pc k.state.regs) k.state;
-    step = executes i at.aligned at.word at.in_range refl;
-    end = refl;
-  }
+  pub step_at : (i : Instr) (at : StandsAt program k.state.pc i)
+      → ProgramStep program s (guarded program.writable s (ending_in (program.code k.state.pc) i at.0 s))
+  step_at i at = step_of i at.0 at.1
 
   -- what is stored to shows, so a store of the one is refused where that of the other is
   guarded_kept : {i : Instr} {e e' : StepEnding} → StaysCovered i k e e'
@@ -45,11 +40,13 @@ module _ (program : MachineProgram) (k : KnownState) (s : State) (covers : Cover
       chosen false = rw covers.pc stops_alike
   guarded_kept stops_alike = stops_alike
 
-  covered_step : (i : Instr) → IsInstr i → is_decided program k i ≡ true
-      → StaysCovered i k (guarded program.writable k.state
-      (ending_of (program.code k.state.pc).profile (effect_of i k.state.pc k.state.regs) k.state))
-      (guarded program.writable s (ending_of (program.code k.state.pc).profile (effect_of i s.pc s.regs) s))
-  covered_step i ok known = guarded_kept (step_kept k s covers (program.code k.state.pc).profile i ok known)
+  covered_step : (i : Instr) (length : Size) → StandsIn (program.code k.state.pc) k.state.pc i length
+      → is_decided program k i ≡ true
+      → StaysCovered i k (guarded program.writable k.state (ending_in (program.code k.state.pc) i length k.state))
+      (guarded program.writable s (ending_in (program.code k.state.pc) i length s))
+  covered_step i length at known =
+      let code = program.code k.state.pc in
+      guarded_kept (step_kept length (alignment_of code) k s covers (profile_of code) i (stands_in_range at) known)
 
   goes_on_kept : {i : Instr} {o : Observation} {t : State} {e' : StepEnding} → ProgramStep program s e'
       → StaysCovered i k (goes_on o t) e' → (t' : State) × ProgramStep program s (goes_on o t') × Covers (known_after i k t) t'
@@ -63,22 +60,22 @@ module _ (program : MachineProgram) (k : KnownState) (s : State) (covers : Cover
       → (t : State) × ProgramStep program s (goes_on o t) × Covers next t
   leads_kept o next (decided i at known step) =
       goes_on_kept (step_at i at)
-      (rw (Step-determined (is_step i at) step) at (covered_step i at.in_range known))
+      (rw (Step-determined (executed at.1) step) at (covered_step i at.0 at.1 known))
 
   moved_stop : {e : StepEnding} (seen : List Observation) (stop : Stop)
       → ((i : Instr) → StandsAt program k.state.pc i → is_decided program k i ≡ true)
-      → Step (program.code k.state.pc) k.state e → stops seen stop ≡ guarded program.writable k.state e
+      → CodeStep (program.code k.state.pc) k.state e → stops seen stop ≡ guarded program.writable k.state e
       → ProgramStep program s (stops seen stop)
-  moved_stop seen stop known (executes i even word ok is) end =
-      let at : StandsAt program k.state.pc i = record { aligned = even; word = word; in_range = ok } in
+  moved_stop seen stop known (executes i length there is) end =
       let same = end ∙ ap (guarded program.writable k.state) is in
-      stops_kept (step_at i at) (rw (sym same) at (covered_step i ok (known i at)))
+      stops_kept (step_of i length there) (rw (sym same) at (covered_step i length there (known i (length, there))))
   moved_stop seen stop known (pc_misaligned odd) end =
       rw end (stops_so (pc_misaligned (λ even. odd (rw covers.pc at even))))
   moved_stop seen stop known (not_code even none) end =
       rw end (stops_so (not_code (rw covers.pc even) (rw covers.pc none)))
-  moved_stop seen stop known (no_instruction {word = word} even is misfit) end =
-      rw (end, sym covers.pc) (stops_so (no_instruction {word = word} (rw covers.pc even) (rw covers.pc is) misfit))
+  moved_stop seen stop known (no_instruction even some misfit) end =
+      rw (end, sym covers.pc) (stops_so (no_instruction (rw covers.pc even)
+      (λ none. some (rw covers.pc at none)) (λ i length there. misfit i length (rw covers.pc at there))))
 
   pub stop_kept : (seen : List Observation) (stop : Stop) → KnownStep program k (ends seen stop)
       → ProgramStep program s (stops seen stop)

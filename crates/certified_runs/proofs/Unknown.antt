@@ -3,6 +3,7 @@ use Rattle.std.specs.Prelude.{◌&&◌, ◌||◌, nat_eq}
 use Rattle.std.proofs.Common.{◌≡◌, ℕ, true, List, refl, sym, subst, ap, ap₂, ◌∙◌}
 use Rattle.std.proofs.lemmas.Bool.{eqb-true}
 use Rattle.certified_runs.specs.Below.{Branch, Immediate, Instr, Load, MachineProgram, Multiply, Observation, Profile}
+use Rattle.certified_runs.specs.Below.{profile_of}
 use Rattle.certified_runs.specs.Below.{Register, register, sign_extended, StandsAt, State, Store}
 use Rattle.certified_runs.specs.Bits.{Agree, cancels, decides_branch, immediate_unknown, multiply_unknown, partly}
 use Rattle.certified_runs.specs.Bits.{register_unknown, unless}
@@ -71,15 +72,15 @@ module _ (k : KnownState) (s : State) (covers : Covers k s) where
   decided_same : (program : MachineProgram) (i : Instr)
       → is_decided program (of_state s k) i ≡ is_decided program k i
   decided_same program i =
-      ap (λ pc. decides (program.code pc).profile i (of_state s k)) covers.pc
-      ∙ decides_same (program.code k.state.pc).profile i
+      ap (λ pc. decides (profile_of (program.code pc)) i (of_state s k)) covers.pc
+      ∙ decides_same (profile_of (program.code k.state.pc)) i
 
   leads_alike : {program : MachineProgram} {o : Observation} {next : KnownState} → KnownStep program k (leads_on o next)
       → (u : State) × KnownStep program (of_state s k) (leads_on o (of_state u next)) × Covers next u
   leads_alike {program} {o} (decided {t = t} i at sure step) =
       let there = leads_kept program k s covers o (known_after i k t) (decided i at sure step) in (
         there.0,
-        rw (after_same (program.code k.state.pc).profile i t there.0 sure)
+        rw (after_same (profile_of (program.code k.state.pc)) i t there.0 sure)
             (decided i (moved program i at) (decided_same program i ∙ sure) there.1),
         there.2,
       )

@@ -16,16 +16,18 @@ pub use Rattle.rv_machine.specs.Effects.{store_size}
 pub use Rattle.rv_machine.specs.Entries.{entries_of, Entry, events_of, program_counter}
 pub use Rattle.rv_machine.specs.Harts.{pc_of, regs_of, state_of}
 pub use Rattle.rv_machine.specs.Leakage.{Done, followed_by, refused, stopped, went_on}
-pub use Rattle.rv_machine.specs.Machine.{MachineCode, StepEnding, executes, goes_on, here, IsAt, loaded, next}
-pub use Rattle.rv_machine.specs.Machine.{no_instruction, not_code, observed, pc_misaligned, product_shown, State}
-pub use Rattle.rv_machine.specs.Machine.{stops, stored, Step}
-unfoldable pub use Rattle.rv_machine.specs.Machine.{ending_of, moved_to, with_link, with_stored, with_value}
-pub use Rattle.rv_machine.specs.Regions.{code_of}
+pub use Rattle.rv_machine.specs.Machine.{goes_on, here, loaded, next_after, observed, product_shown, State, StepEnding}
+pub use Rattle.rv_machine.specs.Machine.{stops, stored}
+unfoldable pub use Rattle.rv_machine.specs.Machine.{ending_by, moved_to, with_link_after, with_stored_after}
+unfoldable pub use Rattle.rv_machine.specs.Machine.{with_value_after}
 pub use Rattle.rv_machine.specs.Registers.{register}
 pub use Rattle.rv_machine.specs.Sizes.{byte_count}
 pub use Rattle.rv_machine.specs.declared.effects.Effect.TheVariants.{Branches, Passes, Stores}
 pub use Rattle.rv_machine.specs.declared.observation.Observation.{Observation}
 pub use Rattle.rv_machine.specs.declared.stops.Stop.{Stop}
 pub use Rattle.rv_machine.specs.declared.stops.Stop.TheVariants.{AccessFault, Budget, RecorderRefused}
-pub use Rattle.rv_programs.specs.Programs.{allows_shown, guarded, MachineProgram, ProgramStep, StandsAt}
+pub use Rattle.rv_machine.specs.declared.memory.Size.{Size}
+pub use Rattle.rv_programs.specs.Code.{alignment_of, profile_of, ProgramCode, StandsIn}
+pub use Rattle.rv_programs.specs.Programs.{allows_shown, CodeStep, ending_in, executes, guarded, MachineProgram}
+pub use Rattle.rv_programs.specs.Programs.{no_instruction, not_code, pc_misaligned, ProgramStep, StandsAt}
 pub use Rattle.rv_programs.specs.Runs.{halts, ProgramHalts, ProgramLeads, ProgramRuns, spent, stays, steps_on}

@@ -3,8 +3,8 @@ use Rattle.std.specs.Prelude.{◌≡◌, ℕ, ◌==◌, ◌&&◌, ◌||◌, Bool
 use Rattle.std.proofs.Common.{zero, suc}
 use Rattle.certified_runs.specs.Below.{address_of, Branch, Budget, byte_count, ByteMap, Divide, Ebreak, Ecall, Fence}
 use Rattle.certified_runs.specs.Below.{goes_on, Immediate, Instr, Jump, JumpRegister, Load, load_size, loaded_value}
-use Rattle.certified_runs.specs.Below.{MachineProgram, Multiply, number_at, Observation, P1, P2, Profile, ProgramStep}
-use Rattle.certified_runs.specs.Below.{Register, Shift, shift_value, sign_extended, StandsAt, State, Stop, stops}
+use Rattle.certified_runs.specs.Below.{MachineProgram, Multiply, number_at, Observation, P1, P2, Profile, profile_of}
+use Rattle.certified_runs.specs.Below.{ProgramStep, Register, Shift, shift_value, sign_extended, StandsAt, State, Stop, stops}
 use Rattle.certified_runs.specs.Below.{Store, store_size, Upper, with_number}
 use Rattle.certified_runs.specs.Amounts.{decides_amount}
 use Rattle.certified_runs.specs.Bits.{are_known, cancels, decides_branch, divide_unknown, immediate_unknown}
@@ -76,7 +76,7 @@ known_after i k t = record { state = t; registers = registers_after i k; bytes =
 
 -- the same of an instruction at the program counter of a program
 abbrev pub is_decided : MachineProgram → KnownState → Instr → Bool
-is_decided program k i = decides (program.code k.state.pc).profile i k
+is_decided program k i = decides (profile_of (program.code k.state.pc)) i k
 
 -- how a step ends: it shows an observation and goes on, or it stops, having shown at most one, or what it shows may
 -- depend on what is unknown

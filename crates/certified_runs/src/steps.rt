@@ -9,7 +9,7 @@ ghost use Rattle.certified_runs.specs.private.Stepped.{HaveOneExtent, HasStepped
 use crate::changes::{change, decides};
 use crate::known_parts::KnownParts;
 use rv_machine::{Hart, Memory, Observation, Stop, entry_count};
-use rv_programs::{Program, step_unrecorded};
+use rv_programs::{Fetched, Program, execute_unrecorded, step_unrecorded};
 
 /// How a step of what is known ends.
 #[derive(Clone, Copy)]
@@ -68,19 +68,17 @@ pub(crate) fn known_step<P: Program, M: Memory>(
         known.new.shifts) }
     ensures extent { HaveOneExtent (M.bytes known.new.marks) (M.bytes memory.new) }
 {
-    let pc = hart.pc();
-    let code = program.code_at(pc);
-    let Some(instr) = code.instruction_at(pc) else {
+    let Fetched::Instruction(instr, form) = program.fetch(hart.pc()) else {
         let (entries, stop) = halt(program, hart, memory);
         return StepEnd::Ends(entries, stop);
     };
-    if !decides(code.profile(), instr, hart, known) {
+    if !decides(form.profile, instr, hart, known) {
         return StepEnd::Depends;
     }
     // What is known afterwards is made of what the registers hold before. Where the step stops, it is of no use.
     change(instr, hart, known);
-    let (seen, stop) = step_unrecorded(hart, program, memory);
-    let entries = entries_in(seen);
+    let (seen, stop) = execute_unrecorded(hart, program, instr, form, memory);
+    let entries = entry_count(&seen);
     match stop {
         Some(stop) => StepEnd::Ends(entries, stop),
         None => StepEnd::LeadsOn(entries),
