@@ -4,8 +4,8 @@ use Rattle.std.proofs.Common.{zero, suc}
 use Rattle.certified_runs.specs.Below.{address_of, Branch, Budget, byte_count, ByteMap, Divide, Ebreak, Ecall, Fence}
 use Rattle.certified_runs.specs.Below.{goes_on, Immediate, Instr, Jump, JumpRegister, Load, load_size, loaded_value}
 use Rattle.certified_runs.specs.Below.{MachineProgram, Multiply, number_at, Observation, P1, P2, Profile, profile_of}
-use Rattle.certified_runs.specs.Below.{ProgramStep, Register, Shift, shift_value, sign_extended, StandsAt, State, Stop, stops}
-use Rattle.certified_runs.specs.Below.{Store, store_size, Upper, with_number}
+use Rattle.certified_runs.specs.Below.{ProgramStep, Register, Shift, shift_value, sign_extended, StandsAt, State}
+use Rattle.certified_runs.specs.Below.{Stop, stops, Store, store_size, Upper, with_number}
 use Rattle.certified_runs.specs.Amounts.{decides_amount}
 use Rattle.certified_runs.specs.Bits.{are_known, cancels, decides_branch, divide_unknown, immediate_unknown}
 use Rattle.certified_runs.specs.Bits.{is_known_amount, multiply_unknown, partly, register_unknown, unless}

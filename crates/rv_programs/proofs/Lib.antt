@@ -4,7 +4,6 @@ pub mod Endings
 pub mod Fetching
 pub mod Guards
 pub mod Images
-pub mod Loading
 pub mod Parcels
 pub mod RunLaws
 pub mod Standing

@@ -8,20 +8,17 @@ pub use Rattle.rv_code.specs.declared.instructions.Instr.{Instr}
 pub use Rattle.rv_code.specs.declared.instructions.Instr.TheVariants.{Store as StoreInstr}
 pub use Rattle.rv_code.specs.declared.operations.StoreOperation.{StoreOperation}
 pub use Rattle.rv_machine.specs.Bytes.{ByteMap}
-unfoldable pub use Rattle.rv_machine.specs.Bytes.{number_at, with_number}
 pub use Rattle.rv_machine.specs.Effects.{address_of, effect_of, store_size}
-pub use Rattle.rv_machine.specs.Flat.{flat_bytes}
 pub use Rattle.rv_machine.specs.Harts.{pc_of, regs_of, state_of}
 pub use Rattle.rv_machine.specs.Leakage.{Carried, Done, followed_by, Halts, Leads, refused, RunsWithin, Shows, Stepped}
 pub use Rattle.rv_machine.specs.Leakage.{stopped, went_on}
 pub use Rattle.rv_machine.specs.Machine.{goes_on, here, IsAt, MachineCode, observed, State, Step, StepEnding, stops}
 pub use Rattle.rv_machine.specs.Machine.{word_at}
 unfoldable pub use Rattle.rv_machine.specs.Machine.{ending_by}
-pub use Rattle.rv_machine.specs.Paged.{bytes_in, first_of, lies_in}
+pub use Rattle.rv_machine.specs.Paged.{lies_in}
 pub use Rattle.rv_machine.specs.Recording.{count_after, HasRefused, kept}
 pub use Rattle.rv_machine.specs.Regions.{code_of}
 pub use Rattle.rv_machine.specs.Sizes.{byte_count}
-pub use Rattle.rv_machine.specs.declared.flat.FlatMemory.{FlatMemory}
 pub use Rattle.rv_machine.specs.declared.memory.Size.{Size}
 pub use Rattle.rv_machine.specs.declared.memory.Size.TheVariants.{Byte, Half, Word}
 pub use Rattle.rv_machine.specs.declared.plans.InstructionForm.{InstructionForm}

@@ -2,7 +2,7 @@
 -- Code: words and halfwords of code, and the instructions that stand in them; Fetching: one that was looked up.
 -- Programs: what a program is, and its steps; Runs: whole runs of it, and what they show.
 -- Parcels: halfwords as they stand before a run.
--- Loaded: the program that segments of code and ranges that may be stored to make; Ranged: the bytes of its memory.
+-- Loaded: the program that segments of code and ranges that may be stored to make.
 -- private: what the code of a step goes by; for contracts of private functions alone.
 pub mod Below
 pub mod Code
@@ -11,5 +11,4 @@ pub mod Parcels
 pub mod Programs
 pub mod Runs
 pub mod Loaded
-pub mod Ranged
 pub mod private

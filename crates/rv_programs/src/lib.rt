@@ -7,15 +7,14 @@
 // may not be stored to is an access fault (`specs/Programs.antt`). An image, with one code of words and data that may
 // all be stored to, is a program whose steps and runs are those of the machine (`laws.rt`).
 //
-// A loaded program has segments of code and ranges that may be stored to. Its memory has ranges, each of which begins
-// with bytes of its own and goes on with zeros.
+// A loaded program has segments of code and ranges that may be stored to. Its memory is a `PagedMemory`, whose pages
+// may begin with bytes of their own.
 #![tactic(auto)]
 
 mod halfwords;
 mod laws;
 mod loaded;
 mod program;
-mod ranged;
 mod steps;
 
 pub use halfwords::HalfwordRegion;
@@ -25,5 +24,4 @@ pub use laws::{
 };
 pub use loaded::{CodeSegment, LoadedProgram};
 pub use program::{Fetched, Program};
-pub use ranged::RangedMemory;
 pub use steps::{execute_unrecorded, run, step, step_unrecorded};

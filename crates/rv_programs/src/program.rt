@@ -64,12 +64,7 @@ pub(crate) fn fetch_word(code: &CodeRegion, pc: u32) -> Fetched<'_>
     }
     match code.fetch(pc) {
         Some(CodeWord::Instruction(instr)) => {
-            let form = InstructionForm {
-                length: Size::Word,
-                alignment: Size::Word,
-                profile: code.profile(),
-            };
-            Fetched::Instruction(instr, form)
+            Fetched::Instruction(instr, InstructionForm::word(code.profile()))
         }
         Some(CodeWord::Other(_)) => Fetched::Unknown,
         None => Fetched::Nothing,

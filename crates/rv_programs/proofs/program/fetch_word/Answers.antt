@@ -6,14 +6,14 @@ use Rattle.rv_programs.proofs.program.fetch_word.Goals as goal
 
 pub returns-in-Some-Instruction : goal.returns-in-Some-Instruction
 returns-in-Some-Instruction c = record {
-  stands = word (record {
+  stands = rw c.word.ensures (word (record {
     aligned = c.if-pc-ne0.false;
     word = sym c.in-Some-Instruction.ensures.word
         ∙ ap (λ w. Some (spelled w)) c.in-Some-Instruction.field-0-is;
     in_range = rw c.in-Some-Instruction.field-0-is at c.in-Some-Instruction.ensures.decoded;
-  });
-  alignment = refl;
-  profile = c.profile.ensures;
+  }));
+  alignment = rw c.word.ensures refl;
+  profile = rw c.word.ensures c.profile.ensures;
 }
 
 pub returns-in-None : goal.returns-in-None
