@@ -2,3 +2,4 @@ pub mod over_lemmas
 pub mod constants_lemmas
 pub mod element_words_lemmas
 pub mod live_words_lemmas
+pub mod set_first_lemmas
