@@ -1,7 +1,7 @@
 -- The step of the machine that the engine makes is the step of what is known.
 use Rattle.std.specs.Prelude.{nat_eq, is_some, ◌⊎◌}
 use Rattle.std.proofs.Common.{◌≡◌, ◌≢◌, ℕ, ◌%◌, ◌≤◌, Bool, true, false, cond, List, [], ◌∷◌, length, Option, Some, None}
-use Rattle.std.proofs.Common.{Bor, refl, sym, ap, ◌∙◌, inl, inr, arith}
+use Rattle.std.proofs.Common.{Bor, refl, ap, ◌∙◌, inl, inr, arith}
 use Rattle.certified_runs.specs.Below.{address_of, alignment_of, Branches, byte_count, ByteMap, CodeStep, Done}
 use Rattle.certified_runs.specs.Below.{effect_of, ending_by, entries_of, executes, goes_on, guarded, Instr, load_size}
 use Rattle.certified_runs.specs.Below.{loaded, MachineProgram, moved_to, no_instruction, not_code, number_at, Observation}

@@ -1,6 +1,6 @@
 // Programs that others made, as the machine runs them: code in several places, which may be read where it is data too,
-// and data of which some may only be read. Code is of words, or of halfwords, in which instructions of 16 bits and of 32
-// stand (`specs/Code.antt`).
+// and data of which some may only be read. Code is of words, or of halfwords, in which instructions of 16 bits and of
+// 32 stand (`specs/Code.antt`).
 //
 // What an instruction does stays the table of `rv_machine` alone. A step finds the one that stands at the program
 // counter, and has the machine execute it by its length and by the alignment of its code; but a store to a byte that
