@@ -1,11 +1,11 @@
 -- The words of bytes, one after another.
-use Rattle.std.proofs.Common.{◌≡◌, ◌<◌, ◌≤◌, ◌+◌, ◌-◌, ◌*◌, ◌/◌, ◌^◌, ◌++◌, ◌∙◌, [], ◌∷◌, ℕ, List, ap, append_assoc}
+use Rattle.std.proofs.Common.{◌≡◌, ◌<◌, ◌≤◌, ◌+◌, ◌*◌, ◌/◌, ◌^◌, ◌++◌, ◌∙◌, [], ◌∷◌, ℕ, List, ap, append_assoc}
 use Rattle.std.proofs.Common.{arith, drop, get_or, length, refl, w32}
 use Rattle.std.specs.Int.{from_le_bytes}
 use Rattle.std.proofs.lemmas.List.{append-nil, drop_more, length-drop}
 use Rattle.elf_runs.specs.Code.{to_aligned, words_of}
 
-next : (bytes : List ℕ) (i j : ℕ) → j ≡ i + 1 → i < length bytes → drop i bytes ≡ get_or bytes i 0 ∷ drop j bytes
+pub next : (bytes : List ℕ) (i j : ℕ) → j ≡ i + 1 → i < length bytes → drop i bytes ≡ get_or bytes i 0 ∷ drop j bytes
 next bytes i j is lt = rw is (drop_more bytes i 0 lt)
 
 four : (bytes : List ℕ) (at : ℕ) → at + 4 ≤ length bytes
@@ -55,10 +55,10 @@ words_fit (a ∷ b ∷ c ∷ []) = omega arith
 words_fit (a ∷ b ∷ c ∷ d ∷ bytes) = omega (arith, words_fit bytes)
 
 -- the words of a segment end where it does, or before
-pub code_within : (address size : ℕ) (bytes rest words : List ℕ) → address + size ≤ 2 ^ 32 → length bytes ≤ size
-    → length rest ≤ length bytes - to_aligned address → words ≡ words_of rest
-    → address + to_aligned address + 4 * length words ≤ 2 ^ 32
-code_within address size bytes rest words fits few left are =
-    let fit = words_fit rest in
+pub code_within : (address size : ℕ) (bytes words : List ℕ) → address + size ≤ 2 ^ 32 → length bytes ≤ size
+    → words ≡ words_of (drop (to_aligned address) bytes) → address + to_aligned address + 4 * length words ≤ 2 ^ 32
+code_within address size bytes words fits few are =
+    let fit = words_fit (drop (to_aligned address) bytes) in
+    let left = length-drop (to_aligned address) bytes in
     let count = ap length are in
     omega (arith, fits, few, left, fit, count)

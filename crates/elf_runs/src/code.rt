@@ -1,10 +1,11 @@
 // The code of a program.
 
-ghost use Rattle.std.specs.Prelude.{◌≡◌, drop, length, map, IfOk};
+ghost use Rattle.std.specs.Prelude.{◌≡◌, ◌%◌, drop, length, map, IfOk};
 ghost use Rattle.elf_runs.specs.Below.{IsWithin};
-ghost use Rattle.elf_runs.specs.Code.{code_of, program_code, to_aligned, words_in, words_of};
+ghost use Rattle.elf_runs.specs.Code.{code_of, halfword_code, halfwords_of, placed, program_code, to_aligned, to_even};
+ghost use Rattle.elf_runs.specs.Code.{word_code, words_of};
 
-use crate::loaded_code::Code;
+use crate::loaded_code::{Code, PlacedHalfwords, PlacedWords};
 use elf::{Program, Segment};
 use std::alloc::{AllocError, Global};
 
@@ -13,6 +14,23 @@ fn to_aligned(address: u32) -> u32
     ensures { result ≡ to_aligned address }
 {
     (4 - address % 4) % 4
+}
+
+/// How many bytes behind an address the next multiple of 2 is.
+fn to_even(address: u32) -> u32
+    ensures { result ≡ to_even address }
+{
+    address % 2
+}
+
+/// The bytes behind so many of them.
+fn bytes_behind(bytes: &[u8], skipped: u32) -> &[u8]
+    ensures { result.now ≡ drop skipped bytes.now }
+{
+    match bytes.split_at_checked(skipped as usize) {
+        Some((_, rest)) => rest,
+        None => &[],
+    }
 }
 
 /// The words of bytes.
@@ -28,33 +46,66 @@ fn words_of(alloc: Global, bytes: &[u8]) -> Result<Vec<u32>, AllocError>
     Ok(words)
 }
 
-/// The code of a segment: the words that the file has of it. Behind them no code stands.
-fn code_of(alloc: Global, segment: &Segment<'_>) -> Result<Code, AllocError>
+/// The halfwords of bytes.
+fn halfwords_of(alloc: Global, bytes: &[u8]) -> Result<Vec<u16>, AllocError>
+    ensures { IfOk result (λ halfwords. halfwords.items ≡ halfwords_of bytes.now) }
+{
+    let mut halfwords = Vec::with_capacity(alloc, bytes.len() / 2)?;
+    'halfwords: for k in 0..bytes.len() / 2 {
+        let at = 2 * k;
+        let halfword = u16::from_le_bytes([bytes[at], bytes[at + 1]]);
+        halfwords.push(halfword)?;
+    }
+    Ok(halfwords)
+}
+
+/// The code of a segment, as words that the file has of it. Behind them no code stands.
+fn word_code(alloc: Global, segment: &Segment<'_>) -> Result<Code, AllocError>
     requires { IsWithin segment.now }
-    ensures { IfOk result (λ code. words_in code ≡ code_of segment.now) }
+    ensures { IfOk result (λ code. placed code ≡ word_code segment.now) }
 {
     let skipped = to_aligned(segment.address());
-    let bytes = segment.bytes();
-    let rest = if skipped as usize <= bytes.len() {
-        &bytes[skipped as usize..]
-    } else {
-        &[]
-    };
-    Ok(Code {
+    let bytes = bytes_behind(segment.bytes(), skipped);
+    Ok(Code::Words(PlacedWords {
         begin: u64::from(segment.address()) + u64::from(skipped),
-        words: words_of(alloc, rest)?,
-    })
+        words: words_of(alloc, bytes)?,
+    }))
+}
+
+/// The same as halfwords.
+fn halfword_code(alloc: Global, segment: &Segment<'_>) -> Result<Code, AllocError>
+    requires { IsWithin segment.now }
+    ensures { IfOk result (λ code. placed code ≡ halfword_code segment.now) }
+{
+    let skipped = to_even(segment.address());
+    let bytes = bytes_behind(segment.bytes(), skipped);
+    Ok(Code::Halfwords(PlacedHalfwords {
+        begin: u64::from(segment.address()) + u64::from(skipped),
+        halfwords: halfwords_of(alloc, bytes)?,
+    }))
+}
+
+/// The code of a segment: halfwords where instructions of 16 bits may stand in it.
+fn code_of(alloc: Global, segment: &Segment<'_>, compressed: bool) -> Result<Code, AllocError>
+    requires { IsWithin segment.now }
+    ensures { IfOk result (λ code. placed code ≡ code_of compressed segment.now) }
+{
+    if compressed {
+        halfword_code(alloc, segment)
+    } else {
+        word_code(alloc, segment)
+    }
 }
 
 /// The code of a program: that of each segment that may be executed. It is what the file has, whatever is set in memory
 /// before a run, and it does not change.
 pub fn program_code(alloc: Global, program: &Program<'_>) -> Result<Vec<Code>, AllocError>
-    ensures code { IfOk result (λ code. map words_in code.items ≡ program_code program.now) }
+    ensures code { IfOk result (λ code. map placed code.items ≡ program_code program.now) }
 {
     let mut code = Vec::new(alloc);
     'each: for segment in program.segments() {
         if segment.access().executable {
-            code.push(code_of(alloc, segment)?)?;
+            code.push(code_of(alloc, segment, program.compressed())?)?;
         }
     }
     Ok(code)

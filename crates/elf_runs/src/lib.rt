@@ -4,7 +4,8 @@
 // registers and the stack none is known, since nobody has set them.
 //
 // A request that the program does not meet is refused, and the first part of it that is wrong named
-// (`specs/Needs.antt`). `program_code` gives the words that a program's segments have of code.
+// (`specs/Needs.antt`). `program_code` gives what a program's segments have of code: words, or halfwords where
+// instructions of 16 bits may stand in it.
 #![tactic(auto)]
 
 mod arguments;
@@ -27,7 +28,7 @@ pub use asked::{Argument, Asked, Secret, Setting};
 pub use code::program_code;
 pub use fault::{Part, StartFault, Unmet};
 pub use laws::segments_end_below_the_stack;
-pub use loaded_code::Code;
+pub use loaded_code::{Code, PlacedHalfwords, PlacedWords};
 pub use memory_range::MemoryRange;
 pub use stack::RETURN_ADDRESS;
 pub use starting::{Start, prepare};
