@@ -17,7 +17,7 @@ fn digit(number: u32, unit: u32) -> u8
 }
 
 /// A number in eight hexadecimal digits.
-pub fn eight(number: u32) -> [u8; 8]
+pub fn eight_digits(number: u32) -> [u8; 8]
     ensures { result ≡ eight_digits number }
 {
     [

@@ -12,6 +12,7 @@ mod lines;
 mod steps;
 mod words;
 
+pub use digits::eight_digits;
 pub use fault::LeakFault;
 pub use laws::{leaks_agree, listings_show_what_is_public};
 pub use leaking::leak;

@@ -4,7 +4,7 @@ ghost use Rattle.std.specs.Prelude.{◌≡◌, ◌+◌, ◌≤◌, ◌++◌, ◌
 ghost use Rattle.arrayvec.specs.ArrayVec.{array_vec_len};
 ghost use Rattle.listing.specs.Lines.{eight_digits, size_text, event_line, lines_of, stop_line, word_head};
 
-use crate::digits::eight;
+use crate::digits::eight_digits;
 use arrayvec::ArrayVec;
 use rv_machine::{Event, Observation, Size, Stop};
 
@@ -38,7 +38,7 @@ fn append_access(lines: &mut Lines, name: &[u8], a: u32, size: Size)
         ≡ lines.old.items ++ (name.now ++ eight_digits a ++ codes " " ++ size_text size ++ codes "\n") }
 {
     append(lines, name);
-    append(lines, &eight(a));
+    append(lines, &eight_digits(a));
     append(lines, b" ");
     append(lines, &text_of(size));
     append(lines, b"\n");
@@ -51,9 +51,9 @@ fn append_operation(lines: &mut Lines, name: &[u8], a: u32, b: u32)
         ≡ lines.old.items ++ (name.now ++ eight_digits a ++ codes " " ++ eight_digits b ++ codes "\n") }
 {
     append(lines, name);
-    append(lines, &eight(a));
+    append(lines, &eight_digits(a));
     append(lines, b" ");
-    append(lines, &eight(b));
+    append(lines, &eight_digits(b));
     append(lines, b"\n");
 }
 
@@ -76,7 +76,7 @@ pub fn lines_of(seen: &Observation) -> Lines
 {
     let mut lines = Lines::new();
     append(&mut lines, b"pc ");
-    append(&mut lines, &eight(seen.pc));
+    append(&mut lines, &eight_digits(seen.pc));
     append(&mut lines, b"\n");
     if let Some(event) = seen.event {
         append_event(&mut lines, event);
@@ -89,9 +89,9 @@ pub fn head_of_word(address: u32, word: u32) -> Lines
     ensures { result.items ≡ word_head address word }
 {
     let mut line = Lines::new();
-    append(&mut line, &eight(address));
+    append(&mut line, &eight_digits(address));
     append(&mut line, b" ");
-    append(&mut line, &eight(word));
+    append(&mut line, &eight_digits(word));
     append(&mut line, b" ");
     line
 }

@@ -9,7 +9,7 @@ returns c =
       c.append-3.ensures,
       c.append-2.ensures,
       c.append.ensures,
-      c.eight.ensures,
-      c.eight-2.ensures,
+      c.eight_digits.ensures,
+      c.eight_digits-2.ensures,
       append_assoc,
     )
