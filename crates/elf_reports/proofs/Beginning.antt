@@ -5,9 +5,9 @@ use Rattle.std.proofs.Math.Path.{fun_ext}
 use Rattle.std.proofs.Math.ListN.{get_or-eq_default}
 use Rattle.std.proofs.lemmas.Bool.{cases_lt, lt-ltb, le-ltb}
 use Rattle.elf_reports.specs.Below.{Asked, ByteMap, Executable, function_named, known, known_of, KnownState}
-use Rattle.elf_reports.specs.Below.{MachineCode, MachineProgram, memory_at_start, Profile, program_code, register}
+use Rattle.elf_reports.specs.Below.{MachineProgram, memory_at_start, Profile, ProgramCode, register}
 use Rattle.elf_reports.specs.Below.{register_masks, register_of, Shifts, State, Word}
-use Rattle.elf_reports.specs.Loading.{address_or_zero, code_among, known_at_start, machine_program, may_be_stored_to}
+use Rattle.elf_reports.specs.Loading.{address_or_zero, code_for, known_at_start, machine_program, may_be_stored_to}
 use Rattle.elf_reports.specs.Loading.{state_at_start}
 
 -- the words of registers that there are, and 0 for others
@@ -50,12 +50,12 @@ masks_read program asked shifts masks count are =
 
 -- The parts together.
 
-abbrev program_by : (ℕ → MachineCode) → (ℕ → Bool) → MachineProgram
+abbrev program_by : (ℕ → ProgramCode) → (ℕ → Bool) → MachineProgram
 program_by code writable = record { code = code; writable = writable }
 
 pub program_is : (program : Executable) (asked : Asked) (profile : Profile) (given : MachineProgram)
-    (code : ℕ → MachineCode) (writable : ℕ → Bool) → given ≡ record { code = code; writable = writable }
-    → code ≡ code_among profile (program_code program)
+    (code : ℕ → ProgramCode) (writable : ℕ → Bool) → given ≡ record { code = code; writable = writable }
+    → code ≡ code_for program profile
     → writable ≡ may_be_stored_to (memory_at_start program asked) → given ≡ machine_program program asked profile
 program_is program asked profile given code writable is codes stores = is ∙ ap₂ program_by codes stores
 

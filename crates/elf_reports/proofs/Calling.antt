@@ -1,16 +1,20 @@
 -- The calls that lead to a step, one step after another.
-use Rattle.std.specs.Prelude.{is_some}
-use Rattle.std.proofs.Common.{false, Option, Some, true}
+use Rattle.std.specs.Prelude.{is_some, ◌⊎◌}
+use Rattle.std.proofs.Common.{false, inl, inr, Option, Some, true}
 use Rattle.std.proofs.Common.{◌≡◌, ◌≢◌, ◌<◌, ◌+◌, ◌-◌, ◌∙◌, [], ◌∷◌, ℕ, List, ap, arith, length, length-append, refl, subst, sym}
-use Rattle.elf_reports.specs.Below.{entries_of, goes_on, Instr, MachineCode, MachineProgram, Observation, ProgramLeads, RecorderRefused}
-use Rattle.elf_reports.specs.Below.{ProgramStep, StandsAt, State, StepEnding, Stop, stops}
+use Rattle.elf_reports.specs.Below.{entries_of, goes_on, Instr, MachineProgram, Observation, ProgramCode, ProgramLeads}
+use Rattle.elf_reports.specs.Below.{ProgramStep, RecorderRefused, Size, StandsAt, StandsIn, State, StepEnding, Stop, stops}
 use Rattle.rv_programs.specs.Runs.{stays, steps_on}
 use Rattle.rv_machine.specs.Leakage.{Done, refused, stopped, went_on}
-use Rattle.rv_machine.specs.Machine.{executes, IsAt, no_instruction, not_code, pc_misaligned, Step}
 use Rattle.rv_machine.specs.Effects.{effect_of}
+use Rattle.rv_programs.specs.Code.{alignment_of, profile_of}
+use Rattle.rv_programs.specs.Fetching.{IsFetched}
+use Rattle.rv_programs.specs.declared.program.Fetched.{Fetched}
+use Rattle.rv_programs.specs.declared.program.Fetched.TheVariants.{Instruction, Misaligned, Nothing, Unknown}
+use Rattle.rv_programs.specs.Programs.{CodeStep, executes, no_instruction, not_code, pc_misaligned}
 use Rattle.elf_reports.specs.Calls.{calls_behind, CallsBehind, no_step, step}
-use Rattle.elf_reports.proofs.Below.{effect_own, entries_of-append, goes_on-determined, goes_own, IsOwn}
-use Rattle.elf_reports.proofs.Below.{machine_step, stops_own}
+use Rattle.elf_reports.proofs.Below.{code_step, ending_own, entries_of-append, goes_on-determined, goes_own, IsOwn}
+use Rattle.elf_reports.proofs.Below.{stands_aligned, stands_in_code, stops_own}
 
 -- a step that goes on shows its own program counter
 
@@ -18,28 +22,37 @@ its_own : {s t : State} {o : Observation} {e : StepEnding} → IsOwn s e → e �
 its_own (goes_own {shown = shown} {t = u}) is = cc
 its_own (stops_own calm more) is = cc
 
-of_machine : {code : MachineCode} {s t : State} {o : Observation} {e : StepEnding} → Step code s e → e ≡ goes_on o t
+of_code : {code : ProgramCode} {s t : State} {o : Observation} {e : StepEnding} → CodeStep code s e → e ≡ goes_on o t
     → o.pc ≡ s.pc
-of_machine (pc_misaligned odd) is = cc
-of_machine (not_code even none) is = cc
-of_machine (no_instruction even word misfit) is = cc
-of_machine {code} {s} (executes i even word fits end) is =
-    its_own (effect_own code.profile (effect_of i s.pc s.regs) s) (sym end ∙ is)
+of_code (pc_misaligned odd) is = cc
+of_code (not_code even none) is = cc
+of_code (no_instruction even there none) is = cc
+of_code {code} {s} (executes i length at end) is =
+    its_own (ending_own length (alignment_of code) (profile_of code) (effect_of i s.pc s.regs) s) (sym end ∙ is)
 
 own_pc : {program : MachineProgram} {s t : State} {o : Observation} → ProgramStep program s (goes_on o t) → o.pc ≡ s.pc
-own_pc it = of_machine (machine_step it).0 refl
+own_pc it = of_code (code_step it).0 refl
 
 -- and an instruction stands there
-stands_there : {code : MachineCode} {s t : State} {o : Observation} {e : StepEnding} → Step code s e → e ≡ goes_on o t
-    → (i : Instr) × IsAt code s.pc i
+stands_there : {code : ProgramCode} {s t : State} {o : Observation} {e : StepEnding} → CodeStep code s e
+    → e ≡ goes_on o t → (i : Instr) × (length : Size) × StandsIn code s.pc i length
 stands_there (pc_misaligned odd) is = cc
 stands_there (not_code even none) is = cc
-stands_there (no_instruction even word misfit) is = cc
-stands_there (executes i even word fits end) is = (i, record { aligned = even; word = word; in_range = fits })
+stands_there (no_instruction even there none) is = cc
+stands_there (executes i length at end) is = (i, length, at)
 
 pub stands : {program : MachineProgram} {s t : State} {o : Observation} → ProgramStep program s (goes_on o t)
     → (i : Instr) × StandsAt program s.pc i
-stands it = stands_there (machine_step it).0 refl
+stands it = let at = stands_there (code_step it).0 refl in (at.0, (at.1, at.2))
+
+-- where nothing was found none does
+pub nothing_stands : (program : MachineProgram) (p : ℕ) (found : Fetched) → IsFetched (program.code p) p found
+    → (found ≡ Misaligned) ⊎ ((found ≡ Nothing) ⊎ (found ≡ Unknown)) → (i : Instr) → ¬ StandsAt program p i
+nothing_stands program p Misaligned odd which = λ i at. odd (stands_aligned at.1)
+nothing_stands program p Nothing none which = λ i at. stands_in_code none.1 at.1
+nothing_stands program p Unknown none which = λ i at. none.2 i at.0 at.1
+nothing_stands program p (Instruction j form) is which = λ i at.
+    elim which [ inl e ↦ cc | inr rest ↦ elim rest [ inl e ↦ cc | inr e ↦ cc ] ]
 
 -- a step that was made and did not stop goes on
 pub went : {program : MachineProgram} {s t : State} {ending : StepEnding} {answer : Option Stop} {seen : List Observation}

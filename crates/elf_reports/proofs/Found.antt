@@ -2,7 +2,7 @@
 use Rattle.std.proofs.Common.{◌≡◌, ℕ, [], List, None, refl, sym, ◌∙◌}
 use Rattle.std.proofs.lemmas.Option.{none-some}
 use Rattle.elf_runs.specs.declared.fault.StartFault.TheVariants.{Memory, Refused}
-use Rattle.elf_reports.specs.Below.{Asked, Executable, first_unmet, IsTold, needs, Observation, program_of, ranged_bytes}
+use Rattle.elf_reports.specs.Below.{Asked, Executable, first_unmet, IsTold, needs, Observation, program_of, paged_bytes}
 use Rattle.elf_reports.specs.Below.{Setting, StartFault, state_of}
 use Rattle.elf_reports.specs.Calls.{LeadThere}
 use Rattle.elf_reports.specs.Compared.{IsShown}
@@ -25,7 +25,7 @@ module _ {program : Executable} {asked besides : Asked} {options : RunOptions} {
   pub runs_so : {secrets : List Setting} {seen : List Observation} → SetEachSecret program asked.secrets.items secrets
       → SetsBesides asked secrets besides
       → IsShown (program_of loaded.program) loaded.run.steps_left
-      (state_of loaded.run.hart (ranged_bytes loaded.run.memory)) seen
+      (state_of loaded.run.hart (paged_bytes loaded.run.memory)) seen
       → RunsSo program asked options secrets besides seen
   runs_so each sets shown = record {
     each = each;
@@ -37,7 +37,7 @@ module _ {program : Executable} {asked besides : Asked} {options : RunOptions} {
   -- the calls of a run are those of one that begins alike
   pub calls_so : {other : Asked} {secrets : List Setting} {entries : ℕ} {calls : List ℕ}
       → SetsBesides asked secrets besides → SetsBesides asked secrets other
-      → LeadThere (program_of loaded.program) (state_of loaded.run.hart (ranged_bytes loaded.run.memory)) entries calls
+      → LeadThere (program_of loaded.program) (state_of loaded.run.hart (paged_bytes loaded.run.memory)) entries calls
       → LeadThere (machine_program program other options.profile) (state_at_start program other) entries calls
   calls_so sets also calls =
       rw (is.program_is, is.state, same_program program sets also options.profile, same_start program sets also) at

@@ -1,86 +1,83 @@
 -- The code of segments, one after another.
-use Rattle.std.proofs.Common.{◌≡◌, ◌<◌, ◌+◌, ◌*◌, ◌++◌, ◌∙◌, [], ◌∷◌, ℕ, List, ap, arith, drop, false, get_or, inl, inr, length, map, refl, sym, true}
+use Rattle.std.proofs.Common.{◌≡◌, ◌<◌, ◌+◌, ◌*◌, ◌++◌, ◌∙◌, [], ◌∷◌, ℕ, List, ap, arith, drop, false, get_or, inl, inr}
+use Rattle.std.proofs.Common.{length, map, None, Option, refl, Some, sym, true, Bool}
 use Rattle.std.specs.Prelude.{if◌then◌else◌}
 use Rattle.std.proofs.lemmas.Bool.{cases_lt, le-leb, lt-leb, le-ltb}
 use Rattle.std.proofs.lemmas.List.{drop_more}
-use Rattle.elf_reports.specs.Below.{AddressRange, Code, code_in, code_of, CodeSegment, CodeWords, lies_in, MachineCode}
-use Rattle.elf_reports.specs.Below.{P1, Profile, words_in}
-use Rattle.elf_reports.specs.Loading.{code_among, code_by, has_code}
+use Rattle.elf_reports.specs.Below.{AddressRange, Code, code_in, CodeSegment, lies_in, loaded_code, P1, placed}
+use Rattle.elf_reports.specs.Below.{PlacedCode, Profile, ProgramCode, Size}
+use Rattle.elf_reports.specs.Loading.{addresses_of, alignment_by, code_among, code_by}
 
-pub code_in-more : (other : MachineCode) (segments : List CodeSegment) (segment : CodeSegment) (p : ℕ)
+pub code_in-more : (other : ProgramCode) (segments : List CodeSegment) (segment : CodeSegment) (p : ℕ)
     → code_in other (segments ++ segment ∷ []) p
-    ≡ code_in (if lies_in p segment.addresses then code_of segment.code else other) segments p
+    ≡ code_in (if lies_in p segment.addresses then loaded_code segment.code else other) segments p
 code_in-more other [] segment p = refl
 code_in-more other (first ∷ segments) segment p =
-    ap (λ (c : MachineCode). if lies_in p first.addresses then code_of first.code else c)
+    ap (λ (c : ProgramCode). if lies_in p first.addresses then loaded_code first.code else c)
     (code_in-more other segments segment p)
 
--- the code of words, and that of others where an address is none of theirs
-abbrev code_or : Profile → CodeWords → MachineCode → ℕ → MachineCode
-code_or profile code other a =
-    if has_code a code then record { profile = profile; base = code.begin; words = code.words } else other
+-- code, and that of others where an address is none of its own
+abbrev code_or : Profile → PlacedCode → ProgramCode → ℕ → ProgramCode
+code_or profile code other a = if lies_in a (addresses_of code) then code_by profile code else other
 
-left_at : (profile : Profile) (codes : List Code) (k : ℕ) (d : Code) (a : ℕ) → k < length codes
-    → code_among profile (map words_in (drop k codes)) a
-    ≡ code_or profile (words_in (get_or codes k d)) (code_among profile (map words_in (drop (k + 1) codes)) a) a
-left_at profile codes k d a lt = ap (λ (cs : List Code). code_among profile (map words_in cs) a) (drop_more codes k d lt)
+-- the code of those from a place on
+abbrev from_on : Size → Profile → List Code → ℕ → ℕ → ProgramCode
+from_on alignment profile codes k a = code_among alignment profile (map placed (drop k codes)) a
 
--- one segment more
-pub segment_more : (profile : Profile) (codes : List Code) (segments items : List CodeSegment) (k : ℕ) (code : Code)
-    (segment : CodeSegment) (whole : MachineCode) (a : ℕ) → k < length codes → code ≡ get_or codes k code
-    → segment.addresses ≡ record { begin = code.begin; end = code.begin + 4 * length code.words.items }
-    → code_of segment.code ≡ record { profile = profile; base = code.begin; words = code.words.items }
-    → items ≡ segments ++ segment ∷ []
-    → code_in (code_among profile (map words_in (drop k codes)) a) segments a ≡ whole
-    → code_in (code_among profile (map words_in (drop (k + 1) codes)) a) items a ≡ whole
-segment_more profile codes segments items k code segment whole a lt is at of are before =
-    let rest = code_among profile (map words_in (drop (k + 1) codes)) a in
-    let left : code_among profile (map words_in (drop k codes)) a ≡ code_or profile (words_in code) rest a =
-    left_at profile codes k code a lt ∙ ap (λ (c : Code). code_or profile (words_in c) rest a) (sym is) in
-    let one : (if lies_in a segment.addresses then code_of segment.code else rest)
-    ≡ code_or profile (words_in code) rest a =
-    ap (λ (r : AddressRange). if lies_in a r then code_of segment.code else rest) at
-    ∙ ap (λ (c : MachineCode). if has_code a (words_in code) then c else rest) of in
-    ap (λ (s : List CodeSegment). code_in rest s a) are
-    ∙ code_in-more rest segments segment a
-    ∙ ap (λ (c : MachineCode). code_in c segments a) (one ∙ sym left)
-    ∙ before
+module _ (alignment : Size) (profile : Profile) (codes : List Code) (k : ℕ) (code : Code) (a : ℕ)
+    (lt : k < length codes) (is : code ≡ get_or codes k code) where
+  left : from_on alignment profile codes k a
+      ≡ code_or profile (placed code) (from_on alignment profile codes (k + 1) a) a
+  left =
+      let rest = from_on alignment profile codes (k + 1) a in
+      ap (λ (cs : List Code). code_among alignment profile (map placed cs) a) (drop_more codes k code lt)
+      ∙ ap (λ (c : Code). code_or profile (placed c) rest a) (sym is)
 
-no_code_there : (a : ℕ) (code : CodeWords) → length code.words ≡ 0 → has_code a code ≡ false
-no_code_there a code none = elim (cases_lt a code.begin) [
-  | inl low ↦ rw (lt-leb code.begin a low) refl
-  | inr from ↦ rw (le-leb code.begin a from, le-ltb a (code.begin + 4 * length code.words) (omega (arith, none, from))) refl
+  -- one segment more
+  pub segment_more : (segments items : List CodeSegment) (segment : CodeSegment) (whole : ProgramCode)
+      → segment.addresses ≡ addresses_of (placed code)
+      → loaded_code segment.code ≡ code_by profile (placed code)
+      → items ≡ segments ++ segment ∷ []
+      → code_in (from_on alignment profile codes k a) segments a ≡ whole
+      → code_in (from_on alignment profile codes (k + 1) a) items a ≡ whole
+  segment_more segments items segment whole at of are before =
+      let rest = from_on alignment profile codes (k + 1) a in
+      let one : (if lies_in a segment.addresses then loaded_code segment.code else rest)
+      ≡ code_or profile (placed code) rest a =
+      ap (λ (r : AddressRange). if lies_in a r then loaded_code segment.code else rest) at
+      ∙ ap (λ (c : ProgramCode). if lies_in a (addresses_of (placed code)) then c else rest) of in
+      ap (λ (s : List CodeSegment). code_in rest s a) are
+      ∙ code_in-more rest segments segment a
+      ∙ ap (λ (c : ProgramCode). code_in c segments a) (one ∙ sym left)
+      ∙ before
+
+  -- where there is no code there is no segment
+  pub nothing_more : (segments : List CodeSegment) (whole : ProgramCode) → lies_in a (addresses_of (placed code)) ≡ false
+      → code_in (from_on alignment profile codes k a) segments a ≡ whole
+      → code_in (from_on alignment profile codes (k + 1) a) segments a ≡ whole
+  nothing_more segments whole none before =
+      let rest = from_on alignment profile codes (k + 1) a in
+      let same : from_on alignment profile codes k a ≡ rest =
+      left ∙ ap (λ b. if b then code_by profile (placed code) else rest) none in
+      ap (λ (c : ProgramCode). code_in c segments a) (sym same) ∙ before
+
+  -- the first code that has an address is the whole's there
+  pub found_there : (whole : ProgramCode) → lies_in a (addresses_of (placed code)) ≡ true
+      → from_on alignment profile codes k a ≡ whole → code_by profile (placed code) ≡ whole
+  found_there whole there before =
+      let rest = from_on alignment profile codes (k + 1) a in
+      ap (λ b. if b then code_by profile (placed code) else rest) (sym there) ∙ sym left ∙ before
+
+  -- and code that has it not is passed by
+  pub passed_by : (whole : ProgramCode) → lies_in a (addresses_of (placed code)) ≡ false
+      → from_on alignment profile codes k a ≡ whole → from_on alignment profile codes (k + 1) a ≡ whole
+  passed_by whole none before =
+      let rest = from_on alignment profile codes (k + 1) a in
+      ap (λ b. if b then code_by profile (placed code) else rest) (sym none) ∙ sym left ∙ before
+
+-- no address lies in none
+pub lies_in_none : (a : ℕ) (range : AddressRange) → range.end ≡ range.begin → lies_in a range ≡ false
+lies_in_none a range none = elim (cases_lt a range.begin) [
+  | inl low ↦ rw (lt-leb range.begin a low) refl
+  | inr from ↦ rw (le-leb range.begin a from, le-ltb a range.end (omega (arith, none, from))) refl
 ]
-
--- where there are no words there is no segment
-pub nothing_more : (profile : Profile) (codes : List Code) (segments : List CodeSegment) (k : ℕ) (code : Code)
-    (whole : MachineCode) (a : ℕ) → k < length codes → code ≡ get_or codes k code → length code.words.items ≡ 0
-    → code_in (code_among profile (map words_in (drop k codes)) a) segments a ≡ whole
-    → code_in (code_among profile (map words_in (drop (k + 1) codes)) a) segments a ≡ whole
-nothing_more profile codes segments k code whole a lt is none before =
-    let rest = code_among profile (map words_in (drop (k + 1) codes)) a in
-    let left : code_among profile (map words_in (drop k codes)) a ≡ rest =
-    left_at profile codes k code a lt ∙ ap (λ (c : Code). code_or profile (words_in c) rest a) (sym is)
-    ∙ rw (no_code_there a (words_in code) none) refl in
-    ap (λ (c : MachineCode). code_in c segments a) (sym left) ∙ before
-
--- Code at an address.
-
--- the first code that has it is the whole's there
-pub found_there : (codes : List Code) (k : ℕ) (code : Code) (whole : MachineCode) (a : ℕ) → k < length codes
-    → code ≡ get_or codes k code → has_code a (words_in code) ≡ true
-    → code_among P1 (map words_in (drop k codes)) a ≡ whole → code_by (words_in code) ≡ whole
-found_there codes k code whole a lt is there before =
-    let rest = code_among P1 (map words_in (drop (k + 1) codes)) a in
-    let left = left_at P1 codes k code a lt ∙ ap (λ (c : Code). code_or P1 (words_in c) rest a) (sym is) in
-    ap (λ b. if b then code_by (words_in code) else rest) (sym there) ∙ sym left ∙ before
-
--- and code that has it not is passed by
-pub passed_by : (codes : List Code) (k : ℕ) (code : Code) (whole : MachineCode) (a : ℕ) → k < length codes
-    → code ≡ get_or codes k code → has_code a (words_in code) ≡ false
-    → code_among P1 (map words_in (drop k codes)) a ≡ whole
-    → code_among P1 (map words_in (drop (k + 1) codes)) a ≡ whole
-passed_by codes k code whole a lt is none before =
-    let rest = code_among P1 (map words_in (drop (k + 1) codes)) a in
-    let left = left_at P1 codes k code a lt ∙ ap (λ (c : Code). code_or P1 (words_in c) rest a) (sym is) in
-    ap (λ b. if b then code_by (words_in code) else rest) (sym none) ∙ sym left ∙ before

@@ -8,18 +8,19 @@ pub use Rattle.rv_machine.specs.Bytes.{ByteMap}
 pub use Rattle.rv_machine.specs.Entries.{entries_of, Entry, IsFirstDifference, program_counter}
 pub use Rattle.rv_machine.specs.Harts.{pc_of, regs_of, state_of}
 pub use Rattle.rv_machine.specs.Leakage.{Done, followed_by, refused, stopped, went_on}
-pub use Rattle.rv_machine.specs.Machine.{goes_on, MachineCode, State, StepEnding, stops, word_at}
-pub use Rattle.rv_machine.specs.Paged.{first_of, lies_in}
-pub use Rattle.rv_machine.specs.Regions.{code_of}
+pub use Rattle.rv_machine.specs.Machine.{goes_on, State, StepEnding, stops, word_at}
+pub use Rattle.rv_machine.specs.Flat.{loaded_bytes}
+pub use Rattle.rv_machine.specs.Paged.{first_of, lies_in, paged_bytes}
 pub use Rattle.rv_machine.specs.Registers.{register}
 pub use Rattle.rv_machine.specs.Stops.{stop_name as machine_stop_name}
+pub use Rattle.rv_machine.specs.declared.memory.Size.{Size}
 pub use Rattle.rv_machine.specs.declared.observation.Observation.{Observation}
 pub use Rattle.rv_machine.specs.declared.paged.AddressRange.{AddressRange}
 pub use Rattle.rv_machine.specs.declared.stops.Stop.{Stop}
 pub use Rattle.rv_machine.specs.declared.stops.Stop.TheVariants.{AccessFault, Budget, RecorderRefused}
-pub use Rattle.rv_programs.specs.Loaded.{code_in, lies_within, no_code, program_of}
+pub use Rattle.rv_programs.specs.Code.{halfword_at, HasNoCode, ProgramCode, StandsIn}
+pub use Rattle.rv_programs.specs.Loaded.{code_in, lies_within, loaded_code, no_code, program_of}
 pub use Rattle.rv_programs.specs.Programs.{MachineProgram, ProgramStep, StandsAt}
-pub use Rattle.rv_programs.specs.Ranged.{loaded_bytes, ranged_bytes}
 pub use Rattle.rv_programs.specs.Runs.{cut_short, halted, halts, HasReturned, ProgramHalts, ProgramLeads, ProgramRuns}
 pub use Rattle.rv_programs.specs.Runs.{spent, stays}
 pub use Rattle.rv_programs.specs.declared.loaded.CodeSegment.{CodeSegment}
@@ -43,7 +44,7 @@ pub use Rattle.elf.specs.Segments.{LoadedSegment}
 pub use Rattle.elf.specs.declared.symbol.Object.{Object}
 pub use Rattle.elf_runs.specs.Arguments.{return_address, stack_begin}
 pub use Rattle.elf_runs.specs.Begin.{register_of}
-pub use Rattle.elf_runs.specs.Code.{CodeWords, program_code, words_in}
+pub use Rattle.elf_runs.specs.Code.{halfwords_from, placed, PlacedCode, program_code, words_from}
 pub use Rattle.elf_runs.specs.Memory.{memory_at_start, range_of, RangeState}
 pub use Rattle.elf_runs.specs.Needs.{each_from, first_unmet, IsTold, need, Need, needs}
 pub use Rattle.elf_runs.specs.Objects.{size_of}
@@ -58,5 +59,7 @@ pub use Rattle.elf_runs.specs.declared.fault.Unmet.{Unmet}
 pub use Rattle.elf_runs.specs.declared.loaded_code.Code.{Code}
 pub use Rattle.elf_runs.specs.declared.memory_range.MemoryRange.{MemoryRange}
 pub use Rattle.elf_runs.specs.declared.words.Word.{Word}
+pub use Rattle.listing.specs.Below.{text_of}
+pub use Rattle.listing.specs.Code.{IsLineOf}
 pub use Rattle.listing.specs.Lines.{lines_of}
 pub use Rattle.listing.specs.Listings.{AreLines}

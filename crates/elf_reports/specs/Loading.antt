@@ -1,30 +1,40 @@
 -- What an executable is to the machine: its code, what may be stored to, and the state in which a run of one of its
 -- functions begins, as far as it is known.
-use Rattle.std.specs.Prelude.{ℕ, ◌+◌, ◌-◌, ◌*◌, ◌&&◌, Bool, not, List, [], ◌∷◌, length, Option, None, Some, nat_le}
-use Rattle.std.specs.Prelude.{nat_lt, slice_get, if◌then◌else◌}
+use Rattle.std.specs.Prelude.{ℕ, ◌+◌, ◌-◌, ◌*◌, ◌&&◌, Bool, true, false, not, List, [], ◌∷◌, length, Option, None}
+use Rattle.std.specs.Prelude.{Some, nat_le, nat_lt, slice_get, if◌then◌else◌}
 use Rattle.std.specs.List.{list_any}
 use Rattle.std.specs.Option.{option_or}
-use Rattle.elf_reports.specs.Below.{Asked, ByteMap, CodeWords, Executable, function_named, known, KnownState}
-use Rattle.elf_reports.specs.Below.{MachineCode, MachineProgram, memory_at_start, no_code, P1, Profile, program_code}
-use Rattle.elf_reports.specs.Below.{RangeState, register_of, Shifts, State, Word, word_at}
+use Rattle.rv_machine.specs.declared.memory.Size.TheVariants as sizes
+use Rattle.rv_programs.specs.Code.{halfwords, words}
+use Rattle.elf_reports.specs.Below.{AddressRange, Asked, ByteMap, Executable, function_named, halfwords_from, known}
+use Rattle.elf_reports.specs.Below.{KnownState, lies_in, MachineProgram, memory_at_start, no_code, PlacedCode, Profile}
+use Rattle.elf_reports.specs.Below.{program_code, ProgramCode, RangeState, register_of, Shifts, Size, State, Word}
+use Rattle.elf_reports.specs.Below.{words_from}
 
--- the address is one of those at which the words stand
-abbrev pub has_code : ℕ → CodeWords → Bool
-has_code a code = nat_le code.begin a && nat_lt a (code.begin + 4 * length code.words)
+-- the addresses at which code stands
+abbrev pub addresses_of : PlacedCode → AddressRange
+addresses_of (words_from begin items) = record { begin = begin; end = begin + 4 * length items }
+addresses_of (halfwords_from begin items) = record { begin = begin; end = begin + 2 * length items }
 
--- the code that an address lies in; outside of all words no code stands
-abbrev pub code_among : Profile → List CodeWords → ℕ → MachineCode
-code_among profile [] a = no_code profile
-code_among profile (code ∷ codes) a =
-    if has_code a code then record { profile = profile; base = code.begin; words = code.words }
-    else code_among profile codes a
+-- what code is to the machine, where it is run for who observes it
+abbrev pub code_by : Profile → PlacedCode → ProgramCode
+code_by profile (words_from begin items) = words (record { profile = profile; base = begin; words = items })
+code_by profile (halfwords_from begin items) = halfwords (record { profile = profile; base = begin; halfwords = items })
 
--- the word of code that begins at an address. Whoever observes it, it is the same
-abbrev pub code_by : CodeWords → MachineCode
-code_by code = record { profile = P1; base = code.begin; words = code.words }
+-- instructions begin at multiples of so many bytes: of 2 where some may have 16 bits, else of 4
+abbrev pub alignment_by : Bool → Size
+alignment_by true = sizes.Half
+alignment_by false = sizes.Word
 
-abbrev pub code_word_at : Executable → ℕ → Option ℕ
-code_word_at program address = word_at (code_among P1 (program_code program) address) address
+-- the code that an address lies in; outside of all code none stands
+abbrev pub code_among : Size → Profile → List PlacedCode → ℕ → ProgramCode
+code_among alignment profile [] a = no_code alignment profile
+code_among alignment profile (code ∷ codes) a =
+    if lies_in a (addresses_of code) then code_by profile code else code_among alignment profile codes a
+
+-- the code of an executable
+abbrev pub code_for : Executable → Profile → ℕ → ProgramCode
+code_for program profile = code_among (alignment_by program.compressed) profile (program_code program)
 
 -- the range may be stored to. What is executed stays as it is, so a range that may be executed may not be stored to
 abbrev pub is_variable : RangeState → Bool
@@ -42,7 +52,7 @@ may_be_stored_to ranges a = list_any (λ range. is_variable range && has_address
 abbrev pub machine_program : Executable → Asked → Profile → MachineProgram
 machine_program program asked profile =
     record {
-      code = code_among profile (program_code program);
+      code = code_for program profile;
       writable = may_be_stored_to (memory_at_start program asked);
     }
 

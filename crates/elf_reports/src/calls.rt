@@ -1,7 +1,8 @@
 // The calls that lead to a step of a run.
 
-ghost use Rattle.std.specs.Prelude.{◌≡◌, [], None, drop, length, IfOk, IfErr};
-ghost use Rattle.elf_reports.specs.Below.{entries_of, first_unmet, followed_by, IsTold, needs, state_of};
+ghost use Rattle.std.specs.Prelude.{◌≡◌, [], None, drop, length, IfOk, IfErr, IfSome};
+ghost use Rattle.elf_reports.specs.Below.{entries_of, first_unmet, followed_by, Instr, IsTold, needs, StandsAt};
+ghost use Rattle.elf_reports.specs.Below.{state_of};
 ghost use Rattle.elf_reports.specs.Calls.{calls_behind, LeadThere, with_call};
 ghost use Rattle.elf_reports.specs.Loading.{machine_program, state_at_start};
 
@@ -14,7 +15,7 @@ use rv_code::{Instr, Reg};
 use rv_machine::hart::Hart;
 use rv_machine::memory::Memory;
 use rv_machine::{Observation, entry_count};
-use rv_programs::{Program as MachineProgram, step_unrecorded};
+use rv_programs::{Fetched, Program as MachineProgram, step_unrecorded};
 use std::alloc::Global;
 
 /// The number of `ra`, the register that has the address which a call returns to.
@@ -73,6 +74,17 @@ fn entries_in(seen: Option<Observation>) -> u64
     }
 }
 
+/// The instruction that stands at an address, if one does.
+fn instruction_at<P: MachineProgram>(program: &P, pc: u32) -> Option<&Instr>
+    ensures there { IfSome result (λ instr. StandsAt (P.program program.now) pc instr.now) }
+    ensures none { result ≡ None → (i : Instr) → ¬ StandsAt (P.program program.now) pc i }
+{
+    match program.fetch(pc) {
+        Fetched::Instruction(instr, _) => Some(instr),
+        Fetched::Misaligned | Fetched::Nothing | Fetched::Unknown => None,
+    }
+}
+
 /// The calls that lead to the step behind so many entries.
 pub(crate) fn calls_behind_entries<P: MachineProgram, M: Memory>(
     program: &P,
@@ -86,7 +98,7 @@ pub(crate) fn calls_behind_entries<P: MachineProgram, M: Memory>(
     let mut left = entries;
     'steps: while left > 0 {
         let pc = hart.pc();
-        let Some(instr) = program.code_at(pc).instruction_at(pc) else {
+        let Some(instr) = instruction_at(program, pc) else {
             return calls;
         };
         note(&mut calls, pc, instr);

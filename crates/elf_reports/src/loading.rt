@@ -1,17 +1,23 @@
 // A function, loaded into a machine, and what is known of the state in which its run begins.
 
 ghost use Rattle.std.specs.Prelude.{◌≡◌, ◌+◌, ℕ, None, length, map, is_some, IfOk, IfErr};
-ghost use Rattle.elf_reports.specs.Below.{code_in, first_unmet, IsTold, known_of, lies_within, needs, no_code};
-ghost use Rattle.elf_reports.specs.Below.{program_of, range_of, ranged_bytes, state_of, words_in};
-ghost use Rattle.elf_reports.specs.Loading.{code_among, item_at, known_at_start, machine_program, may_be_stored_to};
+ghost use Rattle.elf_reports.specs.Below.{code_in, first_unmet, halfwords_from, IsTold, known_of, lies_within, needs};
+ghost use Rattle.elf_reports.specs.Below.{no_code, placed, program_of, range_of, paged_bytes, Size, state_of};
+ghost use Rattle.elf_reports.specs.Below.{words_from};
+ghost use Rattle.elf_reports.specs.Loading.{alignment_by, code_among, item_at, known_at_start, machine_program};
+ghost use Rattle.elf_reports.specs.Loading.{may_be_stored_to};
+ghost use Rattle.elf_reports.specs.private.Loaded.{IsSegmentOf};
 
 use crate::options::RunOptions;
 use certified_runs::{KnownParts, Shifts};
 use elf::Program;
-use elf_runs::{Asked, Code, MemoryRange, Start, StartFault, prepare, program_code};
+use elf_runs::{
+    Asked, Code, MemoryRange, PlacedHalfwords, PlacedWords, Start, StartFault, prepare,
+    program_code,
+};
 use rv_machine::hart::Hart;
-use rv_machine::{AddressRange, Running};
-use rv_programs::{CodeSegment, LoadedProgram, RangedMemory};
+use rv_machine::{AddressRange, PagedMemory, Running, Size};
+use rv_programs::{CodeSegment, LoadedProgram};
 use std::alloc::{AllocError, Global};
 use word::Profile;
 
@@ -19,28 +25,79 @@ use word::Profile;
 #[derive(Drop)]
 pub(crate) struct LoadedFunction {
     pub program: LoadedProgram,
-    pub run: Running<RangedMemory>,
-    pub known: KnownParts<RangedMemory>,
+    pub run: Running<PagedMemory>,
+    pub known: KnownParts<PagedMemory>,
 }
 
-/// The words of code, as segments of the machine's. Where there are no words there is no segment.
+/// The segment of words, if there are any.
+fn word_segment(
+    alloc: Global,
+    code: &PlacedWords,
+    profile: Profile,
+) -> Result<Option<CodeSegment>, AllocError>
+    ensures { IfOk result (IsSegmentOf profile (words_from code.now.begin code.now.words.items)) }
+{
+    if code.words.is_empty() {
+        return Ok(None);
+    }
+    let begin = code.begin as u32;
+    let segment = CodeSegment::new(alloc, begin, code.words.as_slice(), profile)?;
+    Ok(Some(segment))
+}
+
+/// The segment of halfwords, if there are any.
+fn halfword_segment(
+    alloc: Global,
+    code: &PlacedHalfwords,
+    profile: Profile,
+) -> Result<Option<CodeSegment>, AllocError>
+    ensures { IfOk result (IsSegmentOf profile (halfwords_from code.now.begin code.now.halfwords.items)) }
+{
+    if code.halfwords.is_empty() {
+        return Ok(None);
+    }
+    let begin = code.begin as u32;
+    let segment = CodeSegment::of_halfwords(alloc, begin, code.halfwords.as_slice(), profile)?;
+    Ok(Some(segment))
+}
+
+/// The segment of code, if there is any.
+fn code_segment(
+    alloc: Global,
+    code: &Code,
+    profile: Profile,
+) -> Result<Option<CodeSegment>, AllocError>
+    ensures { IfOk result (IsSegmentOf profile (placed code.now)) }
+{
+    match code {
+        Code::Words(code) => word_segment(alloc, code, profile),
+        Code::Halfwords(code) => halfword_segment(alloc, code, profile),
+    }
+}
+
+/// Code, as segments of the machine's.
 fn code_segments(
     alloc: Global,
     codes: &[Code],
     profile: Profile,
 ) -> Result<Vec<CodeSegment>, AllocError>
-    ensures { IfOk result (λ segments.
-        code_in (no_code profile) segments.items ≡ code_among profile (map words_in codes.now)) }
+    ensures { IfOk result (λ segments. (alignment : Size) → code_in (no_code alignment profile) segments.items
+        ≡ code_among alignment profile (map placed codes.now)) }
 {
     let mut segments = Vec::new(alloc);
     'each: for code in codes {
-        if !code.words.is_empty() {
-            let begin = code.begin as u32;
-            let segment = CodeSegment::new(alloc, begin, code.words.as_slice(), profile)?;
+        if let Some(segment) = code_segment(alloc, code, profile)? {
             segments.push(segment)?;
         }
     }
     Ok(segments)
+}
+
+/// Where instructions begin: at multiples of so many bytes.
+fn alignment_of(compressed: bool) -> Size
+    ensures { result ≡ alignment_by compressed }
+{
+    if compressed { Size::Half } else { Size::Word }
 }
 
 /// The addresses of a range.
@@ -69,12 +126,19 @@ fn variable_ranges(alloc: Global, ranges: &[MemoryRange]) -> Result<Vec<AddressR
     Ok(variable)
 }
 
-/// A memory of the ranges' bytes. The last range comes first in it: that is the stack, where most accesses are.
-fn memory_of(alloc: Global, ranges: &[MemoryRange]) -> Result<RangedMemory, AllocError>
-    ensures { IfOk result (λ memory.
-        ranged_bytes memory ≡ item_at (λ range. range.bytes) (map range_of ranges.now)) }
+/// A memory without data.
+fn no_memory(alloc: Global) -> Result<PagedMemory, AllocError>
+    ensures { IfOk result (λ memory. (a : ℕ) → paged_bytes memory a ≡ None) }
 {
-    let mut memory = RangedMemory::new(alloc);
+    PagedMemory::new(alloc, &[])
+}
+
+/// A memory of the ranges' bytes. The last range comes first in it: that is the stack, where most accesses are.
+fn memory_of(alloc: Global, ranges: &[MemoryRange]) -> Result<PagedMemory, AllocError>
+    ensures { IfOk result (λ memory.
+        paged_bytes memory ≡ item_at (λ range. range.bytes) (map range_of ranges.now)) }
+{
+    let mut memory = no_memory(alloc)?;
     'each: for k in (0..ranges.len()).rev() {
         let range = &ranges[k];
         let size = range.bytes.len() as u32;
@@ -84,11 +148,11 @@ fn memory_of(alloc: Global, ranges: &[MemoryRange]) -> Result<RangedMemory, Allo
 }
 
 /// A memory of the masks of their bits that are not known.
-fn marks_of(alloc: Global, ranges: &[MemoryRange]) -> Result<RangedMemory, AllocError>
+fn marks_of(alloc: Global, ranges: &[MemoryRange]) -> Result<PagedMemory, AllocError>
     ensures { IfOk result (λ memory.
-        ranged_bytes memory ≡ item_at (λ range. range.unknown) (map range_of ranges.now)) }
+        paged_bytes memory ≡ item_at (λ range. range.unknown) (map range_of ranges.now)) }
 {
-    let mut memory = RangedMemory::new(alloc);
+    let mut memory = no_memory(alloc)?;
     'each: for k in (0..ranges.len()).rev() {
         let range = &ranges[k];
         let size = range.unknown.len() as u32;
@@ -108,17 +172,18 @@ pub(crate) fn load_function(
     ensures program { IfOk result (λ loaded.
         program_of loaded.program ≡ machine_program program.now asked.now options.profile) }
     ensures known { IfOk result (λ loaded.
-        known_of (state_of loaded.run.hart (ranged_bytes loaded.run.memory)) loaded.known.registers
-        (ranged_bytes loaded.known.marks) loaded.known.shifts
+        known_of (state_of loaded.run.hart (paged_bytes loaded.run.memory)) loaded.known.registers
+        (paged_bytes loaded.known.marks) loaded.known.shifts
         ≡ known_at_start program.now asked.now options.shifts) }
     ensures extent { IfOk result (λ loaded. (a : ℕ)
-        → is_some (ranged_bytes loaded.known.marks a) ≡ is_some (ranged_bytes loaded.run.memory a)) }
+        → is_some (paged_bytes loaded.known.marks a) ≡ is_some (paged_bytes loaded.run.memory a)) }
     ensures steps { IfOk result (λ loaded. loaded.run.steps_left ≡ options.steps) }
     ensures fault { IfErr result (λ fault. IsTold fault (needs program.now asked.now)) }
 {
     let start = prepare(alloc, program, asked)?;
     let codes = program_code(alloc, program)?;
     let segments = code_segments(alloc, codes.as_slice(), options.profile)?;
+    let alignment = alignment_of(program.compressed());
     let ranges = start.memory.as_slice();
     let variable = variable_ranges(alloc, ranges)?;
     let known = KnownParts {
@@ -127,7 +192,7 @@ pub(crate) fn load_function(
         shifts: options.shifts,
     };
     Ok(LoadedFunction {
-        program: LoadedProgram::new(alloc, options.profile, segments, variable)?,
+        program: LoadedProgram::new(alloc, alignment, options.profile, segments, variable)?,
         run: Running {
             hart: Hart::with_registers(start.pc, start.registers),
             memory: memory_of(alloc, ranges)?,

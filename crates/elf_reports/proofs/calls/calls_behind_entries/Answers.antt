@@ -9,7 +9,7 @@ returns-in_default g c =
     let program = g.P.Program.program c.args.program.now in
     let s = state_of c.steps.hart (g.M.Memory.bytes c.steps.memory) in
     let calls = c.steps.calls.items in
-    let none = rw (c.code_at.ensures, c.pc-pc.ensures) at (c.in_default.ensures.none refl) in
+    let none = rw c.pc-pc.ensures at (c.in_default.ensures.none refl) in
     c.steps.invariant calls
     (no_further program s calls calls c.steps.left (λ o t it. let at = stands it in none at.0 at.1) c.steps-test.true)
 
@@ -30,7 +30,7 @@ steps-preserved g c = λ last lead.
     let t = state_of c.step_unrecorded-seen.new.hart (g.M.Memory.bytes c.step_unrecorded-seen.new.memory) in
     let step = c.step_unrecorded-seen.ensures.step in
     let on = went step.1 step.2.1 (sym c.is_some.ensures ∙ c.if-is_some.false) in
-    let at = rw (c.code_at.ensures, c.pc-pc.ensures) at c.in-Some.ensures.there in
+    let at = rw c.pc-pc.ensures at c.in-Some.ensures.there in
     let shown = step.2.2 ∙ on.2 in
     let many = c.entries_in.ensures ∙ ap (λ (list : List Observation). length (entries_of list)) shown in
     c.steps.invariant last

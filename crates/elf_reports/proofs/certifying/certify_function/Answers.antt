@@ -1,5 +1,5 @@
 use Rattle.std.proofs.Common.{◌≡◌, Err, length, rules}
-use Rattle.elf_reports.specs.Below.{entries_of, known_of, program_of, ranged_bytes, state_of}
+use Rattle.elf_reports.specs.Below.{entries_of, known_of, program_of, paged_bytes, state_of}
 use Rattle.elf_reports.proofs.Ends.{answered, refused_so}
 use Rattle.elf_reports.proofs.certifying.certify_function.Goals as goal
 
@@ -15,9 +15,9 @@ returns c =
     let loaded = c.in_ok-loaded.loaded in
     let run = c.certify-end.new.run in
     answered c.args.program.now c.args.asked.now c.args.options (program_of loaded.program)
-    (known_of (state_of loaded.run.hart (ranged_bytes loaded.run.memory)) loaded.known.registers
-    (ranged_bytes loaded.known.marks) loaded.known.shifts)
-    loaded.run.steps_left run.steps_left (state_of run.hart (ranged_bytes run.memory)) c.certify-end.result
+    (known_of (state_of loaded.run.hart (paged_bytes loaded.run.memory)) loaded.known.registers
+    (paged_bytes loaded.known.marks) loaded.known.shifts)
+    loaded.run.steps_left run.steps_left (state_of run.hart (paged_bytes run.memory)) c.certify-end.result
     c.certificate_at.result c.in_ok-loaded.ensures.program c.in_ok-loaded.ensures.known c.in_ok-loaded.ensures.steps
     c.in_ok-loaded.ensures.met c.certify-end.ensures.certified
     (λ none. let over = c.certify-end.ensures.spent none in (length (entries_of over.0), over.2)) c.certify-end.ensures.stopped

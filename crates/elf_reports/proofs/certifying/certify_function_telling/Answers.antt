@@ -1,6 +1,6 @@
 use Rattle.std.proofs.Common.{◌≡◌, Err, rules, subst}
 use Rattle.elf_reports.specs.Below.{collected, GoesOnKnown, HasLines, known_of, KnownState, LinesAreTold}
-use Rattle.elf_reports.specs.Below.{MachineProgram, program_of, ranged_bytes, state_of}
+use Rattle.elf_reports.specs.Below.{MachineProgram, program_of, paged_bytes, state_of}
 use Rattle.elf_reports.specs.Loading.{known_at_start}
 use Rattle.elf_reports.proofs.Ends.{answered, refused_so}
 use Rattle.elf_reports.proofs.certifying.certify_function_telling.Goals as goal
@@ -17,9 +17,9 @@ returns-clause-certified g c =
     let loaded = c.in_ok-loaded.loaded in
     let run = c.certify_in_pieces-end.new.run in
     answered c.args.program.now c.args.asked.now c.args.options (program_of loaded.program)
-    (known_of (state_of loaded.run.hart (ranged_bytes loaded.run.memory)) loaded.known.registers
-    (ranged_bytes loaded.known.marks) loaded.known.shifts)
-    loaded.run.steps_left run.steps_left (state_of run.hart (ranged_bytes run.memory)) c.certify_in_pieces-end.result
+    (known_of (state_of loaded.run.hart (paged_bytes loaded.run.memory)) loaded.known.registers
+    (paged_bytes loaded.known.marks) loaded.known.shifts)
+    loaded.run.steps_left run.steps_left (state_of run.hart (paged_bytes run.memory)) c.certify_in_pieces-end.result
     c.certificate_at.result c.in_ok-loaded.ensures.program c.in_ok-loaded.ensures.known c.in_ok-loaded.ensures.steps
     c.in_ok-loaded.ensures.met c.certify_in_pieces-end.ensures.certified
     c.certify_in_pieces-end.ensures.spent c.certify_in_pieces-end.ensures.stopped

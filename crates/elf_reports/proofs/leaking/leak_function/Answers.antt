@@ -1,7 +1,7 @@
 -- The lines of the run, and then that of how it stops.
 use Rattle.std.proofs.Common.{◌≡◌, ap, ◌∙◌}
 use Rattle.std.proofs.lemmas.Result.{err_from_is_err_and}
-use Rattle.elf_reports.specs.Below.{KnownState, ranged_bytes, state_of}
+use Rattle.elf_reports.specs.Below.{KnownState, paged_bytes, state_of}
 use Rattle.elf_reports.specs.Certified.{function_stop}
 use Rattle.elf_reports.specs.Leaked.{cut_off, ran, refused}
 use Rattle.elf_reports.proofs.EndLines.{end_cut, end_written, lines_cut}
@@ -34,7 +34,7 @@ pub returns-in_err-put_end-clause-beginning : goal.returns-in_err-put_end-clause
 returns-in_err-put_end-clause-beginning g c = λ tells is.
     let loaded = c.in_ok-loaded.ensures in
     let start = ap (λ (k : KnownState). k.state) loaded.known in
-    let end = state_of c.write_steps.new.run.hart (ranged_bytes c.write_steps.new.run.memory) in
+    let end = state_of c.write_steps.new.run.hart (paged_bytes c.write_steps.new.run.memory) in
     let how : c.of-how.result ≡ function_stop c.in_ok-stop.stop end.pc =
     c.of-how.ensures ∙ ap (function_stop c.in_ok-stop.stop) c.pc.ensures in
     end_cut c.args.program.now c.args.asked.now c.args.options c.of-how.result c.in_ok-stop.stop end how
@@ -53,7 +53,7 @@ pub returns-clause-written : goal.returns-clause-written
 returns-clause-written g c = λ tells.
     let loaded = c.in_ok-loaded.ensures in
     let start = ap (λ (k : KnownState). k.state) loaded.known in
-    let end = state_of c.write_steps.new.run.hart (ranged_bytes c.write_steps.new.run.memory) in
+    let end = state_of c.write_steps.new.run.hart (paged_bytes c.write_steps.new.run.memory) in
     let how : c.of-how.result ≡ function_stop c.in_ok-stop.stop end.pc =
     c.of-how.ensures ∙ ap (function_stop c.in_ok-stop.stop) c.pc.ensures in
     end_written c.args.program.now c.args.asked.now c.args.options c.of-how.result c.in_ok-stop.stop end how

@@ -1,21 +1,23 @@
-use Rattle.std.proofs.Common.{◌≡◌, ◌∙◌, ap, length, rules}
-use Rattle.elf_reports.proofs.Segments.{nothing_more, segment_more}
+use Rattle.std.proofs.Common.{◌∙◌, ap}
+use Rattle.elf_reports.proofs.Segments.{lies_in_none, nothing_more, segment_more}
+use Rattle.elf_reports.specs.Loading.{addresses_of}
+use Rattle.elf_reports.specs.Below.{placed}
 use Rattle.elf_reports.proofs.loading.code_segments.Goals as goal
-use Rattle.elf_reports.proofs.loading.code_segments.Goals.{then-not-is_empty+in_ok-segment+in_ok-push, else-not-is_empty}
+use Rattle.elf_reports.proofs.loading.code_segments.Goals.{in-Some+in_ok-push, in_default}
 
 pub each-preserved : goal.each-preserved
-each-preserved c = λ a.
+each-preserved c = λ alignment a.
     let codes = c.args.codes.now in
-    elim c.if-not-is_empty.branch [
-      | then-not-is_empty+in_ok-segment+in_ok-push w ↦
-          segment_more c.args.profile codes c.each.segments.items c.if-not-is_empty.segments.items c.each.code-index
-          c.code-item.result w.in_ok-segment.segment _ a c.each-test.true c.code-item.is
-          (rw w.as_slice.ensures.value at w.in_ok-segment.ensures.addresses)
-          (rw w.as_slice.ensures.value at w.in_ok-segment.ensures.code)
-          (ap (λ v. v.items) w.segments-is ∙ w.in_ok-push.ensures.items) (c.each.invariant a)
-      | else-not-is_empty w ↦
-          let none : length c.code-item.result.words.items ≡ 0 = search rules in
+    let code = c.code-item.result in
+    elim c.match-branch-2.branch [
+      | in-Some+in_ok-push w ↦
+          let of = rw w.in-Some.is at c.in_ok-segment.ensures in
+          segment_more alignment c.args.profile codes c.each.code-index code a c.each-test.true c.code-item.is
+          c.each.segments.items c.match-branch-2.segments.items w.in-Some.segment _ of.0 of.1
+          (ap (λ v. v.items) w.segments-is ∙ w.in_ok-push.ensures.items) (c.each.invariant alignment a)
+      | in_default w ↦
+          let none = rw w.in_default.is at c.in_ok-segment.ensures in
           rw w.segments-is
-          (nothing_more c.args.profile codes c.each.segments.items c.each.code-index c.code-item.result _ a
-          c.each-test.true c.code-item.is none (c.each.invariant a))
+          (nothing_more alignment c.args.profile codes c.each.code-index code a c.each-test.true c.code-item.is
+          c.each.segments.items _ (lies_in_none a (addresses_of (placed code)) none) (c.each.invariant alignment a))
     ]

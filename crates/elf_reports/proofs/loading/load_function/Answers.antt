@@ -1,8 +1,8 @@
 use Rattle.std.specs.Prelude.{is_some}
 use Rattle.std.proofs.Common.{◌≡◌, ◌∙◌, List, ap, length, map, rules, sym}
-use Rattle.elf_reports.specs.Below.{ByteMap, Code, CodeWords, MemoryRange, pc_of, range_of, ranged_bytes, RangeState}
-use Rattle.elf_reports.specs.Below.{regs_of, state_of, words_in}
-use Rattle.elf_reports.specs.Loading.{code_among, item_at, may_be_stored_to}
+use Rattle.elf_reports.specs.Below.{ByteMap, Code, code_in, MemoryRange, no_code, pc_of, placed, PlacedCode, range_of}
+use Rattle.elf_reports.specs.Below.{paged_bytes, RangeState, regs_of, Size, state_of}
+use Rattle.elf_reports.specs.Loading.{alignment_by, code_among, item_at, may_be_stored_to}
 use Rattle.elf_reports.proofs.Beginning.{known_is, masks_read, program_is, registers_read, state_is}
 use Rattle.elf_reports.proofs.Ranges.{marks_there}
 use Rattle.elf_reports.proofs.loading.load_function.Goals as goal
@@ -10,10 +10,13 @@ use Rattle.elf_reports.proofs.loading.load_function.Goals as goal
 pub returns-clause-program : goal.returns-clause-program
 returns-clause-program c =
     let profile = c.args.options.profile in
+    let alignment = alignment_by c.args.program.now.compressed in
     program_is c.args.program.now c.args.asked.now profile _ _ _ c.in_ok-new.ensures
-    (c.in_ok-segments.ensures
-    ∙ ap (λ (codes : List Code). code_among profile (map words_in codes)) c.as_slice.ensures.value
-    ∙ ap (λ (codes : List CodeWords). code_among profile codes) c.in_ok-codes.ensures.code)
+    (ap (λ (size : Size). code_in (no_code size profile) c.in_ok-segments.segments.items)
+    (c.alignment_of-alignment.ensures ∙ ap alignment_by c.compressed.ensures)
+    ∙ c.in_ok-segments.ensures alignment
+    ∙ ap (λ (codes : List Code). code_among alignment profile (map placed codes)) c.as_slice.ensures.value
+    ∙ ap (λ (codes : List PlacedCode). code_among alignment profile codes) c.in_ok-codes.ensures.code)
     (c.in_ok-variable.ensures
     ∙ ap (λ (ranges : List MemoryRange). may_be_stored_to (map range_of ranges)) c.as_slice-ranges.ensures.value
     ∙ ap (λ (ranges : List RangeState). may_be_stored_to ranges) c.in_ok-start.ensures.memory)
@@ -37,10 +40,10 @@ returns-clause-known c =
     let many : length start.unknown ≡ 32 = search rules in
     let registers = c.with_registers.ensures.registers
     ∙ registers_read program asked start.registers count c.in_ok-start.ensures.registers in
-    known_is program asked c.args.options.shifts (state_of c.with_registers.result (ranged_bytes c.in_ok-memory_of.field-0))
-    start.unknown (ranged_bytes c.in_ok-marks_of.field-0)
+    known_is program asked c.args.options.shifts (state_of c.with_registers.result (paged_bytes c.in_ok-memory_of.field-0))
+    start.unknown (paged_bytes c.in_ok-marks_of.field-0)
     (state_is program asked (pc_of c.with_registers.result) (regs_of c.with_registers.result)
-    (ranged_bytes c.in_ok-memory_of.field-0) (rw c.with_registers.ensures.pc c.in_ok-start.ensures.pc) registers memory)
+    (paged_bytes c.in_ok-memory_of.field-0) (rw c.with_registers.ensures.pc c.in_ok-start.ensures.pc) registers memory)
     (masks_read program asked c.args.options.shifts start.unknown many c.in_ok-start.ensures.unknown) marks
 
 pub returns-clause-extent : goal.returns-clause-extent
