@@ -1,6 +1,9 @@
--- Files of executables, and that a step that may differ is one of a word of the program.
-use Rattle.std.proofs.Common.{◌≡◌, ◌≢◌, ℕ, zero, suc, ◌+◌, ◌-◌, ◌<◌, ◌≤◌, List, [], ◌∷◌, length, take, Option, None, Some}
-use Rattle.std.proofs.Common.{inl, inr}
+-- Files of executables, and that a step that may differ is one of an instruction of the program.
+use Rattle.std.proofs.Common.{◌≡◌, ◌≢◌, ℕ, zero, suc, ◌+◌, ◌-◌, ◌*◌, ◌%◌, ◌^◌, ◌<◌, ◌≤◌, List, [], ◌∷◌, length, take, Option, None, Some}
+use Rattle.std.proofs.Common.{Bool, eq-eqb, false, inl, inr, ne_eqb, true}
+use Rattle.std.specs.Option.{option_map}
+use Rattle.std.specs.Prelude.{if◌then◌else◌}
+use Rattle.std.proofs.lemmas.Option.{none-some}
 use Rattle.std.proofs.lemmas.Bool.{cases_Bool}
 use Rattle.std.proofs.Common.{Result, Ok, Err, refl, sym, ap, ◌∙◌, subst, arith}
 use Rattle.std.proofs.lemmas.List.{length-take, length-take-le, take_all}
@@ -11,14 +14,23 @@ use Rattle.elf.specs.Reading.{IsUnlessMemory, reading}
 use Rattle.elf.specs.declared.fault.ElfFault.TheVariants.{File, Memory}
 use Rattle.elf.specs.declared.fault.ElfRule.TheVariants.{Ranges}
 use Rattle.elf_reports.specs.Certified.{certificate_at, certified, refused}
-use Rattle.elf_reports.specs.Loading.{code_among, has_code}
-use Rattle.elf_runs.specs.Code.{CodeWords, program_code}
+use Rattle.elf_reports.specs.Encodings.{encoding_by}
+use Rattle.elf_reports.specs.Loading.{addresses_of, alignment_by, code_among, code_by}
+use Rattle.elf_reports.specs.declared.encodings.Encoding.TheVariants.{Halfword, Word}
+use Rattle.elf_runs.specs.Code.{halfwords_from, PlacedCode, program_code, words_from}
+use Rattle.rv_code.proofs.ExpansionLaws.{begins_no_word}
+use Rattle.rv_code.specs.Words.{word_of}
+use Rattle.rv_machine.specs.Paged.{lies_in}
+use Rattle.rv_machine.specs.declared.memory.Size.{Size}
+use Rattle.rv_programs.specs.Code.{halfword_at, long, ProgramCode, short, StandsIn, word}
 use Rattle.elf_reports.specs.declared.certifying.FunctionCertificate.TheVariants.{MayDiffer, Same}
 use Rattle.rv_machine.specs.declared.observation.Observation.{Observation}
 use Rattle.commands.specs.Below.{AskedRun, AskedWords, CertifiedFunction, ElfFault, Executable, FunctionCertificate, machine_program}
-use Rattle.commands.specs.Below.{first_unmet, MachineProgram, P1, Profile, RunOptions, StartFault, Unmet, word_at}
+use Rattle.commands.specs.Below.{Encoding, encoding_at, encoding_in, first_unmet, Instr, IsLineOfEncoding}
+use Rattle.commands.specs.Below.{MachineProgram, P1, Profile, RunOptions, StandsAt, StartFault, Unmet}
 use Rattle.commands.specs.Contents.{Contents, BeginsFile}
-use Rattle.commands.specs.Executables.{HoldsExecutable, HoldsShort, longest_file, NoExecutable, not_read, not_spelled, too_long}
+use Rattle.commands.specs.Executables.{HoldsExecutable, HoldsShort, IsLineOrNothing, longest_file, NoExecutable}
+use Rattle.commands.specs.Executables.{not_read, not_spelled, of_encoding, of_nothing, too_long}
 use Rattle.commands.specs.FunctionCertificates.{StandsInProgram}
 use Rattle.commands.specs.Unread.{out_of_memory}
 use Rattle.commands.specs.declared.fault.Fault.TheVariants.{Elf}
@@ -72,37 +84,78 @@ executable_refused files path bytes Memory held is = not_read (out_of_memory ref
 
 ends_in_code : (program : MachineProgram) (n : ℕ) (k : KnownState) (seen : List Observation) (ending : RunEnding)
     (address entry pc : ℕ) → CertifiedRun program n k seen ending
-    → certificate_at address (end_of seen ending) ≡ MayDiffer entry pc → word_at (program.code pc) pc ≢ None
+    → certificate_at address (end_of seen ending) ≡ MayDiffer entry pc → (i : Instr) × StandsAt program pc i
 ends_in_code program n k seen (same stop) address entry pc run is = cc
 ends_in_code program n k seen (may_differ at) address entry pc run is =
     let there : at ≡ pc = cc in
-    subst (λ (p : ℕ). word_at (program.code p) p ≢ None) there
-    (cut_at program n k seen (may_differ at) at run refl)
+    subst (λ (p : ℕ). (i : Instr) × StandsAt program p i) there (cut_at program n k seen (may_differ at) at run refl)
 
 function_stands : (program : Executable) (asked : AskedRun) (options : RunOptions)
     (answer : Result FunctionCertificate StartFault) (entry pc : ℕ) → CertifiedFunction program asked options answer
     → answer ≡ Ok (MayDiffer entry pc)
-    → word_at ((machine_program program asked options.profile).code pc) pc ≢ None
+    → (i : Instr) × StandsAt (machine_program program asked options.profile) pc i
 function_stands program asked options answer entry pc (refused told) is = cc
 function_stands program asked options answer entry pc (certified {certificate} met run) is =
     let same : certificate ≡ MayDiffer entry pc = cc in
     ends_in_code (machine_program program asked options.profile) _ _ run.seen run.ending run.address entry pc run.run
     (sym run.certificate_is ∙ same)
 
--- the word is the same whoever observes it
-word_anyhow : (profile : Profile) (codes : List CodeWords) (a : ℕ)
-    → word_at (code_among profile codes a) a ≡ word_at (code_among P1 codes a) a
-word_anyhow profile [] a = refl
-word_anyhow profile (code ∷ codes) a =
-    elim (cases_Bool (has_code a code)) [ inl e ↦ rw e refl | inr e ↦ rw e (word_anyhow profile codes a) ]
+-- where an instruction stands something begins
+
+something : {found : Option Encoding} {encoding : Encoding} → found ≡ Some encoding → found ≢ None
+something {encoding = encoding} is = λ none. none-some encoding (sym none ∙ is)
+
+begins : {code : ProgramCode} {p : ℕ} {i : Instr} {length : Size} → StandsIn code p i length
+    → encoding_in code p ≢ None
+begins (word at) = something (ap (option_map (λ w. Word w)) at.word)
+begins {p = p} {i} (short {code} {halfword = halfword} even there expands) =
+    let next = halfword_at code (p + 2) in
+    let word = option_map (λ high. Word (halfword + 2 ^ 16 * high)) next in
+    something
+    (ap (λ (low : Option ℕ). encoding_by low next) there
+    ∙ ap (λ (b : Bool). if b then word else Some (Halfword halfword))
+    (ne_eqb (halfword % 4) 3 (begins_no_word halfword i expands)))
+begins {p = p} (long {code} {low = low} {high = high} even there starts then fits spells) =
+    let next = halfword_at code (p + 2) in
+    let short = Some (Halfword low) in
+    something
+    (ap (λ (found : Option ℕ). encoding_by found next) there
+    ∙ ap (λ (b : Bool). if b then option_map (λ high. Word (low + 2 ^ 16 * high)) next else short)
+    (eq-eqb (low % 4) 3 starts)
+    ∙ ap (option_map (λ high. Word (low + 2 ^ 16 * high))) then)
+
+-- it is the same whoever observes it
+
+same_code : (profile : Profile) (code : PlacedCode) (a : ℕ)
+    → encoding_in (code_by profile code) a ≡ encoding_in (code_by P1 code) a
+same_code profile (words_from begin items) a = refl
+same_code profile (halfwords_from begin items) a = refl
+
+anyhow : (compressed : Bool) (profile : Profile) (codes : List PlacedCode) (a : ℕ)
+    → encoding_in (code_among (alignment_by compressed) profile codes a) a
+    ≡ encoding_in (code_among (alignment_by compressed) P1 codes a) a
+anyhow true profile [] a = refl
+anyhow false profile [] a = refl
+anyhow compressed profile (code ∷ codes) a = elim (cases_Bool (lies_in a (addresses_of code))) [
+  | inl e ↦ rw e (same_code profile code a)
+  | inr e ↦ rw e (anyhow compressed profile codes a)
+]
 
 pub stands_in_program : (program : Executable) (asked : AskedRun) (options : RunOptions)
     (certificate : FunctionCertificate) → CertifiedFunction program asked options (Ok certificate)
     → StandsInProgram program certificate
 stands_in_program program asked options (Same stop entries) h = tt
 stands_in_program program asked options (MayDiffer entry pc) h =
-    subst (λ (w : Option ℕ). w ≢ None) (word_anyhow options.profile (program_code program) pc)
-    (function_stands program asked options (Ok (MayDiffer entry pc)) entry pc h refl)
+    let it = function_stands program asked options (Ok (MayDiffer entry pc)) entry pc h refl in
+    subst (λ (found : Option Encoding). found ≢ None)
+    (anyhow program.compressed options.profile (program_code program) pc) (begins it.1.1)
+
+-- and has a line
+pub line_of_something : {program : Executable} {address : ℕ} {line : List ℕ} → IsLineOrNothing program address line
+    → encoding_at program address ≢ None
+    → (encoding : Encoding) × (encoding_at program address ≡ Some encoding) × IsLineOfEncoding address encoding line
+line_of_something (of_encoding {encoding} is shown) some = (encoding, is, shown)
+line_of_something (of_nothing none) some = absurd (some none)
 
 -- ---- requests that are not met
 

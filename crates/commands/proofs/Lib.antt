@@ -3,6 +3,7 @@ pub mod WordLemmas
 pub mod CertificateLemmas
 mod CodeLemmas
 mod ExecutableLemmas
+mod FunctionLeakLemmas
 mod LeakFaults
 pub mod ImageLemmas
 mod Writing

@@ -3,6 +3,7 @@ pub use Rattle.word.specs.Counts.{one_more}
 pub use Rattle.word.specs.declared.profile.Profile.{Profile}
 pub use Rattle.word.specs.declared.profile.Profile.TheVariants.{P1, P2}
 pub use Rattle.rv_machine.specs.Harts.{state_of}
+pub use Rattle.rv_code.specs.declared.instructions.Instr.{Instr}
 pub use Rattle.rv_machine.specs.Machine.{MachineCode, State, word_at}
 pub use Rattle.rv_machine.specs.Paged.{paged_bytes}
 pub use Rattle.rv_machine.specs.Regions.{code_of}
@@ -11,7 +12,7 @@ pub use Rattle.rv_machine.specs.declared.pairing.Pairing.{Pairing}
 pub use Rattle.rv_machine.specs.declared.stops.Stop.{Stop}
 pub use Rattle.rv_machine.specs.declared.stops.Stop.TheVariants.{AccessFault, Break, Budget, Ecall, Illegal, Misaligned}
 pub use Rattle.rv_machine.specs.declared.stops.Stop.TheVariants.{RecorderRefused}
-pub use Rattle.rv_programs.specs.Programs.{image_program, MachineProgram}
+pub use Rattle.rv_programs.specs.Programs.{image_program, MachineProgram, StandsAt}
 pub use Rattle.certified_runs.specs.declared.certifying.CertifiedEnd.{CertifiedEnd}
 pub use Rattle.certified_runs.specs.declared.certifying.CertifiedEnd.TheVariants.{MayDiffer, Same}
 pub use Rattle.certified_runs.specs.declared.shifts.Shifts.{Shifts}
@@ -51,7 +52,7 @@ pub use Rattle.hepurita.specs.Told.{IsRefusalOf}
 pub use Rattle.hepurita.specs.declared.fault.RunFault.{RunFault}
 pub use Rattle.hepurita.specs.declared.fault.RunFault.TheVariants.{Argument, Memory, Stopped}
 pub use Rattle.hepurita.specs.declared.optimised.Optimisation.{Optimisation}
-pub use Rattle.listing.specs.Code.{IsLineAt, IsLineOf, ListsCode}
+pub use Rattle.listing.specs.Code.{IsLineAt, ListsCode}
 pub use Rattle.listing.specs.Leaked.{IsLeak, Leaks}
 pub use Rattle.listing.specs.Lines.{lines_of, stop_line}
 pub use Rattle.listing.specs.declared.fault.LeakFault.{LeakFault}
@@ -88,14 +89,22 @@ pub use Rattle.elf.specs.declared.fault.ElfFault.{ElfFault}
 pub use Rattle.elf.specs.declared.fault.ElfRule.{ElfRule}
 pub use Rattle.elf_runs.specs.Needs.{first_unmet, needs}
 pub use Rattle.elf_runs.specs.declared.asked.Asked.{Asked as AskedRun}
+pub use Rattle.elf_runs.specs.declared.asked.Setting.{Setting}
 pub use Rattle.elf_runs.specs.declared.fault.StartFault.{StartFault}
 pub use Rattle.elf_runs.specs.declared.fault.Unmet.{Unmet}
 pub use Rattle.elf_reports.specs.Asking.{AsksFor, part_word, spelling}
 pub use Rattle.elf_reports.specs.Calls.{LeadThere}
 pub use Rattle.elf_reports.specs.Certified.{CertifiedFunction}
-pub use Rattle.elf_reports.specs.Loading.{code_word_at, known_at_start, machine_program, state_at_start}
+pub use Rattle.elf_reports.specs.EncodingLines.{IsLineOfEncoding}
+pub use Rattle.elf_reports.specs.Encodings.{encoding_at, encoding_in}
+pub use Rattle.elf_reports.specs.Leaked.{IsFunctionLeak, LeaksFunction}
+pub use Rattle.elf_reports.specs.Loading.{known_at_start, machine_program, state_at_start}
 pub use Rattle.elf_reports.specs.Places.{place_line}
+pub use Rattle.elf_reports.specs.Witnessed.{IsWitness}
 pub use Rattle.elf_reports.specs.declared.asking.AskedWords.{AskedWords}
 pub use Rattle.elf_reports.specs.declared.certifying.FunctionCertificate.{FunctionCertificate}
+pub use Rattle.elf_reports.specs.declared.encodings.Encoding.{Encoding}
+pub use Rattle.elf_reports.specs.declared.leaking.FunctionLeakFault.{FunctionLeakFault}
 pub use Rattle.elf_reports.specs.declared.options.RunOptions.{RunOptions}
 pub use Rattle.elf_reports.specs.declared.stops.FunctionStop.{FunctionStop}
+pub use Rattle.elf_reports.specs.declared.witnessing.Witness.{Witness}

@@ -1,6 +1,6 @@
--- The executable of a file, or why there is none.
-use Rattle.std.specs.Prelude.{◌≡◌, ℕ, ◌^◌, ◌<◌, ◌≤◌, List, length, Some, Ok, Err}
-use Rattle.commands.specs.Below.{ElfRule, Executable}
+-- The executable of a file, or why there is none; and the lines of its code.
+use Rattle.std.specs.Prelude.{◌≡◌, ℕ, ◌^◌, ◌<◌, ◌≤◌, List, [], length, None, Some, Ok, Err}
+use Rattle.commands.specs.Below.{ElfRule, Encoding, encoding_at, Executable, IsLineOfEncoding}
 use Rattle.commands.specs.Contents.{Contents}
 use Rattle.commands.specs.Unread.{NotRead}
 use Rattle.commands.specs.declared.fault.Fault.{Fault}
@@ -32,3 +32,9 @@ pub data NoExecutable (files : Contents) (path : List ℕ) : Fault → Type 0 wh
       → NoExecutable files path (Elf (File Ranges longest_file))
   not_spelled : {bytes : List ℕ} {rule : ElfRule} {at : ℕ} → HoldsShort files path bytes
       → reading bytes ≡ Err (File rule at) → NoExecutable files path (Elf (File rule at))
+
+-- the line of what begins at an address of code; nothing where nothing does
+pub data IsLineOrNothing (program : Executable) (address : ℕ) : List ℕ → Type 0 where
+  of_encoding : {encoding : Encoding} {line : List ℕ} → encoding_at program address ≡ Some encoding
+      → IsLineOfEncoding address encoding line → IsLineOrNothing program address line
+  of_nothing : encoding_at program address ≡ None → IsLineOrNothing program address []

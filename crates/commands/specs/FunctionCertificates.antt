@@ -1,16 +1,17 @@
 -- What is printed of a certificate of a function of an executable.
 use Rattle.std.specs.Prelude.{◌≡◌, ◌≢◌, ℕ, ◌-◌, ◌++◌, List, Some, None, Ok, codes, ⊤}
 use Rattle.std.specs.Fmt.{decimal}
-use Rattle.commands.specs.Below.{AskedRun, AskedWords, AsksFor, CertifiedFunction, code_word_at, Executable}
-use Rattle.commands.specs.Below.{FunctionCertificate, FunctionStop, IsLineOf, LeadThere, machine_program, place_line}
+use Rattle.commands.specs.Below.{AskedRun, AskedWords, AsksFor, CertifiedFunction, Encoding, encoding_at, Executable}
+use Rattle.commands.specs.Below.{FunctionCertificate, FunctionStop, IsLineOfEncoding, LeadThere, machine_program}
+use Rattle.commands.specs.Below.{place_line}
 use Rattle.commands.specs.Below.{RunOptions, state_at_start}
 use Rattle.elf_reports.specs.Certified.{stop_name}
 use Rattle.commands.specs.Certificates.{shifts_seen}
 use Rattle.commands.specs.Contents.{Contents}
 use Rattle.commands.specs.Executables.{HoldsExecutable}
+use Rattle.commands.specs.Stops.{function_stop_status}
 use Rattle.commands.specs.declared.command_line.options.FunctionOptions.{FunctionOptions}
 use Rattle.elf_reports.specs.declared.certifying.FunctionCertificate.TheVariants.{MayDiffer, Same}
-use Rattle.elf_reports.specs.declared.stops.FunctionStop.TheVariants.{Returned, Stopped}
 
 -- how the run is to be made, as the options say
 abbrev pub run_options : FunctionOptions → RunOptions
@@ -21,26 +22,26 @@ run_options options =
 abbrev pub function_stop_line : FunctionStop → List ℕ
 function_stop_line stop = codes "stop " ++ stop_name stop ++ codes "\n"
 
--- `same` and the stop; or the entry that may differ, the line of the word that stands where its step is made, and the
--- line of that place, with the calls that lead there
+-- `same` and the stop; or the entry that may differ, the line of what begins where its step is made, and the line of
+-- that place, with the calls that lead there
 abbrev pub PrintsFunctionCertificate : Executable → AskedRun → RunOptions → FunctionCertificate → List ℕ → Type 0
 PrintsFunctionCertificate program asked options (Same stop entries) text =
     text ≡ codes "same\n" ++ function_stop_line stop
 PrintsFunctionCertificate program asked options (MayDiffer entry pc) text =
-    (line calls : List ℕ)
-    × IsLineOf pc (code_word_at program pc) (Some line)
+    (encoding : Encoding) × (line calls : List ℕ)
+    × (encoding_at program pc ≡ Some encoding)
+    × IsLineOfEncoding pc encoding line
     × LeadThere (machine_program program asked options.profile) (state_at_start program asked) (entry - 1) calls
     × (text ≡ codes "may differ at " ++ decimal entry ++ codes "\n" ++ line ++ place_line program pc calls)
 
--- a word begins where the step is made that may differ
+-- an instruction begins where the step is made that may differ
 abbrev pub StandsInProgram : Executable → FunctionCertificate → Type 0
 StandsInProgram program (Same stop entries) = ⊤
-StandsInProgram program (MayDiffer entry pc) = code_word_at program pc ≢ None
+StandsInProgram program (MayDiffer entry pc) = encoding_at program pc ≢ None
 
--- the exit status: 0 where the function returns, 5 where it stops otherwise; or 1
+-- the exit status: that of the stop; or 1
 abbrev pub function_certificate_status : FunctionCertificate → ℕ
-function_certificate_status (Same Returned entries) = 0
-function_certificate_status (Same (Stopped stop) entries) = 5
+function_certificate_status (Same stop entries) = function_stop_status stop
 function_certificate_status (MayDiffer entry pc) = 1
 
 -- whether an observer sees the same of all runs of a program's function that begin as is asked

@@ -6,8 +6,9 @@
 --   ImageRefusals, FunctionRunRefusals, Unread: why not.
 -- What a command prints: Judged of check, Costs of stat, Meanings of eval, Runs and OutcomeText of run, Leaks of leak,
 --   Pairs of pair, Certificates of certify, Pictures of picture, Harts and HartsText of harts, Vectors of vectors,
---   FunctionCertificates of elf certify; Stops has exit statuses, Progress the lines of progress. What it writes:
---   Written one file, TwoFiles two, FunctionFiles those of function, WrappedCode the image of wrap.
+--   FunctionCertificates of elf certify, FunctionLeaks of elf leak, FunctionWitnesses of elf witness; Stops has exit
+--   statuses, Progress the lines of progress. What it writes: Written one file, TwoFiles two, FunctionFiles those of
+--   function, WrappedCode the image of wrap.
 -- command_line: the words of a command line.
 pub mod command_line
 pub mod Contents
@@ -25,6 +26,8 @@ pub mod Pairs
 pub mod Certificates
 pub mod Executables
 pub mod FunctionCertificates
+pub mod FunctionLeaks
+pub mod FunctionWitnesses
 pub mod FunctionRunRefusals
 pub mod Pictures
 pub mod FileTexts

@@ -9,7 +9,9 @@ use Rattle.commands.specs.Failures.{failures_by}
 use Rattle.commands.specs.FaultText.{fault_line, fault_status}
 use Rattle.commands.specs.FunctionCertificates.{SaysFunctionCertificate}
 use Rattle.commands.specs.FunctionFiles.{AreFunctionTexts, RefusesFunction}
+use Rattle.commands.specs.FunctionLeaks.{SaysFunctionLeak}
 use Rattle.commands.specs.FunctionRunRefusals.{RefusesFunctionRun}
+use Rattle.commands.specs.FunctionWitnesses.{SaysFunctionWitness}
 use Rattle.commands.specs.Harts.{SaysHarts, RefusesHarts}
 use Rattle.commands.specs.Images.{NoImage}
 use Rattle.commands.specs.Judged.{IsAccepted, IsRefusedSo, IsImageOf}
@@ -56,6 +58,10 @@ Answers (requests.Explain explanation) files text status = (text ≡ explanation
     × (status ≡ 0)
 Answers (requests.ElfCertify file words options) files text status =
     SaysFunctionCertificate files file.now words options text status
+Answers (requests.ElfLeak file words options) files text status =
+    SaysFunctionLeak files file.now words options text status
+Answers (requests.ElfWitness file words options tries) files text status =
+    SaysFunctionWitness files file.now words options tries text × (status ≡ 0)
 
 -- what files hold once a request is done: an image or a function's texts that were written, and else what they held
 abbrev pub Leaves : Request → Contents → Contents → Type 0
@@ -80,6 +86,8 @@ Leaves (requests.Harts file) before after = after ≡ before
 Leaves (requests.Vectors file vectors profile) before after = after ≡ before
 Leaves (requests.Explain explanation) before after = after ≡ before
 Leaves (requests.ElfCertify file words options) before after = after ≡ before
+Leaves (requests.ElfLeak file words options) before after = after ≡ before
+Leaves (requests.ElfWitness file words options tries) before after = after ≡ before
 
 -- why a request is not done, and what files hold then
 abbrev pub Refuses : Request → Contents → Contents → Fault → Type 0
@@ -117,6 +125,10 @@ Refuses (requests.Vectors file vectors profile) before after fault =
 Refuses (requests.Explain explanation) before after fault = IsOutOfMemory fault × (after ≡ before)
 Refuses (requests.ElfCertify file words options) before after fault = RefusesFunctionRun before file.now words fault
     × (after ≡ before)
+Refuses (requests.ElfLeak file words options) before after fault = RefusesFunctionRun before file.now words fault
+    × (after ≡ before)
+Refuses (requests.ElfWitness file words options tries) before after fault =
+    RefusesFunctionRun before file.now words fault × (after ≡ before)
 
 -- how a fault is reported on standard error, with which exit status: by its lines; or, where there is no memory for
 -- that, as out of memory

@@ -7,5 +7,5 @@ mod on_executables;
 mod options;
 mod words;
 
-pub use options::{CompileOptions, FunctionOptions, PairOptions};
+pub use options::{CompileOptions, FunctionOptions, ObservedOptions, PairOptions};
 pub use words::{Matched, NoRequest, Request, parse};

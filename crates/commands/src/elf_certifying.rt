@@ -10,9 +10,10 @@ ghost use Rattle.commands.specs.Progress.{FileFunctionTells, FunctionGoesOn, Tel
 ghost use Rattle.elf_runs.specs.Needs.{IsTold};
 ghost use Rattle.std.specs.Fmt.{decimal};
 
-use crate::answer::{Answer, DONE, MAY_DIFFER, STOPPED};
+use crate::answer::{Answer, MAY_DIFFER};
 use crate::certifying::shifts_seen;
 use crate::command_line::{FunctionOptions, Request};
+use crate::elf_listing::status_of_stop;
 use crate::executables::{executable_bytes, line_of_program};
 use crate::fault::Fault;
 use crate::files::Files;
@@ -115,8 +116,8 @@ fn certificate_of<E: Sink>(
     }
 }
 
-/// A certificate as lines: `same` and the stop, or where runs may begin to differ, the line of the word there, and its
-/// place by the symbols.
+/// A certificate as lines: `same` and the stop, or where runs may begin to differ, the line of what begins there, and
+/// its place by the symbols.
 fn text_of(
     alloc: Global,
     program: &Program<'_>,
@@ -146,8 +147,8 @@ fn same_text(alloc: Global, stop: FunctionStop) -> Result<Vec<u8>, AllocError>
     Ok(text.into_bytes())
 }
 
-/// Where runs may begin to differ, the line of the word there, and the line of the place by the symbols, with the calls
-/// that lead there.
+/// Where runs may begin to differ, the line of what begins there, and the line of the place by the symbols, with the
+/// calls that lead there.
 fn difference_text(
     alloc: Global,
     program: &Program<'_>,
@@ -183,11 +184,7 @@ fn status_of_certificate(certificate: FunctionCertificate) -> u8
     ensures known { result ≤ 5 }
 {
     match certificate {
-        FunctionCertificate::Same {
-            stop: FunctionStop::Returned,
-            ..
-        } => DONE,
-        FunctionCertificate::Same { .. } => STOPPED,
+        FunctionCertificate::Same { stop, .. } => status_of_stop(stop),
         FunctionCertificate::MayDiffer { .. } => MAY_DIFFER,
     }
 }

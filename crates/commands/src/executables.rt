@@ -1,16 +1,14 @@
-// The files of executables, and the words of their code.
+// The files of executables, and the lines of their code.
 
-ghost use Rattle.std.specs.Prelude.{◌≡◌, ◌≢◌, Some, None, IsTrue, IfOk, IfErr, OnOk};
-ghost use Rattle.commands.specs.Below.{code_word_at, IsLineOf};
-ghost use Rattle.commands.specs.Executables.{HoldsShort, NoExecutable};
+ghost use Rattle.std.specs.Prelude.{◌≡◌, IsTrue, IfOk, IfErr, OnOk};
+ghost use Rattle.commands.specs.Executables.{HoldsShort, IsLineOrNothing, NoExecutable};
 ghost use Rattle.commands.specs.Failures.{IsReadBy};
 
 use crate::fault::Fault;
 use crate::files::Files;
 use crate::reading::bytes_of;
 use elf::{ElfFault, ElfRule, Program};
-use elf_reports::code_word_at;
-use listing::word_line;
+use elf_reports::{encoding_at, encoding_line};
 use std::alloc::{AllocError, Global};
 
 /// The most bytes that the file of an executable may have.
@@ -39,17 +37,16 @@ pub fn executable_bytes<'a, F: Files>(
     Ok(bytes)
 }
 
-/// The line of the word of a program's code that begins at an address, as in a listing.
+/// The line of what begins at an address of a program's code, as in a listing; nothing where nothing does.
 pub fn line_of_program(
     alloc: Global,
     program: &Program<'_>,
     address: u32,
 ) -> Result<Vec<u8>, AllocError>
-    requires { code_word_at program.now address ≢ None }
-    ensures { IfOk result (λ line. IsLineOf address (code_word_at program.now address) (Some line.items)) }
+    ensures { IfOk result (λ line. IsLineOrNothing program.now address line.items) }
 {
-    match code_word_at(alloc, program, address)? {
-        Some(word) => word_line(alloc, address, word),
+    match encoding_at(alloc, program, address)? {
+        Some(encoding) => encoding_line(alloc, address, encoding),
         None => Ok(Vec::new(alloc)),
     }
 }

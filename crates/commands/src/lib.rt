@@ -8,6 +8,8 @@ mod answer;
 mod certifying;
 pub mod command_line;
 mod elf_certifying;
+mod elf_listing;
+mod elf_witnessing;
 mod evaluating;
 mod executables;
 mod fault;

@@ -13,6 +13,8 @@ use crate::answer::{Answer, DONE};
 use crate::certifying::certify_image;
 use crate::command_line::{NoRequest, Request, parse};
 use crate::elf_certifying::certify_elf;
+use crate::elf_listing::leak_elf;
+use crate::elf_witnessing::witness_elf;
 use crate::evaluating::evaluate_text;
 use crate::fault::{Fault, FileFault};
 use crate::files::Files;
@@ -239,6 +241,17 @@ fn answer<'a, F: Files, O: Sink, E: Sink>(
             words,
             options,
         } => print(out, certify_elf(alloc, file, &words, options, files, err)),
+        Request::ElfLeak {
+            file,
+            words,
+            options,
+        } => leak_elf(alloc, file, &words, options, files, out),
+        Request::ElfWitness {
+            file,
+            words,
+            options,
+            tries,
+        } => print(out, witness_elf(alloc, file, &words, options, tries, files)),
     }
 }
 

@@ -255,49 +255,116 @@ pub(crate) static COMMANDS: [CommandRow; 15] = [
 pub(crate) const ELF_ABOUT: &str =
     "Commands on functions of a linked RISC-V program, an ELF file as compilers and linkers make it";
 
+/// The program that has the function.
+const ELF: CommandWord = CommandWord::Path(
+    "ELF",
+    "A linked program for RV32 with a symbol table; nothing of it is run but the function",
+);
+
+/// The function's name.
+const FUNCTION: CommandWord = CommandWord::Path(
+    "FUNCTION",
+    "The name of the function in the symbol table",
+);
+
+/// The function's arguments.
+const FUNCTION_ARGUMENTS: CommandWord = CommandWord::Operands(
+    "The function's arguments, one for each register or word of the stack: a number (decimal, or hexadecimal after \
+     0x), `?` for any word, NAME for the address of a symbol, or NAME+N for N bytes behind it",
+);
+
+/// What is secret.
+const SECRETS: CommandWord = CommandWord::Texts(
+    "secret",
+    "NAME",
+    "An object of the program of which no byte is known; may be given several times",
+);
+
+/// The size of the stack.
+const STACK: CommandWord = CommandWord::NumberUpTo(
+    "stack",
+    u32::MAX as u64,
+    "65536",
+    "The size of the stack in bytes, a multiple of 16",
+);
+
+/// The most steps of a run.
+const STEPS: CommandWord = CommandWord::NumberUpTo(
+    "steps",
+    MOST_STEPS,
+    "100000000",
+    "How many instructions a run executes at most",
+);
+
+/// What is set, of a command that takes secrets too.
+const SETTINGS: CommandWord = CommandWord::Texts(
+    "set",
+    "NAME=hex:BYTES",
+    "Bytes that an object of the program begins with in place of the file's, two hexadecimal digits each; what is also \
+     secret stays unknown; may be given several times",
+);
+
 /// The commands on executables, in the order of the help.
-pub(crate) static ELF_COMMANDS: [CommandRow; 1] = [CommandRow {
-    name: "certify",
-    about: "Runs a function of a program once for all values of what is not known when it begins, and says that an \
-            observer sees the same for all, or from where on that is not shown, which is no proof of a leak",
-    words: &[
-        CommandWord::Path(
-            "ELF",
-            "A linked program for RV32 with a symbol table; nothing of it is run but the function",
-        ),
-        CommandWord::Path("FUNCTION", "The name of the function in the symbol table"),
-        CommandWord::Operands(
-            "The function's arguments, one for each register or word of the stack: a number (decimal, or hexadecimal \
-             after 0x), `?` for any word, NAME for the address of a symbol, or NAME+N for N bytes behind it",
-        ),
-        CommandWord::Texts(
-            "secret",
-            "NAME",
-            "An object of the program of which no byte is known; may be given several times",
-        ),
-        CommandWord::Texts(
-            "set",
-            "NAME=hex:BYTES",
-            "Bytes that an object of the program begins with in place of the file's, two hexadecimal digits each; what \
-             is also secret stays unknown; may be given several times",
-        ),
-        CommandWord::NumberUpTo(
-            "stack",
-            u32::MAX as u64,
-            "65536",
-            "The size of the stack in bytes, a multiple of 16",
-        ),
-        CommandWord::NumberUpTo(
-            "steps",
-            MOST_STEPS,
-            "100000000",
-            "How many instructions the run executes at most",
-        ),
-        CommandWord::Profile,
-        CommandWord::Flag(
-            "shifts",
-            "Counts the amounts of shifts by a register as visible, for cores that shift bit by bit",
-        ),
-        CommandWord::Flag("progress", PROGRESS_ANYWHERE),
-    ],
-}];
+pub(crate) static ELF_COMMANDS: [CommandRow; 3] = [
+    CommandRow {
+        name: "certify",
+        about: "Runs a function of a program once for all values of what is not known when it begins, and says that \
+                an observer sees the same for all, or from where on that is not shown, which is no proof of a leak",
+        words: &[
+            ELF,
+            FUNCTION,
+            FUNCTION_ARGUMENTS,
+            SECRETS,
+            SETTINGS,
+            STACK,
+            STEPS,
+            CommandWord::Profile,
+            CommandWord::Flag(
+                "shifts",
+                "Counts the amounts of shifts by a register as visible, for cores that shift bit by bit",
+            ),
+            CommandWord::Flag("progress", PROGRESS_ANYWHERE),
+        ],
+    },
+    CommandRow {
+        name: "leak",
+        about: "Runs a function of a program and lists what an observer sees, and how the run stops; what is not set \
+                is as the file has it, and what the file does not have is 0",
+        words: &[
+            ELF,
+            FUNCTION,
+            FUNCTION_ARGUMENTS,
+            CommandWord::Texts(
+                "set",
+                "NAME=hex:BYTES",
+                "Bytes that an object of the program begins with in place of the file's, two hexadecimal digits each, \
+                 as those of a secret; may be given several times",
+            ),
+            STACK,
+            STEPS,
+            CommandWord::Profile,
+        ],
+    },
+    CommandRow {
+        name: "witness",
+        about: "Looks for two runs of a function of a program that differ in what is secret alone, and of which an \
+                observer sees different things; that none is found is no proof that there is none",
+        words: &[
+            ELF,
+            FUNCTION,
+            FUNCTION_ARGUMENTS,
+            SECRETS,
+            SETTINGS,
+            STACK,
+            STEPS,
+            CommandWord::Profile,
+            CommandWord::NumberUpTo(
+                "tries",
+                u32::MAX as u64,
+                "100",
+                "How many pairs of runs are made at most, each on other pseudo-random secrets; they are the same ones \
+                 each time",
+            ),
+        ],
+    },
+];

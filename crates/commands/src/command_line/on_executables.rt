@@ -1,13 +1,13 @@
 // What each command on executables asks for, by its words as `clap` matched them.
 
-ghost use Rattle.std.specs.Prelude.{◌≡◌, [], None, map, IfOk};
+ghost use Rattle.std.specs.Prelude.{◌≡◌, ◌<◌, ◌^◌, [], None, map, IfOk};
 ghost use Rattle.std.specs.Option.{option_map_or};
 ghost use Rattle.clap.specs.Matches.{found_of, matched_of, raw_values};
 ghost use Rattle.commands.specs.command_line.Words.{arguments_of};
 
 use crate::command_line::asked::{NO_COMMAND, profile_of, text_of};
 use crate::command_line::commands::MOST_STEPS;
-use crate::command_line::options::FunctionOptions;
+use crate::command_line::options::{FunctionOptions, ObservedOptions};
 use crate::command_line::words::Request;
 use clap::ArgMatches;
 use clap::error::ErrorKind;
@@ -27,6 +27,17 @@ pub(super) fn request_on_executable<'a>(
             file: text_of(given, "ELF"),
             words: words_of(given),
             options: options_of(given),
+        }),
+        "leak" => Ok(Request::ElfLeak {
+            file: text_of(given, "ELF"),
+            words: words_of(given),
+            options: observed_options_of(given),
+        }),
+        "witness" => Ok(Request::ElfWitness {
+            file: text_of(given, "ELF"),
+            words: words_of(given),
+            options: observed_options_of(given),
+            tries: given.get_one("tries").unwrap_or(0),
         }),
         _ => Err(NO_COMMAND),
     }
@@ -54,13 +65,28 @@ fn texts_of<'a>(given: &'a ArgMatches<'_>, id: &str) -> &'a [&'a str]
     &[]
 }
 
-/// How the function is to be run. More steps than may be allowed are no value of the option.
+/// How the function is to be run for all that is not known.
 fn options_of(given: &ArgMatches<'_>) -> FunctionOptions {
-    let steps: u64 = given.get_one("steps").unwrap_or(0);
     FunctionOptions {
         profile: profile_of(given),
         shifts: given.get_flag("shifts"),
-        steps: steps.min(MOST_STEPS),
+        steps: steps_of(given),
         progress: given.get_flag("progress"),
     }
+}
+
+/// How its runs are to be made one by one.
+fn observed_options_of(given: &ArgMatches<'_>) -> ObservedOptions {
+    ObservedOptions {
+        profile: profile_of(given),
+        steps: steps_of(given),
+    }
+}
+
+/// How many steps a run has at most. More than may be allowed are no value of the option.
+fn steps_of(given: &ArgMatches<'_>) -> u64
+    ensures { result < 2 ^ 62 }
+{
+    let steps: u64 = given.get_one("steps").unwrap_or(0);
+    steps.min(MOST_STEPS)
 }

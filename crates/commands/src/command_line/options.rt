@@ -1,4 +1,4 @@
-// How a source is to be compiled, and what is asked of a comparison and of a run of a function.
+// How a source is to be compiled, and what is asked of a comparison and of runs of a function.
 
 ghost use Rattle.std.specs.Prelude.{◌<◌, ◌^◌};
 
@@ -29,5 +29,13 @@ pub struct FunctionOptions {
     pub shifts: bool,
     pub steps: u64,
     pub progress: bool,
+    ghost bounded: { steps < 2 ^ 62 },
+}
+
+/// Who observes runs of a function that are made one by one, and how many steps each has at most.
+#[derive(Clone, Copy, Debug)]
+pub struct ObservedOptions {
+    pub profile: Profile,
+    pub steps: u64,
     ghost bounded: { steps < 2 ^ 62 },
 }

@@ -3,7 +3,7 @@ ghost use Rattle.commands.specs.command_line.Words.{is_flag, behind_flags, after
 
 use crate::command_line::asked::request_of;
 use crate::command_line::grammar::factc;
-use crate::command_line::options::{CompileOptions, FunctionOptions, PairOptions};
+use crate::command_line::options::{CompileOptions, FunctionOptions, ObservedOptions, PairOptions};
 use clap::error::ErrorKind;
 use clap::{ArgMatches, Error};
 use elf_reports::AskedWords;
@@ -88,6 +88,17 @@ pub enum Request<'a> {
         file: &'a str,
         words: AskedWords<'a>,
         options: FunctionOptions,
+    },
+    ElfLeak {
+        file: &'a str,
+        words: AskedWords<'a>,
+        options: ObservedOptions,
+    },
+    ElfWitness {
+        file: &'a str,
+        words: AskedWords<'a>,
+        options: ObservedOptions,
+        tries: u64,
     },
 }
 

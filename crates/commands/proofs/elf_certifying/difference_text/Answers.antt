@@ -1,6 +1,7 @@
 use Rattle.std.proofs.Common.{◌≡◌, ℕ, List, ◌++◌, ap, ◌∙◌, codes, subst}
 use Rattle.std.specs.Fmt.{decimal}
 use Rattle.commands.specs.Below.{LeadThere, machine_program, place_line, state_at_start}
+use Rattle.commands.proofs.ExecutableLemmas.{line_of_something}
 use Rattle.commands.proofs.elf_certifying.difference_text.Goals as goal
 
 pub returns-clause-text : goal.returns-clause-text
@@ -9,10 +10,13 @@ returns-clause-text c =
     let asked = c.args.asked.now in
     let calls = c.in_ok-calls.calls.items in
     let line = c.in_ok-line.line.items in
-    let head = codes "may differ at " ++ decimal c.args.entry ++ codes "\n" in (
+    let head = codes "may differ at " ++ decimal c.args.entry ++ codes "\n" in
+    let shown = line_of_something c.in_ok-line.ensures c.requires in (
+      shown.0,
       line,
       calls,
-      c.in_ok-line.ensures,
+      shown.1,
+      shown.2,
       subst
           (λ (n : ℕ). LeadThere (machine_program program asked c.args.options.profile) (state_at_start program asked) n
           calls) c.saturating_sub.ensures c.in_ok-calls.ensures.calls,

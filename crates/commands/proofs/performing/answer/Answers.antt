@@ -186,3 +186,17 @@ returns-in-ElfCertify-clause-part g c = λ files err.
     part_after c.in-ElfCertify.is _ _ _ _ c.print-in-ElfCertify.ensures (c.certify_elf.ensures.part files err)
     (c.certify_elf.ensures.told files err)
     (function_reaches _ _ _ _ _ _ c.in-ElfCertify.options.progress)
+
+pub returns-in-ElfLeak-clause-does : goal.returns-in-ElfLeak-clause-does
+returns-in-ElfLeak-clause-does g c = λ files out. rw c.in-ElfLeak.is (c.leak_elf.ensures.does files out)
+
+pub returns-in-ElfLeak-clause-ended : goal.returns-in-ElfLeak-clause-ended
+returns-in-ElfLeak-clause-ended g c = c.leak_elf.ensures.ended
+
+pub returns-in-ElfWitness-clause-does : goal.returns-in-ElfWitness-clause-does
+returns-in-ElfWitness-clause-does g c = λ files out.
+    does_read _ _ c.in-ElfWitness.is (c.witness_elf.ensures.finds files) c.witness_elf.ensures.read out
+    c.print-in-ElfWitness.ensures
+
+pub returns-in-ElfWitness-clause-ended : goal.returns-in-ElfWitness-clause-ended
+returns-in-ElfWitness-clause-ended g c = ends_read _ _ c.witness_elf.ensures.read c.print-in-ElfWitness.ensures
