@@ -36,6 +36,25 @@ PROGRAMS = [
     ),
     Program(*("chosen_clang", "chosen", ["?", "?", "?"], [], 1), "may differ at 1\n000110d4 00051463 bne x10, x0, 8\nin chosen+0x0\n"),
     Program("chosen_clang", "chosen", ["1", "?", "?"], [], 1, RETURNED),
+    Program("mix_table_rv32imc", "harness", [], ["key", "block"], 2, RETURNED),
+    Program("mix_table_rv32imc", "mix_table", ["block", "key"], ["key", "block"], 1, RETURNED),
+    Program("digest_class_rv32imc", "harness", [], ["message"], 1, RETURNED),
+    Program(
+        *("digest_class_rv32imc", "harness", [], ["message"], 2),
+        "may differ at 46\n000100b6 02d787b3 mul x15, x15, x13\nin take+0x16, called from digest_of+0x1e, called from harness+0x10\n",
+    ),
+    Program(
+        *("smaller_rv32imc", "harness", [], ["one", "other"], 1),
+        "may differ at 15\n00010096 00d5e563 bltu x11, x13, 10\nin smaller+0x2, called from harness+0x16\n",
+    ),
+    Program("chosen_gcc_rv32imc", "chosen", ["?", "?", "?"], [], 2, RETURNED),
+    Program("chosen_gcc_rv32imc", "harness", [], ["flag", "one", "other"], 2, RETURNED),
+    Program(
+        *("chosen_clang_rv32imc", "harness", [], ["flag", "one", "other"], 1),
+        "may differ at 15\n000110d4 e111 bne x10, x0, 4\nin chosen+0x0, called from harness+0x20\n",
+    ),
+    Program("chosen_clang_rv32imc", "chosen", ["?", "?", "?"], [], 1, "may differ at 1\n000110d4 e111 bne x10, x0, 4\nin chosen+0x0\n"),
+    Program("chosen_clang_rv32imc", "chosen", ["1", "?", "?"], [], 1, RETURNED),
 ]
 
 
@@ -59,16 +78,20 @@ def settings_of(program, data):
         yield {name: chance.randbytes(size) for name, size in sizes.items()}
 
 
-def listings(program, path):
-    """What another machine shows of runs on some secrets."""
+def listings(cases, program, path):
+    """The listings of runs on some secrets, each judged by that of another machine."""
     data = data_of(path)
     for settings in settings_of(program, data):
-        yield listing(data, program.function, program.arguments, settings, program.profile)
+        words = [word for name, held in settings.items() for word in ("--set", f"{name}=hex:{held.hex()}")]
+        lines = listing(data, program.function, program.arguments, settings, program.profile)
+        request = [path, program.function, *program.arguments, *words, "--profile", str(program.profile)]
+        cases.run(["elf", "leak", *request], 0, "\n".join(lines) + "\n", "")
+        yield lines
 
 
 def shows(cases, program, path, printed):
     """Judges runs by what is certified: none differs before the entry that may differ, and where there is one some does."""
-    first, *others = listings(program, path)
+    first, *others = listings(cases, program, path)
     parted = [entry for other in others for entry, (one, two) in enumerate(zip(first, other)) if one != two]
     if printed.startswith("may differ at "):
         entry = int(printed.split("\n")[0].rsplit(" ", 1)[1])
