@@ -27,6 +27,7 @@ LOOPS = [
     ("elf_reports/src/loading.rt", "marks_of", "the ranges that it is given"),
     ("elf_reports/src/loading.rt", "memory_of", "the ranges that it is given"),
     ("elf_reports/src/witnessing.rt", "find_witness", "nothing is kept from try to try"),
+    ("elf_runs/src/code.rt", "halfwords_of", "the bytes that a file has of a segment: a halfword for every two"),
     ("elf_runs/src/code.rt", "words_of", "the bytes that a file has of a segment: a word for every four"),
     ("functions/src/function_code/copying.rt", "elements", "sixteen elements at most, by its precondition"),
     ("hepurita/src/elements.rt", "numbers", "the elements of an array of the frame, put into room that is there"),
