@@ -76,6 +76,7 @@ RECURSIONS = [
     ("optimisation/src/element_words/statements.rt", "splitting", "the statements of straight code, each of which is followed once"),
     ("optimisation/src/live_words/gathering.rt", "gathering", "a flag a variable, for each level of nesting"),
     ("optimisation/src/live_words/statements.rt", "sharing", "the statements of straight code, and a flag a variable for each level"),
+    ("optimisation/src/set_first.rt", "order", "a flag a variable, for each level of nesting"),
     ("source_eval/src/statements.rt", "statement", "what the open bodies declare, 64 at most, and the lists that a statement has"),
     ("syntax/src/parser.rt", "expression", "the tokens of the text: each node takes some"),
     ("syntax/src/parser.rt", "statement", "the tokens of the text: each node takes some"),
