@@ -67,50 +67,50 @@ returns-in-Ok-clause-ended g c = (
 
 -- the run did not begin
 
-pub returns-in_err-fault_of_start-in-Start-clause-does : goal.returns-in_err-fault_of_start-in-Start-clause-does
-returns-in_err-fault_of_start-in-Start-clause-does g c = λ tells both.
+pub returns-in_err-fault_of_start-in-Err-Start-clause-does : goal.returns-in_err-fault_of_start-in-Err-Start-clause-does
+returns-in_err-fault_of_start-in-Err-Start-clause-does g c = λ tells both.
     let held = executable_held _ _ _ c.in_ok-program.program (c.in_ok-bytes.ensures.said tells)
     (ap reading (sym c.as_slice.ensures.value) ∙ c.in_ok-program.ensures) in
     let calm = c.in_ok-bytes.ensures.calm in
-    does_refused _ c.from_residual-in_err-fault_of_start-in-Start.ensures.1
+    does_refused _ c.from_residual-in_err-fault_of_start-in-Err-Start.ensures.1
     (λ e memory. fails_function c.args.path c.args.words.now c.args.options _ _ _ _ e
     (unmet _ _ held c.in_ok-asked.ensures.asked (out_of_memory memory)) (memory_calm e memory calm)
-    (ap (λ o. collected (g.O.Sink.taken o) (g.O.Sink.failures o)) (c.in-Start.ensures.untouched (λ is. cc))))
+    (ap (λ o. collected (g.O.Sink.taken o) (g.O.Sink.failures o)) (c.in-Err-Start.ensures.untouched (λ is. cc))))
 
-pub returns-in_err-fault_of_start-in-Start-clause-ended : goal.returns-in_err-fault_of_start-in-Start-clause-ended
-returns-in_err-fault_of_start-in-Start-clause-ended g c =
-    ends_refused _ c.from_residual-in_err-fault_of_start-in-Start.ensures.1
+pub returns-in_err-fault_of_start-in-Err-Start-clause-ended : goal.returns-in_err-fault_of_start-in-Err-Start-clause-ended
+returns-in_err-fault_of_start-in-Err-Start-clause-ended g c =
+    ends_refused _ c.from_residual-in_err-fault_of_start-in-Err-Start.ensures.1
     (λ e memory. of_files (counted_by _ _ _ (memory_calm e memory c.in_ok-bytes.ensures.calm))
-    (c.in-Start.ensures.calm (λ is. cc)))
+    (c.in-Err-Start.ensures.calm (λ is. cc)))
 
-pub returns-in_ok-fault_of_start-in-Start-clause-does : goal.returns-in_ok-fault_of_start-in-Start-clause-does
-returns-in_ok-fault_of_start-in-Start-clause-does g c = λ tells both.
+pub returns-in_ok-fault_of_start-in-Err-Start-clause-does : goal.returns-in_ok-fault_of_start-in-Err-Start-clause-does
+returns-in_ok-fault_of_start-in-Err-Start-clause-does g c = λ tells both.
     let held = executable_held _ _ _ c.in_ok-program.program (c.in_ok-bytes.ensures.said tells)
     (ap reading (sym c.as_slice.ensures.value) ∙ c.in_ok-program.ensures) in
-    let told = told_of _ _ _ _ _ c.in-Start.ensures.answer refl in
-    let why = c.in_ok-fault_of_start-in-Start.ensures _ (start_fault _ _ told) in
+    let told = told_of _ _ _ _ _ c.in-Err-Start.ensures.answer refl in
+    let why = c.in_ok-fault_of_start-in-Err-Start.ensures _ (start_fault _ _ told) in
     fails_function c.args.path c.args.words.now c.args.options _ _ _ _ _
     (unmet _ _ held c.in_ok-asked.ensures.asked why) (words_read _ _ _ _ _ why c.in_ok-bytes.ensures.calm)
-    (ap (λ o. collected (g.O.Sink.taken o) (g.O.Sink.failures o)) (c.in-Start.ensures.untouched (λ is. cc)))
+    (ap (λ o. collected (g.O.Sink.taken o) (g.O.Sink.failures o)) (c.in-Err-Start.ensures.untouched (λ is. cc)))
 
-pub returns-in_ok-fault_of_start-in-Start-clause-ended : goal.returns-in_ok-fault_of_start-in-Start-clause-ended
-returns-in_ok-fault_of_start-in-Start-clause-ended g c =
-    let told = told_of _ _ _ _ _ c.in-Start.ensures.answer refl in
-    let why = c.in_ok-fault_of_start-in-Start.ensures _ (start_fault _ _ told) in
+pub returns-in_ok-fault_of_start-in-Err-Start-clause-ended : goal.returns-in_ok-fault_of_start-in-Err-Start-clause-ended
+returns-in_ok-fault_of_start-in-Err-Start-clause-ended g c =
+    let told = told_of _ _ _ _ _ c.in-Err-Start.ensures.answer refl in
+    let why = c.in_ok-fault_of_start-in-Err-Start.ensures _ (start_fault _ _ told) in
     of_files (counted_by _ _ _ (words_read _ _ _ _ _ why c.in_ok-bytes.ensures.calm))
-    (c.in-Start.ensures.calm (λ is. cc))
+    (c.in-Err-Start.ensures.calm (λ is. cc))
 
 -- standard output failed
 
-pub returns-in-Write-clause-does : goal.returns-in-Write-clause-does
-returns-in-Write-clause-does g c = λ tells both.
+pub returns-in-Err-Write-clause-does : goal.returns-in-Err-Write-clause-does
+returns-in-Err-Write-clause-does g c = λ tells both.
     let held = executable_held _ _ _ c.in_ok-program.program (c.in_ok-bytes.ensures.said tells)
     (ap reading (sym c.as_slice.ensures.value) ∙ c.in_ok-program.ensures) in
     cuts_function c.args.path c.args.words.now c.args.options _ held c.in_ok-asked.ensures.asked
-    c.observed_run.ensures _ (_, refl, refl) (c.in-Write.ensures.beginning both refl) (c.in-Write.ensures.counts refl)
+    c.observed_run.ensures _ (_, refl, refl) (c.in-Err-Write.ensures.beginning both refl) (c.in-Err-Write.ensures.counts refl)
     c.in_ok-bytes.ensures.calm
 
-pub returns-in-Write-clause-ended : goal.returns-in-Write-clause-ended
-returns-in-Write-clause-ended g c =
+pub returns-in-Err-Write-clause-ended : goal.returns-in-Err-Write-clause-ended
+returns-in-Err-Write-clause-ended g c =
     of_output (_, refl, refl) (ap (λ (s : Store). s.failures) c.in_ok-bytes.ensures.calm)
-    (c.in-Write.ensures.counts refl)
+    (c.in-Err-Write.ensures.counts refl)
