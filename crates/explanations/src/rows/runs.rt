@@ -29,8 +29,9 @@ pub const BREAK: &str =
     behaviour. `build` writes none.";
 
 pub const ILLEGAL: &str =
-    "The word at the program counter is not an instruction of RV32IM. Compile for this set alone\n\
-    (`-march=rv32im`): compressed instructions, atomics and floating point are not in it.";
+    "The code at the program counter is not an instruction of RV32IM, or of RV32IMC in an executable\n\
+    whose header says that it has 16-bit instructions. Compile for these sets alone (`-march=rv32im`\n\
+    or, for an executable, `-march=rv32imc`): atomics and floating point are not in them.";
 
 pub const ACCESS_FAULT: &str =
     "There is no code at the program counter, or a load or a store goes to a byte outside the frame. In\n\
