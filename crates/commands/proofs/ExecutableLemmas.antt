@@ -22,7 +22,8 @@ use Rattle.rv_code.proofs.ExpansionLaws.{begins_no_word}
 use Rattle.rv_code.specs.Words.{word_of}
 use Rattle.rv_machine.specs.Paged.{lies_in}
 use Rattle.rv_machine.specs.declared.memory.Size.{Size}
-use Rattle.rv_programs.specs.Code.{halfword_at, long, ProgramCode, short, StandsIn, word}
+use Rattle.rv_programs.specs.Code as standing
+use Rattle.rv_programs.specs.Code.{halfword_at, ProgramCode, StandsIn}
 use Rattle.elf_reports.specs.declared.certifying.FunctionCertificate.TheVariants.{MayDiffer, Same}
 use Rattle.rv_machine.specs.declared.observation.Observation.{Observation}
 use Rattle.commands.specs.Below.{AskedRun, AskedWords, CertifiedFunction, ElfFault, Executable, FunctionCertificate, machine_program}
@@ -107,22 +108,21 @@ something {encoding = encoding} is = λ none. none-some encoding (sym none ∙ i
 
 begins : {code : ProgramCode} {p : ℕ} {i : Instr} {length : Size} → StandsIn code p i length
     → encoding_in code p ≢ None
-begins (word at) = something (ap (option_map (λ w. Word w)) at.word)
-begins {p = p} {i} (short {code} {halfword = halfword} even there expands) =
+begins (standing.word at) = something (ap (option_map (λ w. Word w)) at.word)
+begins {p = p} {i} (standing.short {code} {halfword = halfword} even there expands) =
     let next = halfword_at code (p + 2) in
-    let word = option_map (λ high. Word (halfword + 2 ^ 16 * high)) next in
+    let whole = option_map (λ high. Word (halfword + 2 ^ 16 * high)) next in
     something
     (ap (λ (low : Option ℕ). encoding_by low next) there
-    ∙ ap (λ (b : Bool). if b then word else Some (Halfword halfword))
+    ∙ ap (λ (b : Bool). if b then whole else Some (Halfword halfword))
     (ne_eqb (halfword % 4) 3 (begins_no_word halfword i expands)))
-begins {p = p} (long {code} {low = low} {high = high} even there starts then fits spells) =
+begins {p = p} (standing.long {code} {low = low} {high = high} even there starts behind fits spells) =
     let next = halfword_at code (p + 2) in
-    let short = Some (Halfword low) in
     something
     (ap (λ (found : Option ℕ). encoding_by found next) there
-    ∙ ap (λ (b : Bool). if b then option_map (λ high. Word (low + 2 ^ 16 * high)) next else short)
+    ∙ ap (λ (b : Bool). if b then option_map (λ high. Word (low + 2 ^ 16 * high)) next else Some (Halfword low))
     (eq-eqb (low % 4) 3 starts)
-    ∙ ap (option_map (λ high. Word (low + 2 ^ 16 * high))) then)
+    ∙ ap (option_map (λ high. Word (low + 2 ^ 16 * high))) behind)
 
 -- it is the same whoever observes it
 

@@ -3,7 +3,8 @@
 ghost use Rattle.std.specs.Prelude.{◌≡◌, ◌≤◌, IsTrue};
 ghost use Rattle.commands.specs.Answered.{Does, IsEnded};
 ghost use Rattle.commands.specs.Below.{collected};
-ghost use Rattle.commands.specs.FunctionLeaks.{function_stop_status, observed_run};
+ghost use Rattle.commands.specs.FunctionLeaks.{observed_run};
+ghost use Rattle.commands.specs.Stops.{function_stop_status};
 
 use crate::answer::{DONE, STOPPED};
 use crate::command_line::{ObservedOptions, Request};

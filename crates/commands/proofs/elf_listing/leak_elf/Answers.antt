@@ -83,34 +83,40 @@ returns-in_err-fault_of_start-in-Err-Start-clause-ended g c =
     (λ e memory. of_files (counted_by _ _ _ (memory_calm e memory c.in_ok-bytes.ensures.calm))
     (c.in-Err-Start.ensures.calm (λ is. cc)))
 
-pub returns-in_ok-fault_of_start-in-Err-Start-clause-does : goal.returns-in_ok-fault_of_start-in-Err-Start-clause-does
-returns-in_ok-fault_of_start-in-Err-Start-clause-does g c = λ tells both.
+pub returns-in-Err-Start-clause-does : goal.returns-in-Err-Start-clause-does
+returns-in-Err-Start-clause-does g c = λ tells both.
     let held = executable_held _ _ _ c.in_ok-program.program (c.in_ok-bytes.ensures.said tells)
     (ap reading (sym c.as_slice.ensures.value) ∙ c.in_ok-program.ensures) in
-    let told = told_of _ _ _ _ _ c.in-Err-Start.ensures.answer refl in
+    let gives : FunctionLeakFault → Result FunctionStop FunctionLeakFault = λ why. Err why in
+    let told = told_of _ _ _ _ _ c.in-Err-Start.ensures.answer (ap gives c.in-Err-Start.field-0-is) in
     let why = c.in_ok-fault_of_start-in-Err-Start.ensures _ (start_fault _ _ told) in
     fails_function c.args.path c.args.words.now c.args.options _ _ _ _ _
     (unmet _ _ held c.in_ok-asked.ensures.asked why) (words_read _ _ _ _ _ why c.in_ok-bytes.ensures.calm)
     (ap (λ o. collected (g.O.Sink.taken o) (g.O.Sink.failures o)) (c.in-Err-Start.ensures.untouched (λ is. cc)))
 
-pub returns-in_ok-fault_of_start-in-Err-Start-clause-ended : goal.returns-in_ok-fault_of_start-in-Err-Start-clause-ended
-returns-in_ok-fault_of_start-in-Err-Start-clause-ended g c =
-    let told = told_of _ _ _ _ _ c.in-Err-Start.ensures.answer refl in
+pub returns-in-Err-Start-clause-ended : goal.returns-in-Err-Start-clause-ended
+returns-in-Err-Start-clause-ended g c =
+    let gives : FunctionLeakFault → Result FunctionStop FunctionLeakFault = λ why. Err why in
+    let told = told_of _ _ _ _ _ c.in-Err-Start.ensures.answer (ap gives c.in-Err-Start.field-0-is) in
     let why = c.in_ok-fault_of_start-in-Err-Start.ensures _ (start_fault _ _ told) in
     of_files (counted_by _ _ _ (words_read _ _ _ _ _ why c.in_ok-bytes.ensures.calm))
     (c.in-Err-Start.ensures.calm (λ is. cc))
 
 -- standard output failed
 
-pub returns-in-Err-Write-clause-does : goal.returns-in-Err-Write-clause-does
-returns-in-Err-Write-clause-does g c = λ tells both.
+pub returns-clause-does : goal.returns-clause-does
+returns-clause-does g c = λ tells both.
+    let gives : FunctionLeakFault → Result FunctionStop FunctionLeakFault = λ why. Err why in
+    let is = ap gives c.in-Err-Write.field-0-is in
     let held = executable_held _ _ _ c.in_ok-program.program (c.in_ok-bytes.ensures.said tells)
     (ap reading (sym c.as_slice.ensures.value) ∙ c.in_ok-program.ensures) in
     cuts_function c.args.path c.args.words.now c.args.options _ held c.in_ok-asked.ensures.asked
-    c.observed_run.ensures _ (_, refl, refl) (c.in-Err-Write.ensures.beginning both refl) (c.in-Err-Write.ensures.counts refl)
+    c.observed_run.ensures _ (_, refl, refl) (c.in-Err-Write.ensures.beginning both is) (c.in-Err-Write.ensures.counts is)
     c.in_ok-bytes.ensures.calm
 
-pub returns-in-Err-Write-clause-ended : goal.returns-in-Err-Write-clause-ended
-returns-in-Err-Write-clause-ended g c =
+pub returns-clause-ended : goal.returns-clause-ended
+returns-clause-ended g c =
+    let gives : FunctionLeakFault → Result FunctionStop FunctionLeakFault = λ why. Err why in
+    let is = ap gives c.in-Err-Write.field-0-is in
     of_output (_, refl, refl) (ap (λ (s : Store). s.failures) c.in_ok-bytes.ensures.calm)
-    (c.in-Err-Write.ensures.counts refl)
+    (c.in-Err-Write.ensures.counts is)

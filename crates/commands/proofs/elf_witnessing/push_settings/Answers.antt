@@ -1,15 +1,22 @@
-use Rattle.std.proofs.Common.{◌≡◌, ◌∙◌, ◌++◌, ℕ, List, ap, append_assoc, sym}
+use Rattle.std.proofs.Common.{◌≡◌, ◌∙◌, ◌++◌, ◌+◌, ℕ, List, ap, append_assoc, drop, sym}
 use Rattle.std.proofs.lemmas.List.{drop_more}
+use Rattle.commands.specs.Below.{Setting}
 use Rattle.commands.specs.FunctionWitnesses.{setting_words, settings_words}
 use Rattle.commands.proofs.elf_witnessing.push_settings.Goals as goal
+
+-- one setting more
+setting_more : (before words rest new whole : List ℕ) → new ≡ before ++ words → before ++ (words ++ rest) ≡ whole
+    → new ++ rest ≡ whole
+setting_more before words rest new whole is all = ap (λ t. t ++ rest) is ∙ append_assoc before words rest ∙ all
 
 pub settings-preserved : goal.settings-preserved
 settings-preserved c =
     let settings = c.args.settings.now in
-    let before = c.settings.text.items in
+    let k = c.settings.setting-index in
     let setting = c.setting-item.result in
-    let words = setting_words setting in
-    let left = ap settings_words (drop_more settings c.settings.setting-index setting c.settings-test.true) in
-    ap (λ t. t ++ settings_words _) c.in_ok-push_setting.ensures ∙ append_assoc before words _
-    ∙ ap (λ t. before ++ (t ++ settings_words _)) (ap setting_words c.setting-item.is) ∙ ap (λ t. before ++ t) (sym left)
-    ∙ c.settings.invariant
+    let rest = settings_words (drop (k + 1) settings) in
+    let left : settings_words (drop k settings) ≡ setting_words setting ++ rest =
+    ap settings_words (drop_more settings k setting c.settings-test.true)
+    ∙ ap (λ (one : Setting). setting_words one ++ rest) (sym c.setting-item.is) in
+    setting_more c.settings.text.items (setting_words setting) rest _ _ c.in_ok-push_setting.ensures
+    (ap (λ t. c.settings.text.items ++ t) (sym left) ∙ c.settings.invariant)
