@@ -3,7 +3,7 @@ ghost use Rattle.std.specs.Option.{option_map};
 ghost use Rattle.branch_removal.specs.Below.{term_tree};
 ghost use Rattle.branch_removal.specs.Kept.{IsStraight};
 ghost use Rattle.branch_removal.specs.Straight.{straight_block, straight_program, with_variables};
-ghost use Rattle.branch_removal.specs.Checked.{checked, has_room, is_checked};
+ghost use Rattle.branch_removal.specs.Checked.{checked, has_room, is_checked, redeclared};
 
 use crate::sizes::{all_words_taken, block_size, result_size};
 use crate::type_checks::{are_typed, come_first, is_result};
@@ -162,6 +162,19 @@ impl<'f> StraightCode<'f> {
             body,
             value,
         })
+    }
+
+    /// The same with other variables, where that is well typed and within the limits on size; else as it is.
+    pub fn redeclared<'g>(self, declared: &'g [FlatVariable]) -> StraightCode<'g>
+    where
+        'f: 'g,
+        ensures { result ≡ redeclared self.entry declared.now }
+    {
+        if self.may_have(declared, self.body.as_slice(), self.value.as_ref()) {
+            StraightCode { declared, ..self }
+        } else {
+            self
+        }
     }
 
     /// For which observer it is.

@@ -52,7 +52,7 @@ const BODY: [u32; 9] = [
 #[test]
 fn has_these_words(rt: HostRuntime) -> Result<(), Fail> {
     let image = largest_image(rt.alloc())?;
-    let words = function_words(rt.alloc(), &image)?;
+    let words = function_words(rt.alloc(), &image, None)?;
     assert_eq!(rt; room_of(&image), 65_568);
     assert_eq!(rt; words.as_slice(), WORDS.as_slice());
     Ok(())

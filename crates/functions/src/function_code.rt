@@ -3,6 +3,7 @@
 // `linked_calls`.
 
 mod arrays;
+mod blank;
 mod copying;
 mod entering;
 mod kept;

@@ -8,7 +8,10 @@ use Rattle.hepurita.specs.Built.{IsCompilation, Judges, accepts, fine, readable}
 use Rattle.hepurita.specs.Exact.{image_for}
 use Rattle.hepurita.specs.declared.optimised.Optimisation.{Optimisation}
 use Rattle.hepurita.proofs.BaseLemmas.{bases_of}
-use Rattle.hepurita.proofs.TheoremLemmas.{sources_compiled}
+use Rattle.hepurita.specs.Begun.{FollowsAnywhere}
+use Rattle.hepurita.specs.Blank.{Blank}
+use Rattle.hepurita.specs.Linked.{StartsAnywhere}
+use Rattle.hepurita.proofs.TheoremLemmas.{sources_compiled, sources_started}
 
 module _ (optimisation : Optimisation) (profile : Profile) (source : List ℕ) (program : ProgramTree)
     (before : List ProcedureTree) (export : ProcedureTree) (image : Fields) where
@@ -27,6 +30,13 @@ module _ (optimisation : Optimisation) (profile : Profile) (source : List ℕ) (
         compiled = is;
         bases = bases_of profile program before export image judges is;
       }
+
+  pub begun : (straight : StraightProgram) (blank : Blank) → Judges profile source (accepts program before export)
+      → IsRemoved (ranged (flattened profile before export)) straight → IsGenerated straight image
+      → FollowsAnywhere straight image blank → StartsAnywhere program export image blank
+  begun straight blank (readable reads (fine small in_range in_time)) removed generated follows =
+      sources_started profile source program before export straight image blank reads (fine small in_range in_time)
+      removed generated follows
 
   pub spelled : IsCompilation optimisation profile source program before export image
       → (bytes : List ℕ) × Builds optimisation profile source bytes program before export image

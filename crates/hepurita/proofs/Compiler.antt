@@ -3,13 +3,15 @@ use Rattle.std.proofs.Common.{◌≡◌, ℕ, ◌+◌, ◌*◌, ◌≤◌, List,
 use Rattle.hepurita.specs.Below.{Agree, AgreeInPublic, AreBases, AreWithin, Arg, MachineCode, Fields, flattened, gives}
 use Rattle.hepurita.specs.Below.{IsGenerated, IsLoaded, IsPlaced, IsRemoved, outcome_of as outcome_of_flat, Param}
 use Rattle.hepurita.specs.Below.{param_of, params_of, ProcedureTree, Profile, ProgramTree, ranged, Results, results_in}
-use Rattle.hepurita.specs.Below.{RunsAs, State, StraightProgram, work_of}
+use Rattle.hepurita.specs.Below.{AreFine, Observation, RunsAs, RunsBehind, State, StraightProgram, work_of}
 use Rattle.hepurita.specs.source_work.SourceWork.{source_work}
 use Rattle.branch_removal.specs.StraightMeaning.{outcome_of, path_of}
 use Rattle.inline.specs.Path.{Path, seen as seen_of}
 use Rattle.hepurita.proofs.Below.{Halts-determined}
 use Rattle.hepurita.specs.Compiled.{Means, WholeRun, RunsTo, TwoRuns, IsCompiled}
-use Rattle.hepurita.specs.Linked.{RunsLinked, IsLinked}
+use Rattle.hepurita.specs.Begun.{FollowsAnywhere, IsBegun}
+use Rattle.hepurita.specs.Blank.{Blank}
+use Rattle.hepurita.specs.Linked.{IsLinked, StartsAnywhere}
 
 -- a procedure, the program's export, means what its body with numbered variables means
 abbrev pub MeansFlat : Profile → ProgramTree → List ProcedureTree → ProcedureTree → Type 0
@@ -98,19 +100,6 @@ module _ (profile : Profile) (program : ProgramTree) (before : List ProcedureTre
 
   -- ---- the body, wherever its words stand
 
-  runs_linked : (code : MachineCode) (start frame : ℕ) (at : IsPlaced image code start frame) (args : List Arg)
-      (s : State) → s.pc ≡ start → IsLoaded image frame args s → AreWithin (params_of image) args
-      → RunsLinked program image code start frame args s
-      ((generated.anywhere code start frame at).shown (path_on args))
-  runs_linked code start frame at args s begins laid fits =
-      let inner = within args fits in
-      let follows =
-      (generated.anywhere code start frame at).runs args s begins laid inner (removed.fine args inner) in
-      record {
-        run = follows.run;
-        outcome = subst (λ (results : Results). Means program args results) (sym follows.outcome) (meant args fits);
-      }
-
   -- what the source means is the outcome of the straight code
   one_meaning : (args : List Arg) (results : Results) → AreWithin (params_of image) args → Means program args results
       → results ≡ outcome_of straight args
@@ -119,17 +108,39 @@ module _ (profile : Profile) (program : ProgramTree) (before : List ProcedureTre
       (meant args fits).alone (gives results) known.given in
       cc
 
-  linked : (code : MachineCode) (start frame : ℕ) → IsPlaced image code start frame
-      → IsLinked program p image code start frame
-  linked code start frame at = record {
-    shown = λ args. (generated.anywhere code start frame at).shown (path_on args);
-    runs = runs_linked code start frame at;
-    equal_leakage = λ args args' agree. ap (generated.anywhere code start frame at).shown
-        (removed.paths args args' (agreeing args args' agree));
+  -- where the machine follows the straight code from states in which the body begins so
+  linked_by : (Begins : List Arg → State → Type 0) (code : MachineCode) (start frame : ℕ)
+      (shown : Path → List Observation)
+      → ((args : List Arg) (s : State) → s.pc ≡ start → Begins args s → AreWithin straight.parameters args
+      → AreFine straight.iterations (path_of straight args)
+      → RunsBehind straight image code start frame args s (shown (path_on args)))
+      → IsLinked program p image Begins code start frame
+  linked_by Begins code start frame shown runs = record {
+    shown = λ args. shown (path_on args);
+    runs = λ args s at begun fits.
+        let inner = within args fits in
+        let follows = runs args s at begun inner (removed.fine args inner) in
+        record {
+          run = follows.run;
+          outcome = subst (λ (results : Results). Means program args results) (sym follows.outcome) (meant args fits);
+        };
+    equal_leakage = λ args args' agree. ap shown (removed.paths args args' (agreeing args args' agree));
     public_results = λ args args' results results' agree known known'.
         in_public args args' results results' agree (one_meaning args results agree.one_within known)
         (one_meaning args' results' agree.other_within known');
   }
+
+  linked : (code : MachineCode) (start frame : ℕ) → IsPlaced image code start frame
+      → IsLinked program p image (IsLoaded image frame) code start frame
+  linked code start frame at =
+      let followed = generated.anywhere code start frame at in
+      linked_by (IsLoaded image frame) code start frame followed.shown followed.runs
+
+  -- from frames of any bytes
+  pub started : (blank : Blank) → FollowsAnywhere straight image blank → StartsAnywhere program p image blank
+  started blank follows code start frame at =
+      let followed = follows code start frame at in
+      linked_by (IsBegun image blank frame) code start frame followed.shown followed.runs
 
   -- the image is the procedure, compiled
   pub compiled : IsCompiled program before p image

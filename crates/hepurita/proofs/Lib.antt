@@ -22,6 +22,11 @@ pub mod Compilations
 pub mod PassedOn
 pub mod BaseLemmas
 pub mod Compiler
+pub mod PutArguments
+pub mod FrameValues
+pub mod BlankLemmas
+pub mod AnyFrame
+pub mod Anywhere
 pub mod RangePlaces
 pub mod EvalLemmas
 pub mod CallLemmas

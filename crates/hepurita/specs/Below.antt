@@ -114,7 +114,9 @@ pub use Rattle.intervals.specs.Work.{shares_by, stretch_shares, tree_work, value
 unfoldable pub use Rattle.branch_removal.specs.Exact.{straight_of}
 pub use Rattle.branch_removal.specs.Removed.{IsRemoved}
 pub use Rattle.branch_removal.specs.Straight.{StraightProgram}
-pub use Rattle.codegen.specs.Anywhere.{BodyRun, IsLoaded, IsPlaced}
+pub use Rattle.branch_removal.specs.StraightMeaning.{path_of}
+pub use Rattle.inline.specs.Path.{AreFine, Path, seen}
+pub use Rattle.codegen.specs.Anywhere.{BodyRun, IsLoaded, IsPlaced, RunsBehind}
 pub use Rattle.codegen.specs.Bases.{AreBases, IsInside}
 unfoldable pub use Rattle.codegen.specs.Exact.{fields_of, optimised_fields_of}
 pub use Rattle.codegen.specs.Followed.{IsGenerated, RunsAs}

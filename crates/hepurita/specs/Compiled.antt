@@ -2,8 +2,9 @@
 use Rattle.std.specs.Prelude.{◌≡◌, ℕ, ◌+◌, ◌*◌, ◌≤◌, List, length, map, All}
 use Rattle.std.specs.Option.{option_map}
 use Rattle.hepurita.specs.Below.{Agree, AgreeInPublic, AreBases, AreWithin, Arg, MachineCode, code_at, Ecall}
-use Rattle.hepurita.specs.Below.{extents_of, Fields, Halts, IsInside, IsPlaced, loaded_at, most_frame_bytes, nodes_of}
-use Rattle.hepurita.specs.Below.{Observation, param_of, params_of, ProcedureTree, ProgramTree, results_in, State}
+use Rattle.hepurita.specs.Below.{extents_of, Fields, Halts, IsInside, IsLoaded, IsPlaced, loaded_at}
+use Rattle.hepurita.specs.Below.{most_frame_bytes, nodes_of, Observation, param_of, params_of, ProcedureTree}
+use Rattle.hepurita.specs.Below.{ProgramTree, results_in, State}
 use Rattle.hepurita.specs.source_work.SourceWork.{source_work}
 use Rattle.hepurita.specs.Below.{type_in}
 use Rattle.hepurita.specs.Linked.{IsLinked}
@@ -53,4 +54,4 @@ pub record IsCompiled (program : ProgramTree) (before : List ProcedureTree) (p :
       (results_in runs.frame image runs.other.end.bytes)
   -- and its body does the same wherever its words stand
   pub linked : (code : MachineCode) (start frame : ℕ) → IsPlaced image code start frame
-      → IsLinked program p image code start frame
+      → IsLinked program p image (IsLoaded image frame) code start frame

@@ -3,6 +3,7 @@
 use Rattle.std.specs.Prelude.{List, [], ◌∷◌, Option, None, Some, unwrap_or}
 use Rattle.hepurita.specs.Below.{Fields, fields_of, flattened, optimised_fields_of, ProcedureTree, Profile, ranged}
 use Rattle.hepurita.specs.Below.{simplified_of, straight_of, StraightProgram, unrolled_of}
+use Rattle.hepurita.specs.Blank.{Blank, blank_of}
 use Rattle.optimisation.specs.element_words.Exact.{split_of}
 use Rattle.hepurita.specs.declared.optimised.Optimisation.{Optimisation}
 use Rattle.hepurita.specs.declared.optimised.Optimisation.TheVariants.{Off, On}
@@ -39,3 +40,23 @@ code_for On straight = first_of (optimised_for straight) (fields_of straight)
 unfoldable pub image_for : Optimisation → Profile → List ProcedureTree → ProcedureTree → Fields
 image_for optimisation profile before export =
     code_for optimisation (straight_of (ranged (flattened profile before export)))
+
+-- and which words of its frame have to be zeros: those of the program that it is generated from
+
+abbrev pub if_there : Option Fields → Blank → Blank → Blank
+if_there None one other = other
+if_there (Some image) one other = one
+
+abbrev pub first_blank : List StraightProgram → StraightProgram → Blank
+first_blank [] otherwise = blank_of otherwise
+first_blank (straight ∷ others) otherwise =
+    if_there (optimised_fields_of straight) (blank_of straight) (first_blank others otherwise)
+
+abbrev pub blank_for : Optimisation → StraightProgram → Blank
+blank_for Off straight = blank_of straight
+blank_for On straight =
+    first_blank (finished_of (after unrolled_of straight) ∷ finished_of (after simplified_of straight) ∷ []) straight
+
+unfoldable pub blank_words_for : Optimisation → Profile → List ProcedureTree → ProcedureTree → Blank
+blank_words_for optimisation profile before export =
+    blank_for optimisation (straight_of (ranged (flattened profile before export)))

@@ -1,7 +1,9 @@
 -- What is promised of the body of a compiled image, wherever its words stand, so that it can be the body of a
 -- function: among whatever other code it does what the image does, and leaves what is not its own as it was.
 use Rattle.std.specs.Prelude.{◌≡◌, ℕ, List}
-use Rattle.hepurita.specs.Below.{Agree, AgreeInPublic, AreWithin, Arg, BodyRun, MachineCode, Fields, IsLoaded}
+use Rattle.hepurita.specs.Begun.{IsBegun}
+use Rattle.hepurita.specs.Blank.{Blank}
+use Rattle.hepurita.specs.Below.{Agree, AgreeInPublic, AreWithin, Arg, BodyRun, MachineCode, Fields, IsPlaced}
 use Rattle.hepurita.specs.Below.{Observation, params_of, ProcedureTree, ProgramTree, Results, results_in, State}
 use Rattle.hepurita.specs.Meant.{Means}
 
@@ -11,14 +13,14 @@ pub record RunsLinked (program : ProgramTree) (image : Fields) (code : MachineCo
   pub run : BodyRun image code start frame s list
   pub outcome : Means program args (results_in frame image run.end.bytes)
 
--- where the body stands in this code, and its frame lies there
-pub record IsLinked (program : ProgramTree) (p : ProcedureTree) (image : Fields) (code : MachineCode)
-    (start frame : ℕ) :
+-- where the body stands in this code, and its frame lies there, from states in which it begins so
+pub record IsLinked (program : ProgramTree) (p : ProcedureTree) (image : Fields) (Begins : List Arg → State → Type 0)
+    (code : MachineCode) (start frame : ℕ) :
     Type 0 where
   -- one list for each list of arguments, whatever the rest of the state
   pub shown : List Arg → List Observation
-  -- results: from every state whose frame is loaded, on all arguments within the parameter types
-  pub runs : (args : List Arg) (s : State) → s.pc ≡ start → IsLoaded image frame args s
+  -- results: from every such state, on all arguments within the parameter types
+  pub runs : (args : List Arg) (s : State) → s.pc ≡ start → Begins args s
       → AreWithin (params_of image) args
       → RunsLinked program image code start frame args s (shown args)
   -- equal leakage: on arguments that agree it is one list
@@ -27,3 +29,10 @@ pub record IsLinked (program : ProgramTree) (p : ProcedureTree) (image : Fields)
   pub public_results : (args args' : List Arg) (results results' : Results) → Agree (params_of image) args args'
       → Means program args results → Means program args' results'
       → AgreeInPublic (params_of image) p.result results results'
+
+-- from each state whose frame holds the arguments, and in which the words that have to be are zeros, whatever else the
+-- frame holds
+abbrev pub StartsAnywhere : ProgramTree → ProcedureTree → Fields → Blank → Type 0
+StartsAnywhere program p image blank =
+    (code : MachineCode) (start frame : ℕ) → IsPlaced image code start frame
+    → IsLinked program p image (IsBegun image blank frame) code start frame

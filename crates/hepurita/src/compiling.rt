@@ -3,13 +3,18 @@
 ghost use Rattle.std.specs.Prelude.{◌≡◌, ℕ, List, IfOk, IfErr};
 ghost use Rattle.hepurita.specs.Below.{fields_of, IsGenerated, IsImage, IsRemoved, IsWantOfMemory, ProcedureTree};
 ghost use Rattle.hepurita.specs.Below.{Profile, program_tree, straight_of, StraightProgram};
-ghost use Rattle.hepurita.specs.Built.{IsCompilation};
-ghost use Rattle.hepurita.specs.CodeFor.{IsCodeFor};
-ghost use Rattle.hepurita.specs.Exact.{code_for, first_of, optimised_for};
+ghost use Rattle.hepurita.specs.Begun.{FollowsAnywhere};
+ghost use Rattle.hepurita.specs.Blank.{blank_of};
+ghost use Rattle.hepurita.specs.Built.{IsCompilation, blank_with};
+ghost use Rattle.hepurita.specs.CodeFor.{IsCodeFor, blank_in};
+ghost use Rattle.hepurita.specs.Exact.{blank_for, blank_words_for, code_for};
 ghost use Rattle.hepurita.specs.Flattened.{IsFlattened};
+ghost use Rattle.hepurita.specs.Linked.{StartsAnywhere};
 ghost use Rattle.hepurita.specs.Told.{IsRefusalOf};
 
+use crate::blank::blank_words;
 use crate::flattening::{Flattened, flatten};
+use crate::generated::Generated;
 use crate::optimised::Optimisation;
 use crate::optimising::{rolled, unrolled};
 use branch_removal::{Straight, remove};
@@ -18,12 +23,26 @@ use intervals::Ranged;
 use language::{Profile, Program, Refusal};
 use std::alloc::Global;
 
+/// The plain code of a straight program. Only memory refuses it.
+fn plain_code(alloc: Global, straight: &Straight<'_>) -> Result<Generated, Refusal>
+    ensures generated { IfOk result (IsCodeFor straight.now) }
+    ensures exact { IfOk result (λ made. made.code ≡ fields_of straight.now) }
+    ensures blank { IfOk result (λ made. blank_in made ≡ blank_of straight.now) }
+    ensures allowed { IfOk result (λ made. IsImage made.code) }
+    ensures memory { IfErr result (λ refusal. IsWantOfMemory refusal.rule refusal.place) }
+{
+    let code = generate(alloc, straight)?;
+    let blank = blank_words(alloc, straight.code())?;
+    Ok(Generated { code, blank })
+}
+
 /// The first optimised code of a straight program that is within the limit on words, or else its plain code. Only
 /// memory refuses it.
-fn first_code(alloc: Global, straight: &Straight<'_>) -> Result<Code, Refusal>
+fn first_code(alloc: Global, straight: &Straight<'_>) -> Result<Generated, Refusal>
     ensures generated { IfOk result (IsCodeFor straight.now) }
-    ensures exact { IfOk result (λ code. code ≡ first_of (optimised_for straight.now) (fields_of straight.now)) }
-    ensures allowed { IfOk result IsImage }
+    ensures exact { IfOk result (λ made. made.code ≡ code_for Optimisation.On straight.now) }
+    ensures blank { IfOk result (λ made. blank_in made ≡ blank_for Optimisation.On straight.now) }
+    ensures allowed { IfOk result (λ made. IsImage made.code) }
     ensures memory { IfErr result (λ refusal. IsWantOfMemory refusal.rule refusal.place) }
 {
     if let Some(code) = unrolled(alloc, straight.code())? {
@@ -32,7 +51,28 @@ fn first_code(alloc: Global, straight: &Straight<'_>) -> Result<Code, Refusal>
     if let Some(code) = rolled(alloc, straight.code())? {
         return Ok(code);
     }
-    generate(alloc, straight)
+    plain_code(alloc, straight)
+}
+
+/// The code of a body with what is counted for it, plain or optimised, and what its frame has to be. Only memory
+/// refuses it.
+fn generated_for(
+    alloc: Global,
+    ranged: &Ranged<'_>,
+    optimisation: Optimisation,
+) -> Result<Generated, Refusal>
+    ensures generated { IfOk result (λ made. (straight : StraightProgram) × IsRemoved ranged.now straight
+        × IsGenerated straight made.code × FollowsAnywhere straight made.code (blank_in made)) }
+    ensures exact { IfOk result (λ made. made.code ≡ code_for optimisation (straight_of ranged.now)) }
+    ensures blank { IfOk result (λ made. blank_in made ≡ blank_for optimisation (straight_of ranged.now)) }
+    ensures allowed { IfOk result (λ made. IsImage made.code) }
+    ensures memory { IfErr result (λ refusal. IsWantOfMemory refusal.rule refusal.place) }
+{
+    let straight = remove(alloc, ranged)?;
+    match optimisation {
+        Optimisation::Off => plain_code(alloc, &straight),
+        Optimisation::On => first_code(alloc, &straight),
+    }
 }
 
 /// The code of a body with what is counted for it, plain or optimised. Only memory refuses it.
@@ -47,11 +87,8 @@ pub fn code_of(
     ensures allowed { IfOk result IsImage }
     ensures memory { IfErr result (λ refusal. IsWantOfMemory refusal.rule refusal.place) }
 {
-    let straight = remove(alloc, ranged)?;
-    match optimisation {
-        Optimisation::Off => generate(alloc, &straight),
-        Optimisation::On => first_code(alloc, &straight),
-    }
+    let Generated { code, .. } = generated_for(alloc, ranged, optimisation)?;
+    Ok(code)
 }
 
 /// The code of a source's export, where the source is accepted, or the first refusal.
@@ -59,15 +96,19 @@ fn code_in(
     alloc: Global,
     flattened: &Flattened,
     optimisation: Optimisation,
-) -> Result<Code, Refusal>
+) -> Result<Generated, Refusal>
     ensures compiled { (profile : Profile) (source : List ℕ) (is : IsFlattened profile source flattened.now)
-        → IfOk result
-        (IsCompilation optimisation profile source (program_tree flattened.now.program) is.before is.export) }
+        → IfOk result (λ made.
+        IsCompilation optimisation profile source (program_tree flattened.now.program) is.before is.export made.code) }
+    ensures started { (profile : Profile) (source : List ℕ) (is : IsFlattened profile source flattened.now)
+        → IfOk result (λ made.
+        StartsAnywhere (program_tree flattened.now.program) is.export made.code (blank_in made)
+        × (blank_in made ≡ blank_words_for optimisation profile is.before is.export)) }
     ensures refused { (profile : Profile) (source : List ℕ) → IsFlattened profile source flattened.now
         → IfErr result (IsRefusalOf profile source) }
 {
     let ranged = flattened.ranged(alloc)?;
-    code_of(alloc, &ranged, optimisation)
+    generated_for(alloc, &ranged, optimisation)
 }
 
 /// An accepted source, compiled: its program, and the code of its export.
@@ -75,6 +116,8 @@ fn code_in(
 pub struct Compiled {
     pub program: Program,
     pub code: Code,
+    /// The offsets of the words of its frame that have to be zeros where it begins; none where all have to be.
+    pub blank: Option<Vec<u32>>,
 }
 
 /// A source that is accepted for an observer of this profile, compiled to plain or to optimised code, or the first
@@ -92,10 +135,18 @@ pub fn compile_with(
 ) -> Result<Compiled, Refusal>
     ensures compiled { IfOk result (λ made. (before : List ProcedureTree) × (export : ProcedureTree)
         × IsCompilation optimisation profile source.now (program_tree made.program) before export made.code) }
+    ensures started { IfOk result (λ made. (before : List ProcedureTree) × (export : ProcedureTree)
+        × IsCompilation optimisation profile source.now (program_tree made.program) before export made.code
+        × StartsAnywhere (program_tree made.program) export made.code (blank_with made)
+        × (blank_with made ≡ blank_words_for optimisation profile before export)) }
     ensures refused { IfErr result (IsRefusalOf profile source.now) }
 {
     let flattened = flatten(alloc, source, profile)?;
-    let code = code_in(alloc, &flattened, optimisation)?;
+    let Generated { code, blank } = code_in(alloc, &flattened, optimisation)?;
     let Flattened { program, .. } = flattened;
-    Ok(Compiled { program, code })
+    Ok(Compiled {
+        program,
+        code,
+        blank,
+    })
 }

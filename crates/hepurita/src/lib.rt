@@ -3,6 +3,7 @@
 // whole promises is said.
 #![tactic(auto)]
 
+mod blank;
 mod building;
 mod checking;
 mod comparing;
@@ -11,6 +12,7 @@ mod elements;
 mod executing;
 mod fault;
 mod flattening;
+mod generated;
 pub mod grammar_laws;
 mod judging;
 mod laws;
@@ -31,6 +33,7 @@ pub use compiling::{Compiled, code_of, compile_with};
 pub use executing::{answer, execute};
 pub use fault::RunFault;
 pub use flattening::{Flattened, flatten};
+pub use generated::Generated;
 pub use judging::{Accepted, judge, judge_as};
 pub use laws::{
     accepted_sources_are_evaluated, bases_fit, builds_agree, comparisons_agree,

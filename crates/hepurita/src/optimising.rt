@@ -1,12 +1,16 @@
 // Optimised code: rows of passes over straight code, each program of which may stand in the place of the one before.
 
 ghost use Rattle.std.specs.Prelude.{◌≡◌, IfOk, IfErr, IfSome, unwrap_or};
+ghost use Rattle.std.specs.Option.{option_map};
 ghost use Rattle.hepurita.specs.Below.{IsImage, IsWantOfMemory, optimised_fields_of, simplified_of, unrolled_of};
-ghost use Rattle.hepurita.specs.CodeFor.{IsCodeFor};
+ghost use Rattle.hepurita.specs.Blank.{blank_of};
+ghost use Rattle.hepurita.specs.CodeFor.{IsCodeFor, blank_in};
 ghost use Rattle.hepurita.specs.Exact.{after, finished_of};
 
+use crate::blank::blank_words;
+use crate::generated::Generated;
 use branch_removal::{StraightCode, replaced_is_removed};
-use codegen::{Code, generate_optimised};
+use codegen::generate_optimised;
 use language::Refusal;
 use optimisation::constants::{simplify, unroll};
 use optimisation::element_words::ElementWords;
@@ -28,10 +32,12 @@ fn made_or_given<'a, 'f>(
 
 /// The optimised code of a program whose loops are as they stay, where it is within the limit on words: short arrays
 /// become words, what is known then is a number, and words share variables. Only memory refuses it.
-fn finished(alloc: Global, straight: &StraightCode<'_>) -> Result<Option<Code>, Refusal>
+fn finished(alloc: Global, straight: &StraightCode<'_>) -> Result<Option<Generated>, Refusal>
     ensures generated { IfOk result (λ made. IfSome made (IsCodeFor straight.now)) }
-    ensures exact { IfOk result (λ made. made ≡ optimised_fields_of (finished_of straight.now)) }
-    ensures allowed { IfOk result (λ made. IfSome made IsImage) }
+    ensures exact { IfOk result (λ made.
+        option_map (λ made. made.code) made ≡ optimised_fields_of (finished_of straight.now)) }
+    ensures blank { IfOk result (λ made. IfSome made (λ made. blank_in made ≡ blank_of (finished_of straight.now))) }
+    ensures allowed { IfOk result (λ made. IfSome made (λ made. IsImage made.code)) }
     ensures memory { IfErr result (λ refusal. IsWantOfMemory refusal.rule refusal.place) }
 {
     let words = ElementWords::of(alloc, straight)?;
@@ -42,15 +48,24 @@ fn finished(alloc: Global, straight: &StraightCode<'_>) -> Result<Option<Code>, 
     let with_shares = share_words(alloc, simpler)?;
     let shared = made_or_given(&with_shares, simpler);
     replaced_is_removed();
-    generate_optimised(alloc, shared)
+    match generate_optimised(alloc, shared)? {
+        Some(code) => {
+            let blank = blank_words(alloc, shared)?;
+            Ok(Some(Generated { code, blank }))
+        }
+        None => Ok(None),
+    }
 }
 
 /// The optimised code of a program in which loops become their iterations, where it is within the limit on words. Only
 /// memory refuses it.
-pub fn unrolled(alloc: Global, straight: &StraightCode<'_>) -> Result<Option<Code>, Refusal>
+pub fn unrolled(alloc: Global, straight: &StraightCode<'_>) -> Result<Option<Generated>, Refusal>
     ensures generated { IfOk result (λ made. IfSome made (IsCodeFor straight.now)) }
-    ensures exact { IfOk result (λ made. made ≡ optimised_fields_of (finished_of (after unrolled_of straight.now))) }
-    ensures allowed { IfOk result (λ made. IfSome made IsImage) }
+    ensures exact { IfOk result (λ made.
+        option_map (λ made. made.code) made ≡ optimised_fields_of (finished_of (after unrolled_of straight.now))) }
+    ensures blank { IfOk result (λ made. IfSome made
+        (λ made. blank_in made ≡ blank_of (finished_of (after unrolled_of straight.now)))) }
+    ensures allowed { IfOk result (λ made. IfSome made (λ made. IsImage made.code)) }
     ensures memory { IfErr result (λ refusal. IsWantOfMemory refusal.rule refusal.place) }
 {
     let without_loops = unroll(alloc, straight)?;
@@ -60,10 +75,13 @@ pub fn unrolled(alloc: Global, straight: &StraightCode<'_>) -> Result<Option<Cod
 
 /// The optimised code of a program in which all loops that make iterations stay, where it is within the limit on words.
 /// Only memory refuses it.
-pub fn rolled(alloc: Global, straight: &StraightCode<'_>) -> Result<Option<Code>, Refusal>
+pub fn rolled(alloc: Global, straight: &StraightCode<'_>) -> Result<Option<Generated>, Refusal>
     ensures generated { IfOk result (λ made. IfSome made (IsCodeFor straight.now)) }
-    ensures exact { IfOk result (λ made. made ≡ optimised_fields_of (finished_of (after simplified_of straight.now))) }
-    ensures allowed { IfOk result (λ made. IfSome made IsImage) }
+    ensures exact { IfOk result (λ made.
+        option_map (λ made. made.code) made ≡ optimised_fields_of (finished_of (after simplified_of straight.now))) }
+    ensures blank { IfOk result (λ made. IfSome made
+        (λ made. blank_in made ≡ blank_of (finished_of (after simplified_of straight.now)))) }
+    ensures allowed { IfOk result (λ made. IfSome made (λ made. IsImage made.code)) }
     ensures memory { IfErr result (λ refusal. IsWantOfMemory refusal.rule refusal.place) }
 {
     let simpler = simplify(alloc, straight)?;

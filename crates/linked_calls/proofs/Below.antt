@@ -54,7 +54,7 @@ pub use Rattle.linked_calls.specs.FunctionCode.{clear_registers_code, copied_cod
 pub use Rattle.linked_calls.specs.FunctionCode.{next_code, places_code, rounds_code}
 pub use Rattle.linked_calls.specs.FunctionCode.{array_code, by_alignment_code, by_words_code, goes_in_by_words}
 pub use Rattle.linked_calls.specs.FunctionCode.{goes_out_by_words, passed_count, per_word}
-pub use Rattle.linked_calls.specs.FunctionCode.{copy_out_code, down_code, enter_code, entry_code, frame_code, frame_room}
+pub use Rattle.linked_calls.specs.FunctionCode.{copy_out_code, down_code, enter_code, entry_code, frame_room}
 pub use Rattle.linked_calls.specs.FunctionCode.{leave_code, loads_code, meant_code, restore_code}
 unfoldable pub use Rattle.linked_calls.specs.FunctionCode.{function_words}
 pub use Rattle.linked_calls.specs.FunctionCode.{result_code, results_code, room_of, stores_code, until_equal}

@@ -1,11 +1,13 @@
 -- What the code before the body hands to it, and what the code behind it takes over: the two halves of a call, so
 -- that they can be proved apart from each other and from the body.
+use Rattle.hepurita.specs.Begun.{IsBegun}
+use Rattle.hepurita.specs.Blank.{Blank}
 use Rattle.std.specs.Prelude.{sum}
 use Rattle.std.proofs.Common.{◌≡◌, ℕ, suc, ◌+◌, ◌-◌, ◌*◌, ◌%◌, ◌^◌, ◌<◌, List, [], ◌∷◌, length, map, Some}
 use Rattle.std.proofs.Common.{false, None}
 use Rattle.linked_calls.proofs.Below.{AreBytes, AreData, argument_offset, arguments_end, arguments_of, array_bytes}
 use Rattle.linked_calls.proofs.Below.{body_words, ByteMap, MachineCode, enter_code, enter_sections, Fields, FixedArray, Form}
-use Rattle.linked_calls.proofs.Below.{frame_room, function_words, goes_on, IsCalled, IsImage, IsLeft, IsLoaded}
+use Rattle.linked_calls.proofs.Below.{frame_room, function_words, goes_on, IsCalled, IsImage, IsLeft}
 use Rattle.linked_calls.proofs.Below.{is_written, kept_of}
 use Rattle.linked_calls.proofs.Below.{IsOfCall, IsSite, LeadsWithin, leave_sections, moved_to, MutableArray, number_at}
 use Rattle.linked_calls.proofs.Below.{Observation, observed, results_in, room_base, saved_registers, section_steps}
@@ -14,16 +16,16 @@ use Rattle.linked_calls.proofs.Bytes.{IsOutside}
 use Rattle.linked_calls.proofs.SameRegisters.{AreSame}
 
 -- where the body begins, and the code behind it
-abbrev pub body_at : Fields → CallSite → ℕ
-body_at image site = site.entry + 4 * length (enter_code image)
+abbrev pub body_at : Fields → Blank → CallSite → ℕ
+body_at image blank site = site.entry + 4 * length (enter_code image blank)
 
-abbrev pub leave_at : Fields → CallSite → ℕ
-leave_at image site = body_at image site + 4 * length (body_words image.words)
+abbrev pub leave_at : Fields → Blank → CallSite → ℕ
+leave_at image blank site = body_at image blank site + 4 * length (body_words image.words)
 
 -- their steps, by where the arguments point
 
-abbrev pub enter_steps : Fields → (ℕ → ℕ) → ℕ
-enter_steps image pointers = sum (map (section_steps image pointers) (enter_sections image))
+abbrev pub enter_steps : Fields → Blank → (ℕ → ℕ) → ℕ
+enter_steps image blank pointers = sum (map (section_steps image pointers) (enter_sections image blank))
 
 abbrev pub leave_steps : Fields → (ℕ → ℕ) → ℕ
 leave_steps image pointers = sum (map (section_steps image pointers) (leave_sections image))
@@ -68,10 +70,10 @@ IsOutsideRoom image site x = IsOutside (room_base image site) site.stack x
 
 -- Before the body.
 
--- from a state in which the function is called to one in which its body is loaded
-pub record IsEntered (image : Fields) (site : CallSite) (s t : State) : Type 0 where
-  pub at_body : t.pc ≡ body_at image site
-  pub loaded : IsLoaded image (room_base image site) (arguments_of image site s) t
+-- from a state in which the function is called to one in which its body begins
+pub record IsEntered (image : Fields) (blank : Blank) (site : CallSite) (s t : State) : Type 0 where
+  pub at_body : t.pc ≡ body_at image blank site
+  pub begun : IsBegun image blank (room_base image site) (arguments_of image site s) t
   pub untouched : AreSame t.regs s.regs untouched_registers
   pub still : AreSame t.regs s.regs saved_registers
   pub saved : AreSaved t.bytes s.regs (saved_at image site) (kept_of image)
@@ -79,25 +81,25 @@ pub record IsEntered (image : Fields) (site : CallSite) (s t : State) : Type 0 w
   pub outside : (x : ℕ) → IsOutsideRoom image site x → t.bytes x ≡ s.bytes x
   pub there : AreData (room_base image site) site.stack t.bytes
 
-pub record EntersFrom (image : Fields) (code : MachineCode) (site : CallSite) (list : List Observation) (s : State) :
-    Type 0 where
+pub record EntersFrom (image : Fields) (blank : Blank) (code : MachineCode) (site : CallSite)
+    (list : List Observation) (s : State) : Type 0 where
   pub end : State
-  pub leads : LeadsWithin code (IsOfCall image site) (enter_steps image site.pointers) s list end
-  pub entered : IsEntered image site s end
+  pub leads : LeadsWithin code (IsOfCall image site) (enter_steps image blank site.pointers) s list end
+  pub entered : IsEntered image blank site s end
 
-pub record Enters (image : Fields) (code : MachineCode) (site : CallSite) : Type 0 where
+pub record Enters (image : Fields) (blank : Blank) (code : MachineCode) (site : CallSite) : Type 0 where
   pub shown : List Observation
-  pub runs : (s : State) → IsCalled image site s → EntersFrom image code site shown s
+  pub runs : (s : State) → IsCalled image site s → EntersFrom image blank code site shown s
 
 abbrev pub EnteringLeads : Type 0
-EnteringLeads = (image : Fields) (code : MachineCode) (site : CallSite) → IsImage image → IsSite image code site
-    → Enters image code site
+EnteringLeads = (image : Fields) (blank : Blank) (code : MachineCode) (site : CallSite) → IsImage image
+    → IsSite image blank code site → Enters image blank code site
 
 -- Behind the body.
 
 -- the body is done, of a call whose caller had these registers
-pub record CanLeave (image : Fields) (site : CallSite) (regs : ℕ → ℕ) (s : State) : Type 0 where
-  pub at_leave : s.pc ≡ leave_at image site
+pub record CanLeave (image : Fields) (blank : Blank) (site : CallSite) (regs : ℕ → ℕ) (s : State) : Type 0 where
+  pub at_leave : s.pc ≡ leave_at image blank site
   pub base : s.regs 2 ≡ room_base image site
   pub stack : regs 2 ≡ site.stack
   pub untouched : AreSame s.regs regs untouched_registers
@@ -109,20 +111,20 @@ pub record CanLeave (image : Fields) (site : CallSite) (regs : ℕ → ℕ) (s :
   pub there : AreData (room_base image site) (arguments_end image site) s.bytes
   pub ready : AreReady image site s.bytes 0 image.slots
 
-pub record LeavesFrom (image : Fields) (code : MachineCode) (site : CallSite) (list : List Observation) (regs : ℕ
+pub record LeavesFrom (image : Fields) (blank : Blank) (code : MachineCode) (site : CallSite) (list : List Observation) (regs : ℕ
     → ℕ) (s : State) : Type 0 where
   pub step_count : ℕ
   pub counted : suc step_count ≡ leave_steps image site.pointers
   pub end : State
   pub leads : LeadsWithin code (IsOfCall image site) step_count s list end
-  pub at_last : end.pc ≡ site.entry + 4 * (length (function_words image) - 1)
+  pub at_last : end.pc ≡ site.entry + 4 * (length (function_words image blank) - 1)
   pub left : IsLeft image site regs s.bytes (results_in (room_base image site) image s.bytes) end
   pub goes_back : regs 1 % 4 ≡ 0 → Step code end (goes_on (observed end None) (moved_to end (regs 1)))
 
-pub record Leaves (image : Fields) (code : MachineCode) (site : CallSite) : Type 0 where
+pub record Leaves (image : Fields) (blank : Blank) (code : MachineCode) (site : CallSite) : Type 0 where
   pub shown : List Observation
-  pub runs : (regs : ℕ → ℕ) (s : State) → CanLeave image site regs s → LeavesFrom image code site shown regs s
+  pub runs : (regs : ℕ → ℕ) (s : State) → CanLeave image blank site regs s → LeavesFrom image blank code site shown regs s
 
 abbrev pub LeavesEverywhere : Type 0
-LeavesEverywhere = (image : Fields) (code : MachineCode) (site : CallSite) → IsImage image → IsSite image code site
-    → Leaves image code site
+LeavesEverywhere = (image : Fields) (blank : Blank) (code : MachineCode) (site : CallSite) → IsImage image
+    → IsSite image blank code site → Leaves image blank code site

@@ -1,14 +1,14 @@
--- The code before the body leads from a state in which the function is called to one in which its body is loaded.
+-- The code before the body leads from a state in which the function is called to one in which its body begins.
 use Rattle.std.specs.Prelude.{is_some}
 use Rattle.std.proofs.Common.{◌≡◌, ℕ, ◌+◌, ◌-◌, ◌*◌, ◌^◌, ◌<◌, ◌≤◌, Bool, true, false, nat_lt, if◌then◌else◌, List}
-use Rattle.std.proofs.Common.{[]}
+use Rattle.std.proofs.Common.{[], None, Option}
 use Rattle.std.proofs.Common.{◌∷◌, ◌++◌, length, map, Some, inl, inr, ⊎_elim, refl, sym, ap, ◌∙◌, subst, arith}
 use Rattle.std.proofs.lemmas.Bool.{cases_lt, ltb-false, ltb-true}
 use Rattle.std.proofs.lemmas.List.{length-map}
 use Rattle.codegen.proofs.program_logic_lemmas.Counted.{in_steps, makes_then, Runs, Setting, then_runs}
 use Rattle.linked_calls.proofs.Below.{above_frame, AreBytes, AreData, argument_offset, argument_registers}
 use Rattle.linked_calls.proofs.Below.{arguments_end, arguments_of, at}
-use Rattle.linked_calls.proofs.Below.{ByteMap, MachineCode, Data, enter_code, entry_code, Fields, found, frame_code}
+use Rattle.linked_calls.proofs.Below.{ByteMap, MachineCode, Data, enter_code, entry_code, Fields, found}
 use Rattle.linked_calls.proofs.Below.{frame_room, frame_steps, HasFrame, IsCalled, IsImage, IsLoaded, IsOfCall, IsSite}
 use Rattle.linked_calls.proofs.Below.{IsZeroFrame, LeadsWithin, number_at, number_at_same, room_base, saved_registers}
 use Rattle.linked_calls.proofs.Below.{body_words, CallSite, kept_of, passed_of, State, with_numbers, word_in, zeros}
@@ -18,9 +18,8 @@ use Rattle.linked_calls.proofs.AllArguments.{taken_registers}
 use Rattle.linked_calls.proofs.Between.{AreReady, AreSaved, EnteringLeads, IsEntered, IsOutsideRoom, body_at}
 use Rattle.linked_calls.proofs.Between.{enter_steps, saved_at, untouched_registers}
 use Rattle.linked_calls.proofs.Bytes.{IsOutside, SameData, number_there, numbers_outside, is_some-with_numbers}
-use Rattle.linked_calls.proofs.ByteData.{numbers_stay, zeroed_stays}
-use Rattle.linked_calls.proofs.Bytes.{zero_byte}
-use Rattle.linked_calls.proofs.SectionSteps.{arguments_steps, enter_steps_are, entry_steps}
+use Rattle.linked_calls.proofs.ByteData.{numbers_stay}
+use Rattle.linked_calls.proofs.SectionSteps.{arguments_steps, enter_steps_are, entry_steps, steps_for}
 use Rattle.linked_calls.proofs.Entering.{entered, entered_bytes, entry_runs, taken_count}
 use Rattle.linked_calls.proofs.KeptRegisters.{kept_fitting}
 use Rattle.linked_calls.proofs.KnownArguments.{all_known}
@@ -32,9 +31,17 @@ use Rattle.linked_calls.proofs.Rooms.{RoomNumbers, place_inside, place_stacked, 
 use Rattle.linked_calls.proofs.SameRegisters.{AreSame, same_beside, still_same}
 use Rattle.linked_calls.proofs.SavedRegisters.{stored_are_saved, saved_same, saved_taken}
 use Rattle.linked_calls.proofs.Standing.{enter_placed}
-use Rattle.linked_calls.proofs.Zeros.{zeroed_runs}
+use Rattle.linked_calls.proofs.BlankWords.{frame_readied, IsReadied}
+use Rattle.linked_calls.specs.FunctionCode.{frame_code}
+use Rattle.hepurita.specs.Begun.{IsBegun}
+use Rattle.hepurita.specs.Blank.{Blank, IsBlank}
 
-module _ (image : Fields) (code : MachineCode) (site : CallSite) (is : IsImage image) (is_site : IsSite image code site)
+some_byte : (o : Option ℕ) → is_some o ≡ true → (byte : ℕ) × (o ≡ Some byte)
+some_byte (Some byte) there = (byte, refl)
+some_byte None there = cc
+
+module _ (image : Fields) (blank : Blank) (code : MachineCode) (site : CallSite) (is : IsImage image)
+    (is_site : IsSite image blank code site)
     (numbers : RoomNumbers image site) where
   abbrev z : Setting
   z = call_setting image code site
@@ -172,37 +179,41 @@ module _ (image : Fields) (code : MachineCode) (site : CallSite) (is : IsImage i
       (λ x low high. inl ((omega arith, omega arith), low))
       (λ d called. (omega (arith, called.stack), above_there d called))
 
-  frame_part : Runs z (frame_steps room) (frame_code room) (HasFrame frame room) (IsZeroFrame frame room)
+  frame_part : Runs z (steps_for room blank) (frame_code room blank) (HasFrame frame room)
+      (IsReadied blank image.frame_bytes frame room)
   frame_part =
-      zeroed_runs z frame room numbers.even numbers.whole (omega arith)
-      (λ sp x low high above. inl ((omega arith, omega arith), above))
+      frame_readied z image.frame_bytes frame room numbers.even numbers.whole (omega arith)
+      (λ sp x low high above. inl ((omega arith, omega arith), above)) blank numbers.holds
 
-  -- x2 is the frame's base, the frame is zeros, and the room above it holds what the entry has stored
+  -- x2 is the frame's base, its words that have to be are zeros, and the room above it holds what the entry has stored
   record IsFramed (d t : Data) : Type 0 where
     stack : t.regs 2 ≡ frame
     untouched : AreSame t.regs d.regs untouched_registers
     still : AreSame t.regs d.regs saved_registers
     bytes : AreBytes t.bytes
-    zeros : (x : ℕ) → frame ≤ x → x < above → t.bytes x ≡ Some 0
+    blank_words : IsBlank blank image.frame_bytes frame t.bytes
+    there : AreData frame above t.bytes
     outside : (x : ℕ) → IsOutside frame above x → t.bytes x ≡ stored d x
 
   frame_begins : (d : Data) → Called d → HasFrame frame room (entering d)
   frame_begins d called =
       record { stack = refl; there = λ x low high. stored_data d called x ∙ called.there x low (omega arith) }
 
-  framed : (d u : Data) → Called d → IsZeroFrame frame room (entering d) u → IsFramed d u
-  framed d u called zeroed = record {
-    stack = zeroed.stack;
-    untouched = same_beside (2 ∷ 5 ∷ []) u.regs (entering d).regs (λ q none. zeroed.others q none.0 none.1.0)
+  framed : (d u : Data) → Called d → IsReadied blank image.frame_bytes frame room (entering d) u → IsFramed d u
+  framed d u called readied = record {
+    stack = readied.stack;
+    untouched = same_beside (2 ∷ 5 ∷ []) u.regs (entering d).regs (λ q none. readied.others q none.0 none.1.0)
         untouched_registers refl;
-    still = same_beside (2 ∷ 5 ∷ []) u.regs (entering d).regs (λ q none. zeroed.others q none.0 none.1.0)
+    still = same_beside (2 ∷ 5 ∷ []) u.regs (entering d).regs (λ q none. readied.others q none.0 none.1.0)
         saved_registers refl;
-    bytes = zeroed_stays frame (frame + room) (stored d) u.bytes zeroed.zeroed (stored_stays d called.bytes);
-    zeros = zeroed.zeroed.inside;
-    outside = zeroed.zeroed.outside;
+    bytes = readied.bytes (stored_stays d called.bytes);
+    blank_words = readied.blank_words;
+    there = λ x low high. readied.data_same x ((frame_begins d called).there x low high);
+    outside = readied.outside;
   }
 
-  framed_part : Runs z (entry_steps image site.pointers + frame_steps room) (entry_code image ++ frame_code room) Called IsFramed
+  framed_part : Runs z (entry_steps image site.pointers + steps_for room blank) (entry_code image ++ frame_code room blank)
+      Called IsFramed
   framed_part = makes_then z {f = entering} entry_part frame_part frame_begins framed
 
   -- The arguments.
@@ -214,7 +225,7 @@ module _ (image : Fields) (code : MachineCode) (site : CallSite) (is : IsImage i
   framed_there : (d t : Data) → Called d → IsFramed d t → AreData frame (arguments_end image site) t.bytes
   framed_there d t called frames x low high =
       ⊎_elim
-      (λ (e : x < above). ap is_some (frames.zeros x low e))
+      (λ (e : x < above). frames.there x low e)
       (λ (e : above ≤ x). ap is_some (frames.outside x (inr e)) ∙ stored_data d called x ∙ called.there x low high)
       (cases_lt x above)
 
@@ -241,27 +252,30 @@ module _ (image : Fields) (code : MachineCode) (site : CallSite) (is : IsImage i
     taken_passed : StandAsPassed image site (at_call d) u.bytes
     taken_passed = still_passed image site numbers (at_call d) (stored d) u.bytes taken_outside (passed d called)
 
-    taken_loaded : IsLoaded image frame (arguments_of image site (at_call d)) (at (body_at image site) u)
-    taken_loaded = record {
+    taken_begun : IsBegun image blank frame (arguments_of image site (at_call d)) (at (body_at image blank site) u)
+    taken_begun = record {
       base = still_base _ t u takes ∙ frames.stack;
+      before = t.bytes;
+      are_bytes = λ o inside.
+          let there = some_byte (t.bytes (frame + o)) (frames.there (frame + o) (omega arith) (omega arith)) in
+          (there.0, there.1, frames.bytes (frame + o) there.0 there.1);
+      blank_before = frames.blank_words;
       frame_there = λ o inside.
           ap (λ (b : ByteMap). b (frame + o)) takes.bytes
-          ∙ all_taken_is image site numbers (at_call d) t.bytes (zeros frame image.frame_bytes) 0 image.slots
-          (frame + o) (omega arith) known is_site.arrays (framed_passed d t called frames)
-          (frames.zeros (frame + o) (omega arith) (omega arith)
-          ∙ sym (zero_byte frame image.frame_bytes (frame + o) (omega arith) (omega arith)));
+          ∙ all_taken_is image site numbers (at_call d) t.bytes t.bytes 0 image.slots (frame + o) (omega arith) known
+          is_site.arrays (framed_passed d t called frames) refl;
     }
 
     room_there : AreData frame site.stack u.bytes
     room_there x low high =
         ap (λ (b : ByteMap). is_some (b x)) takes.bytes
-        ∙ all_taken_data image site t.bytes 0 image.slots known (λ y from to. ap is_some (frames.zeros y from to)) x
+        ∙ all_taken_data image site t.bytes 0 image.slots known (λ y from to. frames.there y from to) x
         ∙ framed_there d t called frames x low (omega arith)
 
-    is_entered : IsEntered image site (at_call d) (at (body_at image site) u)
+    is_entered : IsEntered image blank site (at_call d) (at (body_at image blank site) u)
     is_entered = record {
       at_body = refl;
-      loaded = taken_loaded;
+      begun = taken_begun;
       untouched = still_same taken_registers u.regs t.regs d.regs takes.others untouched_registers refl
           frames.untouched;
       still = still_same taken_registers u.regs t.regs d.regs takes.others saved_registers refl frames.still;
@@ -273,10 +287,11 @@ module _ (image : Fields) (code : MachineCode) (site : CallSite) (is : IsImage i
       there = room_there;
     }
 
-  enter_part : Runs z (entry_steps image site.pointers + frame_steps room + arguments_steps image site.pointers 0 image.slots) (enter_code image) Called
-      (λ d t. IsEntered image site (at_call d) (at (body_at image site) t))
+  enter_part : Runs z (entry_steps image site.pointers + steps_for room blank + arguments_steps image site.pointers 0 image.slots)
+      (enter_code image blank) Called
+      (λ d t. IsEntered image blank site (at_call d) (at (body_at image blank site) t))
   enter_part =
-      then_runs z {S = λ d t. IsEntered image site (at_call d) (at (body_at image site) t)} framed_part
+      then_runs z {S = λ d t. IsEntered image blank site (at_call d) (at (body_at image blank site) t)} framed_part
       (arguments_runs image site code numbers 0 image.slots (omega arith) known)
       taking_begins is_entered
 
@@ -287,23 +302,23 @@ at_own : (site : CallSite) (image : Fields) (s : State) → IsCalled image site 
 at_own site image s called = ap (λ p. at p (record { regs = s.regs; bytes = s.bytes })) (sym called.at_entry)
 
 pub enters : EnteringLeads
-enters image code site is is_site =
+enters image blank code site is is_site =
     let z = call_setting image code site in
-    let part = does z site.entry (enter_code image) (enter_placed image code site is_site)
-    (in_steps z (sym (enter_steps_are image site.pointers))
-    (enter_part image code site is is_site (room_numbers image code site is_site))) in
+    let part = does z site.entry (enter_code image blank) (enter_placed image code site is_site)
+    (in_steps z (sym (enter_steps_are image site.pointers blank))
+    (enter_part image blank code site is is_site (room_numbers image code site is_site))) in
     record {
       shown = part.shown;
       runs = λ s called.
           let d : Data = record { regs = s.regs; bytes = s.bytes } in
           let own = at_own site image s called in
           let run = part.runs d (subst (λ (x : State). IsCalled image site x) (sym own) called) in
-          let end = at (body_at image site) run.end in
+          let end = at (body_at image blank site) run.end in
           record {
             end = end;
-            leads = subst (λ (x : State). LeadsWithin code (IsOfCall image site) (enter_steps image site.pointers) x
+            leads = subst (λ (x : State). LeadsWithin code (IsOfCall image site) (enter_steps image blank site.pointers) x
                 part.shown end)
                 own run.leads;
-            entered = subst (λ (x : State). IsEntered image site x end) own run.done;
+            entered = subst (λ (x : State). IsEntered image blank site x end) own run.done;
           };
     }

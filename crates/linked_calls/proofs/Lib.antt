@@ -27,6 +27,7 @@ pub mod KnownArguments
 pub mod Entering
 pub mod Passed
 pub mod LoadedArguments
+pub mod BlankWords
 pub mod EnteringLeads
 pub mod AllResults
 pub mod KeptRegisters

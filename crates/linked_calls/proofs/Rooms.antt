@@ -1,4 +1,5 @@
 -- The room of a call: where its frame, the saved registers and the arguments lie in it, in numbers.
+use Rattle.hepurita.specs.Blank.{Blank}
 use Rattle.std.proofs.Common.{◌≡◌, ℕ, ◌+◌, ◌-◌, ◌*◌, ◌%◌, ◌^◌, ◌<◌, ◌≤◌, Bool, true, false, List, []}
 use Rattle.std.proofs.Common.{◌∷◌, length, inl, inr, arith, if◌then◌else◌}
 use Rattle.linked_calls.proofs.Below.{above_frame, argument_offset, arguments_end, body_words, MachineCode, Fields}
@@ -28,7 +29,7 @@ written_few words (r ∷ rs) = by (is_written words r) (written_few words rs)
     by true few = omega arith
     by false few = omega arith
 
-pub room_numbers : (image : Fields) (code : MachineCode) (site : CallSite) → IsSite image code site
+pub room_numbers : (image : Fields) {blank : Blank} (code : MachineCode) (site : CallSite) → IsSite image blank code site
     → RoomNumbers image site
 room_numbers image code site is =
     let few : length (kept_of image) ≤ 12 = written_few (body_words image.words) saved_registers in

@@ -1,10 +1,15 @@
 -- The sections' code, one after another, is the code before the body and that behind it.
+use Rattle.hepurita.specs.Blank.{Blank}
 use Rattle.std.proofs.Common.{◌≡◌, ℕ, ◌+◌, ◌==◌, Bool, true, false, List, [], ◌∷◌, ◌++◌, map, refl, ap, ◌∙◌}
-use Rattle.std.proofs.Common.{ap₂, if◌then◌else◌}
+use Rattle.std.proofs.Common.{ap₂, if◌then◌else◌, Option, Some, None}
 use Rattle.std.proofs.lemmas.List.{append_assoc, append-nil}
 use Rattle.linked_calls.proofs.Below.{argument_sections, arguments_code, array_section, array_sections}
 use Rattle.linked_calls.proofs.Below.{body_words, CallersStack, ClearedFrame, ClearedRegisters, code_of}
 use Rattle.linked_calls.proofs.Below.{constant_code, copy_out_code, down_code, enter_code, enter_sections, Fields, Form}
+use Rattle.linked_calls.specs.FunctionCode.{are_few, blank_code, blanks_code, frame_code, lowered_code, partly_code}
+use Rattle.linked_calls.specs.FunctionCode.{zeroed_code}
+use Rattle.linked_calls.specs.Sections.{partly_sections, zeroed_sections}
+use Rattle.linked_calls.specs.declared.section.Section.TheVariants.{BlankWord, LoweredStack}
 use Rattle.linked_calls.proofs.Below.{frame_room, frame_sections, FrameBase, FrameTop, function_words, Instr}
 use Rattle.linked_calls.proofs.Below.{leave_code, leave_sections, MutableArray, Register, RestoredRegisters}
 use Rattle.linked_calls.proofs.Below.{results_code, Return, runs_code, Section, Slot, stack_register, Sub}
@@ -22,26 +27,48 @@ code_of_both image (section ∷ one) other = rw (code_of_both image one other, a
 abbrev base : Instr
 base = Register Sub 5 stack_register 5
 
-frame_code_of : (image : Fields) (empty : Bool)
+zeroed_code_of : (image : Fields) (empty : Bool)
     → code_of image (if empty then [] else FrameBase ∷ ClearedFrame ∷ [])
     ≡ (if empty then [] else constant_code 5 (frame_room image) ++ base ∷ runs_code down_code (frame_room image))
-frame_code_of image true = refl
-frame_code_of image false =
+zeroed_code_of image true = refl
+zeroed_code_of image false =
     let number = constant_code 5 (frame_room image) in
     let runs = runs_code down_code (frame_room image) in
     append_assoc number (base ∷ []) (runs ++ [])
     ∙ ap (λ (xs : List Instr). number ++ base ∷ xs) (append-nil runs)
+
+blanks_code_of : (image : Fields) (offsets : List ℕ) → code_of image (map BlankWord offsets) ≡ blanks_code offsets
+blanks_code_of image [] = refl
+blanks_code_of image (offset ∷ offsets) = ap (λ (xs : List Instr). blank_code offset ++ xs) (blanks_code_of image offsets)
+
+partly_code_of : (image : Fields) (offsets : List ℕ) (empty : Bool)
+    → code_of image (if empty then [] else LoweredStack ∷ map BlankWord offsets)
+    ≡ (if empty then [] else lowered_code (frame_room image) ++ blanks_code offsets)
+partly_code_of image offsets true = refl
+partly_code_of image offsets false =
+    ap (λ (xs : List Instr). lowered_code (frame_room image) ++ xs) (blanks_code_of image offsets)
+
+frame_code_by : (image : Fields) (offsets : List ℕ) (few : Bool)
+    → code_of image (if few then partly_sections (frame_room image) offsets else zeroed_sections (frame_room image))
+    ≡ (if few then partly_code (frame_room image) offsets else zeroed_code (frame_room image))
+frame_code_by image offsets true = partly_code_of image offsets (frame_room image == 0)
+frame_code_by image offsets false = zeroed_code_of image (frame_room image == 0)
+
+frame_code_of : (image : Fields) (blank : Blank)
+    → code_of image (frame_sections (frame_room image) blank) ≡ frame_code (frame_room image) blank
+frame_code_of image None = zeroed_code_of image (frame_room image == 0)
+frame_code_of image (Some offsets) = frame_code_by image offsets (are_few (frame_room image) offsets)
 
 arguments_code_of : (image : Fields) (i : ℕ) (slots : List Slot)
     → code_of image (argument_sections i slots) ≡ arguments_code image i slots
 arguments_code_of image i [] = refl
 arguments_code_of image i (slot ∷ slots) = rw (arguments_code_of image (i + 1) slots)
 
-pub enter_code_of : (image : Fields) → code_of image (enter_sections image) ≡ enter_code image
-enter_code_of image =
+pub enter_code_of : (image : Fields) (blank : Blank) → code_of image (enter_sections image blank) ≡ enter_code image blank
+enter_code_of image blank =
     rw (
-      code_of_both image (frame_sections (frame_room image)) (argument_sections 0 image.slots),
-      frame_code_of image (frame_room image == 0),
+      code_of_both image (frame_sections (frame_room image) blank) (argument_sections 0 image.slots),
+      frame_code_of image blank,
       arguments_code_of image 0 image.slots,
     )
     (simp append_assoc)
@@ -80,11 +107,11 @@ leave_code_of image =
 
 -- The function.
 
-pub words_of_sections : (image : Fields)
-    → map word_of (code_of image (enter_sections image)) ++ body_words image.words
+pub words_of_sections : (image : Fields) (blank : Blank)
+    → map word_of (code_of image (enter_sections image blank)) ++ body_words image.words
     ++ map word_of (code_of image (leave_sections image))
-    ≡ function_words image
+    ≡ function_words image blank
 unfolding function_words
-words_of_sections image =
+words_of_sections image blank =
     ap₂ (λ (before after : List Instr). map word_of before ++ body_words image.words ++ map word_of after)
-    (enter_code_of image) (leave_code_of image)
+    (enter_code_of image blank) (leave_code_of image)

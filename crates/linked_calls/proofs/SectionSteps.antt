@@ -1,7 +1,7 @@
 -- How many steps the sections make, before the body and behind it.
 use Rattle.std.specs.List.{sum_by}
 use Rattle.std.proofs.Common.{◌≡◌, ℕ, ◌+◌, ◌-◌, ◌==◌, Bool, true, false, if◌then◌else◌, List, [], ◌∷◌, ◌++◌, length}
-use Rattle.std.proofs.Common.{refl, ap, ap₂, ◌∙◌, arith, length-append}
+use Rattle.std.proofs.Common.{refl, sym, ap, ap₂, ◌∙◌, arith, length-append, map, Option, Some, None}
 use Rattle.std.proofs.lemmas.List.Sums.{sum_by-cons, sum_by-append, sum-map}
 use Rattle.linked_calls.proofs.Below.{Add, argument_sections, argument_steps, ArgumentIn, array_section, array_sections}
 use Rattle.linked_calls.proofs.Below.{handed_steps, CallersStack, ClearedFrame, ClearedRegisters}
@@ -13,6 +13,16 @@ use Rattle.linked_calls.specs.declared.section.Section.TheVariants.{RoomAboveFra
 use Rattle.linked_calls.proofs.Below.{above_frame, kept_of, passed_of}
 use Rattle.linked_calls.proofs.Between.{enter_steps, leave_steps}
 use Rattle.linked_calls.proofs.Parts.{loads_length, stores_length}
+use Rattle.linked_calls.specs.FunctionCode.{are_few, blanks_code, lowered_code, partly_code}
+use Rattle.linked_calls.specs.Sections.{partly_sections, zeroed_sections}
+use Rattle.linked_calls.specs.declared.section.Section.TheVariants.{BlankWord, LoweredStack}
+use Rattle.hepurita.specs.Blank.{Blank}
+
+-- of a frame in which the words that have to be are zeroed
+abbrev pub steps_for : ℕ → Blank → ℕ
+steps_for room None = frame_steps room
+steps_for room (Some offsets) =
+    if are_few room offsets then length (partly_code room offsets) else frame_steps room
 
 module _ (image : Fields) (pointers : ℕ → ℕ) where
   abbrev steps_of : List Section → ℕ
@@ -38,14 +48,40 @@ module _ (image : Fields) (pointers : ℕ → ℕ) where
 
   -- Before the body.
 
-  frame_steps_by : (b : Bool) → steps_of (if b then [] else FrameBase ∷ ClearedFrame ∷ [])
+  zeroed_steps_by : (b : Bool) → steps_of (if b then [] else FrameBase ∷ ClearedFrame ∷ [])
       ≡ (if b then 0 else length (constant_code 5 room) + 1 + runs_steps room)
-  frame_steps_by true = refl
-  frame_steps_by false =
+  zeroed_steps_by true = refl
+  zeroed_steps_by false =
       let e = length-append (constant_code 5 room) (Register Sub 5 2 5 ∷ []) in
       let steps : 0 + length (constant_code 5 room ++ Register Sub 5 2 5 ∷ []) + runs_steps room
       ≡ length (constant_code 5 room) + 1 + runs_steps room = omega arith in
       steps
+
+  blanks_steps : (offsets : List ℕ) → steps_of (map BlankWord offsets) ≡ length (blanks_code offsets)
+  blanks_steps [] = refl
+  blanks_steps (offset ∷ offsets) =
+      let more : 1 + length (blanks_code offsets) ≡ length (blanks_code (offset ∷ offsets)) = omega arith in
+      sum_by-cons (section_steps image pointers) (BlankWord offset) (map BlankWord offsets)
+      ∙ (ap (λ n. 1 + n) (blanks_steps offsets) ∙ more)
+
+  -- those of a frame of which some words are zeroed are as many as its instructions
+  partly_steps : (offsets : List ℕ) (b : Bool) → steps_of (if b then [] else LoweredStack ∷ map BlankWord offsets)
+      ≡ length (if b then [] else lowered_code room ++ blanks_code offsets)
+  partly_steps offsets true = refl
+  partly_steps offsets false =
+      sum_by-cons (section_steps image pointers) LoweredStack (map BlankWord offsets)
+      ∙ (ap (λ n. length (lowered_code room) + n) (blanks_steps offsets)
+      ∙ sym (length-append (lowered_code room) (blanks_code offsets)))
+
+  frame_steps_by : (offsets : List ℕ) (few : Bool)
+      → steps_of (if few then partly_sections room offsets else zeroed_sections room)
+      ≡ (if few then length (partly_code room offsets) else frame_steps room)
+  frame_steps_by offsets true = partly_steps offsets (room == 0)
+  frame_steps_by offsets false = zeroed_steps_by (room == 0)
+
+  frame_steps_are : (blank : Blank) → steps_of (frame_sections room blank) ≡ steps_for room blank
+  frame_steps_are None = zeroed_steps_by (room == 0)
+  frame_steps_are (Some offsets) = frame_steps_by offsets (are_few room offsets)
 
   arguments_steps_are : (i : ℕ) (slots : List Slot) → steps_of (argument_sections i slots) ≡ arguments_steps i slots
   arguments_steps_are i [] = refl
@@ -58,10 +94,11 @@ module _ (image : Fields) (pointers : ℕ → ℕ) where
   entry_steps = 1 + (length (kept_of image) + length (passed_of image))
 
   -- the entry's, and then the frame's and the arguments'
-  pub enter_steps_are : enter_steps image pointers ≡ entry_steps + frame_steps room + arguments_steps 0 image.slots
-  enter_steps_are =
+  pub enter_steps_are : (blank : Blank)
+      → enter_steps image blank pointers ≡ entry_steps + steps_for room blank + arguments_steps 0 image.slots
+  enter_steps_are blank =
       let entry = RoomAboveFrame ∷ SavedRegisters ∷ ArgumentRegisters ∷ [] in
-      let framed = frame_sections room in
+      let framed = frame_sections room blank in
       let arguments = argument_sections 0 image.slots in
       let kept = stores_length 2 0 (kept_of image) in
       let passed = stores_length 2 (above_frame image - 32) (passed_of image) in
@@ -69,7 +106,7 @@ module _ (image : Fields) (pointers : ℕ → ℕ) where
       sum-map (section_steps image pointers) (entry ++ framed ++ arguments)
       ∙ sum_by-append (section_steps image pointers) (entry ++ framed) arguments
       ∙ ap₂ (λ a b. a + b) (sum_by-append (section_steps image pointers) entry framed
-      ∙ ap₂ (λ a b. a + b) counted (frame_steps_by (room == 0))) (arguments_steps_are 0 image.slots)
+      ∙ ap₂ (λ a b. a + b) counted (frame_steps_are blank)) (arguments_steps_are 0 image.slots)
 
   -- Behind it.
 

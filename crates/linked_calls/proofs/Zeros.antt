@@ -9,13 +9,14 @@ use Rattle.std.proofs.lemmas.Bool.Decides.{nat_tests}
 use Rattle.codegen.proofs.program_logic_lemmas.Counted.{as_code, computes_runs, in_steps, loop, makes_then, no_code}
 use Rattle.codegen.proofs.program_logic_lemmas.Counted.{Runs, Setting, then_runs, weaken_runs}
 use Rattle.linked_calls.proofs.Below.{added, AreData, AreZeroed, ByteMap, MachineCode, constant_code, Data}
-use Rattle.linked_calls.proofs.Below.{difference_of, down_code, frame_code, frame_steps, FrameIsZeroed, HasFrame}
+use Rattle.linked_calls.proofs.Below.{difference_of, down_code, frame_steps, FrameIsZeroed, HasFrame}
 use Rattle.linked_calls.proofs.Below.{HasRoomBounds, Instr, IsStoreIn, IsWiped, IsZeroFrame, Register, register}
 use Rattle.linked_calls.proofs.Below.{rest_words, RoomIsWiped, runs_code, runs_steps, sign_extended}
 use Rattle.linked_calls.proofs.Below.{stores_code, Sub, sum_of, until_equal, unwritten, up_code, wipe_code}
 use Rattle.linked_calls.proofs.Below.{with_numbers, with_register, with_result, zeros_code}
 use Rattle.linked_calls.proofs.Bytes.{no_zeros, is_some-with_numbers, zeroed_words, zeros_down, zeros_up}
 use Rattle.linked_calls.specs.Below.{Store, Word}
+use Rattle.linked_calls.specs.FunctionCode.{zeroed_code}
 use Rattle.linked_calls.proofs.Parts.{are_registers, number_then, stores_runs}
 use Rattle.linked_calls.proofs.Pieces.{does, placed}
 
@@ -405,7 +406,7 @@ module _ (z : Setting) (bottom room : ℕ) (even : bottom % 16 ≡ 0) (whole : r
 -- the code of a frame, which is none where the frame has no room
 pub zeroed_runs : (z : Setting) (bottom room : ℕ) → bottom % 16 ≡ 0 → room % 16 ≡ 0 → bottom + room < 2 ^ 32
     → MayZero z bottom (bottom + room)
-    → Runs z (frame_steps room) (frame_code room) (HasFrame bottom room) (IsZeroFrame bottom room)
+    → Runs z (frame_steps room) (zeroed_code room) (HasFrame bottom room) (IsZeroFrame bottom room)
 zeroed_runs z bottom room even whole below may = by (room == 0) refl
   where
     by : (b : Bool) → (room == 0) ≡ b
@@ -426,7 +427,7 @@ zeroed_runs z bottom room even whole below may = by (room == 0) refl
 pub frame_is_zeroed : FrameIsZeroed
 frame_is_zeroed code start bottom room there even whole below =
     let z = storing code bottom room in
-    does z start (frame_code room) (placed code start (frame_code room) there)
+    does z start (zeroed_code room) (placed code start (zeroed_code room) there)
     (zeroed_runs z bottom room even whole below (λ sp x low high above. ((low, high), above)))
 
 pub room_is_wiped : RoomIsWiped

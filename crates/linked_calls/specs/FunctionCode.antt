@@ -14,6 +14,7 @@ use Rattle.linked_calls.specs.Below.{Add, Addi, Andi, Beq, Bne, body_words, Bool
 use Rattle.linked_calls.specs.Below.{element_bytes, Fields, FixedArray, Form, Immediate, Instr, is_not_zero_code}
 use Rattle.linked_calls.specs.Below.{JumpRegister, Kind, load_by, load_code, MutableArray, over, Register, ResultSlot}
 use Rattle.linked_calls.specs.Below.{SingleWord, Slot, store_code, Sub, Uint16, Uint32, Uint8, word_of}
+use Rattle.hepurita.specs.Blank.{Blank}
 use Rattle.linked_calls.specs.Convention.{link_register, stack_register, saved_registers, argument_registers}
 use Rattle.linked_calls.specs.Convention.{result_register, scratch_registers, whole_blocks}
 use Rattle.linked_calls.specs.Written.{written_of}
@@ -98,11 +99,46 @@ entry_code image =
     added stack_register (4096 - above_frame image) ∷ stores_code stack_register 0 (kept_of image)
     ++ stores_code stack_register (above_frame image - 32) (passed_of image)
 
--- the frame, zeroed run by run downward, so that nothing live ever lies below x2
-abbrev pub frame_code : ℕ → List Instr
-frame_code room =
+-- a frame, zeroed run by run downward, so that nothing live ever lies below x2
+abbrev pub zeroed_code : ℕ → List Instr
+zeroed_code room =
     if room == 0 then [] else
     constant_code 5 room ++ Register Sub 5 stack_register 5 ∷ runs_code down_code room
+
+-- one store zeroes the word at an offset, in a frame of so many bytes
+abbrev pub fits_frame : ℕ → ℕ → Bool
+fits_frame room offset = (offset % 4 == 0) && nat_lt offset 2048 && nat_le (offset + 4) room
+
+abbrev pub all_fit : ℕ → List ℕ → Bool
+all_fit room [] = true
+all_fit room (offset ∷ offsets) = fits_frame room offset && all_fit room offsets
+
+-- so few words that they are zeroed one by one
+abbrev pub are_few : ℕ → List ℕ → Bool
+are_few room offsets = nat_le (length offsets) 32 && all_fit room offsets
+
+-- x2 goes down by a room
+abbrev pub lowered_code : ℕ → List Instr
+lowered_code room =
+    if nat_lt room 2048 then added stack_register (4096 - room) ∷ []
+    else constant_code 5 room ++ Register Sub 5 stack_register 5 ∷ Immediate Addi stack_register 5 0 ∷ []
+
+-- the word at an offset from x2 on becomes 0
+abbrev pub blank_code : ℕ → List Instr
+blank_code offset = stores_code stack_register (offset % 4096) (0 ∷ [])
+
+abbrev pub blanks_code : List ℕ → List Instr
+blanks_code [] = []
+blanks_code (offset ∷ offsets) = blank_code offset ++ blanks_code offsets
+
+-- a frame of which these words are zeroed, and no others
+abbrev pub partly_code : ℕ → List ℕ → List Instr
+partly_code room offsets = if room == 0 then [] else lowered_code room ++ blanks_code offsets
+
+-- a frame in which the words that have to be are zeros
+abbrev pub frame_code : ℕ → Blank → List Instr
+frame_code room None = zeroed_code room
+frame_code room (Some offsets) = if are_few room offsets then partly_code room offsets else zeroed_code room
 
 -- what a raw word means by its kind: a bool is whether it is not 0, a number its low bits
 abbrev pub meant_code : ℕ → Kind → List Instr
@@ -227,8 +263,9 @@ arguments_code image i [] = []
 arguments_code image i (slot ∷ slots) = argument_code image i slot slot.param.form
     ++ arguments_code image (i + 1) slots
 
-abbrev pub enter_code : Fields → List Instr
-enter_code image = entry_code image ++ frame_code (frame_room image) ++ arguments_code image 0 image.slots
+abbrev pub enter_code : Fields → Blank → List Instr
+enter_code image blank =
+    entry_code image ++ frame_code (frame_room image) blank ++ arguments_code image 0 image.slots
 
 -- The way back.
 
@@ -271,5 +308,6 @@ leave_code image =
 
 -- The function.
 
-unfoldable pub function_words : Fields → List ℕ
-function_words image = map word_of (enter_code image) ++ body_words image.words ++ map word_of (leave_code image)
+unfoldable pub function_words : Fields → Blank → List ℕ
+function_words image blank =
+    map word_of (enter_code image blank) ++ body_words image.words ++ map word_of (leave_code image)

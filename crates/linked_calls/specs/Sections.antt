@@ -1,27 +1,38 @@
 -- The code of a function in sections, each with one purpose: what its text says of them, and how many steps they
 -- make.
 use Rattle.std.specs.Prelude.{ℕ, ◌+◌, ◌-◌, ◌*◌, ◌/◌, ◌%◌, ◌==◌, Bool, ◌&&◌, nat_le, nat_lt, List, [], ◌∷◌, ◌++◌}
-use Rattle.std.specs.Prelude.{length, map, sum, if◌then◌else◌}
+use Rattle.std.specs.Prelude.{length, map, sum, Some, None, if◌then◌else◌}
 use Rattle.std.specs.List.{flat_map}
 use Rattle.linked_calls.specs.Below.{Add, constant_code, element_bytes, Fields, FixedArray, Form, Instr, JumpRegister}
 use Rattle.linked_calls.specs.Below.{Kind, MutableArray, Register, SingleWord, Slot, Sub, Uint32}
 use Rattle.linked_calls.specs.Convention.{link_register, stack_register}
 use Rattle.linked_calls.specs.Convention.{scratch_registers}
 use Rattle.linked_calls.specs.FunctionCode.{above_frame, frame_room, room_of, stores_code, loads_code, runs_code}
-use Rattle.linked_calls.specs.FunctionCode.{added, argument_code, copied_in_code}
+use Rattle.hepurita.specs.Blank.{Blank}
+use Rattle.linked_calls.specs.FunctionCode.{added, are_few, argument_code, blank_code, copied_in_code, lowered_code}
 use Rattle.linked_calls.specs.FunctionCode.{copied_out_code, down_code, elements_code, goes_in_by_words}
 use Rattle.linked_calls.specs.FunctionCode.{goes_out_by_words, kept_of, passed_count, passed_of, per_word}
 use Rattle.linked_calls.specs.FunctionCode.{places_code, result_code, copy_out_code}
 use Rattle.linked_calls.specs.FunctionCode.{clear_registers_code, rest_words, wipe_code}
 use Rattle.linked_calls.specs.declared.section.Section.{Section}
 use Rattle.linked_calls.specs.declared.section.Section.TheVariants.{RoomAboveFrame, SavedRegisters, ArgumentRegisters}
-use Rattle.linked_calls.specs.declared.section.Section.TheVariants.{FrameBase, ClearedFrame, ArgumentIn, ResultOut}
+use Rattle.linked_calls.specs.declared.section.Section.TheVariants.{FrameBase, ClearedFrame, LoweredStack, BlankWord}
+use Rattle.linked_calls.specs.declared.section.Section.TheVariants.{ArgumentIn, ResultOut}
 use Rattle.linked_calls.specs.declared.section.Section.TheVariants.{ArrayOut, FrameTop, RestoredRegisters}
 use Rattle.linked_calls.specs.declared.section.Section.TheVariants.{CallersStack, WipedRoom, ClearedRegisters, Return}
 
--- the sections of a frame that has room
-abbrev pub frame_sections : ℕ → List Section
-frame_sections room = if room == 0 then [] else FrameBase ∷ ClearedFrame ∷ []
+-- the sections of a frame that is zeroed whole, where it has room
+abbrev pub zeroed_sections : ℕ → List Section
+zeroed_sections room = if room == 0 then [] else FrameBase ∷ ClearedFrame ∷ []
+
+-- those of one of which some words are zeroed
+abbrev pub partly_sections : ℕ → List ℕ → List Section
+partly_sections room offsets = if room == 0 then [] else LoweredStack ∷ map BlankWord offsets
+
+abbrev pub frame_sections : ℕ → Blank → List Section
+frame_sections room None = zeroed_sections room
+frame_sections room (Some offsets) =
+    if are_few room offsets then partly_sections room offsets else zeroed_sections room
 
 -- those of all arguments from the i-th on
 abbrev pub argument_sections : ℕ → List Slot → List Section
@@ -29,9 +40,9 @@ argument_sections i [] = []
 argument_sections i (slot ∷ slots) = ArgumentIn i slot ∷ argument_sections (i + 1) slots
 
 -- before the body
-abbrev pub enter_sections : Fields → List Section
-enter_sections image =
-    RoomAboveFrame ∷ SavedRegisters ∷ ArgumentRegisters ∷ frame_sections (frame_room image)
+abbrev pub enter_sections : Fields → Blank → List Section
+enter_sections image blank =
+    RoomAboveFrame ∷ SavedRegisters ∷ ArgumentRegisters ∷ frame_sections (frame_room image) blank
     ++ argument_sections 0 image.slots
 
 -- only an array that may be changed goes back
@@ -57,6 +68,8 @@ section_code image SavedRegisters = stores_code stack_register 0 (kept_of image)
 section_code image ArgumentRegisters = stores_code stack_register (above_frame image - 32) (passed_of image)
 section_code image FrameBase = constant_code 5 (frame_room image) ++ Register Sub 5 stack_register 5 ∷ []
 section_code image ClearedFrame = runs_code down_code (frame_room image)
+section_code image LoweredStack = lowered_code (frame_room image)
+section_code image (BlankWord offset) = blank_code offset
 section_code image (ArgumentIn i slot) = argument_code image i slot slot.param.form
 section_code image ResultOut = result_code image.returned
 section_code image (ArrayOut i slot) = copy_out_code image i slot slot.param.form
@@ -132,5 +145,6 @@ section_steps image pointers WipedRoom = runs_steps (room_of image)
 section_steps image pointers section = length (section_code image section)
 
 -- of all that stands around the body
-abbrev pub around_steps : Fields → (ℕ → ℕ) → ℕ
-around_steps image pointers = sum (map (section_steps image pointers) (enter_sections image ++ leave_sections image))
+abbrev pub around_steps : Fields → Blank → (ℕ → ℕ) → ℕ
+around_steps image blank pointers =
+    sum (map (section_steps image pointers) (enter_sections image blank ++ leave_sections image))

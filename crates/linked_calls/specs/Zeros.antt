@@ -1,7 +1,7 @@
--- The frame of a call, zeroed before the body, and all its room, zeroed behind it.
+-- A frame that is zeroed before the body, and all the room of a call, zeroed behind it.
 use Rattle.std.specs.Prelude.{◌≡◌, ◌≢◌, ℕ, ◌+◌, ◌%◌, ◌^◌, ◌<◌, ◌≤◌, ◌==◌, length, Option, Some, None, if◌then◌else◌}
 use Rattle.linked_calls.specs.Below.{MachineCode, constant_code, Div, Event, Load, Mul, Store}
-use Rattle.linked_calls.specs.FunctionCode.{frame_code, wipe_code}
+use Rattle.linked_calls.specs.FunctionCode.{zeroed_code, wipe_code}
 use Rattle.linked_calls.specs.Sections.{runs_steps}
 use Rattle.linked_calls.specs.Does.{Data, Does, AreThere}
 use Rattle.linked_calls.specs.Stretches.{AreData, AreZeroed, LiesIn}
@@ -32,11 +32,11 @@ frame_steps room = if room == 0 then 0 else length (constant_code 5 room) + 1 + 
 abbrev pub FrameIsZeroed : Type 0
 FrameIsZeroed =
     (code : MachineCode) (start bottom room : ℕ)
-    → AreThere code start (frame_code room)
+    → AreThere code start (zeroed_code room)
     → bottom % 16 ≡ 0
     → room % 16 ≡ 0
     → bottom + room < 2 ^ 32
-    → Does code start (frame_code room) (frame_steps room)
+    → Does code start (zeroed_code room) (frame_steps room)
     (IsStoreIn bottom (bottom + room)) (HasFrame bottom room) (IsZeroFrame bottom room)
 
 -- x2 is where a room of so many bytes begins, and x5 where it ends

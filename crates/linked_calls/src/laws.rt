@@ -2,6 +2,7 @@
 
 ghost use Rattle.std.specs.Prelude.{◌≡◌, ◌++◌, map};
 ghost use Rattle.linked_calls.specs.Below.{body_words, Fields, word_of};
+ghost use Rattle.hepurita.specs.Blank.{Blank};
 ghost use Rattle.linked_calls.specs.Callable.{CallsAreLinked};
 ghost use Rattle.linked_calls.specs.Cleared.{RegistersAreCleared};
 ghost use Rattle.linked_calls.specs.Copies.{ArrayIsTaken, ArrayIsHandedBack, CopiesAreShort};
@@ -23,15 +24,15 @@ pub fn calls_are_linked()
 
 /// The words of the sections' instructions, with the body's between them, are those of the function.
 pub fn sections_are_the_function()
-    ensures { (image : Fields)
-        → map word_of (code_of image (enter_sections image))
+    ensures { (image : Fields) (blank : Blank)
+        → map word_of (code_of image (enter_sections image blank))
         ++ body_words image.words
         ++ map word_of (code_of image (leave_sections image))
-        ≡ function_words image }
+        ≡ function_words image blank }
 {}
 
-/// The code that zeroes a frame before the body makes an exact number of steps, stores in the frame alone, never below
-/// x2, and shows one list whatever the state holds; the frame is zeros behind it, x2 its base, and nothing else but x5
+/// The code that zeroes a frame whole before the body makes an exact number of steps, stores in the frame alone, never
+/// below x2, and shows one list whatever the state holds; the frame is zeros behind it, x2 its base, and nothing else but x5
 /// has changed.
 pub fn frame_is_zeroed()
     ensures { FrameIsZeroed }

@@ -15,6 +15,10 @@ pub enum Section {
     FrameBase,
     /// The frame becomes 0, and x2 its base.
     ClearedFrame,
+    /// x2 goes down to the frame's base.
+    LoweredStack,
+    /// The frame's word at this offset, which has to be 0 where the body begins, becomes 0.
+    BlankWord(u32),
     /// An argument, counted from 0, into its parameter's slot.
     ArgumentIn(u16, Slot),
     /// The result into a0.

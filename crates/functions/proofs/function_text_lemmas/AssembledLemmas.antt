@@ -8,7 +8,7 @@ use Rattle.functions.specs.function_text.Functions.{FunctionParts}
 
 pub assembled : (f : FunctionParts) (start headed entered embodied left whole : List ℕ) → start ≡ []
     → headed ≡ start ++ head_lines f
-    → entered ≡ headed ++ sections_lines f.image (enter_sections f.image)
+    → entered ≡ headed ++ entry_lines f
     → (body : (lines : List ℕ) × ListsWords (body_words f.image.words) lines
     × (embodied ≡ entered ++ (title_line (codes "the body") ++ lines)))
     → left ≡ embodied ++ sections_lines f.image (leave_sections f.image) → whole ≡ left ++ tail_lines f

@@ -49,7 +49,7 @@ module _ (differ : (i j : Instr) → IsInstr i → IsInstr j → word_of i ≡ w
   one_text : (f : FunctionParts) (one other : List ℕ) → IsAssemblerText f one → IsAssemblerText f other → one ≡ other
   one_text f one other a b =
       a.whole
-      ∙ ap (λ (body : List ℕ). head_lines f ++ sections_lines f.image (enter_sections f.image)
+      ∙ ap (λ (body : List ℕ). head_lines f ++ entry_lines f
       ++ (title_line (codes "the body") ++ body)
       ++ sections_lines f.image (leave_sections f.image) ++ tail_lines f) (same_lines a.listed b.listed)
       ∙ sym b.whole

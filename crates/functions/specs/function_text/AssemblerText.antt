@@ -9,7 +9,8 @@ use Rattle.functions.specs.Below.{Instr, IsTextOf, leave_sections, Load, Mutable
 use Rattle.functions.specs.Below.{section_code, SingleWord, Store, text_of, word_of}
 use Rattle.linked_calls.specs.declared.section.Section.{Section}
 use Rattle.linked_calls.specs.declared.section.Section.TheVariants.{RoomAboveFrame, SavedRegisters, ArgumentRegisters}
-use Rattle.linked_calls.specs.declared.section.Section.TheVariants.{FrameBase, ClearedFrame, ArgumentIn, ResultOut}
+use Rattle.linked_calls.specs.declared.section.Section.TheVariants.{FrameBase, ClearedFrame, LoweredStack, BlankWord}
+use Rattle.linked_calls.specs.declared.section.Section.TheVariants.{ArgumentIn, ResultOut}
 use Rattle.linked_calls.specs.declared.section.Section.TheVariants.{ArrayOut, FrameTop, RestoredRegisters}
 use Rattle.linked_calls.specs.declared.section.Section.TheVariants.{CallersStack, WipedRoom, ClearedRegisters, Return}
 use Rattle.functions.specs.function_text.Functions.{FunctionParts}
@@ -45,6 +46,8 @@ section_title SavedRegisters = codes "the caller's registers"
 section_title ArgumentRegisters = codes "the arguments, below those on the stack"
 section_title FrameBase = codes "the frame's base"
 section_title ClearedFrame = codes "the frame, zeroed downward"
+section_title LoweredStack = codes "the frame's base"
+section_title (BlankWord offset) = codes "the frame's word at " ++ decimal offset ++ codes ", zeroed"
 section_title (ArgumentIn i slot) = codes "parameter " ++ decimal i ++ argument_title slot.param.form
 section_title ResultOut = codes "the result"
 section_title (ArrayOut i slot) = codes "parameter " ++ decimal i ++ codes ": the array, back"
@@ -77,6 +80,7 @@ abbrev pub end_line : Fields → Section → List ℕ
 end_line image RoomAboveFrame = codes "    .cfi_def_cfa_offset " ++ decimal (above_frame image) ++ codes "\n"
 end_line image FrameBase = frame_line 5 (room_of image)
 end_line image ClearedFrame = frame_line 2 (room_of image)
+end_line image LoweredStack = frame_line 2 (room_of image)
 end_line image CallersStack = frame_line 5 0
 end_line image WipedRoom = frame_line 2 0
 end_line image _ = []
@@ -108,7 +112,7 @@ profile_text P2 = codes "2"
 -- how large the function is, and for which observer
 abbrev pub sizes_text : FunctionParts → List ℕ
 sizes_text f =
-    decimal (length (function_words f.image)) ++ codes " words, " ++ decimal (room_of f.image)
+    decimal (length (function_words f.image f.blank)) ++ codes " words, " ++ decimal (room_of f.image)
     ++ codes " bytes of stack, profile " ++ profile_text f.image.profile
 
 abbrev pub first_line : FunctionParts → List ℕ
@@ -134,9 +138,13 @@ abbrev pub tail_lines : FunctionParts → List ℕ
 tail_lines f = codes "    .cfi_endproc\n    .size " ++ f.name ++ codes ", . - " ++ f.name
     ++ codes "\n    .option pop\n"
 
+-- the sections before the body
+abbrev pub entry_lines : FunctionParts → List ℕ
+entry_lines f = sections_lines f.image (enter_sections f.image f.blank)
+
 pub record IsAssemblerText (f : FunctionParts) (text : List ℕ) : Type 0 where
   pub body : List ℕ
   pub listed : ListsWords (body_words f.image.words) body
-  pub whole : text ≡ head_lines f ++ sections_lines f.image (enter_sections f.image)
+  pub whole : text ≡ head_lines f ++ entry_lines f
       ++ (title_line (codes "the body") ++ body)
       ++ sections_lines f.image (leave_sections f.image) ++ tail_lines f

@@ -8,6 +8,10 @@ use Rattle.functions.specs.declared.function_text.function.Function.{Function}
 use Rattle.functions.specs.declared.function_text.function.NamedParam.{NamedParam}
 use Rattle.functions.specs.Below.{accepts, Fields, IsCompilation, IsWantOfMemory, Judges, Optimisation, param_of}
 use Rattle.functions.specs.Below.{ParameterTree, Place, ProcedureTree, Profile, ProgramTree, Refusal}
+use Rattle.std.specs.Option.{option_map}
+use Rattle.hepurita.specs.Blank.{Blank}
+use Rattle.hepurita.specs.Exact.{blank_words_for}
+use Rattle.hepurita.specs.Linked.{StartsAnywhere}
 use Rattle.hepurita.specs.Told.{IsRefusalOf}
 use Rattle.language.specs.declared.signature.Param.{Param}
 
@@ -21,12 +25,17 @@ pub record FunctionParts : Type 0 where
   pub name : List ℕ
   pub parameters : List Named
   pub image : Fields
+  -- and the words of its frame that have to be zeros where the body begins
+  pub blank : Blank
 
 abbrev pub named : NamedParam → Named
 named p = record { name = string_bytes p.name; param = p.param }
 
+abbrev pub blank_of : Function → Blank
+blank_of f = option_map (λ offsets. offsets.items) f.blank
+
 abbrev pub parts_of : Function → FunctionParts
-parts_of f = record { name = f.name; parameters = map named f.parameters.items; image = f.image }
+parts_of f = record { name = f.name; parameters = map named f.parameters.items; image = f.image; blank = blank_of f }
 
 -- a parameter of the source, in a function of this name
 abbrev pub written_parameter : List ℕ → ParameterTree → Named
@@ -40,6 +49,8 @@ pub record IsFunctionOf (optimisation : Optimisation) (profile : Profile) (text 
   pub before : List ProcedureTree
   pub export : ProcedureTree
   pub compilation : IsCompilation optimisation profile text program before export parts.image
+  pub started : StartsAnywhere program export parts.image parts.blank
+  pub blank : parts.blank ≡ blank_words_for optimisation profile before export
   pub name : parts.name ≡ export.name
   pub free : is_taken_name export.name ≡ false
   pub parameters : parts.parameters ≡ map (written_parameter export.name) export.parameters

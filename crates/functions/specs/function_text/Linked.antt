@@ -4,6 +4,7 @@ use Rattle.functions.specs.Below.{Fields, IsCallable, Optimisation, Profile}
 use Rattle.functions.specs.function_text.Functions.{FunctionParts, IsFunctionOf}
 use Rattle.functions.specs.function_text.HeaderText.{stack_line}
 use Rattle.functions.specs.function_text.Texts.{AreTextsOf}
+use Rattle.hepurita.specs.Blank.{Blank}
 use Rattle.linked_calls.specs.Calls.{CallSite, IsSite, room_base}
 use Rattle.rv_machine.specs.Machine.{MachineCode}
 
@@ -13,21 +14,21 @@ FunctionsAreLinked =
     (optimisation : Optimisation) (profile : Profile) (text : List ℕ) (parts : FunctionParts)
     (of : IsFunctionOf optimisation profile text parts)
     → (code : MachineCode) (site : CallSite)
-    → IsSite parts.image code site
-    → IsCallable of.program of.export parts.image code site
+    → IsSite parts.image parts.blank code site
+    → IsCallable of.program of.export parts.image parts.blank code site
 
 -- a header defines the macro of a function's stack as a number: so many bytes below the caller's stack pointer are the
 -- room of a call, wherever the function stands and is called, and a caller has them free
-pub record StatesStack (image : Fields) (name header : List ℕ) : Type 0 where
+pub record StatesStack (image : Fields) (blank : Blank) (name header : List ℕ) : Type 0 where
   pub bytes : ℕ
   pub before : List ℕ
   pub behind : List ℕ
   pub stated : header ≡ before ++ stack_line name bytes ++ behind
   pub room : (site : CallSite) → room_base image site ≡ site.stack - bytes
-  pub free : (code : MachineCode) (site : CallSite) → IsSite image code site → bytes ≤ site.stack
+  pub free : (code : MachineCode) (site : CallSite) → IsSite image blank code site → bytes ≤ site.stack
 
 abbrev pub HeadersStateStacks : Type 0
 HeadersStateStacks =
     (optimisation : Optimisation) (profile : Profile) (text assembler header : List ℕ)
     (texts : AreTextsOf optimisation profile text assembler header)
-    → StatesStack texts.parts.image texts.parts.name header
+    → StatesStack texts.parts.image texts.parts.blank texts.parts.name header

@@ -6,6 +6,7 @@ ghost use Rattle.functions.specs.Below.{above_frame, frame_sections, kept_of, le
 ghost use Rattle.functions.specs.Below.{section_code, stores_code};
 ghost use Rattle.functions.specs.function_code.Above.{IsAbove};
 
+use crate::function_code::blank::{are_few, blank_word, lowered_stack};
 use crate::function_code::entering::{argument, frame_base, room_above};
 use crate::function_code::kept::kept;
 use crate::function_code::leaving::{array, callers_stack, frame_top, go_back, result};
@@ -58,27 +59,58 @@ fn push_arrays(sections: &mut Vec<Section>, slots: &[Slot]) -> Result<(), AllocE
     Ok(())
 }
 
-/// Puts those of a frame that has room at the end.
-fn push_frame(sections: &mut Vec<Section>, room: u32) -> Result<(), AllocError>
-    ensures { OnOk result (sections.new.items ≡ sections.old.items ++ frame_sections room) }
+/// Puts those of a frame that is zeroed whole at the end.
+fn push_cleared(sections: &mut Vec<Section>) -> Result<(), AllocError>
+    ensures { OnOk result (sections.new.items ≡ sections.old.items ++ FrameBase ∷ ClearedFrame ∷ []) }
 {
-    if room == 0 {
-        return Ok(());
-    }
     sections.push(Section::FrameBase)?;
     sections.push(Section::ClearedFrame)?;
     Ok(())
 }
 
+/// Puts those of a frame of which some words are zeroed at the end.
+fn push_blank(sections: &mut Vec<Section>, offsets: &[u32]) -> Result<(), AllocError>
+    ensures { OnOk result (sections.new.items ≡ sections.old.items ++ LoweredStack ∷ map BlankWord offsets.now) }
+{
+    sections.push(Section::LoweredStack)?;
+    for offset in offsets {
+        sections.push(Section::BlankWord(*offset))?;
+    }
+    Ok(())
+}
+
+/// Puts those of a frame that has room at the end.
+fn push_frame(
+    sections: &mut Vec<Section>,
+    room: u32,
+    blank: Option<&[u32]>,
+) -> Result<(), AllocError>
+    ensures { OnOk result (sections.new.items
+        ≡ sections.old.items ++ frame_sections room (option_map (λ offsets. offsets.now) blank.entry)) }
+{
+    if room == 0 {
+        return Ok(());
+    }
+    match blank {
+        Some(offsets) if are_few(room, offsets) => push_blank(sections, offsets),
+        Some(_) | None => push_cleared(sections),
+    }
+}
+
 /// The sections before the body.
-pub fn enter_sections(alloc: Global, image: &ImageFields) -> Result<Vec<Section>, AllocError>
-    ensures { IfOk result (λ sections. sections.items ≡ enter_sections image.now) }
+pub fn enter_sections(
+    alloc: Global,
+    image: &ImageFields,
+    blank: Option<&[u32]>,
+) -> Result<Vec<Section>, AllocError>
+    ensures { IfOk result (λ sections. sections.items
+        ≡ enter_sections image.now (option_map (λ offsets. offsets.now) blank.entry)) }
 {
     let mut sections = Vec::new(alloc);
     sections.push(Section::RoomAboveFrame)?;
     sections.push(Section::SavedRegisters)?;
     sections.push(Section::ArgumentRegisters)?;
-    push_frame(&mut sections, frame_room(image))?;
+    push_frame(&mut sections, frame_room(image), blank)?;
     push_arguments(&mut sections, image.slots())?;
     Ok(sections)
 }
@@ -161,6 +193,8 @@ fn push_code(
         Section::ArgumentRegisters => argument_registers(code, image, above),
         Section::FrameBase => frame_base(code, frame_room(image)),
         Section::ClearedFrame => cleared_frame(alloc, code, frame_room(image)),
+        Section::LoweredStack => lowered_stack(code, frame_room(image)),
+        Section::BlankWord(offset) => blank_word(code, offset),
         Section::ArgumentIn(index, slot) => argument(alloc, code, image, above, index, slot),
         Section::ResultOut => result(code, image.returned()),
         Section::ArrayOut(index, slot) => array(alloc, code, image, above, index, slot),

@@ -49,11 +49,17 @@ pub fn body(image: &ImageFields) -> &[u32]
     }
 }
 
-/// The words of the function of an image. They are refused only when out of memory.
-pub fn function_words(alloc: Global, image: &ImageFields) -> Result<Vec<u32>, AllocError>
-    ensures { IfOk result (λ words. words.items ≡ function_words image.now) }
+/// The words of the function of an image, of whose frame the words at these offsets have to be zeros where the body
+/// begins, or all words where none are given. They are refused only when out of memory.
+pub fn function_words(
+    alloc: Global,
+    image: &ImageFields,
+    blank: Option<&[u32]>,
+) -> Result<Vec<u32>, AllocError>
+    ensures { IfOk result (λ words.
+        words.items ≡ function_words image.now (option_map (λ offsets. offsets.now) blank.entry)) }
 {
-    let enter = enter_sections(alloc, image)?;
+    let enter = enter_sections(alloc, image, blank)?;
     let leave = leave_sections(alloc, image)?;
     let above = above_frame(image);
     let mut words = Vec::new(alloc);

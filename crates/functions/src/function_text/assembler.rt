@@ -7,7 +7,7 @@ ghost use Rattle.functions.specs.Below.{body_words, enter_sections, leave_sectio
 ghost use Rattle.functions.specs.function_text.AssemblerText.{ListsWords, IsAssemblerText, instruction_lines};
 ghost use Rattle.functions.specs.function_text.AssemblerText.{section_lines, sections_lines, profile_text, sizes_text};
 ghost use Rattle.functions.specs.function_text.AssemblerText.{first_line, place_lines, symbol_lines, head_lines};
-ghost use Rattle.functions.specs.function_text.AssemblerText.{tail_lines, title_line};
+ghost use Rattle.functions.specs.function_text.AssemblerText.{entry_lines, tail_lines, title_line};
 ghost use Rattle.functions.specs.function_text.Functions.{parts_of};
 ghost use Rattle.functions.specs.function_code.Above.{IsAbove};
 
@@ -97,7 +97,7 @@ fn body_lines(alloc: Global, words: &[u32]) -> Result<String, AllocError>
 fn push_sizes(alloc: Global, text: &mut String, function: &Function) -> Result<(), AllocError>
     ensures { OnOk result (string_bytes text.new ≡ string_bytes text.old ++ sizes_text (parts_of function.now)) }
 {
-    let words = function_words(alloc, &function.image)?;
+    let words = function_words(alloc, &function.image, function.blank_words())?;
     push_number(text, words.len() as u64)?;
     text.push_str(" words, ")?;
     push_number(text, u64::from(room_of(&function.image)))?;
@@ -163,13 +163,13 @@ fn push_tail(text: &mut String, function: &Function) -> Result<(), AllocError>
 }
 
 /// The sections before the body, at the end of a text.
-fn push_entry(alloc: Global, text: &mut String, image: &ImageFields) -> Result<(), AllocError>
+fn push_entry(alloc: Global, text: &mut String, function: &Function) -> Result<(), AllocError>
     ensures { OnOk result (string_bytes text.new
-        ≡ string_bytes text.old ++ sections_lines image.now (enter_sections image.now)) }
+        ≡ string_bytes text.old ++ entry_lines (parts_of function.now)) }
 {
-    let sections = enter_sections(alloc, image)?;
-    let above = above_frame(image);
-    push_sections(alloc, text, image, above, sections.as_slice())
+    let sections = enter_sections(alloc, &function.image, function.blank_words())?;
+    let above = above_frame(&function.image);
+    push_sections(alloc, text, &function.image, above, sections.as_slice())
 }
 
 /// The body, at the end of a text.
@@ -201,7 +201,7 @@ pub fn assembler_text(alloc: Global, function: &Function) -> Result<String, Allo
 {
     let mut text = String::new(alloc);
     push_head(alloc, &mut text, function)?;
-    push_entry(alloc, &mut text, &function.image)?;
+    push_entry(alloc, &mut text, function)?;
     push_body(alloc, &mut text, &function.image)?;
     push_exit(alloc, &mut text, &function.image)?;
     push_tail(&mut text, function)?;

@@ -29,6 +29,20 @@ pub struct Function {
     pub name: Name,
     pub parameters: Vec<NamedParam>,
     pub image: ImageFields,
+    /// The offsets of the words of its frame that have to be zeros where the body begins; none where all have to be.
+    pub blank: Option<Vec<u32>>,
+}
+
+impl Function {
+    /// Those offsets.
+    pub fn blank_words(&self) -> Option<&[u32]>
+        ensures { option_map (λ offsets. offsets.now) result.entry ≡ blank_of self.now }
+    {
+        match &self.blank {
+            Some(offsets) => Some(offsets.as_slice()),
+            None => None,
+        }
+    }
 }
 
 /// Parameters under the names that are written for them.
@@ -65,7 +79,12 @@ fn export_of(program: &Program) -> &Procedure
 }
 
 /// The function of an export whose name is free, and of its code.
-fn named_function(alloc: Global, export: &Procedure, code: Code) -> Result<Function, Refusal>
+fn named_function(
+    alloc: Global,
+    export: &Procedure,
+    code: Code,
+    blank: Option<Vec<u32>>,
+) -> Result<Function, Refusal>
     requires { is_taken_name export.now.name ≡ false }
     ensures made { IfOk result (λ function. IsOfExport (procedure_tree export.now) code (parts_of function)) }
     ensures memory { IfErr result (λ refusal. IsWantOfMemory refusal.rule refusal.place) }
@@ -78,6 +97,7 @@ fn named_function(alloc: Global, export: &Procedure, code: Code) -> Result<Funct
         name,
         parameters,
         image: code.into_fields(),
+        blank,
     })
 }
 
@@ -86,6 +106,7 @@ fn of_export(
     alloc: Global,
     export: &Procedure,
     code: Code,
+    blank: Option<Vec<u32>>,
 ) -> Result<Function, FunctionFault<Refusal>>
     ensures made { IfOk result (λ function. IsOfExport (procedure_tree export.now) code (parts_of function)) }
     ensures fault { IfErr result (λ fault. IsUnlessMemory fault (NameIsTaken (procedure_tree export.now))) }
@@ -93,7 +114,7 @@ fn of_export(
     if is_taken_name(export.name.as_str()) {
         return Err(FunctionFault::Name(export.place));
     }
-    Ok(named_function(alloc, export, code)?)
+    Ok(named_function(alloc, export, code, blank)?)
 }
 
 /// The function of a text that is accepted for an observer of this profile, with plain or optimised code. A text that
@@ -109,6 +130,10 @@ pub fn function_of(
     ensures fault { IfErr result (IsFaultOf profile text.now) }
 {
     let compiled = compile_with(alloc, text, profile, optimisation)?;
-    let Compiled { program, code } = compiled;
-    of_export(alloc, export_of(&program), code)
+    let Compiled {
+        program,
+        code,
+        blank,
+    } = compiled;
+    of_export(alloc, export_of(&program), code, blank)
 }

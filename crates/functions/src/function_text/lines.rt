@@ -123,6 +123,12 @@ fn push_section_title(text: &mut String, section: Section) -> Result<(), AllocEr
         Section::ArgumentRegisters => text.push_str("the arguments, below those on the stack"),
         Section::FrameBase => text.push_str("the frame's base"),
         Section::ClearedFrame => text.push_str("the frame, zeroed downward"),
+        Section::LoweredStack => text.push_str("the frame's base"),
+        Section::BlankWord(offset) => {
+            text.push_str("the frame's word at ")?;
+            push_number(text, u64::from(offset))?;
+            text.push_str(", zeroed")
+        }
         Section::ArgumentIn(index, slot) => push_argument(text, index, slot.param.form),
         Section::ResultOut => text.push_str("the result"),
         Section::ArrayOut(index, _) => push_array(text, index),
@@ -218,7 +224,7 @@ pub fn push_end(text: &mut String, image: &ImageFields, section: Section) -> Res
     match section {
         Section::RoomAboveFrame => push_offset(text, above_frame(image)),
         Section::FrameBase => push_frame(text, 5, room_of(image)),
-        Section::ClearedFrame => push_frame(text, 2, room_of(image)),
+        Section::ClearedFrame | Section::LoweredStack => push_frame(text, 2, room_of(image)),
         Section::CallersStack => push_frame(text, 5, 0),
         Section::WipedRoom => push_frame(text, 2, 0),
         _ => Ok(()),

@@ -13,5 +13,6 @@ returns-clause-generated c =
           is.stands ranged (stands_on ranged _ _ _ (c.replaced_is_removed.ensures ranged)
           c.in_ok-without_loops.ensures.replaced c.made_or_given.ensures removed);
       generated = is.generated;
+      follows = is.follows;
     }))
     c.finished.ensures.generated

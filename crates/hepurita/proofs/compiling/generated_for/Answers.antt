@@ -1,0 +1,13 @@
+use Rattle.std.proofs.lemmas.Result.{IfOk-weaker}
+use Rattle.hepurita.proofs.Anywhere.{code_for_body}
+use Rattle.hepurita.proofs.compiling.generated_for.Goals as goal
+
+pub returns-in-Off-clause-generated : goal.returns-in-Off-clause-generated
+returns-in-Off-clause-generated c =
+    IfOk-weaker c.plain_code.result _ _
+    (λ made is. code_for_body c.args.ranged.now _ made c.in_ok-straight.ensures.removed is) c.plain_code.ensures.generated
+
+pub returns-clause-generated : goal.returns-clause-generated
+returns-clause-generated c =
+    IfOk-weaker c.first_code.result _ _
+    (λ made is. code_for_body c.args.ranged.now _ made c.in_ok-straight.ensures.removed is) c.first_code.ensures.generated

@@ -1,0 +1,30 @@
+-- Where a body begins in a frame that holds whatever it held before, but for the arguments and the words that have to
+-- be zeros.
+use Rattle.std.specs.Prelude.{◌≡◌, ℕ, ◌+◌, ◌^◌, ◌<◌, List, Some}
+use Rattle.hepurita.specs.Below.{AreFine, AreWithin, Arg, ByteMap, Fields, IsPlaced, MachineCode, Observation, Path}
+use Rattle.hepurita.specs.Below.{path_of, RunsBehind, seen, State, StraightProgram, with_arguments}
+use Rattle.hepurita.specs.Blank.{Blank, IsBlank}
+
+-- the frame's base in x2; the frame was bytes, of which those that have to be are zeros, and the arguments were put
+-- into their slots
+pub record IsBegun (image : Fields) (blank : Blank) (frame : ℕ) (args : List Arg) (s : State) : Type 0 where
+  pub base : s.regs 2 ≡ frame
+  pub before : ByteMap
+  pub are_bytes : (o : ℕ) → o < image.frame_bytes → (byte : ℕ) × (before (frame + o) ≡ Some byte) × (byte < 2 ^ 8)
+  pub blank_before : IsBlank blank image.frame_bytes frame before
+  pub frame_there : (o : ℕ) → o < image.frame_bytes
+      → s.bytes (frame + o) ≡ with_arguments frame before image.slots args (frame + o)
+
+-- the machine follows straight code from each such state: one list for what is seen of each path
+pub record IsFollowedFrom (p : StraightProgram) (image : Fields) (blank : Blank) (code : MachineCode)
+    (start frame : ℕ) : Type 0 where
+  pub shown : Path → List Observation
+  pub runs : (args : List Arg) (s : State) → s.pc ≡ start → IsBegun image blank frame args s
+      → AreWithin p.parameters args → AreFine p.iterations (path_of p args)
+      → RunsBehind p image code start frame args s (shown (seen p.profile (path_of p args)))
+
+-- wherever the body's words stand
+abbrev pub FollowsAnywhere : StraightProgram → Fields → Blank → Type 0
+FollowsAnywhere p image blank =
+    (code : MachineCode) (start frame : ℕ) → IsPlaced image code start frame
+    → IsFollowedFrom p image blank code start frame
