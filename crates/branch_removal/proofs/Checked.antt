@@ -1,13 +1,13 @@
 -- What passes the test is straight.
 use Rattle.std.proofs.Common.{◌≡◌, ◌+◌, ◌*◌, true, List, Option, None, map}
-use Rattle.std.proofs.Common.{Some, Bool, false, if◌then◌else◌, IfSome, Bor, option_copied, option_map, refl, ap₂, ap, ◌∙◌, subst, sym}
+use Rattle.std.proofs.Common.{Some, Bool, false, if◌then◌else◌, IfSome, Bor, option_copied, option_map, unwrap_or, refl, ap₂, ap, ◌∙◌, subst, sym}
 use Rattle.std.proofs.lemmas.Option.{none-some, same_Some}
 use Rattle.std.proofs.lemmas.Bool.{cond-false, cond-true, leb-true}
 use Rattle.std.proofs.lemmas.List.{length-map}
 use Rattle.branch_removal.specs.Below.{declaration_of, declared_words, FlatVariable, most_variable_bytes, Term}
 use Rattle.branch_removal.specs.Below.{term_tree, TermTree, types_of, value_nodes}
 use Rattle.branch_removal.specs.Bounds.{block_work}
-use Rattle.branch_removal.specs.Checked.{checked, is_checked}
+use Rattle.branch_removal.specs.Checked.{checked, is_checked, redeclared}
 use Rattle.branch_removal.specs.Heights.{depth_in_all, program_height}
 use Rattle.branch_removal.specs.Kept.{IsStraight}
 use Rattle.branch_removal.specs.declared.straight.StraightStatement.{StraightStatement}
@@ -81,3 +81,17 @@ is_made p is = sym (cond-true (is_checked p) (Some p) None is)
 pub none_made : (p : StraightProgram) → is_checked p ≡ false → None ≡ checked p
 unfolding checked
 none_made p is = sym (cond-false (is_checked p) (Some p) None is)
+
+-- other variables that pass, and those that do not
+pub redeclared_where : (p : StraightProgram) (declared : List FlatVariable)
+    → is_checked (with_variables p declared p.body p.value) ≡ true
+    → with_variables p declared p.body p.value ≡ redeclared p declared
+unfolding redeclared
+redeclared_where p declared is =
+    ap (λ (o : Option StraightProgram). unwrap_or o p) (is_made (with_variables p declared p.body p.value) is)
+
+pub redeclared_else : (p : StraightProgram) (declared : List FlatVariable)
+    → is_checked (with_variables p declared p.body p.value) ≡ false → p ≡ redeclared p declared
+unfolding redeclared
+redeclared_else p declared is =
+    ap (λ (o : Option StraightProgram). unwrap_or o p) (none_made (with_variables p declared p.body p.value) is)

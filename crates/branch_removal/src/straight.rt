@@ -164,16 +164,33 @@ impl<'f> StraightCode<'f> {
         })
     }
 
+    /// Whether other variables may take the place of its own.
+    fn may_declare(&self, declared: &[FlatVariable]) -> bool
+        ensures { result ≡ is_checked (with_variables self.now declared.now self.now.body self.now.value) }
+    {
+        self.may_have(declared, self.body.as_slice(), self.value.as_ref())
+    }
+
     /// The same with other variables, where that is well typed and within the limits on size; else as it is.
     pub fn redeclared<'g>(self, declared: &'g [FlatVariable]) -> StraightCode<'g>
     where
         'f: 'g,
         ensures { result ≡ redeclared self.entry declared.now }
     {
-        if self.may_have(declared, self.body.as_slice(), self.value.as_ref()) {
-            StraightCode { declared, ..self }
-        } else {
-            self
+        if !self.may_declare(declared) {
+            return self;
+        }
+        StraightCode {
+            profile: self.profile,
+            parameters: self.parameters,
+            returned: self.returned,
+            nodes: self.nodes,
+            work: self.work,
+            iterations: self.iterations,
+            declared,
+            controls: self.controls,
+            body: self.body,
+            value: self.value,
         }
     }
 
