@@ -140,12 +140,14 @@ module _ (z : Setting) (size bottom room : ℕ) (even : bottom % 16 ≡ 0) (whol
   lowered_runs some = by (nat_lt room 2048) refl
     where
       by : (b : Bool) → nat_lt room 2048 ≡ b
-          → Runs z (length (cond b (added 2 (4096 - room) ∷ [])
+          → Runs z (length (cond b (added 2 ((4096 - room) % 4096) ∷ [])
           (constant_code 5 room ++ Register Sub 5 2 5 ∷ Immediate Addi 2 5 0 ∷ [])))
-          (cond b (added 2 (4096 - room) ∷ [])
+          (cond b (added 2 ((4096 - room) % 4096) ∷ [])
           (constant_code 5 room ++ Register Sub 5 2 5 ∷ Immediate Addi 2 5 0 ∷ []))
           (HasFrame bottom room) (IsLowered bottom)
-      by true near = near_runs some (ltb-true room 2048 near)
+      by true near =
+          let same : (4096 - room) % 4096 ≡ 4096 - room = omega (arith, some) in
+          as_code z (ap (λ n. added 2 n ∷ []) (sym same)) (near_runs some (ltb-true room 2048 near))
       by false far = far_runs
 
   -- one word

@@ -120,7 +120,7 @@ are_few room offsets = nat_le (length offsets) 32 && all_fit room offsets
 -- x2 goes down by a room
 abbrev pub lowered_code : ℕ → List Instr
 lowered_code room =
-    if nat_lt room 2048 then added stack_register (4096 - room) ∷ []
+    if nat_lt room 2048 then added stack_register ((4096 - room) % 4096) ∷ []
     else constant_code 5 room ++ Register Sub 5 stack_register 5 ∷ Immediate Addi stack_register 5 0 ∷ []
 
 -- the word at an offset from x2 on becomes 0

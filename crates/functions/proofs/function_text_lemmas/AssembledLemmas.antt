@@ -1,7 +1,7 @@
 -- The parts of a text for an assembler, put behind one another.
 use Rattle.std.proofs.Common.{◌≡◌, ℕ, List, [], ◌++◌, codes}
-use Rattle.functions.specs.Below.{body_words, enter_sections, leave_sections}
-use Rattle.functions.specs.function_text.AssemblerText.{ListsWords, IsAssemblerText, head_lines, tail_lines}
+use Rattle.functions.specs.Below.{body_words, leave_sections}
+use Rattle.functions.specs.function_text.AssemblerText.{entry_lines, ListsWords, IsAssemblerText, head_lines, tail_lines}
 use Rattle.functions.specs.function_text.AssemblerText.{sections_lines}
 use Rattle.functions.specs.function_text.AssemblerText.{title_line}
 use Rattle.functions.specs.function_text.Functions.{FunctionParts}

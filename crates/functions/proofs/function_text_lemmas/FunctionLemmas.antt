@@ -9,6 +9,9 @@ use Rattle.functions.specs.function_text.Names.{is_taken_name}
 use Rattle.functions.specs.declared.function_text.fault.FunctionFault.{FunctionFault}
 use Rattle.functions.specs.declared.function_text.fault.FunctionFault.TheVariants.{Text, Name}
 use Rattle.functions.specs.function_text.private.OfExport.{IsOfExport, NameIsTaken}
+use Rattle.hepurita.specs.Blank.{Blank}
+use Rattle.hepurita.specs.Exact.{blank_words_for}
+use Rattle.hepurita.specs.Linked.{StartsAnywhere}
 
 module _ (optimisation : Optimisation) (profile : Profile) (text : List ℕ) (program : ProgramTree)
     (before : List ProcedureTree) (export : ProcedureTree) where
@@ -17,7 +20,10 @@ module _ (optimisation : Optimisation) (profile : Profile) (text : List ℕ) (pr
       → exported [] program.procedures ≡ Some (before, export)
   has_export (readable reads (fine small in_range in_time)) = small.well_formed.is_export
 
-  module _ (image : Fields) (is : IsCompilation optimisation profile text program before export image)
+  module _ (image : Fields) (blank : Blank)
+      (is : IsCompilation optimisation profile text program before export image)
+      (starts : StartsAnywhere program export image blank)
+      (blank_is : blank ≡ blank_words_for optimisation profile before export)
       (before' : List ProcedureTree) (found : ProcedureTree)
       (at : exported [] program.procedures ≡ Some (before', found)) where
     -- so it is the one that is found
@@ -37,12 +43,16 @@ module _ (optimisation : Optimisation) (profile : Profile) (text : List ℕ) (pr
     }
 
     -- its name is free
-    pub made : (parts : FunctionParts) → IsOfExport found image parts → IsFunctionOf optimisation profile text parts
+    pub made : (parts : FunctionParts) → IsOfExport found image blank parts → IsFunctionOf optimisation profile text parts
     made parts of = record {
       program = program;
       before = before;
       export = export;
       compilation = subst (IsCompilation optimisation profile text program before export) (sym of.image) is;
+      started =
+          subst (λ (i : Fields). StartsAnywhere program export i parts.blank) (sym of.image)
+          (subst (StartsAnywhere program export image) (sym of.blank_words) starts);
+      blank = of.blank_words ∙ blank_is;
       name = of.name ∙ ap (λ (p : ProcedureTree). p.name) (sym same);
       free = subst (λ (p : ProcedureTree). is_taken_name p.name ≡ false) (sym same) of.free;
       parameters = of.parameters

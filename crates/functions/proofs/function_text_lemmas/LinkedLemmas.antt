@@ -8,7 +8,8 @@ use Rattle.functions.specs.Below.{CallsAreLinked, room_of}
 
 pub functions_are_linked : CallsAreLinked → FunctionsAreLinked
 functions_are_linked calls optimisation profile text parts of code site is =
-    calls of.program of.before of.export parts.image of.compilation.compiled of.compilation.allowed code site is
+    calls of.program of.before of.export parts.image parts.blank of.compilation.compiled of.started
+    of.compilation.allowed code site is
 
 pub headers_state_stacks : HeadersStateStacks
 headers_state_stacks optimisation profile text assembler header texts =

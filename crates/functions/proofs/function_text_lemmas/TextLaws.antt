@@ -1,21 +1,23 @@
 -- Of a text there is one function, and of a function one text for an assembler.
-use Rattle.std.proofs.Common.{◌≡◌, ℕ, List, ◌++◌, map, codes, refl, sym, ap, subst, ◌∙◌}
-use Rattle.functions.specs.Below.{enter_sections, Fields, Instr, IsInstr, IsTextOf, leave_sections, of_instruction}
+use Rattle.std.proofs.Common.{◌≡◌, ℕ, List, ◌++◌, map, codes, refl, sym, ap, ap₂, subst, ◌∙◌}
+use Rattle.functions.specs.Below.{Fields, Instr, IsInstr, IsTextOf, leave_sections, of_instruction}
 use Rattle.functions.specs.Below.{of_no_instruction, Optimisation, ProcedureTree, Profile, text_of, word_of}
 use Rattle.functions.specs.function_text.AssemblerText.{ListsWords, nothing, line, IsAssemblerText, word_line}
-use Rattle.functions.specs.function_text.AssemblerText.{head_lines}
+use Rattle.functions.specs.function_text.AssemblerText.{entry_lines, head_lines}
 use Rattle.functions.specs.function_text.AssemblerText.{tail_lines, sections_lines, title_line}
 use Rattle.functions.specs.function_text.Functions.{Named, FunctionParts, IsFunctionOf, written_parameter}
 use Rattle.functions.specs.function_text.HeaderText.{header_text}
 use Rattle.functions.specs.function_text.Texts.{AreTextsOf}
 use Rattle.functions.proofs.function_text_lemmas.Below.{one_export, one_image}
+use Rattle.hepurita.specs.Blank.{Blank}
+use Rattle.hepurita.specs.Exact.{blank_words_for}
 use Rattle.syntax.specs.Reading.{OneAnswer}
 
-same_parts : (name name' : List ℕ) (parameters parameters' : List Named) (image image' : Fields) → name ≡ name'
-    → parameters ≡ parameters' → image ≡ image'
-    → ◌≡◌ {A = FunctionParts} (record { name = name; parameters = parameters; image = image })
-    (record { name = name'; parameters = parameters'; image = image' })
-same_parts name name' parameters parameters' image image' names params images = cc
+same_parts : (name name' : List ℕ) (parameters parameters' : List Named) (image image' : Fields) (blank blank' : Blank)
+    → name ≡ name' → parameters ≡ parameters' → image ≡ image' → blank ≡ blank'
+    → ◌≡◌ {A = FunctionParts} (record { name = name; parameters = parameters; image = image; blank = blank })
+    (record { name = name'; parameters = parameters'; image = image'; blank = blank' })
+same_parts name name' parameters parameters' image image' blank blank' names params images blanks = cc
 
 pub one_function : OneAnswer → (optimisation : Optimisation) (profile : Profile) (text : List ℕ)
     (one other : FunctionParts)
@@ -23,11 +25,12 @@ pub one_function : OneAnswer → (optimisation : Optimisation) (profile : Profil
 one_function answer optimisation profile text one other a b =
     let same = one_export profile answer text a.program b.program a.before b.before a.export b.export
     a.compilation.judged b.compilation.judged in
-    same_parts one.name other.name one.parameters other.parameters one.image other.image
+    same_parts one.name other.name one.parameters other.parameters one.image other.image one.blank other.blank
     (a.name ∙ ap (λ (p : ProcedureTree). p.name) same.2 ∙ sym b.name)
     (a.parameters ∙ ap (λ (p : ProcedureTree). map (written_parameter p.name) p.parameters) same.2 ∙ sym b.parameters)
     (one_image answer optimisation profile text a.program b.program a.before b.before a.export b.export one.image
     other.image a.compilation b.compilation)
+    (a.blank ∙ ap₂ (blank_words_for optimisation profile) same.1 same.2 ∙ sym b.blank)
 
 -- Texts.
 

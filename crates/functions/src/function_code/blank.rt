@@ -1,11 +1,11 @@
 // A frame of which some words are zeroed, and no others.
 
-ghost use Rattle.std.specs.Prelude.{◌≡◌, ◌++◌, [], ◌∷◌, OnOk};
+ghost use Rattle.std.specs.Prelude.{◌≡◌, ◌++◌, OnOk};
 ghost use Rattle.functions.specs.Below.{are_few, blank_code, fits_frame, all_fit, lowered_code};
 
+use crate::function_code::entering::frame_base;
 use crate::function_code::pieces::added;
-use codegen::expression_code::emit::constant;
-use rv_code::{Immediate12, Instr, Reg, RegisterOperation, StoreOperation};
+use rv_code::{Immediate12, ImmediateOperation, Instr, Reg, StoreOperation};
 use std::alloc::AllocError;
 
 /// How many words are zeroed one by one; where they are more, all of the frame is.
@@ -43,16 +43,17 @@ pub fn are_few(room: u32, offsets: &[u32]) -> bool
     offsets.len() <= MOST && all_fit(room, offsets)
 }
 
-/// x2 goes down to the frame's base.
+/// x2 goes down to the frame's base, by way of x5 where no immediate says how far.
 pub fn lowered_stack(code: &mut Vec<Instr>, room: u32) -> Result<(), AllocError>
     ensures { OnOk result (code.new.items ≡ code.old.items ++ lowered_code room) }
 {
     if room < FAR {
-        code.push(added(Reg::X2, IMMEDIATES - room))?;
+        code.push(added(Reg::X2, (IMMEDIATES - room) % IMMEDIATES))?;
         return Ok(());
     }
-    constant(code, Reg::X5, room)?;
-    code.push(Instr::Register(RegisterOperation::Sub, Reg::X2, Reg::X2, Reg::X5))?;
+    frame_base(code, room)?;
+    let here = Immediate12::from_bits(0);
+    code.push(Instr::Immediate(ImmediateOperation::Addi, Reg::X2, Reg::X5, here))?;
     Ok(())
 }
 

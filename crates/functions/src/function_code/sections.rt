@@ -1,10 +1,13 @@
 // The sections of a function's code: one list of them is what its words, its text and its steps are made of.
 
-ghost use Rattle.std.specs.Prelude.{◌≡◌, ◌≤◌, ◌-◌, ◌++◌, length, OnOk, IfOk};
+ghost use Rattle.std.specs.Prelude.{◌≡◌, ◌≤◌, ◌-◌, ◌++◌, ◌∷◌, [], length, map, OnOk, IfOk};
+ghost use Rattle.std.specs.Option.{option_map};
 ghost use Rattle.functions.specs.Below.{argument_sections, array_section, array_sections, enter_sections};
 ghost use Rattle.functions.specs.Below.{above_frame, frame_sections, kept_of, leave_sections, loads_code, passed_of};
 ghost use Rattle.functions.specs.Below.{section_code, stores_code};
 ghost use Rattle.functions.specs.function_code.Above.{IsAbove};
+ghost use Rattle.linked_calls.specs.declared.section.Section.TheVariants.{BlankWord, ClearedFrame, FrameBase};
+ghost use Rattle.linked_calls.specs.declared.section.Section.TheVariants.{LoweredStack};
 
 use crate::function_code::blank::{are_few, blank_word, lowered_stack};
 use crate::function_code::entering::{argument, frame_base, room_above};

@@ -1,6 +1,7 @@
 // The words of a function.
 
 ghost use Rattle.std.specs.Prelude.{◌≡◌, ◌++◌, ◌^◌, ◌<◌, map, All, OnOk, IfOk};
+ghost use Rattle.std.specs.Option.{option_map};
 ghost use Rattle.functions.specs.Below.{body_words, code_of, function_words, word_of};
 ghost use Rattle.functions.specs.function_code.Above.{IsAbove};
 

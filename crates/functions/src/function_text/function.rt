@@ -1,7 +1,9 @@
 // The function of a text.
 
 ghost use Rattle.std.specs.Prelude.{◌≡◌, false, List, [], Some, map, IfOk, IfErr};
-ghost use Rattle.functions.specs.function_text.Functions.{IsFunctionOf, IsFaultOf, IsUnlessMemory, named, parts_of};
+ghost use Rattle.std.specs.Option.{option_map};
+ghost use Rattle.functions.specs.function_text.Functions.{blank_of, IsFunctionOf, IsFaultOf, IsUnlessMemory, named};
+ghost use Rattle.functions.specs.function_text.Functions.{parts_of};
 ghost use Rattle.functions.specs.function_text.Functions.{written_parameter};
 ghost use Rattle.functions.specs.function_text.Names.{is_taken_name};
 ghost use Rattle.functions.specs.function_text.private.OfExport.{IsOfExport, NameIsTaken};
@@ -36,7 +38,7 @@ pub struct Function {
 impl Function {
     /// Those offsets.
     pub fn blank_words(&self) -> Option<&[u32]>
-        ensures { option_map (λ offsets. offsets.now) result.entry ≡ blank_of self.now }
+        ensures { option_map (λ offsets. offsets.now) result ≡ blank_of self.now }
     {
         match &self.blank {
             Some(offsets) => Some(offsets.as_slice()),
@@ -86,7 +88,8 @@ fn named_function(
     blank: Option<Vec<u32>>,
 ) -> Result<Function, Refusal>
     requires { is_taken_name export.now.name ≡ false }
-    ensures made { IfOk result (λ function. IsOfExport (procedure_tree export.now) code (parts_of function)) }
+    ensures made { IfOk result (λ function.
+        IsOfExport (procedure_tree export.now) code (option_map (λ offsets. offsets.items) blank) (parts_of function)) }
     ensures memory { IfErr result (λ refusal. IsWantOfMemory refusal.rule refusal.place) }
 {
     let text = export.name.as_str();
@@ -108,7 +111,8 @@ fn of_export(
     code: Code,
     blank: Option<Vec<u32>>,
 ) -> Result<Function, FunctionFault<Refusal>>
-    ensures made { IfOk result (λ function. IsOfExport (procedure_tree export.now) code (parts_of function)) }
+    ensures made { IfOk result (λ function.
+        IsOfExport (procedure_tree export.now) code (option_map (λ offsets. offsets.items) blank) (parts_of function)) }
     ensures fault { IfErr result (λ fault. IsUnlessMemory fault (NameIsTaken (procedure_tree export.now))) }
 {
     if is_taken_name(export.name.as_str()) {
