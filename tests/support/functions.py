@@ -51,6 +51,12 @@ class Function:
         """How many of the caller's registers it keeps."""
         return sum(len(section.words) for section in self.sections[:2] if section.title == "the caller's registers")
 
+    @property
+    def blank(self):
+        """How many words of its frame it zeroes one by one, None where it zeroes them all in runs."""
+        titles = [section.title for section in self.sections]
+        return None if "the frame, zeroed downward" in titles else sum(title.startswith("the frame's word at ") for title in titles)
+
     def words(self, sections=None):
         return [word for section in sections or self.sections for word in section.words]
 
@@ -90,24 +96,25 @@ def near(number):
     return number < 2_048
 
 
-def wrapper_steps(parameters, offsets, frame, result, kept, pointers=None):
+def wrapper_steps(parameters, offsets, frame, result, kept, pointers=None, blank=None):
     """The steps of the code around a body, by the sizes of what it moves: parameters are pairs of a form and a type, in which an
     array's type has a length behind it, offsets are those of their slots, and of the result's where there is one, and so many of
     the caller's registers are kept. Pointers are those of the arrays, by their numbers; those that are not given are multiples
-    of 4."""
-    low, above = (frame + 15) // 16 * 16, (4 * kept + 32 + 15) // 16 * 16
-    steps = 1 + kept + min(len(parameters), 8) + (constant(low) + 1 + zeroed(low) if low else 0)
+    of 4. So many words of the frame are zeroed one by one, or all of them in runs."""
+    passed = min(len(parameters), 8)
+    low, above = blocks(frame), blocks(4 * (kept + passed))
+    steps = (1 if above else 0) + kept + passed + framed(low, blank)
     for number, (form, kind, length) in enumerate(parameters):
-        place = load(low + above - 32 + 4 * number)
+        place = load(low + above - 4 * passed + 4 * number)
         if form == "word":
             steps += place + {"bool": 1, "uint8": 1, "uint16": 2, "uint32": 0}[kind] + load(offsets[number])
         else:
-            head = place + constant(offsets[number]) + 1
+            head = place + address(offsets[number])
             aligned = (pointers or {}).get(number, 0) % 4 == 0
             steps += head + (copied(kind, length, 3) if kind == "bool" else as_pointed(kind, length, aligned))
             steps += head + as_pointed(kind, length, aligned) if form == "mut" else 0
     steps += load(result) if result is not None else 1
-    return steps + constant(low) + 2 + kept + zeroed(low + above) + 15
+    return steps + address(low) + 1 + kept + zeroed(low + above) + 15
 
 
 def zeroed(room):
@@ -131,6 +138,21 @@ def as_pointed(kind, length, aligned):
     if by_word == 1 or length < 4:
         return copied(kind, length, 2)
     return 2 + (copied("uint32", length // by_word, 2) + 2 * (length % by_word) if aligned else copied(kind, length, 2) + 1)
+
+
+def blocks(number):
+    """In whole blocks of 16 bytes."""
+    return (number + 15) // 16 * 16
+
+
+def framed(low, blank):
+    if blank is None or not low:
+        return constant(low) + 1 + zeroed(low) if low else 0
+    return (1 if near(low) else constant(low) + 2) + blank
+
+
+def address(offset):
+    return 1 if near(offset) else constant(offset) + 1
 
 
 def load(offset):

@@ -25,7 +25,8 @@ pub use Rattle.hepurita.specs.declared.optimised.Optimisation.{Optimisation}
 pub use Rattle.linked_calls.specs.Callable.{CallsAreLinked, IsCallable}
 pub use Rattle.linked_calls.specs.Convention.{argument_registers, link_register, result_register, saved_registers}
 pub use Rattle.linked_calls.specs.Convention.{scratch_registers, stack_register}
-pub use Rattle.linked_calls.specs.FunctionCode.{above_frame, added, argument_code, argument_offset, array_bytes}
+pub use Rattle.linked_calls.specs.FunctionCode.{above_code, above_frame, added, address_code, argument_code}
+pub use Rattle.linked_calls.specs.FunctionCode.{argument_offset, array_bytes, first_argument}
 pub use Rattle.linked_calls.specs.FunctionCode.{all_fit, are_few, blank_code, fits_frame, kept_of, lowered_code}
 pub use Rattle.linked_calls.specs.FunctionCode.{passed_of}
 pub use Rattle.linked_calls.specs.Written.{has_destination, is_written, writes, written_of}

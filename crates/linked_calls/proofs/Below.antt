@@ -48,7 +48,8 @@ pub use Rattle.linked_calls.specs.Copies.{AreApart, ArrayIsHandedBack, ArrayIsTa
 pub use Rattle.linked_calls.specs.Copies.{HasArray, IsCopying, IsHandedBack, IsArrayTaken, OthersAsBefore, place_of}
 pub use Rattle.linked_calls.specs.Copies.{AreShort, CopiesAreShort, Pointed, slot_of}
 pub use Rattle.linked_calls.specs.Does.{AreThere, at, Data, Does}
-pub use Rattle.linked_calls.specs.FunctionCode.{above_frame, added, argument_code, argument_offset, arguments_code}
+pub use Rattle.linked_calls.specs.FunctionCode.{above_code, above_frame, added, address_code, argument_code}
+pub use Rattle.linked_calls.specs.FunctionCode.{argument_offset, arguments_code, first_argument}
 pub use Rattle.linked_calls.specs.FunctionCode.{array_bytes, kept_of, passed_of}
 pub use Rattle.linked_calls.specs.FunctionCode.{clear_registers_code, copied_code, copied_in_code, copied_out_code, elements_code}
 pub use Rattle.linked_calls.specs.FunctionCode.{next_code, places_code, rounds_code}

@@ -1,18 +1,18 @@
 -- The code of a frame in which the words that have to be are zeroed: x2 goes down, and each of few words is stored to; or
 -- the frame is zeroed whole.
 use Rattle.std.proofs.Common.{◌≡◌, ◌≢◌, ℕ, ◌+◌, ◌-◌, ◌%◌, ◌^◌, ◌<◌, ◌≤◌, ◌==◌, ◌&&◌, Bool, true, false, List, [], ◌∷◌}
-use Rattle.std.proofs.Common.{◌++◌, length, Option, Some, None, inl, inr, nat_lt, nat_le, cond, if◌then◌else◌, refl, sym}
+use Rattle.std.proofs.Common.{◌++◌, length, Some, None, inl, inr, nat_lt, nat_le, cond, if◌then◌else◌, refl, sym}
 use Rattle.std.proofs.Common.{ap, ◌∙◌, subst, arith, append_assoc, length-append, is_some, ⊎_elim}
 use Rattle.std.specs.List.{AllByRecursion}
-use Rattle.std.proofs.lemmas.Bool.{and_parts, cases_lt, eqb-false, eqb-true, leb-true, lt-ltb, ltb-true, ltb-false}
+use Rattle.std.proofs.lemmas.Bool.{and_parts, cases_lt, eqb-false, eqb-true, leb-true, lt-ltb, ltb-true}
 use Rattle.std.proofs.lemmas.Bool.Decides.{nat_tests}
 use Rattle.codegen.proofs.program_logic_lemmas.Counted.{as_code, computes_runs, in_steps, makes_then, no_code, Runs}
 use Rattle.codegen.proofs.program_logic_lemmas.Counted.{Setting, then_runs, weaken_runs}
 use Rattle.hepurita.specs.Blank.{Blank, IsBlank, IsZeroWord}
 use Rattle.linked_calls.proofs.Below.{added, AreBytes, AreData, AreZeroed, ByteMap, constant_code, Data, difference_of}
-use Rattle.linked_calls.proofs.Below.{frame_steps, HasFrame, Instr, IsZeroFrame, Register, sign_extended, stores_code}
+use Rattle.linked_calls.proofs.Below.{frame_steps, HasFrame, Instr, Register, sign_extended, stores_code}
 use Rattle.linked_calls.proofs.Below.{Sub, sum_of, unwritten, with_number, with_register, with_result, written}
-use Rattle.linked_calls.proofs.Bytes.{IsOutside, SameData, zero_number}
+use Rattle.linked_calls.proofs.Bytes.{IsOutside, zero_number}
 use Rattle.linked_calls.proofs.ByteData.{zeroed_stays}
 use Rattle.linked_calls.proofs.Parts.{number_then, stores_from}
 use Rattle.linked_calls.proofs.SectionSteps.{steps_for}

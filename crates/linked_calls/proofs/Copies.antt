@@ -1,27 +1,24 @@
 -- The code that takes an array into its slot, and the code that hands it back: the places of both, and then the array
 -- itself.
 use Rattle.std.specs.Prelude.{is_some}
-use Rattle.std.proofs.Common.{◌≡◌, ℕ, ◌+◌, Bool, true, false, List, [], ◌∷◌, ◌++◌, length}
-use Rattle.std.proofs.Common.{Some, inl, inr, refl, ap, ◌∙◌, arith, append_assoc}
+use Rattle.std.proofs.Common.{◌≡◌, ℕ, ◌+◌, Bool, true, false, List, ◌++◌, length}
+use Rattle.std.proofs.Common.{Some, inl, inr, refl, ap, ◌∙◌, arith}
 use Rattle.std.proofs.lemmas.List.{map-id}
-use Rattle.codegen.proofs.program_logic_lemmas.Counted.{as_straight, makes_on, makes_then, Runs, Setting, weaken_runs}
-use Rattle.linked_calls.proofs.Below.{Add, AreData, argument_code, argument_offset, array_bytes, array_code, array_steps}
-use Rattle.linked_calls.proofs.Below.{ArrayIsHandedBack, ArrayIsTaken, CanBeCopied, constant_code, copy_out_code, Data}
-use Rattle.linked_calls.proofs.Below.{element_bytes, Fields, FixedArray, handed_steps, HasArray, Instr, IsArrayTaken}
-use Rattle.linked_calls.proofs.Below.{IsCopying, IsHandedBack, load_code, MachineCode, MutableArray, number_at}
-use Rattle.linked_calls.proofs.Below.{number_or_zero, numbers_at, place_of, places_code, Pointed, Register, Slot, slot_of}
+use Rattle.codegen.proofs.program_logic_lemmas.Counted.{makes_on, makes_then, Runs, Setting, weaken_runs}
+use Rattle.linked_calls.proofs.Below.{AreData, argument_code, argument_offset, array_bytes, array_code, array_steps}
+use Rattle.linked_calls.proofs.Below.{ArrayIsHandedBack, ArrayIsTaken, CanBeCopied, copy_out_code, Data}
+use Rattle.linked_calls.proofs.Below.{element_bytes, Fields, FixedArray, handed_steps, HasArray, IsArrayTaken}
+use Rattle.linked_calls.proofs.Below.{IsCopying, IsHandedBack, MachineCode, MutableArray, number_at}
+use Rattle.linked_calls.proofs.Below.{number_or_zero, numbers_at, place_of, places_code, Pointed, Slot, slot_of}
 use Rattle.linked_calls.proofs.Below.{sum_of, unwritten, with_numbers, with_register, with_result}
 use Rattle.linked_calls.proofs.CopyArrays.{CopiedArray, BeginsArray, CanCopyArray, HasArrayCopied, whole_runs}
 use Rattle.linked_calls.proofs.CopyElements.{chosen, element_code, elements_fit, some_bytes}
 use Rattle.linked_calls.proofs.CopyNumbers.{both}
 use Rattle.linked_calls.proofs.MovedBytes.{goes_by_words}
-use Rattle.linked_calls.proofs.Parts.{load_runs, number_then}
+use Rattle.linked_calls.proofs.Parts.{address_runs, load_runs}
 use Rattle.linked_calls.specs.Below.{Word}
 use Rattle.linked_calls.proofs.Pieces.{does, MayAt, placed}
 use Rattle.rv_machine.specs.declared.observation.Event.TheVariants as event
-
-regrouped : (a b c : List Instr) → a ++ (b ++ c) ≡ a ++ b ++ c
-regrouped a b c = simp append_assoc
 
 module _ (image : Fields) (slot : Slot) (spot : Pointed) (can : CanBeCopied image slot spot) (inward : Bool)
     (z : Setting) (place : z.allowed spot.frame (Some (event.Load (place_of image spot) Word)))
@@ -63,13 +60,12 @@ module _ (image : Fields) (slot : Slot) (spot : Pointed) (can : CanBeCopied imag
       (HasArray image slot spot) (λ s t. t ≡ located s)
   places_run =
       let offset = argument_offset image spot.index in
-      as_straight z (regrouped (load_code 5 offset) (constant_code 6 slot.offset) (Register Add 6 6 2 ∷ []))
-      (makes_on z {P' = λ s. Unit {0}} {f = λ s. with_result 5 (raw s) s}
+      makes_on z {P' = λ s. Unit {0}} {f = λ s. with_result 5 (raw s) s}
       (load_runs z spot.frame offset (omega arith) can.place_ends
       (λ s has. record { stack = has.stack; there = ap is_some has.argument })
       5 (omega arith) (λ e. omega arith) (λ e. omega arith) place)
-      (number_then z 6 slot.offset (omega arith) (λ e. omega arith) (omega arith) Add 6 2 (omega arith) (omega arith))
-      (λ s has. tt) (λ s u has made. made))
+      (address_runs z 6 slot.offset (omega arith) (λ e. omega arith) (λ e. omega arith) (omega arith))
+      (λ s has. tt) (λ s u has made. made)
 
   places_begin : (s : Data) → HasArray image slot spot s → BeginsArray inward array (located s)
   places_begin s has =

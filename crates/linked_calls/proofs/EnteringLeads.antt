@@ -6,12 +6,12 @@ use Rattle.std.proofs.Common.{◌∷◌, ◌++◌, length, map, Some, inl, inr, 
 use Rattle.std.proofs.lemmas.Bool.{cases_lt, ltb-false, ltb-true}
 use Rattle.std.proofs.lemmas.List.{length-map}
 use Rattle.codegen.proofs.program_logic_lemmas.Counted.{in_steps, makes_then, Runs, Setting, then_runs}
-use Rattle.linked_calls.proofs.Below.{above_frame, AreBytes, AreData, argument_offset, argument_registers}
+use Rattle.linked_calls.proofs.Below.{above_frame, AreBytes, AreData, argument_offset}
 use Rattle.linked_calls.proofs.Below.{arguments_end, arguments_of, at}
 use Rattle.linked_calls.proofs.Below.{ByteMap, MachineCode, Data, enter_code, entry_code, Fields, found}
-use Rattle.linked_calls.proofs.Below.{frame_room, frame_steps, HasFrame, IsCalled, IsImage, IsLoaded, IsOfCall, IsSite}
-use Rattle.linked_calls.proofs.Below.{IsZeroFrame, LeadsWithin, number_at, number_at_same, room_base, saved_registers}
-use Rattle.linked_calls.proofs.Below.{body_words, CallSite, kept_of, passed_of, State, with_numbers, word_in, zeros}
+use Rattle.linked_calls.proofs.Below.{frame_room, HasFrame, IsCalled, IsImage, IsOfCall, IsSite}
+use Rattle.linked_calls.proofs.Below.{LeadsWithin, number_at, number_at_same, room_base, saved_registers}
+use Rattle.linked_calls.proofs.Below.{body_words, CallSite, kept_of, passed_of, State, with_numbers, word_in}
 use Rattle.linked_calls.proofs.AllArguments.{AreKnown, ArgumentsBegin, TakesArguments, all_taken, all_taken_data}
 use Rattle.linked_calls.proofs.AllArguments.{all_taken_outside, arguments_runs, call_setting, still_base}
 use Rattle.linked_calls.proofs.AllArguments.{taken_registers}
@@ -20,7 +20,7 @@ use Rattle.linked_calls.proofs.Between.{enter_steps, saved_at, untouched_registe
 use Rattle.linked_calls.proofs.Bytes.{IsOutside, SameData, number_there, numbers_outside, is_some-with_numbers}
 use Rattle.linked_calls.proofs.ByteData.{numbers_stay}
 use Rattle.linked_calls.proofs.SectionSteps.{arguments_steps, enter_steps_are, entry_steps, steps_for}
-use Rattle.linked_calls.proofs.Entering.{entered, entered_bytes, entry_runs, taken_count}
+use Rattle.linked_calls.proofs.Entering.{entered, entered_bytes, entry_runs}
 use Rattle.linked_calls.proofs.KeptRegisters.{kept_fitting}
 use Rattle.linked_calls.proofs.KnownArguments.{all_known}
 use Rattle.linked_calls.proofs.LoadedArguments.{all_taken_is}
@@ -76,7 +76,7 @@ module _ (image : Fields) (blank : Blank) (code : MachineCode) (site : CallSite)
   beyond = above_frame image
 
   abbrev high : ℕ
-  high = above + (beyond - 32)
+  high = above + (beyond - 4 * length given)
 
   abbrev stored : Data → ByteMap
   stored d = entered_bytes kept (length image.slots) above high d
@@ -88,11 +88,8 @@ module _ (image : Fields) (blank : Blank) (code : MachineCode) (site : CallSite)
   kept_count : (d : Data) → length (map d.regs kept) ≡ length kept
   kept_count d = length-map kept d.regs
 
-  given_count : (d : Data) → length (map d.regs given) ≤ 8
-  given_count d =
-      let few = taken_count (length image.slots) argument_registers in
-      let same = length-map given d.regs in
-      omega arith
+  given_count : (d : Data) → length (map d.regs given) ≡ length given
+  given_count d = length-map given d.regs
 
   stored_outside : (d : Data) (x : ℕ) → IsOutside above (above + beyond) x → stored d x ≡ d.bytes x
   stored_outside d x outside = by outside
@@ -149,7 +146,7 @@ module _ (image : Fields) (blank : Blank) (code : MachineCode) (site : CallSite)
       (stored_given d called.words)
   raw_by d called i false h few =
       let a = site.stack + 4 * (i - 8) in
-      let place : frame + argument_offset image i ≡ a = place_stacked image site numbers i (ltb-false i 8 h) in
+      let place : frame + argument_offset image i ≡ a = place_stacked image site numbers i (ltb-false i 8 h) few in
       let inside = place_inside image site numbers i few in
       ap (λ x. number_at (stored d) 4 x) place
       ∙ number_at_same d.bytes (stored d) 4 a (λ x low high. stored_outside d x (inr (omega arith)))

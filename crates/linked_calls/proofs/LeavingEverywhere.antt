@@ -8,10 +8,10 @@ use Rattle.std.proofs.Common.{Some, None, drop, inl, refl, sym, ap, ◌∙◌, s
 use Rattle.std.proofs.lemmas.List.Elements.{All-head}
 use Rattle.codegen.proofs.program_logic_lemmas.Counted.{as_code, computes_runs, makes_then, Runs, Setting, then_runs}
 use Rattle.codegen.proofs.program_logic_lemmas.Counted.{weaken_runs}
-use Rattle.linked_calls.proofs.Below.{Add, AreZeroed, arguments_end, arrays_in, at, ByteMap}
-use Rattle.linked_calls.proofs.Below.{clear_registers_code, MachineCode, constant_code, Data, Fields, frame_room}
+use Rattle.linked_calls.proofs.Below.{address_code, AreZeroed, arguments_end, arrays_in, at, ByteMap}
+use Rattle.linked_calls.proofs.Below.{clear_registers_code, MachineCode, Data, Fields, frame_room}
 use Rattle.linked_calls.proofs.Below.{function_words, Instr, IsAt, IsImage, IsLeft, IsOfCall, IsSite, JumpRegister}
-use Rattle.linked_calls.proofs.Below.{kept_registers, LeadsWithin, number_at, Placed-left, Placed-right, Register}
+use Rattle.linked_calls.proofs.Below.{kept_registers, LeadsWithin, number_at, Placed-left, Placed-right}
 use Rattle.linked_calls.proofs.Below.{restore_code, result_code, results_code, results_in, ResultSlot, room_base}
 use Rattle.linked_calls.proofs.Below.{above_frame, body_words, kept_of, room_of, runs_steps}
 use Rattle.linked_calls.proofs.Below.{saved_registers, scratch_registers, CallSite, State, unwritten, wipe_code}
@@ -141,7 +141,7 @@ module _ (image : Fields) {blank : Blank} (code : MachineCode) (site : CallSite)
   abbrev front_steps : ℕ
   front_steps =
       length (result_code image.returned) + outputs_steps image site.pointers 0 image.slots +
-      (length (constant_code 5 (frame_room image) ++ Register Add 5 5 2 ∷ []) + length (kept_of image) + 1 +
+      (length (address_code 5 (frame_room image)) + length (kept_of image) + 1 +
       runs_steps (frame_room image + above_frame image) + 14)
 
   front_runs : Runs z front_steps (front image) Starts LeavesAll
@@ -153,7 +153,7 @@ module _ (image : Fields) {blank : Blank} (code : MachineCode) (site : CallSite)
       as_code z (grouped first (restore_code image) (wipe_code (room_of image)) (clear_registers_code scratch_registers))
       (then_runs z {P = Starts} {S = LeavesAll} handed_runs
       (lasts_run z (body_words image.words) base room (above_frame image) numbers.even numbers.whole
-      numbers.above_whole numbers.above_least numbers.above_most (omega arith)
+      numbers.above_whole (omega (arith, numbers.above_least)) numbers.above_most (omega arith)
       (λ x low high. inl ((omega arith, omega arith), omega arith))
       (λ sp x low high above. inl ((omega arith, omega arith), above)))
       (λ s t begins handed. record {

@@ -7,9 +7,9 @@ use Rattle.std.proofs.Common.{eq-eqb, ne_eqb, if◌then◌else◌}
 use Rattle.std.proofs.Math.Path.{fun_ext}
 use Rattle.std.proofs.lemmas.Bool.{eqb-false, false≢true, lt-ltb, ltb-true}
 use Rattle.std.proofs.lemmas.Bool.Decides.{nat_tests}
-use Rattle.codegen.proofs.program_logic_lemmas.Counted.{computes_runs, having, Runs, Setting}
+use Rattle.codegen.proofs.program_logic_lemmas.Counted.{computes_runs, having, Runs, Setting, weaken_runs}
 use Rattle.codegen.proofs.program_logic_lemmas.Counted.{straight_runs}
-use Rattle.linked_calls.proofs.Below.{Add, after, after_all, after_append, are_straight, AreData}
+use Rattle.linked_calls.proofs.Below.{Add, address_code, after, after_all, after_append, are_straight, AreData}
 use Rattle.linked_calls.proofs.Below.{AreFit, AreMet, both_left, both_right, constant_after, constant_code}
 use Rattle.linked_calls.proofs.Below.{constant_plain, Data, far_address, Instr, is_some-with_number, IsMet, load_code}
 use Rattle.linked_calls.proofs.Below.{loads_code, lower_fits, lower_part, Lui, Lw, near_address, number_at}
@@ -17,7 +17,7 @@ use Rattle.linked_calls.proofs.Below.{number_or_zero, plain_append, Register, re
 use Rattle.linked_calls.proofs.Below.{register_kept, register_value, RegisterOperation, registers_after}
 use Rattle.linked_calls.proofs.Below.{sign_extended, store_code, stores_code, sum_of, Sw, unwritten, upper_fits}
 use Rattle.linked_calls.proofs.Below.{upper_part, with_number, with_numbers, with_register, with_result, written}
-use Rattle.linked_calls.specs.Below.{Upper, Word}
+use Rattle.linked_calls.specs.Below.{Addi, Immediate, Upper, Word}
 use Rattle.rv_code.specs.declared.instructions.Instr.TheVariants.{Load, Store}
 use Rattle.rv_machine.specs.declared.observation.Event.TheVariants as event
 use Rattle.linked_calls.proofs.Bytes.{number_there}
@@ -54,6 +54,31 @@ by_near z {P = P} {R = R} n near far one other = by (nat_lt n 2048) refl
     by : (b : Bool) → nat_lt n 2048 ≡ b → Runs z (length (cond b near far)) (cond b near far) P R
     by true h = one (ltb-true n 2048 h)
     by false h = other
+
+-- the address of an offset from x2 on
+
+near_sum : (x offset : ℕ) → offset < 2048 → sum_of x (sign_extended 12 offset) ≡ sum_of offset x
+near_sum x offset near = grind (arith, nat_tests)
+
+pub address_runs : (z : Setting) {P : Data → Type 0} (r offset : ℕ) → r < 32 → r ≢ 0 → r ≢ 2 → offset < 2 ^ 32
+    → Runs z (length (address_code r offset)) (address_code r offset) P
+    (λ s t. t ≡ with_result r (sum_of offset (s.regs 2)) s)
+address_runs z {P = P} r offset few nonzero other below =
+    let near = Immediate Addi r 2 offset ∷ [] in
+    let far = constant_code r offset ++ Register Add r r 2 ∷ [] in
+    by_near z offset near far
+    (λ small. weaken_runs z {P' = P}
+    (computes_runs z (λ q. q == r) near (λ regs. with_register regs r (sum_of (regs 2) (sign_extended 12 offset)))
+    (simp (eq-eqb r r refl, lt-ltb r 32 few, lt-ltb offset 4096 (omega arith))) (λ regs. refl))
+    (λ s given. given)
+    (λ s t given made. made ∙ ap (λ v. with_result r v s) (near_sum (s.regs 2) offset small)))
+    (weaken_runs z {P' = P} (number_then z r offset few nonzero below Add r 2 few (omega arith)) (λ s given. given)
+    (λ s t given made.
+    let one = with_register s.regs r offset in
+    made
+    ∙ ap (λ v. with_result r v s)
+    (ap₂ sum_of (register-at one r nonzero ∙ written s.regs r offset nonzero)
+    (unwritten s.regs r offset 2 (λ e. other (sym e))))))
 
 -- A word of the room: x2 is the base, and the word is there at an offset.
 

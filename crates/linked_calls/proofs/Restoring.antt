@@ -1,12 +1,12 @@
 -- The last of a call: the caller's registers restored, all the room wiped, and the other registers cleared.
 use Rattle.std.specs.Prelude.{is_some}
 use Rattle.std.proofs.Common.{◌≡◌, ◌≢◌, ℕ, ◌+◌, ◌*◌, ◌%◌, ◌^◌, ◌<◌, ◌≤◌, ◌==◌, List, [], ◌∷◌, ◌++◌, length, All, refl}
-use Rattle.std.proofs.Common.{sym, ap, ◌∙◌, subst, arith, append_assoc}
+use Rattle.std.proofs.Common.{sym, ap, ◌∙◌, subst, arith}
 use Rattle.std.proofs.lemmas.Bool.{lt-ltb}
-use Rattle.codegen.proofs.program_logic_lemmas.Counted.{as_code, computes_runs, in_steps, makes_then, Runs, Setting}
+use Rattle.codegen.proofs.program_logic_lemmas.Counted.{computes_runs, in_steps, makes_then, Runs, Setting}
 use Rattle.codegen.proofs.program_logic_lemmas.Counted.{then_runs}
-use Rattle.linked_calls.proofs.Below.{Add, added, AreCleared, AreData, AreZeroed, ByteMap, clear_registers_code}
-use Rattle.linked_calls.proofs.Below.{constant_code, Data, Instr, IsWiped, loads_code, near_address, Register, runs_steps}
+use Rattle.linked_calls.proofs.Below.{added, address_code, AreCleared, AreData, AreZeroed, ByteMap, clear_registers_code}
+use Rattle.linked_calls.proofs.Below.{Data, Instr, IsWiped, loads_code, near_address, runs_steps}
 use Rattle.linked_calls.proofs.Below.{saved_registers, scratch_registers, sign_extended, sum_of, unwritten, wipe_code}
 use Rattle.linked_calls.proofs.Below.{with_register, with_result, written_of}
 use Rattle.linked_calls.proofs.Between.{AreLeft, AreSaved}
@@ -15,7 +15,7 @@ use Rattle.linked_calls.proofs.KeptRegisters.{all_of_both, fitting_others, kept_
 use Rattle.linked_calls.proofs.KeptRegisters.{left_then, loaded_from}
 use Rattle.linked_calls.proofs.KeptRegisters.{loads_back, loads_bytes, loads_leave, loads_left, loads_plain}
 use Rattle.linked_calls.proofs.KeptRegisters.{written_none}
-use Rattle.linked_calls.proofs.Parts.{loads_length, loads_runs, MayLoad, number_then}
+use Rattle.linked_calls.proofs.Parts.{address_runs, loads_length, loads_runs, MayLoad}
 use Rattle.linked_calls.proofs.SameRegisters.{AreSame, IsNone, all_differ, first_none, none_of, same_beside}
 use Rattle.linked_calls.proofs.SameRegisters.{still_same, then_none}
 use Rattle.linked_calls.proofs.Zeros.{MayZero, up_runs}
@@ -25,7 +25,7 @@ abbrev pub others_still : List ℕ
 others_still = 1 ∷ 3 ∷ 4 ∷ 10 ∷ []
 
 module _ (z : Setting) (words : List ℕ) (frame room above : ℕ) (even : frame % 16 ≡ 0) (whole : room % 16 ≡ 0)
-    (above_whole : above % 16 ≡ 0) (above_least : 4 * length (written_of words saved_registers) + 32 ≤ above)
+    (above_whole : above % 16 ≡ 0) (above_least : 4 * length (written_of words saved_registers) ≤ above)
     (above_most : above ≤ 80) (below : frame + (room + above) < 2 ^ 32)
     (may : MayLoad z frame (frame + room) (frame + room + 4 * length (written_of words saved_registers)))
     (stores : MayZero z frame (frame + (room + above)))
@@ -57,23 +57,18 @@ module _ (z : Setting) (words : List ℕ) (frame room above : ℕ) (even : frame
     restored s = with_result 5 (sum_of ((loaded s).regs 5) (sign_extended 12 above)) (loaded s)
 
     abbrev code : List Instr
-    code = constant_code 5 room ++ Register Add 5 5 2 ∷ loads_code 5 0 kept ++ added 5 above ∷ []
+    code = address_code 5 room ++ loads_code 5 0 kept ++ added 5 above ∷ []
 
     abbrev code_steps : ℕ
-    code_steps = length (constant_code 5 room ++ Register Add 5 5 2 ∷ []) + length kept + 1
-
-    regrouped : (a b c d : List Instr) → ((a ++ b) ++ c) ++ d ≡ a ++ (b ++ c) ++ d
-    regrouped a b c d = simp append_assoc
+    code_steps = length (address_code 5 room) + length kept + 1
 
     restored_runs : Runs z code_steps code BeginsLast (λ s t. t ≡ restored s)
     restored_runs =
-        let loads = loads_code 5 0 kept in
         let small : above < 4096 = omega arith in
-        as_code z (regrouped (constant_code 5 room) (Register Add 5 5 2 ∷ []) loads (added 5 above ∷ []))
-        (makes_then z {P = BeginsLast} {P' = λ s. Unit {0}} {f = loaded}
-        (in_steps z (ap (λ n. length (constant_code 5 room ++ Register Add 5 5 2 ∷ []) + n) (loads_length 5 0 kept))
+        makes_then z {P = BeginsLast} {P' = λ s. Unit {0}} {f = loaded}
+        (in_steps z (ap (λ n. length (address_code 5 room) + n) (loads_length 5 0 kept))
         (makes_then z {P = BeginsLast} {f = located}
-        (number_then z 5 room (omega arith) (λ e. omega arith) (omega arith) Add 5 2 (omega arith) (omega arith))
+        (address_runs z 5 room (omega arith) (λ e. omega arith) (λ e. omega arith) (omega arith))
         (loads_runs z {P = AtSaved} frame (frame + room) kept
         (loads_plain 0 kept (kept_fitting words) (omega arith)) (fitting_others kept (kept_fitting words)) (omega arith)
         (omega arith) (omega arith) may (λ s at. at.stack) (λ s at. (at.root, at.there)))
@@ -86,7 +81,7 @@ module _ (z : Setting) (words : List ℕ) (frame room above : ℕ) (even : frame
         (computes_runs z (λ q. q == 5) (added 5 above ∷ [])
         (λ regs. with_register regs 5 (sum_of (regs 5) (sign_extended 12 above))) (simp (lt-ltb above 4096 small))
         (λ regs. refl))
-        (λ s begins. tt) (λ s u begins made. made))
+        (λ s begins. tt) (λ s u begins made. made)
 
     -- what they leave
 

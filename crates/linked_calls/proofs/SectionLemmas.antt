@@ -1,7 +1,7 @@
 -- The sections' code, one after another, is the code before the body and that behind it.
 use Rattle.hepurita.specs.Blank.{Blank}
 use Rattle.std.proofs.Common.{◌≡◌, ℕ, ◌+◌, ◌==◌, Bool, true, false, List, [], ◌∷◌, ◌++◌, map, refl, ap, ◌∙◌}
-use Rattle.std.proofs.Common.{ap₂, if◌then◌else◌, Option, Some, None}
+use Rattle.std.proofs.Common.{ap₂, if◌then◌else◌, Some, None}
 use Rattle.std.proofs.lemmas.List.{append_assoc, append-nil}
 use Rattle.linked_calls.proofs.Below.{argument_sections, arguments_code, array_section, array_sections}
 use Rattle.linked_calls.proofs.Below.{body_words, CallersStack, ClearedFrame, ClearedRegisters, code_of}
@@ -13,7 +13,7 @@ use Rattle.linked_calls.specs.declared.section.Section.TheVariants.{BlankWord, L
 use Rattle.linked_calls.proofs.Below.{frame_room, frame_sections, FrameBase, FrameTop, function_words, Instr}
 use Rattle.linked_calls.proofs.Below.{leave_code, leave_sections, MutableArray, Register, RestoredRegisters}
 use Rattle.linked_calls.proofs.Below.{results_code, Return, runs_code, Section, Slot, stack_register, Sub}
-use Rattle.linked_calls.proofs.Below.{above_frame, Add, added, clear_registers_code, JumpRegister, kept_of, loads_code}
+use Rattle.linked_calls.proofs.Below.{above_frame, added, address_code, clear_registers_code, JumpRegister, kept_of, loads_code}
 use Rattle.linked_calls.proofs.Below.{result_code, room_of, scratch_registers, wipe_code, WipedRoom}
 use Rattle.linked_calls.specs.Below.{word_of}
 
@@ -94,15 +94,15 @@ arrays_code_of image i (slot ∷ slots) =
 abbrev tail : List Section
 tail = FrameTop ∷ RestoredRegisters ∷ CallersStack ∷ WipedRoom ∷ ClearedRegisters ∷ Return ∷ []
 
-leave_grouped : (r rs c x l y w k j : List Instr)
-    → r ++ (rs ++ ((c ++ x) ++ (l ++ (y ++ (w ++ (k ++ j)))))) ≡ r ++ rs ++ (c ++ (x ++ l) ++ y) ++ w ++ k ++ j
-leave_grouped r rs c x l y w k j = simp append_assoc
+leave_grouped : (r rs a l y w k j : List Instr)
+    → r ++ (rs ++ (a ++ (l ++ (y ++ (w ++ (k ++ j)))))) ≡ r ++ rs ++ (a ++ l ++ y) ++ w ++ k ++ j
+leave_grouped r rs a l y w k j = simp append_assoc
 
 pub leave_code_of : (image : Fields) → code_of image (leave_sections image) ≡ leave_code image
 leave_code_of image =
     rw (code_of_both image (array_sections 0 image.slots) tail, arrays_code_of image 0 image.slots)
-    (leave_grouped (result_code image.returned) (results_code image 0 image.slots) (constant_code 5 (frame_room image))
-    (Register Add 5 5 stack_register ∷ []) (loads_code 5 0 (kept_of image)) (added 5 (above_frame image) ∷ [])
+    (leave_grouped (result_code image.returned) (results_code image 0 image.slots) (address_code 5 (frame_room image))
+    (loads_code 5 0 (kept_of image)) (added 5 (above_frame image) ∷ [])
     (wipe_code (room_of image)) (clear_registers_code scratch_registers) (JumpRegister 0 1 0 ∷ []))
 
 -- The function.

@@ -1,9 +1,9 @@
 -- How many steps the sections make, before the body and behind it.
 use Rattle.std.specs.List.{sum_by}
-use Rattle.std.proofs.Common.{◌≡◌, ℕ, ◌+◌, ◌-◌, ◌==◌, Bool, true, false, if◌then◌else◌, List, [], ◌∷◌, ◌++◌, length}
-use Rattle.std.proofs.Common.{refl, sym, ap, ap₂, ◌∙◌, arith, length-append, map, Option, Some, None}
+use Rattle.std.proofs.Common.{◌≡◌, ℕ, ◌+◌, ◌==◌, Bool, true, false, if◌then◌else◌, List, [], ◌∷◌, ◌++◌, length}
+use Rattle.std.proofs.Common.{refl, sym, ap, ap₂, ◌∙◌, arith, length-append, map, Some, None}
 use Rattle.std.proofs.lemmas.List.Sums.{sum_by-cons, sum_by-append, sum-map}
-use Rattle.linked_calls.proofs.Below.{Add, argument_sections, argument_steps, ArgumentIn, array_section, array_sections}
+use Rattle.linked_calls.proofs.Below.{above_code, address_code, argument_sections, first_argument, argument_steps, ArgumentIn, array_section, array_sections}
 use Rattle.linked_calls.proofs.Below.{handed_steps, CallersStack, ClearedFrame, ClearedRegisters}
 use Rattle.linked_calls.proofs.Below.{constant_code, Fields, FixedArray, Form, frame_room, frame_sections, frame_steps}
 use Rattle.linked_calls.proofs.Below.{FrameBase, FrameTop, leave_sections, MutableArray, Register, RestoredRegisters}
@@ -89,9 +89,9 @@ module _ (image : Fields) (pointers : ℕ → ℕ) where
       sum_by-cons (section_steps image pointers) (ArgumentIn i slot) (argument_sections (i + 1) slots)
       ∙ ap (λ n. argument_steps image pointers i slot slot.param.form + n) (arguments_steps_are (i + 1) slots)
 
-  -- one, and one for each register that is stored
+  -- x2 moved, and one for each register that is stored
   abbrev pub entry_steps : ℕ
-  entry_steps = 1 + (length (kept_of image) + length (passed_of image))
+  entry_steps = length (above_code (above_frame image)) + (length (kept_of image) + length (passed_of image))
 
   -- the entry's, and then the frame's and the arguments'
   pub enter_steps_are : (blank : Blank)
@@ -101,7 +101,7 @@ module _ (image : Fields) (pointers : ℕ → ℕ) where
       let framed = frame_sections room blank in
       let arguments = argument_sections 0 image.slots in
       let kept = stores_length 2 0 (kept_of image) in
-      let passed = stores_length 2 (above_frame image - 32) (passed_of image) in
+      let passed = stores_length 2 (first_argument image) (passed_of image) in
       let counted : steps_of entry ≡ entry_steps = omega arith in
       sum-map (section_steps image pointers) (entry ++ framed ++ arguments)
       ∙ sum_by-append (section_steps image pointers) (entry ++ framed) arguments
@@ -126,7 +126,7 @@ module _ (image : Fields) (pointers : ℕ → ℕ) where
 
   -- the registers restored and cleared, and the room wiped
   abbrev pub last_steps : ℕ
-  last_steps = length (constant_code 5 room ++ Register Add 5 5 2 ∷ []) + runs_steps (room_of image)
+  last_steps = length (address_code 5 room) + runs_steps (room_of image)
       + (length (kept_of image) + 16)
 
   pub leave_steps_are : leave_steps image pointers ≡ length (result_code image.returned) +

@@ -2,8 +2,8 @@
 -- that hands results back and goes back to the caller. They may stand anywhere.
 --
 -- The room of a call lies below the caller's sp: the image's frame at its lower end, in whole blocks of 16 bytes,
--- then those of the caller's s0 to s11 that the body writes, and at its upper end words for a0 to a7, so that argument
--- i stands in the i-th word from there on, also where C passes it on the stack.
+-- then those of the caller's s0 to s11 that the body writes, and at its upper end those of a0 to a7 that are passed, so
+-- that argument i stands in the i-th word from there on, also where C passes it on the stack.
 --
 -- An array of elements that are smaller than a word is copied by words where its pointer is a multiple of 4, which is
 -- tested when the function runs: pointers are public.
@@ -38,9 +38,13 @@ kept_of image = written_of (body_words image.words) saved_registers
 abbrev pub passed_of : Fields → List ℕ
 passed_of image = take (length image.slots) argument_registers
 
--- the bytes above the frame: a word for each register that is kept, and 8 for arguments
+-- the bytes above the frame: a word for each register that is kept, and for each that is an argument
 abbrev pub above_frame : Fields → ℕ
-above_frame image = whole_blocks (4 * length (kept_of image) + 32)
+above_frame image = whole_blocks (4 * (length (kept_of image) + length (passed_of image)))
+
+-- where the arguments in registers stand, from the frame's end on: at the end of the room
+abbrev pub first_argument : Fields → ℕ
+first_argument image = above_frame image - 4 * length (passed_of image)
 
 -- how many bytes of stack a call takes
 abbrev pub room_of : Fields → ℕ
@@ -48,7 +52,7 @@ room_of image = frame_room image + above_frame image
 
 -- where argument i stands, from x2 on
 abbrev pub argument_offset : Fields → ℕ → ℕ
-argument_offset image i = frame_room image + (above_frame image - 32) + 4 * i
+argument_offset image i = frame_room image + first_argument image + 4 * i
 
 -- Pieces.
 
@@ -91,13 +95,23 @@ runs_code code room =
     (if rest_words room == 0 then [] else code (rest_words room))
     ++ (if room / 64 == 0 then [] else until_equal stack_register 5 (code 16))
 
+-- the address of an offset from x2 on
+abbrev pub address_code : ℕ → ℕ → List Instr
+address_code r offset =
+    if nat_lt offset 2048 then Immediate Addi r stack_register offset ∷ []
+    else constant_code r offset ++ Register Add r r stack_register ∷ []
+
 -- Entry.
+
+-- x2 goes down by what stands above the frame, where anything does
+abbrev pub above_code : ℕ → List Instr
+above_code above = if above == 0 then [] else added stack_register (4096 - above) ∷ []
 
 -- room above the frame: what the caller has in registers that are kept, and the arguments in a0 to a7
 abbrev pub entry_code : Fields → List Instr
 entry_code image =
-    added stack_register (4096 - above_frame image) ∷ stores_code stack_register 0 (kept_of image)
-    ++ stores_code stack_register (above_frame image - 32) (passed_of image)
+    above_code (above_frame image) ++ stores_code stack_register 0 (kept_of image)
+    ++ stores_code stack_register (first_argument image) (passed_of image)
 
 -- a frame, zeroed run by run downward, so that nothing live ever lies below x2
 abbrev pub zeroed_code : ℕ → List Instr
@@ -158,8 +172,7 @@ array_bytes slot = element_bytes slot.param.kind * slot.param.length
 
 -- the caller's array from x5 on, and its slot from x6 on
 abbrev pub places_code : Fields → ℕ → Slot → List Instr
-places_code image i slot =
-    load_code 5 (argument_offset image i) ++ constant_code 6 slot.offset ++ Register Add 6 6 stack_register ∷ []
+places_code image i slot = load_code 5 (argument_offset image i) ++ address_code 6 slot.offset
 
 -- eight elements more are done
 abbrev pub next_code : Kind → List Instr
@@ -290,8 +303,7 @@ results_code image i (slot ∷ slots) = copy_out_code image i slot slot.param.fo
 -- the caller's registers that are kept, and its x2 in x5
 abbrev pub restore_code : Fields → List Instr
 restore_code image =
-    constant_code 5 (frame_room image) ++ Register Add 5 5 stack_register
-    ∷ loads_code 5 0 (kept_of image) ++ added 5 (above_frame image) ∷ []
+    address_code 5 (frame_room image) ++ loads_code 5 0 (kept_of image) ++ added 5 (above_frame image) ∷ []
 
 -- all the room, zeroed run by run upward
 abbrev pub wipe_code : ℕ → List Instr

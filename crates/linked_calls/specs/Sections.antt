@@ -1,15 +1,16 @@
 -- The code of a function in sections, each with one purpose: what its text says of them, and how many steps they
 -- make.
-use Rattle.std.specs.Prelude.{ℕ, ◌+◌, ◌-◌, ◌*◌, ◌/◌, ◌%◌, ◌==◌, Bool, ◌&&◌, nat_le, nat_lt, List, [], ◌∷◌, ◌++◌}
+use Rattle.std.specs.Prelude.{ℕ, ◌+◌, ◌*◌, ◌/◌, ◌%◌, ◌==◌, Bool, ◌&&◌, nat_le, nat_lt, List, [], ◌∷◌, ◌++◌}
 use Rattle.std.specs.Prelude.{length, map, sum, Some, None, if◌then◌else◌}
 use Rattle.std.specs.List.{flat_map}
-use Rattle.linked_calls.specs.Below.{Add, constant_code, element_bytes, Fields, FixedArray, Form, Instr, JumpRegister}
+use Rattle.linked_calls.specs.Below.{constant_code, element_bytes, Fields, FixedArray, Form, Instr, JumpRegister}
 use Rattle.linked_calls.specs.Below.{Kind, MutableArray, Register, SingleWord, Slot, Sub, Uint32}
 use Rattle.linked_calls.specs.Convention.{link_register, stack_register}
 use Rattle.linked_calls.specs.Convention.{scratch_registers}
 use Rattle.linked_calls.specs.FunctionCode.{above_frame, frame_room, room_of, stores_code, loads_code, runs_code}
 use Rattle.hepurita.specs.Blank.{Blank}
-use Rattle.linked_calls.specs.FunctionCode.{added, are_few, argument_code, blank_code, copied_in_code, lowered_code}
+use Rattle.linked_calls.specs.FunctionCode.{above_code, added, address_code, are_few, argument_code, blank_code}
+use Rattle.linked_calls.specs.FunctionCode.{copied_in_code, first_argument, lowered_code}
 use Rattle.linked_calls.specs.FunctionCode.{copied_out_code, down_code, elements_code, goes_in_by_words}
 use Rattle.linked_calls.specs.FunctionCode.{goes_out_by_words, kept_of, passed_count, passed_of, per_word}
 use Rattle.linked_calls.specs.FunctionCode.{places_code, result_code, copy_out_code}
@@ -63,9 +64,9 @@ leave_sections image =
     ++ FrameTop ∷ RestoredRegisters ∷ CallersStack ∷ WipedRoom ∷ ClearedRegisters ∷ Return ∷ []
 
 abbrev pub section_code : Fields → Section → List Instr
-section_code image RoomAboveFrame = added stack_register (4096 - above_frame image) ∷ []
+section_code image RoomAboveFrame = above_code (above_frame image)
 section_code image SavedRegisters = stores_code stack_register 0 (kept_of image)
-section_code image ArgumentRegisters = stores_code stack_register (above_frame image - 32) (passed_of image)
+section_code image ArgumentRegisters = stores_code stack_register (first_argument image) (passed_of image)
 section_code image FrameBase = constant_code 5 (frame_room image) ++ Register Sub 5 stack_register 5 ∷ []
 section_code image ClearedFrame = runs_code down_code (frame_room image)
 section_code image LoweredStack = lowered_code (frame_room image)
@@ -73,7 +74,7 @@ section_code image (BlankWord offset) = blank_code offset
 section_code image (ArgumentIn i slot) = argument_code image i slot slot.param.form
 section_code image ResultOut = result_code image.returned
 section_code image (ArrayOut i slot) = copy_out_code image i slot slot.param.form
-section_code image FrameTop = constant_code 5 (frame_room image) ++ Register Add 5 5 stack_register ∷ []
+section_code image FrameTop = address_code 5 (frame_room image)
 section_code image RestoredRegisters = loads_code 5 0 (kept_of image)
 section_code image CallersStack = added 5 (above_frame image) ∷ []
 section_code image WipedRoom = wipe_code (room_of image)

@@ -32,8 +32,8 @@ pub fn sections_are_the_function()
 {}
 
 /// The code that zeroes a frame whole before the body makes an exact number of steps, stores in the frame alone, never
-/// below x2, and shows one list whatever the state holds; the frame is zeros behind it, x2 its base, and nothing else but x5
-/// has changed.
+/// below x2, and shows one list whatever the state holds; the frame is zeros behind it, x2 its base, and nothing else
+/// but x5 has changed.
 pub fn frame_is_zeroed()
     ensures { FrameIsZeroed }
 {}

@@ -8,14 +8,12 @@ ghost use Rattle.functions.specs.function_code.private.Ways.{element_code, goes_
 ghost use Rattle.functions.specs.function_code.Above.{IsAbove};
 
 use crate::function_code::copying::{MANY, ROUND, Way, copied, elements};
+use crate::function_code::pieces::address;
 use crate::function_code::room::argument_offset;
-use codegen::expression_code::emit::{constant, load};
+use codegen::expression_code::emit::load;
 use codegen::image_fields::{ImageFields, Slot};
 use language::Kind;
-use rv_code::{
-    BranchOffset, BranchTest, Immediate12, ImmediateOperation, Instr, JumpOffset, Reg,
-    RegisterOperation,
-};
+use rv_code::{BranchOffset, BranchTest, Immediate12, ImmediateOperation, Instr, JumpOffset, Reg};
 use std::alloc::{AllocError, Global};
 
 /// The bytes of a word.
@@ -36,9 +34,7 @@ fn places(
     ensures { OnOk result (code.new.items ≡ code.old.items ++ places_code image.now index slot) }
 {
     load(code, Reg::X5, argument_offset(image, above, index))?;
-    constant(code, Reg::X6, slot.offset)?;
-    code.push(Instr::Register(RegisterOperation::Add, Reg::X6, Reg::X6, Reg::X2))?;
-    Ok(())
+    address(code, Reg::X6, slot.offset)
 }
 
 /// Whether elements go by words where their pointer is a multiple of 4: those that are smaller than a word, but not

@@ -1,7 +1,7 @@
 // Instructions of the sections before the body.
 
-ghost use Rattle.std.specs.Prelude.{◌≡◌, ◌-◌, ◌++◌, ◌∷◌, [], OnOk};
-ghost use Rattle.functions.specs.Below.{above_frame, added, argument_code, constant_code, meant_code, Register};
+ghost use Rattle.std.specs.Prelude.{◌≡◌, ◌++◌, ◌∷◌, [], OnOk};
+ghost use Rattle.functions.specs.Below.{above_code, above_frame, argument_code, constant_code, meant_code, Register};
 ghost use Rattle.functions.specs.Below.{stack_register, Sub, word_code};
 ghost use Rattle.functions.specs.function_code.Above.{IsAbove};
 
@@ -19,12 +19,14 @@ use std::alloc::{AllocError, Global};
 /// How far immediates go before they begin again.
 const IMMEDIATES: u32 = 4096;
 
-/// Room above the frame.
+/// Room above the frame, where anything stands there.
 pub fn room_above(code: &mut Vec<Instr>, image: &ImageFields, above: u32) -> Result<(), AllocError>
     requires { IsAbove image.now above }
-    ensures { OnOk result (code.new.items
-        ≡ code.old.items ++ added stack_register (4096 - above_frame image.now) ∷ []) }
+    ensures { OnOk result (code.new.items ≡ code.old.items ++ above_code (above_frame image.now)) }
 {
+    if above == 0 {
+        return Ok(());
+    }
     code.push(added(Reg::X2, IMMEDIATES - above))?;
     Ok(())
 }

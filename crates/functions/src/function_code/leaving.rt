@@ -1,17 +1,17 @@
 // Instructions of the sections behind the body.
 
 ghost use Rattle.std.specs.Prelude.{◌≡◌, ◌++◌, ◌∷◌, [], OnOk};
-ghost use Rattle.functions.specs.Below.{above_frame, Add, added, constant_code, copy_out_code, JumpRegister};
-ghost use Rattle.functions.specs.Below.{link_register, Register, result_code, stack_register};
+ghost use Rattle.functions.specs.Below.{above_frame, added, address_code, copy_out_code, JumpRegister};
+ghost use Rattle.functions.specs.Below.{link_register, result_code};
 ghost use Rattle.functions.specs.function_code.Above.{IsAbove};
 
 use crate::function_code::arrays::copy_out;
-use crate::function_code::pieces::added;
+use crate::function_code::pieces::{added, address};
 use crate::function_code::registers;
-use codegen::expression_code::emit::{constant, load};
+use codegen::expression_code::emit::load;
 use codegen::image_fields::{ImageFields, ResultSlot, Slot};
 use language::Form;
-use rv_code::{Immediate12, ImmediateOperation, Instr, Reg, RegisterOperation};
+use rv_code::{Immediate12, ImmediateOperation, Instr, Reg};
 use std::alloc::{AllocError, Global};
 
 /// The result into a0, which becomes 0 where there is none.
@@ -49,12 +49,9 @@ pub fn array(
 
 /// The frame's end into x5.
 pub fn frame_top(code: &mut Vec<Instr>, room: u32) -> Result<(), AllocError>
-    ensures { OnOk result (code.new.items
-        ≡ code.old.items ++ (constant_code 5 room ++ Register Add 5 5 stack_register ∷ [])) }
+    ensures { OnOk result (code.new.items ≡ code.old.items ++ address_code 5 room) }
 {
-    constant(code, Reg::X5, room)?;
-    code.push(Instr::Register(RegisterOperation::Add, Reg::X5, Reg::X5, Reg::X2))?;
-    Ok(())
+    address(code, Reg::X5, room)
 }
 
 /// The caller's x2 into x5.

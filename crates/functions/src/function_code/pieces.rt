@@ -1,17 +1,22 @@
 // Instructions that several sections have: registers to memory and back, and loops.
 
 ghost use Rattle.std.specs.Prelude.{◌≡◌, ◌≤◌, ◌<◌, ◌+◌, ◌*◌, ◌++◌, length, map, OnOk};
-ghost use Rattle.functions.specs.Below.{added, clear_registers_code, loads_code, store_by, stores_code, until_equal};
+ghost use Rattle.functions.specs.Below.{added, address_code, clear_registers_code, loads_code};
+ghost use Rattle.functions.specs.Below.{store_by, stores_code, until_equal};
 
+use codegen::expression_code::emit::constant;
 use language::Kind;
 use rv_code::{
     BranchOffset, BranchTest, Immediate12, ImmediateOperation, Instr, LoadOperation, Reg,
-    StoreOperation,
+    RegisterOperation, StoreOperation,
 };
 use std::alloc::AllocError;
 
 /// The values that a branch's offset may have, in halves.
 const BRANCH_HALVES: u32 = 4096;
+
+/// From where on an offset is no immediate.
+const FAR: u32 = 2048;
 
 /// A number added to a register; 4096 - n takes n away.
 pub fn added(register: Reg, n: u32) -> Instr
@@ -24,6 +29,20 @@ pub fn added(register: Reg, n: u32) -> Instr
         register,
         Immediate12::from_bits(n),
     )
+}
+
+/// The address of an offset from x2 on.
+pub fn address(code: &mut Vec<Instr>, register: Reg, offset: u32) -> Result<(), AllocError>
+    ensures { OnOk result (code.new.items ≡ code.old.items ++ address_code register offset) }
+{
+    if offset < FAR {
+        let near = Immediate12::from_bits(offset);
+        code.push(Instr::Immediate(ImmediateOperation::Addi, register, Reg::X2, near))?;
+        return Ok(());
+    }
+    constant(code, register, offset)?;
+    code.push(Instr::Register(RegisterOperation::Add, register, register, Reg::X2))?;
+    Ok(())
 }
 
 /// Registers into one word after another, from an offset of a base on.

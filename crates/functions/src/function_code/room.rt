@@ -1,7 +1,7 @@
 // How much of the stack a call takes, and where its parts lie.
 
-ghost use Rattle.std.specs.Prelude.{◌≡◌, ◌≤◌, ◌-◌};
-ghost use Rattle.functions.specs.Below.{above_frame, argument_offset, frame_room, room_of};
+ghost use Rattle.std.specs.Prelude.{◌≡◌, ◌≤◌, ◌+◌, ◌*◌, length};
+ghost use Rattle.functions.specs.Below.{above_frame, argument_offset, first_argument, frame_room, passed_of, room_of};
 ghost use Rattle.functions.specs.function_code.Above.{IsAbove};
 
 use crate::function_code::kept::kept_count;
@@ -13,8 +13,8 @@ const BLOCK: u32 = 16;
 /// The bytes of a word.
 const WORD: u32 = 4;
 
-/// The bytes of eight words for arguments, at the upper end of a room.
-const ARGUMENTS: u32 = 32;
+/// How many arguments the registers a0 to a7 take.
+const IN_REGISTERS: usize = 8;
 
 /// The bytes of the frame, in whole blocks of 16.
 pub(crate) fn frame_room(image: &ImageFields) -> u32
@@ -24,20 +24,29 @@ pub(crate) fn frame_room(image: &ImageFields) -> u32
     image.frame_bytes().div_ceil(BLOCK) * BLOCK
 }
 
-/// The bytes above the frame: a word for each register that is kept, and eight for arguments, in whole blocks.
+/// How many of a0 to a7 are arguments.
+#[tactic(auto, using(crate::proofs::function_code_lemmas::ArgumentLemmas::taken_count))]
+pub(crate) fn passed_count(image: &ImageFields) -> u32
+    ensures count { result ≡ length (passed_of image.now) }
+    ensures few { result ≤ 8 }
+{
+    image.slots().len().min(IN_REGISTERS) as u32
+}
+
+/// The bytes above the frame: a word for each register that is kept, and for each that is an argument, in whole blocks.
 pub fn above_frame(image: &ImageFields) -> u32
     ensures { IsAbove image.now result }
 {
-    (WORD * kept_count(image) + ARGUMENTS).div_ceil(BLOCK) * BLOCK
+    (WORD * (kept_count(image) + passed_count(image))).div_ceil(BLOCK) * BLOCK
 }
 
 /// Where the first argument stands above the frame.
 pub(crate) fn first_argument(image: &ImageFields, above: u32) -> u32
     requires { IsAbove image.now above }
-    ensures place { result ≡ above_frame image.now - 32 }
-    ensures most { result ≤ 48 }
+    ensures place { result ≡ first_argument image.now }
+    ensures ends { result + 4 * length (passed_of image.now) ≤ 80 }
 {
-    above - ARGUMENTS
+    above - WORD * passed_count(image)
 }
 
 /// The bytes of stack that a call takes.

@@ -1,9 +1,9 @@
 // The sections of a function's code: one list of them is what its words, its text and its steps are made of.
 
-ghost use Rattle.std.specs.Prelude.{◌≡◌, ◌≤◌, ◌-◌, ◌++◌, ◌∷◌, [], length, map, OnOk, IfOk};
+ghost use Rattle.std.specs.Prelude.{◌≡◌, ◌≤◌, ◌++◌, ◌∷◌, [], length, map, OnOk, IfOk};
 ghost use Rattle.std.specs.Option.{option_map};
 ghost use Rattle.functions.specs.Below.{argument_sections, array_section, array_sections, enter_sections};
-ghost use Rattle.functions.specs.Below.{above_frame, frame_sections, kept_of, leave_sections, loads_code, passed_of};
+ghost use Rattle.functions.specs.Below.{first_argument, frame_sections, kept_of, leave_sections, loads_code, passed_of};
 ghost use Rattle.functions.specs.Below.{section_code, stores_code};
 ghost use Rattle.functions.specs.function_code.Above.{IsAbove};
 ghost use Rattle.linked_calls.specs.declared.section.Section.TheVariants.{BlankWord, ClearedFrame, FrameBase};
@@ -167,7 +167,7 @@ fn argument_registers(
 ) -> Result<(), AllocError>
     requires { IsAbove image.now above }
     ensures { OnOk result (code.new.items
-        ≡ code.old.items ++ stores_code 2 (above_frame image.now - 32) (passed_of image.now)) }
+        ≡ code.old.items ++ stores_code 2 (first_argument image.now) (passed_of image.now)) }
 {
     let arguments = registers::arguments();
     let passed = image.slots().len();
