@@ -101,18 +101,19 @@ def wrapper_steps(parameters, offsets, frame, result, kept, pointers=None, blank
     array's type has a length behind it, offsets are those of their slots, and of the result's where there is one, and so many of
     the caller's registers are kept. Pointers are those of the arrays, by their numbers; those that are not given are multiples
     of 4. So many words of the frame are zeroed one by one, or all of them in runs."""
-    passed = min(len(parameters), 8)
-    low, above = blocks(frame), blocks(4 * (kept + passed))
-    steps = (1 if above else 0) + kept + passed + framed(low, blank)
+    needed = max((number + 1 for number, (form, _, _) in enumerate(parameters[:8]) if form == "mut"), default=0)
+    low, above = blocks(frame), blocks(4 * (kept + needed))
+    steps = (1 if above else 0) + kept + needed + framed(low, blank)
     for number, (form, kind, length) in enumerate(parameters):
-        place = load(low + above - 4 * passed + 4 * number)
+        stacked = load(low + above + 4 * (number - 8))
         if form == "word":
-            steps += place + {"bool": 1, "uint8": 1, "uint16": 2, "uint32": 0}[kind] + load(offsets[number])
+            meant = {"bool": 1, "uint8": 1, "uint16": 2, "uint32": 0}[kind]
+            steps += (0 if number < 8 else stacked) + meant + load(offsets[number])
         else:
-            head = place + address(offsets[number])
+            head, back = (1, load(low + above - 4 * needed + 4 * number)) if number < 8 else (stacked, stacked)
             aligned = (pointers or {}).get(number, 0) % 4 == 0
-            steps += head + (copied(kind, length, 3) if kind == "bool" else as_pointed(kind, length, aligned))
-            steps += head + as_pointed(kind, length, aligned) if form == "mut" else 0
+            steps += head + address(offsets[number]) + (copied(kind, length, 3) if kind == "bool" else as_pointed(kind, length, aligned))
+            steps += back + address(offsets[number]) + as_pointed(kind, length, aligned) if form == "mut" else 0
     steps += load(result) if result is not None else 1
     return steps + address(low) + 1 + kept + zeroed(low + above) + 15
 

@@ -73,7 +73,7 @@ def x28_is_not_cleared(function):
 
 def a_bool_is_its_lowest_bit(function):
     sections = function.copies()
-    exchange(titled(sections, "parameter 0: a word"), 0x005032B3, immediate_word(NUMBER, 1, 5, 7, 5))  # sltu x5, x0, x5
+    exchange(titled(sections, "parameter 0: a word"), 0x00A03533, immediate_word(NUMBER, 1, 10, 7, 10))  # sltu x10, x0, x10
     return sections
 
 
@@ -88,7 +88,7 @@ def bytes_are_copied_by_words(function):
 
 def the_next_stack_argument_is_taken(function):
     sections = function.copies()
-    place = function.room - 32 + 4 * 8
+    place = function.room
     exchange(titled(sections, "parameter 8: a word"), immediate_word(LOAD, place, 2, 2, 5), immediate_word(LOAD, place + 4, 2, 2, 5))
     return sections
 
@@ -147,7 +147,7 @@ Wrong = collections.namedtuple("Wrong", "name what make hidden")
 ALL = [
     Wrong("sha256_block -O", "x8 is not restored", x8_is_not_restored, None),
     Wrong("sha256_block -O", "x8 is not saved", x8_is_not_saved, None),
-    Wrong("add_one", "only the frame is wiped", only_the_frame_is_wiped, None),
+    Wrong("swap2", "only the frame is wiped", only_the_frame_is_wiped, None),
     Wrong("sha256_block", "the wipe stops a run early", the_wipe_stops_a_run_early, None),
     Wrong("swap2", "the slots are zeroed before an array is copied back", slots_are_zeroed_before_copying_back, None),
     Wrong("add_one", "x28 is not cleared", x28_is_not_cleared, None),

@@ -26,9 +26,10 @@ pub use Rattle.linked_calls.specs.Callable.{CallsAreLinked, IsCallable}
 pub use Rattle.linked_calls.specs.Convention.{argument_registers, link_register, result_register, saved_registers}
 pub use Rattle.linked_calls.specs.Convention.{scratch_registers, stack_register}
 pub use Rattle.linked_calls.specs.FunctionCode.{above_code, above_frame, added, address_code, argument_code}
-pub use Rattle.linked_calls.specs.FunctionCode.{argument_offset, array_bytes, first_argument}
+pub use Rattle.linked_calls.specs.FunctionCode.{argument_offset, argument_register, array_bytes, first_argument}
+pub use Rattle.linked_calls.specs.FunctionCode.{needed_for, needed_from, needed_of, pointer_in_code, pointer_out_code}
+pub use Rattle.linked_calls.specs.FunctionCode.{stacked_code, stacked_offset}
 pub use Rattle.linked_calls.specs.FunctionCode.{all_fit, are_few, blank_code, fits_frame, kept_of, lowered_code}
-pub use Rattle.linked_calls.specs.FunctionCode.{passed_of}
 pub use Rattle.linked_calls.specs.Written.{has_destination, is_written, writes, written_of}
 pub use Rattle.linked_calls.specs.FunctionCode.{clear_registers_code, copied_code, copied_in_code, copied_out_code}
 pub use Rattle.linked_calls.specs.FunctionCode.{array_code, by_alignment_code, by_words_code, elements_code}

@@ -1,45 +1,46 @@
--- All arguments, taken one after another: each is read from where it was at the call, since only the frame is
--- written.
-use Rattle.std.specs.Prelude.{is_some}
-use Rattle.std.proofs.Common.{◌≡◌, ℕ, ◌+◌, ◌*◌, ◌≤◌, List, [], ◌∷◌, length, map, Some, inl, inr, refl, true}
-use Rattle.std.proofs.Common.{sym, ap, ◌∙◌, subst, arith}
+-- All arguments, taken one after another: each is what it was at the call, since only the frame is written, and of the
+-- registers of arguments only its own.
+use Rattle.std.specs.Prelude.{is_some, unwrap_or}
+use Rattle.std.proofs.Common.{◌≡◌, ◌≢◌, ℕ, zero, suc, ◌+◌, ◌*◌, ◌<◌, ◌≤◌, List, [], ◌∷◌, length, map, Option, Some}
+use Rattle.std.proofs.Common.{inl, inr, refl, Bool, true, false, nat_lt, if◌then◌else◌, sym, ap, ◌∙◌, subst, arith}
+use Rattle.std.proofs.lemmas.Bool.{ltb-true}
 use Rattle.std.proofs.lemmas.List.{length-map}
 use Rattle.codegen.proofs.program_logic_lemmas.Counted.{no_code, Runs, Setting, then_runs, weaken_runs}
-use Rattle.linked_calls.proofs.Below.{AreBytes, AreData, Arg, argument_code, argument_offset, arguments_code}
-use Rattle.linked_calls.proofs.Below.{arguments_end, Array, array_bytes, ByteMap, CanBeCopied, CanBePut, MachineCode}
+use Rattle.linked_calls.proofs.Below.{AreBytes, AreData, Arg, argument_code, argument_of, argument_offset}
+use Rattle.linked_calls.proofs.Below.{argument_register, argument_registers, arguments_code, arguments_end}
+use Rattle.linked_calls.proofs.Below.{arguments_from, Array, array_bytes, ByteMap, CanBeCopied, CanBePut, MachineCode}
 use Rattle.linked_calls.proofs.Below.{Data, element_bytes, elements_at, Fields, FixedArray, Form, frame_room, HasArray}
-use Rattle.linked_calls.proofs.Below.{is_some-with_number, IsBesides, IsOfCall, IsOnStack, LiesIn, meant, MutableArray}
-use Rattle.linked_calls.proofs.Below.{Pointed, ReadsAnArray, room_base, SingleWord, CallSite, Size, Slot, with_argument}
-use Rattle.linked_calls.proofs.Below.{argument_steps, taken_steps, with_number_outside, word_in, WritesAnArray}
+use Rattle.linked_calls.proofs.Below.{is_some-with_number, IsBesides, IsOfCall, IsOnStack, IsReadable, LiesIn, meant}
+use Rattle.linked_calls.proofs.Below.{MutableArray, number_at, number_at_same, passed_in, place_before, place_behind}
+use Rattle.linked_calls.proofs.Below.{Pointed, ReadsAnArray, room_base, SingleWord, CallSite, Size, Slot, State}
+use Rattle.linked_calls.proofs.Below.{stacked_offset, with_argument, with_arguments}
+use Rattle.linked_calls.proofs.Below.{argument_steps, taken_steps, with_number_outside, WritesAnArray}
 use Rattle.language.specs.declared.values.Arg.TheVariants.{Word}
+use Rattle.linked_calls.specs.Calls.{ArePassed, IsPassed}
 use Rattle.rv_machine.specs.declared.memory.Size.TheVariants as sizes
 use Rattle.rv_machine.specs.declared.observation.Event.TheVariants as event
-use Rattle.linked_calls.proofs.Between.{AreReady, IsReady, saved_at}
-use Rattle.linked_calls.proofs.Bytes.{IsOutside, SameData, number_there, numbers_count, numbers_outside}
+use Rattle.linked_calls.proofs.Between.{PlaceBehind, saved_at}
+use Rattle.linked_calls.proofs.Bytes.{IsOutside, SameData, number_there, numbers_count, numbers_outside, numbers_same}
 use Rattle.linked_calls.proofs.ByteData.{number_stays, numbers_stay}
 use Rattle.linked_calls.proofs.Bytes.{is_some-with_numbers}
-use Rattle.linked_calls.proofs.Copies.{array_runs as copies_run}
+use Rattle.linked_calls.proofs.Copies.{taken_runs as copies_run}
+use Rattle.linked_calls.proofs.Passed.{Passes, array_outside}
+use Rattle.linked_calls.proofs.SavedRegisters.{registers_from}
 use Rattle.linked_calls.proofs.SectionSteps.{arguments_steps}
-use Rattle.linked_calls.proofs.Rooms.{RoomNumbers}
-use Rattle.linked_calls.proofs.SameRegisters.{IsNone, same_beside}
-use Rattle.linked_calls.proofs.Staying.{stay_ready}
+use Rattle.linked_calls.proofs.Rooms.{RoomNumbers, outside_frame}
+use Rattle.linked_calls.proofs.SameRegisters.{IsNone, none_of}
 use Rattle.linked_calls.proofs.Words.{word_runs}
 
 -- the setting of a call: its code, and the accesses that it may make
 abbrev pub call_setting : Fields → MachineCode → CallSite → Setting
 call_setting image code site = record { code = code; allowed = IsOfCall image site; silent = λ sp. tt }
 
--- what the code of arguments and arrays writes
-abbrev pub taken_registers : List ℕ
-taken_registers = 5 ∷ 6 ∷ 7 ∷ 28 ∷ []
+-- what the code of arrays writes, and that of arguments
+abbrev pub copying_registers : List ℕ
+copying_registers = 5 ∷ 6 ∷ 7 ∷ 28 ∷ []
 
--- the bytes are those that a function gives, and no other register has changed
-pub record TakesArguments (goal : Data → ByteMap) (s t : Data) : Type 0 where
-  pub bytes : t.bytes ≡ goal s
-  pub others : (q : ℕ) → IsNone taken_registers q → t.regs q ≡ s.regs q
-
-pub still_base : (goal : Data → ByteMap) (s t : Data) → TakesArguments goal s t → t.regs 2 ≡ s.regs 2
-still_base goal s t takes = (same_beside taken_registers t.regs s.regs takes.others (2 ∷ []) refl).0
+abbrev pub taking_registers : List ℕ
+taking_registers = 5 ∷ 6 ∷ 7 ∷ 28 ∷ argument_registers
 
 -- An argument at its slot.
 
@@ -79,20 +80,21 @@ module _ (image : Fields) (site : CallSite) where
 
   pub record KnownWord (i : ℕ) (slot : Slot) : Type 0 where
     pub can : CanBePut image slot (room_base image site) i
-    pub place_inside : room_base image site + argument_offset image i + 4 ≤ arguments_end image site
     pub inside : slot.offset + 4 ≤ frame_room image
 
   -- an array
   pub record KnownArray (i : ℕ) (slot : Slot) : Type 0 where
-    pub can : CanBeCopied image slot (spot_at i)
+    pub can : CanBeCopied slot (spot_at i) (place_before image (spot_at i))
+    pub readable : IsReadable image site i slot
     pub reads : (a : ℕ) (size : Size) → LiesIn (site.pointers i) (site.pointers i + array_bytes slot) a size
         → ReadsAnArray site 0 image.slots a size
-    pub place_inside : room_base image site + argument_offset image i + 4 ≤ arguments_end image site
     pub inside : slot.offset + array_bytes slot ≤ frame_room image
 
   -- and one that is handed back
   pub record KnownOutput (i : ℕ) (slot : Slot) : Type 0 where
     pub known : KnownArray i slot
+    pub back : CanBeCopied slot (spot_at i) (place_behind image (spot_at i))
+    pub place : PlaceBehind image site (argument_offset image i)
     pub writes : (a : ℕ) (size : Size) → LiesIn (site.pointers i) (site.pointers i + array_bytes slot) a size
         → WritesAnArray site 0 image.slots a size
     pub beside : IsBesides (site.pointers i) (array_bytes slot) (room_base image site) (arguments_end image site)
@@ -106,6 +108,93 @@ module _ (image : Fields) (site : CallSite) where
   AreKnown i [] = Unit {0}
   AreKnown i (slot ∷ slots) = IsKnown i slot slot.param.form × AreKnown (i + 1) slots
 
+  -- What is taken: each argument as it is at a call.
+  module _ (s : State) where
+    -- the bytes with an argument in its slot
+    abbrev pub taken : ByteMap → ℕ → Slot → Form → ByteMap
+    taken bytes i slot form = with_argument (room_base image site) bytes slot (argument_of site s i slot form)
+
+    abbrev pub all_taken : ByteMap → ℕ → List Slot → ByteMap
+    all_taken bytes i slots = with_arguments (room_base image site) bytes slots (arguments_from site s i slots)
+
+    -- it lies in the frame
+
+    elements_fit : (i : ℕ) (slot : Slot) → slot.offset + array_bytes slot ≤ frame_room image
+        → slot.offset + element_bytes slot.param.kind
+        * length (map (meant slot.param.kind) (elements_at slot s.bytes (site.pointers i))) ≤ frame_room image
+    elements_fit i slot inside =
+        let vs = elements_at slot s.bytes (site.pointers i) in
+        let count = length-map vs (meant slot.param.kind)
+        ∙ numbers_count s.bytes (element_bytes slot.param.kind) (site.pointers i) slot.param.length in
+        subst (λ k. slot.offset + element_bytes slot.param.kind * k ≤ frame_room image) (sym count) inside
+
+    fits : (i : ℕ) (slot : Slot) (form : Form) → IsKnown i slot form
+        → slot.offset + put_bytes slot (argument_of site s i slot form) ≤ frame_room image
+    fits i slot SingleWord known = known.inside
+    fits i slot FixedArray known = elements_fit i slot known.inside
+    fits i slot MutableArray known = elements_fit i slot known.known.inside
+
+    pub taken_outside : (bytes : ByteMap) (i : ℕ) (slot : Slot) (form : Form) (x : ℕ) → IsKnown i slot form
+        → IsOutside (room_base image site) (saved_at image site) x → taken bytes i slot form x ≡ bytes x
+    taken_outside bytes i slot form x known outside =
+        put_outside (room_base image site) bytes slot (argument_of site s i slot form) x (by outside)
+      where
+        by : IsOutside (room_base image site) (saved_at image site) x → IsOutside (room_base image site + slot.offset)
+            (room_base image site + slot.offset + put_bytes slot (argument_of site s i slot form)) x
+        by (inl low) = inl (omega arith)
+        by (inr high) = let inside = fits i slot form known in inr (omega arith)
+
+    pub all_taken_outside : (bytes : ByteMap) (i : ℕ) (slots : List Slot) (x : ℕ) → AreKnown i slots
+        → IsOutside (room_base image site) (saved_at image site) x → all_taken bytes i slots x ≡ bytes x
+    all_taken_outside bytes i [] x known outside = refl
+    all_taken_outside bytes i (slot ∷ slots) x known outside =
+        all_taken_outside (taken bytes i slot slot.param.form) (i + 1) slots x known.1 outside
+        ∙ taken_outside bytes i slot slot.param.form x known.0 outside
+
+    taken_data : (bytes : ByteMap) (i : ℕ) (slot : Slot) (form : Form) → IsKnown i slot form
+        → AreData (room_base image site) (saved_at image site) bytes → SameData bytes (taken bytes i slot form)
+    taken_data bytes i slot form known there =
+        let inside = fits i slot form known in
+        put_data (room_base image site) bytes slot (argument_of site s i slot form)
+        (λ x low high. there x (omega arith) (omega arith))
+
+    pub all_taken_data : (bytes : ByteMap) (i : ℕ) (slots : List Slot) → AreKnown i slots
+        → AreData (room_base image site) (saved_at image site) bytes → SameData bytes (all_taken bytes i slots)
+    all_taken_data bytes i [] known there x = refl
+    all_taken_data bytes i (slot ∷ slots) known there x =
+        let same = taken_data bytes i slot slot.param.form known.0 there in
+        all_taken_data (taken bytes i slot slot.param.form) (i + 1) slots known.1
+        (λ y low high. same y ∙ there y low high) x
+        ∙ same x
+
+    -- data stays bytes
+    taken_stays : (bytes : ByteMap) (i : ℕ) (slot : Slot) (form : Form) → AreBytes bytes
+        → AreBytes (taken bytes i slot form)
+    taken_stays bytes i slot form are =
+        put_stays (room_base image site) bytes slot (argument_of site s i slot form) are
+
+  -- Before and behind.
+
+  -- x2 is the frame's base, data is bytes, room and arguments are data, and the arguments from the i-th on are those of
+  -- a call
+  pub record TakingBegins (i : ℕ) (Given : State → Type 0) (d : Data) : Type 0 where
+    pub stack : d.regs 2 ≡ room_base image site
+    pub bytes : AreBytes d.bytes
+    pub there : AreData (room_base image site) (arguments_end image site) d.bytes
+    pub call : State
+    pub passes : Passes image site call i d
+    pub given : Given call
+
+  -- an argument is in its slot, as at each call of which it is
+  pub record TakesOne (i : ℕ) (slot : Slot) (form : Form) (d t : Data) : Type 0 where
+    pub bytes : (s : State) → Passes image site s i d → t.bytes ≡ taken s d.bytes i slot form
+    pub others : (q : ℕ) → IsNone copying_registers q → q ≢ argument_register i → t.regs q ≡ d.regs q
+
+  -- all from the i-th on
+  pub record TakesAll (i : ℕ) (slots : List Slot) (d t : Data) : Type 0 where
+    pub bytes : (s : State) → Passes image site s i d → t.bytes ≡ all_taken s d.bytes i slots
+    pub others : (q : ℕ) → IsNone taking_registers q → t.regs q ≡ d.regs q
+
   -- x2 is the frame's base, data is bytes, room and arguments are data, and the arrays are ready
   pub record ArgumentsBegin (Ready : ByteMap → Type 0) (s : Data) : Type 0 where
     pub stack : s.regs 2 ≡ room_base image site
@@ -113,78 +202,36 @@ module _ (image : Fields) (site : CallSite) where
     pub there : AreData (room_base image site) (arguments_end image site) s.bytes
     pub ready : Ready s.bytes
 
-  -- What is taken.
+  -- Registers.
 
-  -- what an argument means, as it stands in these bytes
-  abbrev pub argument_in : ByteMap → ℕ → Slot → Form → Arg
-  argument_in bytes i slot SingleWord =
-      Word (meant slot.param.kind (word_in (room_base image site) bytes (argument_offset image i)))
-  argument_in bytes i slot FixedArray = Array (map (meant slot.param.kind) (elements_at slot bytes (site.pointers i)))
-  argument_in bytes i slot MutableArray = Array (map (meant slot.param.kind) (elements_at slot bytes (site.pointers i)))
+  none_from : (r n i q : ℕ) → IsNone (registers_from r n) q → i < n → q ≢ r + i
+  none_from r zero i q none few = absurd (omega arith)
+  none_from r (suc n) zero q none few = λ e. none.0 (omega (arith, e))
+  none_from r (suc n) (suc i) q none few = λ e. none_from (r + 1) n i q none.1 (omega arith) (omega (arith, e))
 
-  -- the bytes with an argument in its slot
-  abbrev pub taken : ByteMap → ℕ → Slot → Form → ByteMap
-  taken bytes i slot form = with_argument (room_base image site) bytes slot (argument_in bytes i slot form)
-
-  abbrev pub all_taken : ByteMap → ℕ → List Slot → ByteMap
-  all_taken bytes i [] = bytes
-  all_taken bytes i (slot ∷ slots) = all_taken (taken bytes i slot slot.param.form) (i + 1) slots
-
-  -- it lies in the frame
-
-  elements_fit : (bytes : ByteMap) (i : ℕ) (slot : Slot) → slot.offset + array_bytes slot ≤ frame_room image
-      → slot.offset + element_bytes slot.param.kind
-      * length (map (meant slot.param.kind) (elements_at slot bytes (site.pointers i))) ≤ frame_room image
-  elements_fit bytes i slot inside =
-      let vs = elements_at slot bytes (site.pointers i) in
-      let count = length-map vs (meant slot.param.kind)
-      ∙ numbers_count bytes (element_bytes slot.param.kind) (site.pointers i) slot.param.length in
-      subst (λ k. slot.offset + element_bytes slot.param.kind * k ≤ frame_room image) (sym count) inside
-
-  fits : (bytes : ByteMap) (i : ℕ) (slot : Slot) (form : Form) → IsKnown i slot form
-      → slot.offset + put_bytes slot (argument_in bytes i slot form) ≤ frame_room image
-  fits bytes i slot SingleWord known = known.inside
-  fits bytes i slot FixedArray known = elements_fit bytes i slot known.inside
-  fits bytes i slot MutableArray known = elements_fit bytes i slot known.known.inside
-
-  pub taken_outside : (bytes : ByteMap) (i : ℕ) (slot : Slot) (form : Form) (x : ℕ) → IsKnown i slot form
-      → IsOutside (room_base image site) (saved_at image site) x → taken bytes i slot form x ≡ bytes x
-  taken_outside bytes i slot form x known outside =
-      put_outside (room_base image site) bytes slot (argument_in bytes i slot form) x (by outside)
+  none_taking : (i q : ℕ) → IsNone taking_registers q → q ≢ argument_register i
+  none_taking i q none = by (nat_lt i 8) refl
     where
-      by : IsOutside (room_base image site) (saved_at image site) x → IsOutside (room_base image site + slot.offset)
-          (room_base image site + slot.offset + put_bytes slot (argument_in bytes i slot form)) x
-      by (inl low) = inl (omega arith)
-      by (inr high) = let inside = fits bytes i slot form known in inr (omega arith)
+      by : (b : Bool) → nat_lt i 8 ≡ b → q ≢ (if b then 10 + i else 5)
+      by true h = none_from 10 8 i q none.1.1.1.1 (ltb-true i 8 h)
+      by false h = none.0
 
-  pub all_taken_outside : (bytes : ByteMap) (i : ℕ) (slots : List Slot) (x : ℕ) → AreKnown i slots
-      → IsOutside (room_base image site) (saved_at image site) x → all_taken bytes i slots x ≡ bytes x
-  all_taken_outside bytes i [] x known outside = refl
-  all_taken_outside bytes i (slot ∷ slots) x known outside =
-      all_taken_outside (taken bytes i slot slot.param.form) (i + 1) slots x known.1 outside
-      ∙ taken_outside bytes i slot slot.param.form x known.0 outside
+  other_register : (i j : ℕ) → i < j → 10 + j ≢ argument_register i
+  other_register i j more = by (nat_lt i 8) refl
+    where
+      by : (b : Bool) → nat_lt i 8 ≡ b → 10 + j ≢ (if b then 10 + i else 5)
+      by true h = λ e. omega arith
+      by false h = λ e. omega arith
 
-  taken_data : (bytes : ByteMap) (i : ℕ) (slot : Slot) (form : Form) → IsKnown i slot form
-      → AreData (room_base image site) (saved_at image site) bytes → SameData bytes (taken bytes i slot form)
-  taken_data bytes i slot form known there =
-      let inside = fits bytes i slot form known in
-      put_data (room_base image site) bytes slot (argument_in bytes i slot form)
-      (λ x low high. there x (omega arith) (omega arith))
+  base_other : (i : ℕ) → 2 ≢ argument_register i
+  base_other i = by (nat_lt i 8) refl
+    where
+      by : (b : Bool) → nat_lt i 8 ≡ b → 2 ≢ (if b then 10 + i else 5)
+      by true h = λ e. omega arith
+      by false h = λ e. omega arith
 
-  pub all_taken_data : (bytes : ByteMap) (i : ℕ) (slots : List Slot) → AreKnown i slots
-      → AreData (room_base image site) (saved_at image site) bytes → SameData bytes (all_taken bytes i slots)
-  all_taken_data bytes i [] known there x = refl
-  all_taken_data bytes i (slot ∷ slots) known there x =
-      let same = taken_data bytes i slot slot.param.form known.0 there in
-      all_taken_data (taken bytes i slot slot.param.form) (i + 1) slots known.1
-      (λ y low high. same y ∙ there y low high) x
-      ∙ same x
-
-  -- data stays bytes
-  taken_stays : (bytes : ByteMap) (i : ℕ) (slot : Slot) (form : Form) → AreBytes bytes
-      → AreBytes (taken bytes i slot form)
-  taken_stays bytes i slot form are =
-      put_stays (room_base image site) bytes slot (argument_in bytes i slot form) are
+  none_copying : (j : ℕ) → j < 8 → IsNone copying_registers (10 + j)
+  none_copying j few = (λ e. omega arith, (λ e. omega arith, (λ e. omega arith, (λ e. omega arith, tt))))
 
   -- One after another.
 
@@ -200,96 +247,153 @@ module _ (image : Fields) (site : CallSite) where
         → IsOnStack (room_base image site) site.stack (room_base image site) b size
     on_stack a n from to b size lies = ((omega arith, omega arith), omega arith)
 
-    pub place_allowed : (i : ℕ) → room_base image site + argument_offset image i + 4 ≤ arguments_end image site
-        → IsOfCall image site (room_base image site)
-        (Some (event.Load (room_base image site + argument_offset image i) sizes.Word))
-    place_allowed i inside = inl ((omega arith, omega arith), omega arith)
+    pub place_allowed : (offset : ℕ) → room_base image site + offset + 4 ≤ arguments_end image site
+        → IsOfCall image site (room_base image site) (Some (event.Load (room_base image site + offset) sizes.Word))
+    place_allowed offset inside = inl ((omega arith, omega arith), omega arith)
 
     pub slot_within : (slot : Slot) (n : ℕ) → slot.offset + n ≤ frame_room image
         → room_base image site + slot.offset + n ≤ site.stack
     slot_within slot n inside = omega arith
 
+    -- the place of an argument that no register holds
+    stacked_allowed : (i : ℕ) → i < length image.slots → 8 ≤ i
+        → IsOfCall image site (room_base image site)
+        (Some (event.Load (room_base image site + stacked_offset image i) sizes.Word))
+    stacked_allowed i few many = place_allowed (stacked_offset image i) (omega arith)
+
+    -- the arguments behind one that is taken are as they were
+    passes_on : (i : ℕ) (slot : Slot) (form : Form) → IsKnown i slot form → (s : State) (d t : Data)
+        → Passes image site s i d → TakesOne i slot form d t → Passes image site s (i + 1) t
+    passes_on i slot form known s d t passes takes = record {
+      raw = λ j from few. by j (nat_lt j 8) refl from few ∙ passes.raw j (omega arith) few;
+      outside = λ x out. same x (outside_frame image site numbers x out) ∙ passes.outside x out;
+    }
+      where
+        same : (x : ℕ) → IsOutside (room_base image site) (saved_at image site) x → t.bytes x ≡ d.bytes x
+        same x out = ap (λ (b : ByteMap). b x) (takes.bytes s passes) ∙ taken_outside s d.bytes i slot form x known out
+
+        by : (j : ℕ) (b : Bool) → nat_lt j 8 ≡ b → i + 1 ≤ j → j < length image.slots
+            → (if b then Some (t.regs (10 + j)) else number_at t.bytes 4 (room_base image site + stacked_offset image j))
+            ≡ (if b then Some (d.regs (10 + j)) else number_at d.bytes 4 (room_base image site + stacked_offset image j))
+        by j true h from few =
+            ap Some (takes.others (10 + j) (none_copying j (ltb-true j 8 h)) (other_register i j (omega arith)))
+        by j false h from few =
+            number_at_same d.bytes t.bytes 4 (room_base image site + stacked_offset image j)
+            (λ x low high. same x (inr (omega arith)))
+
     -- what stands in memory where an array is copied
-    pub array_begins : (i : ℕ) (slot : Slot) → KnownArray i slot → (s : Data)
-        → ArgumentsBegin (λ bytes. IsReady image site bytes i slot FixedArray) s → HasArray image slot (spot_at i) s
-    array_begins i slot known s begins =
+    array_begins : (i : ℕ) (slot : Slot) → i < length image.slots → KnownArray i slot → (d : Data)
+        → TakingBegins i (λ s. IsPassed site s i slot FixedArray) d
+        → HasArray slot (spot_at i) (passed_in image (room_base image site) i) d
+    array_begins i slot few known d begins =
         let under = room in
         record {
           stack = begins.stack;
-          argument = begins.ready.pointer;
-          array_there = begins.ready.array;
+          points = begins.passes.raw i (omega arith) few ∙ ap Some begins.given.pointer;
+          array_there = λ x from to. ap is_some
+              (begins.passes.outside x (array_outside image site i slot known.readable x from to))
+              ∙ begins.given.there x from to;
           slot_there = λ x l h. begins.there x (omega arith) (omega arith);
           bytes = begins.bytes;
         }
 
-    array_runs : (i : ℕ) (slot : Slot) → KnownArray i slot
+    array_is : (i : ℕ) (slot : Slot) → IsReadable image site i slot → (s : State) (d : Data)
+        → Passes image site s i d
+        → with_argument (room_base image site) d.bytes slot
+        (Array (map (meant slot.param.kind) (elements_at slot d.bytes (site.pointers i))))
+        ≡ taken s d.bytes i slot FixedArray
+    array_is i slot readable s d passes =
+        ap (λ (vs : List ℕ). with_argument (room_base image site) d.bytes slot (Array (map (meant slot.param.kind) vs)))
+        (numbers_same s.bytes d.bytes (element_bytes slot.param.kind) (site.pointers i) slot.param.length
+        (λ x from to. passes.outside x (array_outside image site i slot readable x from to)))
+
+    array_runs : (i : ℕ) (slot : Slot) → i < length image.slots → KnownArray i slot
         → Runs z (taken_steps image i slot (site.pointers i)) (argument_code image i slot FixedArray)
-        (ArgumentsBegin (λ bytes. IsReady image site bytes i slot FixedArray))
-        (TakesArguments (λ s. taken s.bytes i slot FixedArray))
-    array_runs i slot known =
+        (TakingBegins i (λ s. IsPassed site s i slot FixedArray)) (TakesOne i slot FixedArray)
+    array_runs i slot few known =
         let at = room_base image site + slot.offset in
-        weaken_runs z {P' = ArgumentsBegin (λ bytes. IsReady image site bytes i slot FixedArray)}
-        {R' = TakesArguments (λ s. taken s.bytes i slot FixedArray)}
-        (copies_run image slot (spot_at i) known.can true z (place_allowed i known.place_inside)
+        weaken_runs z {P' = TakingBegins i (λ s. IsPassed site s i slot FixedArray)} {R' = TakesOne i slot FixedArray}
+        (copies_run image slot (spot_at i) known.can z (stacked_allowed i few)
         (λ a size lies. inr (known.reads a size lies))
         (λ a size lies. inl (on_stack at (array_bytes slot) (omega arith)
         (slot_within slot (array_bytes slot) known.inside) a size lies)))
-        (array_begins i slot known)
-        (λ s t begins copied. record {
-          bytes = copied.bytes;
-          others = λ q none. copied.others q none.0 none.1.0 none.1.1.0 none.1.1.1.0;
+        (array_begins i slot few known)
+        (λ d t begins copied. record {
+          bytes = λ s passes. copied.bytes ∙ array_is i slot known.readable s d passes;
+          others = λ q none other. copied.others q none.0 none.1.0 none.1.1.0 none.1.1.1.0;
         })
 
-    argument_runs : (i : ℕ) (slot : Slot) (form : Form) → IsKnown i slot form
+    argument_runs : (i : ℕ) (slot : Slot) (form : Form) → i < length image.slots → IsKnown i slot form
         → Runs z (argument_steps image site.pointers i slot form) (argument_code image i slot form)
-        (ArgumentsBegin (λ bytes. IsReady image site bytes i slot form))
-        (TakesArguments (λ s. taken s.bytes i slot form))
-    argument_runs i slot SingleWord known =
+        (TakingBegins i (λ s. IsPassed site s i slot form)) (TakesOne i slot form)
+    argument_runs i slot SingleWord few known =
         let under = room in
         let ends = slot_within slot 4 known.inside in
-        weaken_runs z {P' = ArgumentsBegin (λ bytes. IsReady image site bytes i slot SingleWord)}
-        {R' = TakesArguments (λ s. taken s.bytes i slot SingleWord)}
-        (word_runs z image slot (room_base image site) i known.can (place_allowed i known.place_inside)
+        weaken_runs z {P' = TakingBegins i (λ s. IsPassed site s i slot SingleWord)} {R' = TakesOne i slot SingleWord}
+        (word_runs z image slot (room_base image site) i known.can (stacked_allowed i few)
         (inl ((omega arith, omega arith), omega arith)))
-        (λ s begins. record {
+        (λ d begins. record {
           stack = begins.stack;
-          argument_there = λ x l h. begins.there x (omega arith) (omega arith);
+          passed = ap is_some (begins.passes.raw i (omega arith) few);
           slot_there = λ x l h. begins.there x (omega arith) (omega arith);
         })
-        (λ s t begins put. record { bytes = put.bytes; others = λ q none. put.others q none.0 none.1.1.1.0 })
-    argument_runs i slot FixedArray known = array_runs i slot known
-    argument_runs i slot MutableArray known = array_runs i slot known.known
+        (λ d t begins put. record {
+          bytes = λ s passes. put.bytes
+              ∙ ap (λ (o : Option ℕ). with_argument (room_base image site) d.bytes slot
+              (Word (meant slot.param.kind (unwrap_or o 0)))) (passes.raw i (omega arith) few);
+          others = λ q none other. put.others q other none.1.1.1.0;
+        })
+    argument_runs i slot FixedArray few known = array_runs i slot few known
+    argument_runs i slot MutableArray few known =
+        weaken_runs z {P' = TakingBegins i (λ s. IsPassed site s i slot MutableArray)}
+        {R' = TakesOne i slot MutableArray} (array_runs i slot few known.known)
+        (λ d begins. record {
+          stack = begins.stack;
+          bytes = begins.bytes;
+          there = begins.there;
+          call = begins.call;
+          passes = begins.passes;
+          given = begins.given;
+        })
+        (λ d t begins takes. record { bytes = takes.bytes; others = takes.others })
 
     -- all of them
     pub arguments_runs : (i : ℕ) (slots : List Slot) → i + length slots ≡ length image.slots → AreKnown i slots
         → Runs z (arguments_steps image site.pointers i slots) (arguments_code image i slots)
-        (ArgumentsBegin (λ bytes. AreReady image site bytes i slots)) (TakesArguments (λ s. all_taken s.bytes i slots))
-    arguments_runs i [] count known = no_code z (λ s begins. record { bytes = refl; others = λ q none. refl })
+        (TakingBegins i (λ s. ArePassed site s i slots)) (TakesAll i slots)
+    arguments_runs i [] count known =
+        no_code z (λ d begins. record { bytes = λ s passes. refl; others = λ q none. refl })
     arguments_runs i (slot ∷ slots) count known =
         let form = slot.param.form in
         let under = room in
-        then_runs z (weaken_runs z {P' = ArgumentsBegin (λ bytes. AreReady image site bytes i (slot ∷ slots))}
-        {R' = TakesArguments (λ s. taken s.bytes i slot form)} (argument_runs i slot form known.0)
-        (λ s begins. record {
+        then_runs z
+        (weaken_runs z {P' = TakingBegins i (λ s. ArePassed site s i (slot ∷ slots))} {R' = TakesOne i slot form}
+        (argument_runs i slot form (omega arith) known.0)
+        (λ d begins. record {
           stack = begins.stack;
           bytes = begins.bytes;
           there = begins.there;
-          ready = begins.ready.0;
+          call = begins.call;
+          passes = begins.passes;
+          given = begins.given.0;
         })
-        (λ s t begins takes. takes))
+        (λ d t begins takes. takes))
         (arguments_runs (i + 1) slots (omega arith) known.1)
-        (λ s t begins takes.
-        let same = taken_data s.bytes i slot form known.0 (λ x l h. begins.there x l (omega arith)) in
+        (λ d t begins takes.
+        let s = begins.call in
+        let made = takes.bytes s begins.passes in
+        let same = taken_data s d.bytes i slot form known.0 (λ x l h. begins.there x l (omega arith)) in
         record {
-          stack = still_base _ s t takes ∙ begins.stack;
-          bytes = subst AreBytes (sym takes.bytes) (taken_stays s.bytes i slot form begins.bytes);
-          there = λ x l h. ap (λ (b : ByteMap). is_some (b x)) takes.bytes ∙ same x ∙ begins.there x l h;
-          ready = subst (λ (b : ByteMap). AreReady image site b (i + 1) slots) (sym takes.bytes)
-              (stay_ready image site numbers s.bytes (taken s.bytes i slot form)
-              (λ x low high. taken_outside s.bytes i slot form x known.0 (inr low)) same (i + 1) slots
-              (omega arith) begins.ready.1);
+          stack = takes.others 2 (none_of copying_registers 2 refl) (base_other i) ∙ begins.stack;
+          bytes = subst AreBytes (sym made) (taken_stays s d.bytes i slot form begins.bytes);
+          there = λ x l h. ap (λ (b : ByteMap). is_some (b x)) made ∙ same x ∙ begins.there x l h;
+          call = s;
+          passes = passes_on i slot form known.0 s d t begins.passes takes;
+          given = begins.given.1;
         })
-        (λ s t u begins takes more. record {
-          bytes = more.bytes ∙ ap (λ (b : ByteMap). all_taken b (i + 1) slots) takes.bytes;
-          others = λ q none. more.others q none ∙ takes.others q none;
+        (λ d t u begins takes more. record {
+          bytes = λ s passes. more.bytes s (passes_on i slot form known.0 s d t passes takes)
+              ∙ ap (λ (b : ByteMap). all_taken s b (i + 1) slots) (takes.bytes s passes);
+          others = λ q none. more.others q none
+              ∙ takes.others q (none.0, (none.1.0, (none.1.1.0, (none.1.1.1.0, tt)))) (none_taking i q none);
         })

@@ -4,12 +4,12 @@ use Rattle.std.specs.Prelude.{is_some}
 use Rattle.std.proofs.Common.{◌≡◌, ℕ, ◌+◌, ◌*◌, ◌<◌, ◌≤◌, List, [], ◌∷◌, ◌++◌, length, inl, inr, refl, sym, ap, ap₂}
 use Rattle.std.proofs.Common.{◌∙◌, subst, arith}
 use Rattle.codegen.proofs.program_logic_lemmas.Counted.{no_code, Runs, Setting, then_runs, weaken_runs}
-use Rattle.linked_calls.proofs.Below.{AreBytes, AreData, arguments_end, array_bytes, array_in, arrays_behind}
+use Rattle.linked_calls.proofs.Below.{AreBytes, AreData, argument_offset, arguments_end, Data, array_bytes, array_in, arrays_behind}
 use Rattle.linked_calls.proofs.Below.{arrays_in, ByteMap, MachineCode, copy_out_code, element_bytes, elements_at, Fields, FixedArray, Form}
 use Rattle.linked_calls.proofs.Below.{IsBesides, IsOnStack, MutableArray, results_code, room_base, SingleWord, CallSite}
 use Rattle.linked_calls.proofs.Below.{Size, Slot, with_array, with_arrays, with_numbers}
-use Rattle.linked_calls.proofs.AllArguments.{AreKnown, ArgumentsBegin, IsKnown, TakesArguments, array_begins}
-use Rattle.linked_calls.proofs.AllArguments.{call_setting, on_stack, place_allowed, slot_within, spot_at, still_base}
+use Rattle.linked_calls.proofs.AllArguments.{AreKnown, ArgumentsBegin, IsKnown, copying_registers}
+use Rattle.linked_calls.proofs.AllArguments.{call_setting, on_stack, place_allowed, slot_within, spot_at}
 use Rattle.linked_calls.proofs.Between.{AreReady, IsReady}
 use Rattle.linked_calls.proofs.Bytes.{IsOutside, SameData, numbers_count, numbers_outside, is_some-with_numbers}
 use Rattle.linked_calls.proofs.ByteData.{numbers_stay}
@@ -17,7 +17,13 @@ use Rattle.linked_calls.proofs.Bytes.{numbers_same}
 use Rattle.linked_calls.proofs.Copies.{handed_runs as handed_by}
 use Rattle.linked_calls.proofs.SectionSteps.{output_steps, outputs_steps}
 use Rattle.linked_calls.proofs.Rooms.{RoomNumbers}
+use Rattle.linked_calls.proofs.SameRegisters.{IsNone, same_beside}
 use Rattle.linked_calls.proofs.Staying.{stay_ready}
+
+-- the bytes are those that a function gives, and no register has changed but those that copying writes
+pub record HandsBack (goal : Data → ByteMap) (s t : Data) : Type 0 where
+  pub bytes : t.bytes ≡ goal s
+  pub others : (q : ℕ) → IsNone copying_registers q → t.regs q ≡ s.regs q
 
 module _ (image : Fields) (code : MachineCode) (site : CallSite) (numbers : RoomNumbers image site) where
   abbrev z : Setting
@@ -51,17 +57,26 @@ module _ (image : Fields) (code : MachineCode) (site : CallSite) (numbers : Room
   output_runs : (i : ℕ) (slot : Slot) (form : Form) → IsKnown image site i slot form
       → Runs z (output_steps image site.pointers i slot form) (copy_out_code image i slot form)
       (ArgumentsBegin image site (λ bytes. IsReady image site bytes i slot form))
-      (TakesArguments (λ s. handed s.bytes i slot form))
+      (HandsBack (λ s. handed s.bytes i slot form))
   output_runs i slot MutableArray known =
       weaken_runs z {P' = ArgumentsBegin image site (λ bytes. IsReady image site bytes i slot MutableArray)}
-      {R' = TakesArguments (λ s. handed s.bytes i slot MutableArray)}
-      (handed_by image slot (spot_at image site i) known.known.can z
-      (place_allowed image site code numbers i known.known.place_inside)
+      {R' = HandsBack (λ s. handed s.bytes i slot MutableArray)}
+      (handed_by image slot (spot_at image site i) known.back z
+      (place_allowed image site code numbers (argument_offset image i) known.place.inside)
       (λ a size lies.
       inl (longer a size (on_stack image site code numbers (base + slot.offset) (array_bytes slot) (omega arith)
       (slot_within image site code numbers slot (array_bytes slot) known.known.inside) a size lies)))
       (λ a size lies. inr (known.writes a size lies)))
-      (array_begins image site code numbers i slot known.known)
+      (λ s begins.
+      let under = numbers.arguments in
+      record {
+        stack = begins.stack;
+        points = begins.ready.pointer;
+        array_there = begins.ready.array;
+        slot_there = λ x l h. begins.there x (omega arith)
+            (omega (arith, slot_within image site code numbers slot (array_bytes slot) known.known.inside));
+        bytes = begins.bytes;
+      })
       (λ s t begins back. record {
         bytes = back.bytes;
         others = λ q none. back.others q none.0 none.1.0 none.1.1.0 none.1.1.1.0;
@@ -154,13 +169,13 @@ module _ (image : Fields) (code : MachineCode) (site : CallSite) (numbers : Room
   handed_runs : (i : ℕ) (slots : List Slot) → i + length slots ≡ length image.slots → AreKnown image site i slots
       → Runs z (outputs_steps image site.pointers i slots) (results_code image i slots)
       (ArgumentsBegin image site (λ bytes. AreReady image site bytes i slots))
-      (TakesArguments (λ s. all_handed s.bytes i slots))
+      (HandsBack (λ s. all_handed s.bytes i slots))
   handed_runs i [] count known = no_code z (λ s begins. record { bytes = refl; others = λ q none. refl })
   handed_runs i (slot ∷ slots) count known =
       let form = slot.param.form in
       then_runs z
       (weaken_runs z {P' = ArgumentsBegin image site (λ bytes. AreReady image site bytes i (slot ∷ slots))}
-      {R' = TakesArguments (λ s. handed s.bytes i slot form)} (output_runs i slot form known.0)
+      {R' = HandsBack (λ s. handed s.bytes i slot form)} (output_runs i slot form known.0)
       (λ s begins. record {
         stack = begins.stack;
         bytes = begins.bytes;
@@ -172,13 +187,13 @@ module _ (image : Fields) (code : MachineCode) (site : CallSite) (numbers : Room
       (λ s t begins takes.
       let same = handed_data s.bytes i slot form begins.ready.0 in
       record {
-        stack = still_base _ s t takes ∙ begins.stack;
+        stack = (same_beside copying_registers t.regs s.regs takes.others (2 ∷ []) refl).0 ∙ begins.stack;
         bytes = subst AreBytes (sym takes.bytes) (handed_stays s.bytes i slot form begins.bytes);
         there = λ x l h. ap (λ (b : ByteMap). is_some (b x)) takes.bytes ∙ same x ∙ begins.there x l h;
         ready = subst (λ (b : ByteMap). AreReady image site b (i + 1) slots) (sym takes.bytes)
-            (stay_ready image site numbers s.bytes (handed s.bytes i slot form)
+            (stay_ready image site s.bytes (handed s.bytes i slot form)
             (λ x low up. handed_apart s.bytes i slot form x known.0 (omega arith) up) same
-            (i + 1) slots (omega arith) begins.ready.1);
+            (i + 1) slots begins.ready.1);
       })
       (λ s t u begins takes more. record {
         bytes = more.bytes ∙ ap (λ (b : ByteMap). all_handed b (i + 1) slots) takes.bytes;
@@ -189,7 +204,7 @@ module _ (image : Fields) (code : MachineCode) (site : CallSite) (numbers : Room
   pub results_runs : AreKnown image site 0 image.slots
       → Runs z (outputs_steps image site.pointers 0 image.slots) (results_code image 0 image.slots)
       (ArgumentsBegin image site (λ bytes. AreReady image site bytes 0 image.slots))
-      (TakesArguments (λ s. with_arrays site s.bytes 0 image.slots (arrays_in base s.bytes image.slots)))
+      (HandsBack (λ s. with_arrays site s.bytes 0 image.slots (arrays_in base s.bytes image.slots)))
   results_runs known =
       weaken_runs z (handed_runs 0 image.slots (omega arith) known)
       (λ s begins. begins)

@@ -45,12 +45,16 @@ pub use Rattle.linked_calls.specs.Cleared.{AreCleared, IsSilent, RegistersAreCle
 pub use Rattle.linked_calls.specs.Convention.{argument_registers, saved_registers, scratch_registers, stack_register}
 pub use Rattle.linked_calls.specs.Written.{is_written, written_of}
 pub use Rattle.linked_calls.specs.Copies.{AreApart, ArrayIsHandedBack, ArrayIsTaken, CanBeCopied, elements_at}
-pub use Rattle.linked_calls.specs.Copies.{HasArray, IsCopying, IsHandedBack, IsArrayTaken, OthersAsBefore, place_of}
+pub use Rattle.linked_calls.specs.Copies.{HasArray, IsCopying, IsHandedBack, IsArrayTaken, OthersAsBefore, place_before}
+pub use Rattle.linked_calls.specs.Copies.{place_behind}
+pub use Rattle.linked_calls.specs.Passing.{passed_in, raw_in}
 pub use Rattle.linked_calls.specs.Copies.{AreShort, CopiesAreShort, Pointed, slot_of}
 pub use Rattle.linked_calls.specs.Does.{AreThere, at, Data, Does}
 pub use Rattle.linked_calls.specs.FunctionCode.{above_code, above_frame, added, address_code, argument_code}
-pub use Rattle.linked_calls.specs.FunctionCode.{argument_offset, arguments_code, first_argument}
-pub use Rattle.linked_calls.specs.FunctionCode.{array_bytes, kept_of, passed_of}
+pub use Rattle.linked_calls.specs.FunctionCode.{argument_offset, argument_register, arguments_code, first_argument}
+pub use Rattle.linked_calls.specs.FunctionCode.{needed_for, needed_from, needed_of, pointer_in_code, pointer_out_code}
+pub use Rattle.linked_calls.specs.FunctionCode.{stacked_code, stacked_offset}
+pub use Rattle.linked_calls.specs.FunctionCode.{array_bytes, kept_of}
 pub use Rattle.linked_calls.specs.FunctionCode.{clear_registers_code, copied_code, copied_in_code, copied_out_code, elements_code}
 pub use Rattle.linked_calls.specs.FunctionCode.{next_code, places_code, rounds_code}
 pub use Rattle.linked_calls.specs.FunctionCode.{array_code, by_alignment_code, by_words_code, goes_in_by_words}

@@ -3,7 +3,7 @@
 use Rattle.hepurita.specs.Begun.{IsBegun}
 use Rattle.hepurita.specs.Blank.{Blank}
 use Rattle.std.specs.Prelude.{sum}
-use Rattle.std.proofs.Common.{◌≡◌, ℕ, suc, ◌+◌, ◌-◌, ◌*◌, ◌%◌, ◌^◌, ◌<◌, List, [], ◌∷◌, length, map, Some}
+use Rattle.std.proofs.Common.{◌≡◌, ℕ, suc, ◌+◌, ◌-◌, ◌*◌, ◌%◌, ◌^◌, ◌<◌, ◌≤◌, List, [], ◌∷◌, length, map, Some}
 use Rattle.std.proofs.Common.{false, None}
 use Rattle.linked_calls.proofs.Below.{AreBytes, AreData, argument_offset, arguments_end, arguments_of, array_bytes}
 use Rattle.linked_calls.proofs.Below.{body_words, ByteMap, MachineCode, enter_code, enter_sections, Fields, FixedArray, Form}
@@ -48,14 +48,21 @@ untouched_registers = 1 ∷ 3 ∷ 4 ∷ []
 abbrev pub saved_at : Fields → CallSite → ℕ
 saved_at image site = room_base image site + frame_room image
 
+-- an argument's place behind the body lies above the frame, in the room or with the caller
+pub record PlaceBehind (image : Fields) (site : CallSite) (offset : ℕ) : Type 0 where
+  pub aligned : (room_base image site + offset) % 4 ≡ 0
+  pub above : saved_at image site ≤ room_base image site + offset
+  pub inside : room_base image site + offset + 4 ≤ arguments_end image site
+
 -- an array's pointer stands at its argument's place, and the array is data
 pub record ReadyArray (image : Fields) (site : CallSite) (bytes : ByteMap) (i : ℕ) (slot : Slot) : Type 0 where
+  pub place : PlaceBehind image site (argument_offset image i)
   pub pointer : number_at bytes 4 (room_base image site + argument_offset image i) ≡ Some (site.pointers i)
   pub array : AreData (site.pointers i) (site.pointers i + array_bytes slot) bytes
 
 abbrev pub IsReady : Fields → CallSite → ByteMap → ℕ → Slot → Form → Type 0
 IsReady image site bytes i slot SingleWord = Unit {0}
-IsReady image site bytes i slot FixedArray = ReadyArray image site bytes i slot
+IsReady image site bytes i slot FixedArray = Unit {0}
 IsReady image site bytes i slot MutableArray = ReadyArray image site bytes i slot
 
 -- those from the i-th argument on

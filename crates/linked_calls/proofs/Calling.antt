@@ -20,7 +20,6 @@ use Rattle.linked_calls.proofs.Between.{EntersFrom, EnteringLeads, CanLeave, Lea
 use Rattle.linked_calls.proofs.Between.{untouched_registers}
 use Rattle.linked_calls.proofs.Bytes.{SameData}
 use Rattle.linked_calls.proofs.KeptRegisters.{left_of, left_same, left_then}
-use Rattle.linked_calls.proofs.Rooms.{room_numbers}
 use Rattle.linked_calls.proofs.SameRegisters.{same_then}
 use Rattle.linked_calls.proofs.SavedRegisters.{saved_same}
 use Rattle.linked_calls.proofs.Standing.{body_stands}
@@ -140,8 +139,8 @@ module _ (image : Fields) {blank : Blank} (code : MachineCode) (site : CallSite)
         (left_same (body_words image.words) saved_registers entered.end.regs s.regs entered.entered.still);
     bytes = bytes_stay (bytes_stay called.bytes entered.leads) run.at_base;
     there = all_there;
-    ready = stay_ready image site (room_numbers image code site is) entered.end.bytes run.end.bytes
-        (λ x low high. same_above x low) data_same 0 image.slots (omega arith) entered.entered.ready;
+    ready = stay_ready image site entered.end.bytes run.end.bytes (λ x low high. same_above x low) data_same 0
+        image.slots entered.entered.ready;
   }
 
   -- so what is left of the bytes behind the body is left of those at the call

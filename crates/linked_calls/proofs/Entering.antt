@@ -1,4 +1,5 @@
--- The entry: room above the frame, and in it the caller's registers that are kept, and the arguments at its end.
+-- The entry: room above the frame, and in it the caller's registers that are kept, and at its end those of a0 to a7 that
+-- are needed behind the body.
 use Rattle.std.specs.Prelude.{take}
 use Rattle.std.proofs.Common.{◌≡◌, ℕ, zero, suc, ◌+◌, ◌-◌, ◌*◌, ◌%◌, ◌^◌, ◌<◌, ◌≤◌, ◌==◌, List, []}
 use Rattle.std.proofs.Common.{◌∷◌, ◌++◌, length, map, refl, sym, ap, ap₂, ◌∙◌, subst, arith, append_assoc, Bool, true, false}

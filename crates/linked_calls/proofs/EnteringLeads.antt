@@ -1,21 +1,23 @@
 -- The code before the body leads from a state in which the function is called to one in which its body begins.
 use Rattle.std.specs.Prelude.{is_some}
-use Rattle.std.proofs.Common.{◌≡◌, ℕ, ◌+◌, ◌-◌, ◌*◌, ◌^◌, ◌<◌, ◌≤◌, Bool, true, false, nat_lt, if◌then◌else◌, List}
+use Rattle.std.proofs.Common.{◌≡◌, ◌≢◌, ℕ, ◌+◌, ◌-◌, ◌*◌, ◌^◌, ◌<◌, ◌≤◌, Bool, true, false, nat_lt, if◌then◌else◌, List}
 use Rattle.std.proofs.Common.{[], None, Option}
 use Rattle.std.proofs.Common.{◌∷◌, ◌++◌, length, map, Some, inl, inr, ⊎_elim, refl, sym, ap, ◌∙◌, subst, arith}
 use Rattle.std.proofs.lemmas.Bool.{cases_lt, ltb-false, ltb-true}
 use Rattle.std.proofs.lemmas.List.{length-map}
 use Rattle.codegen.proofs.program_logic_lemmas.Counted.{in_steps, makes_then, Runs, Setting, then_runs}
-use Rattle.linked_calls.proofs.Below.{above_frame, AreBytes, AreData, argument_offset}
+use Rattle.linked_calls.proofs.Below.{above_frame, AreBytes, AreData, first_argument}
 use Rattle.linked_calls.proofs.Below.{arguments_end, arguments_of, at}
 use Rattle.linked_calls.proofs.Below.{ByteMap, MachineCode, Data, enter_code, entry_code, Fields, found}
 use Rattle.linked_calls.proofs.Below.{frame_room, HasFrame, IsCalled, IsImage, IsOfCall, IsSite}
 use Rattle.linked_calls.proofs.Below.{LeadsWithin, number_at, number_at_same, room_base, saved_registers}
-use Rattle.linked_calls.proofs.Below.{body_words, CallSite, kept_of, passed_of, State, with_numbers, word_in}
-use Rattle.linked_calls.proofs.AllArguments.{AreKnown, ArgumentsBegin, TakesArguments, all_taken, all_taken_data}
-use Rattle.linked_calls.proofs.AllArguments.{all_taken_outside, arguments_runs, call_setting, still_base}
-use Rattle.linked_calls.proofs.AllArguments.{taken_registers}
-use Rattle.linked_calls.proofs.Between.{AreReady, AreSaved, EnteringLeads, IsEntered, IsOutsideRoom, body_at}
+use Rattle.linked_calls.proofs.Below.{body_words, CallSite, kept_of, needed_from, needed_of, stacked_offset, State, unwritten}
+use Rattle.linked_calls.proofs.Below.{with_numbers, word_in}
+use Rattle.linked_calls.specs.Calls.{ArePassed}
+use Rattle.linked_calls.proofs.AllArguments.{AreKnown, TakesAll, TakingBegins, all_taken, all_taken_data}
+use Rattle.linked_calls.proofs.AllArguments.{all_taken_outside, arguments_runs, call_setting}
+use Rattle.linked_calls.proofs.AllArguments.{taking_registers}
+use Rattle.linked_calls.proofs.Between.{AreSaved, EnteringLeads, IsEntered, IsOutsideRoom, body_at}
 use Rattle.linked_calls.proofs.Between.{enter_steps, saved_at, untouched_registers}
 use Rattle.linked_calls.proofs.Bytes.{IsOutside, SameData, number_there, numbers_outside, is_some-with_numbers}
 use Rattle.linked_calls.proofs.ByteData.{numbers_stay}
@@ -23,12 +25,11 @@ use Rattle.linked_calls.proofs.SectionSteps.{arguments_steps, enter_steps_are, e
 use Rattle.linked_calls.proofs.Entering.{entered, entered_bytes, entry_runs}
 use Rattle.linked_calls.proofs.KeptRegisters.{kept_fitting}
 use Rattle.linked_calls.proofs.KnownArguments.{all_known}
-use Rattle.linked_calls.proofs.LoadedArguments.{all_taken_is}
 use Rattle.linked_calls.proofs.Parts.{same_number}
-use Rattle.linked_calls.proofs.Passed.{StandAsPassed, all_ready, still_passed}
+use Rattle.linked_calls.proofs.Passed.{Passes, StandAsPassed, all_ready, still_passed}
 use Rattle.linked_calls.proofs.Pieces.{does}
-use Rattle.linked_calls.proofs.Rooms.{RoomNumbers, place_inside, place_stacked, room_numbers}
-use Rattle.linked_calls.proofs.SameRegisters.{AreSame, same_beside, still_same}
+use Rattle.linked_calls.proofs.Rooms.{RoomNumbers, outside_frame, place_stacked, room_numbers}
+use Rattle.linked_calls.proofs.SameRegisters.{AreSame, are_none, same_beside}
 use Rattle.linked_calls.proofs.SavedRegisters.{stored_are_saved, saved_same, saved_taken}
 use Rattle.linked_calls.proofs.Standing.{enter_placed}
 use Rattle.linked_calls.proofs.BlankWords.{frame_readied, IsReadied}
@@ -70,7 +71,7 @@ module _ (image : Fields) (blank : Blank) (code : MachineCode) (site : CallSite)
   kept = kept_of image
 
   abbrev given : List ℕ
-  given = passed_of image
+  given = needed_of image
 
   abbrev beyond : ℕ
   beyond = above_frame image
@@ -79,7 +80,7 @@ module _ (image : Fields) (blank : Blank) (code : MachineCode) (site : CallSite)
   high = above + (beyond - 4 * length given)
 
   abbrev stored : Data → ByteMap
-  stored d = entered_bytes kept (length image.slots) above high d
+  stored d = entered_bytes kept (needed_from 0 image.slots) above high d
 
   -- with what is kept alone
   abbrev stored_first : Data → ByteMap
@@ -136,23 +137,31 @@ module _ (image : Fields) (blank : Blank) (code : MachineCode) (site : CallSite)
 
   -- Arguments, as they stand then.
 
-  raw_by : (d : Data) → Called d → (i : ℕ) (b : Bool) → nat_lt i 8 ≡ b → i < length image.slots
-      → number_at (stored d) 4 (frame + argument_offset image i)
-      ≡ Some (if b then d.regs (10 + i) else word_in site.stack d.bytes (4 * (i - 8)))
-  raw_by d called i true h few =
-      let place : frame + argument_offset image i ≡ high + 4 * i = omega arith in
-      ap (λ x. number_at (stored d) 4 x) place
-      ∙ saved_taken (stored d) d.regs high 10 (length image.slots) 8 i few (ltb-true i 8 h)
-      (stored_given d called.words)
-  raw_by d called i false h few =
+  -- those of the caller on the stack
+  stacked_raw : (d : Data) → Called d → (bytes : ByteMap)
+      → ((x : ℕ) → site.stack ≤ x → bytes x ≡ d.bytes x) → (i : ℕ) → 8 ≤ i → i < length image.slots
+      → number_at bytes 4 (frame + stacked_offset image i) ≡ Some (word_in site.stack d.bytes (4 * (i - 8)))
+  stacked_raw d called bytes same i many few =
       let a = site.stack + 4 * (i - 8) in
-      let place : frame + argument_offset image i ≡ a = place_stacked image site numbers i (ltb-false i 8 h) few in
-      let inside = place_inside image site numbers i few in
-      ap (λ x. number_at (stored d) 4 x) place
-      ∙ number_at_same d.bytes (stored d) 4 a (λ x low high. stored_outside d x (inr (omega arith)))
+      ap (λ x. number_at bytes 4 x) (place_stacked image site numbers i)
+      ∙ number_at_same d.bytes bytes 4 a (λ x low high. same x (omega arith))
       ∙ found (number_at d.bytes 4 a)
       (number_there d.bytes 4 a (λ x low high. called.there x (omega arith) (omega arith)))
       ∙ ap Some (same_number (number_at d.bytes 4 a))
+
+  raw_by : (d : Data) → Called d → (i : ℕ) (b : Bool) → nat_lt i 8 ≡ b → (i < 8 → i < length given)
+      → i < length image.slots
+      → number_at (stored d) 4 (frame + (if b then room + first_argument image + 4 * i else stacked_offset image i))
+      ≡ Some (if b then d.regs (10 + i) else word_in site.stack d.bytes (4 * (i - 8)))
+  raw_by d called i true h is_stored few =
+      let small = ltb-true i 8 h in
+      let own = is_stored small in
+      let place : frame + (room + first_argument image + 4 * i) ≡ high + 4 * i = omega arith in
+      ap (λ x. number_at (stored d) 4 x) place
+      ∙ saved_taken (stored d) d.regs high 10 (needed_from 0 image.slots) 8 i (omega (arith, own, numbers.needed_count))
+      small (stored_given d called.words)
+  raw_by d called i false h is_stored few =
+      stacked_raw d called (stored d) (λ x from. stored_outside d x (inr (omega arith))) i (ltb-false i 8 h) few
 
   room_above : (x : ℕ) → IsOutsideRoom image site x → IsOutside above (above + beyond) x
   room_above x (inl low) = inl (omega arith)
@@ -160,18 +169,18 @@ module _ (image : Fields) (blank : Blank) (code : MachineCode) (site : CallSite)
 
   passed : (d : Data) → Called d → StandAsPassed image site (at_call d) (stored d)
   passed d called = record {
-    raw = λ i few. raw_by d called i (nat_lt i 8) refl few;
+    raw = λ i is_stored few. raw_by d called i (nat_lt i 8) refl is_stored few;
     outside = λ x outside. stored_outside d x (room_above x outside);
   }
 
   -- The entry and the frame.
 
   abbrev entering : Data → Data
-  entering d = entered kept (length image.slots) above high d
+  entering d = entered kept (needed_from 0 image.slots) above high d
 
   entry_part : Runs z (entry_steps image site.pointers) (entry_code image) Called (λ d t. t ≡ entering d)
   entry_part =
-      entry_runs kept (length image.slots) z above beyond (omega arith) numbers.above_whole numbers.above_least
+      entry_runs kept (needed_from 0 image.slots) z above beyond (omega arith) numbers.above_whole numbers.above_least
       numbers.above_most (kept_fitting (body_words image.words)) (omega arith)
       (λ x low high. inl ((omega arith, omega arith), low))
       (λ d called. (omega (arith, called.stack), above_there d called))
@@ -185,8 +194,7 @@ module _ (image : Fields) (blank : Blank) (code : MachineCode) (site : CallSite)
   -- x2 is the frame's base, its words that have to be are zeros, and the room above it holds what the entry has stored
   record IsFramed (d t : Data) : Type 0 where
     stack : t.regs 2 ≡ frame
-    untouched : AreSame t.regs d.regs untouched_registers
-    still : AreSame t.regs d.regs saved_registers
+    others : (q : ℕ) → q ≢ 2 → q ≢ 5 → t.regs q ≡ d.regs q
     bytes : AreBytes t.bytes
     blank_words : IsBlank blank image.frame_bytes frame t.bytes
     there : AreData frame above t.bytes
@@ -199,10 +207,7 @@ module _ (image : Fields) (blank : Blank) (code : MachineCode) (site : CallSite)
   framed : (d u : Data) → Called d → IsReadied blank image.frame_bytes frame room (entering d) u → IsFramed d u
   framed d u called readied = record {
     stack = readied.stack;
-    untouched = same_beside (2 ∷ 5 ∷ []) u.regs (entering d).regs (λ q none. readied.others q none.0 none.1.0)
-        untouched_registers refl;
-    still = same_beside (2 ∷ 5 ∷ []) u.regs (entering d).regs (λ q none. readied.others q none.0 none.1.0)
-        saved_registers refl;
+    others = λ q two five. readied.others q two five ∙ unwritten d.regs 2 above q two;
     bytes = readied.bytes (stored_stays d called.bytes);
     blank_words = readied.blank_words;
     there = λ x low high. readied.data_same x ((frame_begins d called).there x low high);
@@ -215,9 +220,19 @@ module _ (image : Fields) (blank : Blank) (code : MachineCode) (site : CallSite)
 
   -- The arguments.
 
-  framed_passed : (d t : Data) → Called d → IsFramed d t → StandAsPassed image site (at_call d) t.bytes
-  framed_passed d t called frames =
-      still_passed image site numbers (at_call d) (stored d) t.bytes frames.outside (passed d called)
+  framed_passed : (d t : Data) → Called d → IsFramed d t → Passes image site (at_call d) 0 t
+  framed_passed d t called frames = record {
+    raw = λ i from few. by i (nat_lt i 8) refl few;
+    outside = λ x out. frames.outside x (outside_frame image site numbers x out) ∙ stored_outside d x (room_above x out);
+  }
+    where
+      by : (i : ℕ) (b : Bool) → nat_lt i 8 ≡ b → i < length image.slots
+          → (if b then Some (t.regs (10 + i)) else number_at t.bytes 4 (frame + stacked_offset image i))
+          ≡ Some (if b then d.regs (10 + i) else word_in site.stack d.bytes (4 * (i - 8)))
+      by i true h few = ap Some (frames.others (10 + i) (λ e. omega arith) (λ e. omega arith))
+      by i false h few =
+          stacked_raw d called t.bytes
+          (λ x from. frames.outside x (inr (omega arith)) ∙ stored_outside d x (inr (omega arith))) i (ltb-false i 8 h) few
 
   framed_there : (d t : Data) → Called d → IsFramed d t → AreData frame (arguments_end image site) t.bytes
   framed_there d t called frames x low high =
@@ -227,59 +242,66 @@ module _ (image : Fields) (blank : Blank) (code : MachineCode) (site : CallSite)
       (cases_lt x above)
 
   taking_begins : (d t : Data) → Called d → IsFramed d t
-      → ArgumentsBegin image site (λ bytes. AreReady image site bytes 0 image.slots) t
+      → TakingBegins image site 0 (λ s. ArePassed site s 0 image.slots) t
   taking_begins d t called frames = record {
     stack = frames.stack;
     bytes = frames.bytes;
     there = framed_there d t called frames;
-    ready = all_ready image site (at_call d) t.bytes (framed_passed d t called frames) 0 image.slots (omega arith)
-        is_site.arrays called.arguments;
+    call = at_call d;
+    passes = framed_passed d t called frames;
+    given = called.arguments;
   }
 
-  abbrev TakesAll : Data → Data → Type 0
-  TakesAll = TakesArguments (λ t. all_taken image site t.bytes 0 image.slots)
+  abbrev Takes : Data → Data → Type 0
+  Takes = TakesAll image site 0 image.slots
 
-  module _ (d t u : Data) (called : Called d) (frames : IsFramed d t) (takes : TakesAll t u) where
+  module _ (d t u : Data) (called : Called d) (frames : IsFramed d t) (takes : Takes t u) where
+    made : u.bytes ≡ all_taken image site (at_call d) t.bytes 0 image.slots
+    made = takes.bytes (at_call d) (framed_passed d t called frames)
+
     taken_outside : (x : ℕ) → IsOutside frame above x → u.bytes x ≡ stored d x
     taken_outside x outside =
-        ap (λ (b : ByteMap). b x) takes.bytes
-        ∙ all_taken_outside image site t.bytes 0 image.slots x known outside
+        ap (λ (b : ByteMap). b x) made
+        ∙ all_taken_outside image site (at_call d) t.bytes 0 image.slots x known outside
         ∙ frames.outside x outside
 
     taken_passed : StandAsPassed image site (at_call d) u.bytes
-    taken_passed = still_passed image site numbers (at_call d) (stored d) u.bytes taken_outside (passed d called)
+    taken_passed =
+        still_passed image site numbers (at_call d) (stored d) u.bytes taken_outside (passed d called)
+
+    -- registers that neither the frame nor the arguments write
+    taken_still : (rs : List ℕ) → are_none (2 ∷ taking_registers) rs ≡ true → AreSame u.regs d.regs rs
+    taken_still rs ok =
+        same_beside (2 ∷ taking_registers) u.regs d.regs
+        (λ q none. takes.others q none.1 ∙ frames.others q none.0 none.1.0) rs ok
 
     taken_begun : IsBegun image blank frame (arguments_of image site (at_call d)) (at (body_at image blank site) u)
     taken_begun = record {
-      base = still_base _ t u takes ∙ frames.stack;
+      base = (same_beside taking_registers u.regs t.regs takes.others (2 ∷ []) refl).0 ∙ frames.stack;
       before = t.bytes;
       are_bytes = λ o inside.
           let there = some_byte (t.bytes (frame + o)) (frames.there (frame + o) (omega arith) (omega arith)) in
           (there.0, there.1, frames.bytes (frame + o) there.0 there.1);
       blank_before = frames.blank_words;
-      frame_there = λ o inside.
-          ap (λ (b : ByteMap). b (frame + o)) takes.bytes
-          ∙ all_taken_is image site numbers (at_call d) t.bytes t.bytes 0 image.slots (frame + o) (omega arith) known
-          is_site.arrays (framed_passed d t called frames) refl;
+      frame_there = λ o inside. ap (λ (b : ByteMap). b (frame + o)) made;
     }
 
     room_there : AreData frame site.stack u.bytes
     room_there x low high =
-        ap (λ (b : ByteMap). is_some (b x)) takes.bytes
-        ∙ all_taken_data image site t.bytes 0 image.slots known (λ y from to. frames.there y from to) x
+        ap (λ (b : ByteMap). is_some (b x)) made
+        ∙ all_taken_data image site (at_call d) t.bytes 0 image.slots known (λ y from to. frames.there y from to) x
         ∙ framed_there d t called frames x low (omega arith)
 
     is_entered : IsEntered image blank site (at_call d) (at (body_at image blank site) u)
     is_entered = record {
       at_body = refl;
       begun = taken_begun;
-      untouched = still_same taken_registers u.regs t.regs d.regs takes.others untouched_registers refl
-          frames.untouched;
-      still = still_same taken_registers u.regs t.regs d.regs takes.others saved_registers refl frames.still;
+      untouched = taken_still untouched_registers refl;
+      still = taken_still saved_registers refl;
       saved = saved_same (stored d) u.bytes d.regs above kept (λ x low high. taken_outside x (inr low))
           (stored_kept d called.words);
-      ready = all_ready image site (at_call d) u.bytes taken_passed 0 image.slots (omega arith) is_site.arrays
-          called.arguments;
+      ready = all_ready image site numbers (at_call d) u.bytes taken_passed 0 image.slots
+          (omega (arith, numbers.needed_count)) (omega arith) is_site.arrays called.arguments;
       outside = taken_passed.outside;
       there = room_there;
     }

@@ -17,7 +17,7 @@ use Rattle.linked_calls.proofs.Below.{above_frame, body_words, kept_of, room_of,
 use Rattle.linked_calls.proofs.Below.{saved_registers, scratch_registers, CallSite, State, unwritten, wipe_code}
 use Rattle.linked_calls.proofs.Below.{with_arrays, with_register, with_result, word_in}
 use Rattle.linked_calls.specs.Below.{IsResultSlot, result_end, slots_end}
-use Rattle.linked_calls.proofs.AllArguments.{AreKnown, ArgumentsBegin, call_setting, taken_registers}
+use Rattle.linked_calls.proofs.AllArguments.{AreKnown, ArgumentsBegin, call_setting, copying_registers}
 use Rattle.linked_calls.proofs.AllResults.{all_handed_apart, all_handed_are, results_runs}
 use Rattle.linked_calls.proofs.Between.{AreReady, CanLeave, Leaves, LeavesEverywhere, leave_at, leave_steps}
 use Rattle.linked_calls.proofs.Between.{saved_at, untouched_registers}
@@ -105,7 +105,7 @@ module _ (image : Fields) {blank : Blank} (code : MachineCode) (site : CallSite)
   record Handed (s t : Data) : Type 0 where
     result : t.regs 10 ≡ result_of s.bytes image.returned
     bytes : t.bytes ≡ left_bytes s.bytes
-    others : (q : ℕ) → IsNone (10 ∷ taken_registers) q → t.regs q ≡ s.regs q
+    others : (q : ℕ) → IsNone (10 ∷ copying_registers) q → t.regs q ≡ s.regs q
 
   handed_runs : Runs z (length (result_code image.returned) + outputs_steps image site.pointers 0 image.slots)
       (result_code image.returned ++ results_code image 0 image.slots) Starts Handed
@@ -120,7 +120,7 @@ module _ (image : Fields) {blank : Blank} (code : MachineCode) (site : CallSite)
         ready = begins.ready;
       })
       (λ s u begins takes. record {
-        result = (same_beside taken_registers u.regs (with_register s.regs 10 (result_of s.bytes image.returned))
+        result = (same_beside copying_registers u.regs (with_register s.regs 10 (result_of s.bytes image.returned))
             takes.others (10 ∷ []) refl).0;
         bytes = takes.bytes;
         others = λ q none. takes.others q none.1
@@ -157,7 +157,7 @@ module _ (image : Fields) {blank : Blank} (code : MachineCode) (site : CallSite)
       (λ x low high. inl ((omega arith, omega arith), omega arith))
       (λ sp x low high above. inl ((omega arith, omega arith), above)))
       (λ s t begins handed. record {
-        stack = (same_beside (10 ∷ taken_registers) t.regs s.regs handed.others (2 ∷ []) refl).0 ∙ begins.stack;
+        stack = (same_beside (10 ∷ copying_registers) t.regs s.regs handed.others (2 ∷ []) refl).0 ∙ begins.stack;
         there = λ x low high.
             let under : x < end = omega arith in
             ap (λ (b : ByteMap). is_some (b x)) handed.bytes ∙ ap is_some (in_room s.bytes x low under)
@@ -166,14 +166,14 @@ module _ (image : Fields) {blank : Blank} (code : MachineCode) (site : CallSite)
       (λ s t u begins handed lasts regs can.
       let kept = same_then u.regs t.regs regs untouched_registers
       (lasts.others_same.0, (lasts.others_same.1.0, (lasts.others_same.1.1.0, tt)))
-      (still_same (10 ∷ taken_registers) t.regs s.regs regs handed.others untouched_registers refl can.untouched) in
+      (still_same (10 ∷ copying_registers) t.regs s.regs regs handed.others untouched_registers refl can.untouched) in
       let saved = lasts.saved regs
       (saved_same s.bytes t.bytes regs (saved_at image site) (kept_of image)
       (λ x low high. ap (λ (b : ByteMap). b x) handed.bytes ∙ in_room s.bytes x (omega arith) (omega arith))
       can.saved)
       (left_then (body_words image.words) saved_registers t.regs s.regs regs
       (left_same (body_words image.words) saved_registers t.regs s.regs
-      (same_beside (10 ∷ taken_registers) t.regs s.regs handed.others saved_registers refl))
+      (same_beside (10 ∷ copying_registers) t.regs s.regs handed.others saved_registers refl))
       can.left) in
       record {
         result = lasts.others_same.1.1.1.0 ∙ handed.result;

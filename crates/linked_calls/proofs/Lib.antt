@@ -26,7 +26,6 @@ pub mod AllArguments
 pub mod KnownArguments
 pub mod Entering
 pub mod Passed
-pub mod LoadedArguments
 pub mod BlankWords
 pub mod EnteringLeads
 pub mod AllResults

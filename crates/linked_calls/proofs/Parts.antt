@@ -149,30 +149,40 @@ module _ (z : Setting) (base offset : ℕ) (even : (base + offset) % 4 ≡ 0) (b
       (λ s given. ap (λ (regs : ℕ → ℕ). having regs s)
       (raised_over s.regs r offset (number_or_zero (number_at s.bytes 4 (base + offset))))))
 
-  -- x5 was put there, and x28 may have changed
-  pub record Puts (s t : Data) : Type 0 where
-    pub written : t.bytes ≡ with_number s.bytes 4 (base + offset) (s.regs 5)
+  -- a register was put there, and x28 may have changed
+  pub record Puts (r : ℕ) (s t : Data) : Type 0 where
+    pub written : t.bytes ≡ with_number s.bytes 4 (base + offset) (s.regs r)
     pub others : (q : ℕ) → q ≢ 28 → t.regs q ≡ s.regs q
 
-  pub store_runs : z.allowed base (Some (event.Store (base + offset) Word))
-      → Runs z (length (store_code 5 offset)) (store_code 5 offset) P Puts
-  store_runs allowed =
-      let near = Store Sw 5 2 offset ∷ [] in
-      let far = Upper Lui 28 (upper_part offset) ∷ Register Add 28 28 2 ∷ Store Sw 5 28 (lower_part offset) ∷ [] in
+  pub store_runs : (r : ℕ) → r < 32 → r ≢ 0 → r ≢ 28 → z.allowed base (Some (event.Store (base + offset) Word))
+      → Runs z (length (store_code r offset)) (store_code r offset) P (Puts r)
+  store_runs r few nonzero other allowed =
+      let near = Store Sw r 2 offset ∷ [] in
+      let far = Upper Lui 28 (upper_part offset) ∷ Register Add 28 28 2 ∷ Store Sw r 28 (lower_part offset) ∷ [] in
       let plain : are_straight (λ q. q == 28) far ≡ true = simp (
+        lt-ltb r 32 few,
         lt-ltb (upper_part offset) 1048576 (upper_fits offset),
         lt-ltb (lower_part offset) 4096 (lower_fits offset),
       ) in
       by_near z offset near far
       (λ small. straight_runs z base (λ q. q == 28) near ((base + offset) ∷ [])
-      (simp (lt-ltb offset 4096 (omega arith))) refl (record { even = even; allowed = allowed }, tt)
+      (simp (lt-ltb r 32 few, lt-ltb offset 4096 (omega arith))) refl (record { even = even; allowed = allowed }, tt)
       (λ s given. (has s given).stack) (λ s given. (near_met small s (has s given), tt))
-      (λ s given. record { written = refl; others = λ q h. refl }))
+      (λ s given. record {
+        written = ap (λ v. with_number s.bytes 4 (base + offset) v) (register-at s.regs r nonzero);
+        others = λ q h. refl;
+      }))
       (straight_runs z base (λ q. q == 28) far ((base + offset) ∷ []) plain refl
       (record { even = even; allowed = allowed }, tt) (λ s given. (has s given).stack)
       (λ s given. (far_met 28 (λ e. omega arith) (λ e. omega arith) s (has s given), tt))
-      (λ s given. record {
-        written = refl;
+      (λ s given.
+      let u = upper_part offset * 2 ^ 12 in
+      let one = with_register s.regs 28 u in
+      record {
+        written = ap (λ v. with_number s.bytes 4 (base + offset) v)
+            (register-at (raised s.regs 28 offset) r nonzero
+            ∙ unwritten one 28 (sum_of (register one 28) (register one 2)) r other
+            ∙ unwritten s.regs 28 u r other);
         others = λ q h. register_kept (λ x. x == 28) far ((base + offset) ∷ []) s q plain (ne_eqb q 28 h);
       }))
 

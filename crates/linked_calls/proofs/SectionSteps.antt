@@ -10,7 +10,7 @@ use Rattle.linked_calls.proofs.Below.{FrameBase, FrameTop, leave_sections, Mutab
 use Rattle.linked_calls.proofs.Below.{result_code, ResultOut, Return, room_of, runs_steps, Section, section_steps, SingleWord, Slot}
 use Rattle.linked_calls.proofs.Below.{Sub, WipedRoom}
 use Rattle.linked_calls.specs.declared.section.Section.TheVariants.{RoomAboveFrame, SavedRegisters, ArgumentRegisters}
-use Rattle.linked_calls.proofs.Below.{above_frame, kept_of, passed_of}
+use Rattle.linked_calls.proofs.Below.{above_frame, kept_of, needed_of}
 use Rattle.linked_calls.proofs.Between.{enter_steps, leave_steps}
 use Rattle.linked_calls.proofs.Parts.{loads_length, stores_length}
 use Rattle.linked_calls.specs.FunctionCode.{are_few, blanks_code, lowered_code, partly_code}
@@ -91,7 +91,7 @@ module _ (image : Fields) (pointers : ℕ → ℕ) where
 
   -- x2 moved, and one for each register that is stored
   abbrev pub entry_steps : ℕ
-  entry_steps = length (above_code (above_frame image)) + (length (kept_of image) + length (passed_of image))
+  entry_steps = length (above_code (above_frame image)) + (length (kept_of image) + length (needed_of image))
 
   -- the entry's, and then the frame's and the arguments'
   pub enter_steps_are : (blank : Blank)
@@ -101,7 +101,7 @@ module _ (image : Fields) (pointers : ℕ → ℕ) where
       let framed = frame_sections room blank in
       let arguments = argument_sections 0 image.slots in
       let kept = stores_length 2 0 (kept_of image) in
-      let passed = stores_length 2 (first_argument image) (passed_of image) in
+      let passed = stores_length 2 (first_argument image) (needed_of image) in
       let counted : steps_of entry ≡ entry_steps = omega arith in
       sum-map (section_steps image pointers) (entry ++ framed ++ arguments)
       ∙ sum_by-append (section_steps image pointers) (entry ++ framed) arguments

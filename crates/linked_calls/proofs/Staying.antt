@@ -1,38 +1,31 @@
 -- What stays as it was while the room of a call is written: pointers, arrays, and bytes outside the room.
-use Rattle.std.proofs.Common.{◌≡◌, ℕ, ◌+◌, ◌≤◌, ◌<◌, List, [], ◌∷◌, length, ◌∙◌, arith}
+use Rattle.std.proofs.Common.{◌≡◌, ℕ, ◌+◌, ◌≤◌, ◌<◌, List, [], ◌∷◌, ◌∙◌, arith}
 use Rattle.linked_calls.proofs.Below.{argument_offset, arguments_end, arrays_behind, ByteMap, element_bytes, Fields}
 use Rattle.linked_calls.proofs.Below.{FixedArray, Form, MutableArray, number_at_same, room_base, SingleWord, CallSite}
 use Rattle.linked_calls.proofs.Below.{Slot, with_array, with_arrays}
-use Rattle.linked_calls.proofs.Between.{AreReady, IsReady, ReadyArray, saved_at}
+use Rattle.linked_calls.proofs.Between.{AreReady, IsReady, saved_at}
 use Rattle.linked_calls.proofs.Bytes.{SameData, numbers_agree}
-use Rattle.linked_calls.proofs.Rooms.{RoomNumbers, place_inside}
 
 -- Arrays that are ready stay so where nothing above the frame changes, and what is data stays data.
-module _ (image : Fields) (site : CallSite) (numbers : RoomNumbers image site) (old new : ByteMap)
+module _ (image : Fields) (site : CallSite) (old new : ByteMap)
     (same : (x : ℕ) → saved_at image site ≤ x → x < arguments_end image site → new x ≡ old x)
     (data_same : SameData old new) where
-  array_stays : (i : ℕ) (slot : Slot) → i < length image.slots → ReadyArray image site old i slot
-      → ReadyArray image site new i slot
-  array_stays i slot few ready =
-      let fits = place_inside image site numbers i few in
+  stays_ready : (i : ℕ) (slot : Slot) (form : Form) → IsReady image site old i slot form
+      → IsReady image site new i slot form
+  stays_ready i slot MutableArray ready =
+      let place = ready.place in
       record {
+        place = place;
         pointer = number_at_same old new 4 (room_base image site + argument_offset image i)
-            (λ x low high. same x (omega arith) (omega arith)) ∙ ready.pointer;
+            (λ x low high. same x (omega (arith, place.above)) (omega (arith, place.inside))) ∙ ready.pointer;
         array = λ x low high. data_same x ∙ ready.array x low high;
       }
+  stays_ready i slot form ready = ready
 
-  stays_ready : (i : ℕ) (slot : Slot) (form : Form) → i < length image.slots → IsReady image site old i slot form
-      → IsReady image site new i slot form
-  stays_ready i slot SingleWord few ready = tt
-  stays_ready i slot form few ready = array_stays i slot few ready
-
-  pub stay_ready : (i : ℕ) (slots : List Slot) → i + length slots ≡ length image.slots
-      → AreReady image site old i slots → AreReady image site new i slots
-  stay_ready i [] count ready = tt
-  stay_ready i (slot ∷ slots) count ready = (
-    stays_ready i slot slot.param.form (omega arith) ready.0,
-    stay_ready (i + 1) slots (omega arith) ready.1,
-  )
+  pub stay_ready : (i : ℕ) (slots : List Slot) → AreReady image site old i slots → AreReady image site new i slots
+  stay_ready i [] ready = tt
+  stay_ready i (slot ∷ slots) ready =
+      (stays_ready i slot slot.param.form ready.0, stay_ready (i + 1) slots ready.1)
 
 -- the same arrays put into two maps that agree at an address
 module _ (site : CallSite) (x : ℕ) where

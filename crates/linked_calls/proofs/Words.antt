@@ -1,11 +1,18 @@
 -- The code that takes a word: a load, what it means, and a store; and the code that hands a result back.
-use Rattle.std.specs.Prelude.{bit_and}
-use Rattle.std.proofs.Common.{◌≡◌, ℕ, ◌+◌, ◌%◌, ◌^◌, ◌==◌, length, nat_lt, true, Some, refl, sym, ap, ◌∙◌, arith}
+use Rattle.std.specs.Prelude.{bit_and, is_some, unwrap_or}
+use Rattle.std.proofs.Common.{◌≡◌, ◌≢◌, ℕ, ◌+◌, ◌%◌, ◌^◌, ◌<◌, ◌≤◌, ◌==◌, List, [], ◌++◌, length, nat_lt}
+use Rattle.std.proofs.Common.{Bool, true, false, Option, Some, if◌then◌else◌, refl, sym, ap, ◌∙◌, arith, eq-eqb}
+use Rattle.std.proofs.Common.{append_assoc}
 use Rattle.std.proofs.Math.Path.{fun_ext}
+use Rattle.std.proofs.lemmas.Bool.{lt-ltb, ltb-false, ltb-true}
 use Rattle.std.proofs.lemmas.Bool.Decides.{nat_tests}
 use Rattle.std.proofs.lemmas.Nat.{and_mask}
-use Rattle.codegen.proofs.program_logic_lemmas.Counted.{computes_runs, makes_on, Runs, Setting, weaken_runs}
-use Rattle.linked_calls.proofs.Below.{argument_code, argument_offset, Boolean, ByteMap, CanBePut}
+use Rattle.codegen.proofs.program_logic_lemmas.Counted.{as_straight, computes_runs, makes_on, Runs, Setting}
+use Rattle.codegen.proofs.program_logic_lemmas.Counted.{weaken_runs}
+use Rattle.linked_calls.proofs.Below.{AreData, argument_code, Boolean, ByteMap, CanBePut, Instr}
+use Rattle.linked_calls.proofs.Below.{register, register-at, stacked_offset, store_code, with_argument}
+use Rattle.linked_calls.proofs.Below.{written}
+use Rattle.language.specs.declared.values.Arg.TheVariants as arg
 use Rattle.linked_calls.proofs.Below.{Data, Fields, HasResultSlot, HasWordArgument, IsLoadOf, IsArgumentPut, IsPutting}
 use Rattle.linked_calls.proofs.Below.{IsReturned, Kind, load_code, meant, meant_code, number_at, number_or_zero}
 use Rattle.linked_calls.proofs.Below.{only_computes, registers_after, ResultIsHandedBack, shift_value, SingleWord}
@@ -36,59 +43,134 @@ same_put Uint8 bytes a raw = ap (λ v. with_number bytes 4 a v) (and_mask raw 8)
 same_put Uint16 bytes a raw = ap (λ v. with_number bytes 4 a v) (half_is raw)
 same_put Uint32 bytes a raw = sym (with_number_cut bytes 4 a raw)
 
-meant_plain : (kind : Kind) → only_computes (λ q. q == 5) (meant_code 5 kind) ≡ true
-meant_plain Boolean = refl
-meant_plain kind = refl
+meant_plain : (kind : Kind) (r : ℕ) → r < 32 → only_computes (λ q. q == r) (meant_code r kind) ≡ true
+meant_plain Boolean r few = simp (eq-eqb r r refl, lt-ltb r 32 few)
+meant_plain Uint8 r few = simp (eq-eqb r r refl, lt-ltb r 32 few)
+meant_plain Uint16 r few = simp (eq-eqb r r refl, lt-ltb r 32 few)
+meant_plain Uint32 r few = refl
 
-meant_made : (kind : Kind) (regs : ℕ → ℕ)
-    → registers_after (meant_code 5 kind) regs ≡ with_register regs 5 (cut kind (regs 5))
-meant_made Uint16 regs = overwritten regs 5 (shift_value Slli (regs 5) 16) (cut Uint16 (regs 5))
-meant_made Uint32 regs = fun_ext (λ q. grind (arith, nat_tests))
-meant_made kind regs = refl
+meant_made : (kind : Kind) (r : ℕ) → r ≢ 0 → (regs : ℕ → ℕ)
+    → registers_after (meant_code r kind) regs ≡ with_register regs r (cut kind (regs r))
+meant_made Boolean r nonzero regs =
+    ap (λ v. with_register regs r (word_of (nat_lt 0 v))) (register-at regs r nonzero)
+meant_made Uint8 r nonzero regs = ap (λ v. with_register regs r (bit_and v 255)) (register-at regs r nonzero)
+meant_made Uint16 r nonzero regs =
+    let raised = λ (v : ℕ). shift_value Slli v 16 in
+    let one = with_register regs r (raised (register regs r)) in
+    ap (λ v. with_register one r (shift_value Srli v 16))
+    (register-at one r nonzero ∙ written regs r (raised (register regs r)) nonzero)
+    ∙ overwritten regs r (raised (register regs r)) (shift_value Srli (raised (register regs r)) 16)
+    ∙ ap (λ v. with_register regs r (cut Uint16 v)) (register-at regs r nonzero)
+meant_made Uint32 r nonzero regs = fun_ext (λ q. grind (arith, nat_tests))
 
-pub word_runs : (z : Setting) (image : Fields) (slot : Slot) (frame i : ℕ) → CanBePut image slot frame i
-    → z.allowed frame (Some (event.Load (frame + argument_offset image i) Word))
+-- A raw word in a register: what it means into the slot.
+
+-- the slot holds it
+record IsPutFrom (slot : Slot) (frame r : ℕ) (s t : Data) : Type 0 where
+  bytes : t.bytes ≡ with_argument frame s.bytes slot (arg.Word (meant slot.param.kind (s.regs r)))
+  others : (q : ℕ) → q ≢ r → q ≢ 28 → t.regs q ≡ s.regs q
+
+-- the frame's base is in x2, and the slot is data
+record HasSlot (slot : Slot) (frame : ℕ) (s : Data) : Type 0 where
+  stack : s.regs 2 ≡ frame
+  there : AreData (frame + slot.offset) (frame + slot.offset + 4) s.bytes
+
+put_runs : (z : Setting) (slot : Slot) (frame r : ℕ) → r < 32 → r ≢ 0 → r ≢ 2 → r ≢ 28
+    → (frame + slot.offset) % 4 ≡ 0 → frame + slot.offset < 2 ^ 32
     → z.allowed frame (Some (event.Store (frame + slot.offset) Word))
-    → Runs z (length (argument_code image i slot SingleWord)) (argument_code image i slot SingleWord)
-    (HasWordArgument image slot frame i) (IsArgumentPut image slot frame i)
-word_runs z image slot frame i can loads stores =
+    → Runs z (length (meant_code r slot.param.kind ++ store_code r slot.offset))
+    (meant_code r slot.param.kind ++ store_code r slot.offset) (HasSlot slot frame) (IsPutFrom slot frame r)
+put_runs z slot frame r few nonzero still other even below stores =
     let kind = slot.param.kind in
-    let offset = argument_offset image i in
-    let place = frame + offset in
     let target = frame + slot.offset in
-    let load = load_code 5 offset in
-    let means = meant_code 5 kind in
-    let raw = λ (s : Data). number_or_zero (number_at s.bytes 4 place) in
-    makes_on z {P = HasWordArgument image slot frame i} {P' = HasWordArgument image slot frame i}
-    {f = λ s. with_result 5 (cut kind (raw s)) s} {S = IsArgumentPut image slot frame i}
-    (makes_on z {P' = λ s. Unit {0}} {f = λ s. with_result 5 (raw s) s}
-    (load_runs z frame offset (omega arith) can.place_ends
-    (λ s has. record { stack = has.stack; there = number_there s.bytes 4 place has.argument_there })
-    5 (omega arith) (λ e. omega arith) (λ e. omega arith) loads)
-    (computes_runs z (λ q. q == 5) means (λ regs. with_register regs 5 (cut kind (regs 5))) (meant_plain kind)
-    (meant_made kind))
-    (λ s has. tt)
-    (λ s u has made. made ∙ ap (λ (regs : ℕ → ℕ). record { regs = regs; bytes = s.bytes })
-    (overwritten s.regs 5 (raw s) (cut kind (raw s)))))
-    (store_runs z frame slot.offset can.slot_aligned can.slot_ends
-    (λ s has. record { stack = has.stack; there = number_there s.bytes 4 target has.slot_there }) stores)
-    (λ s has. record { stack = has.stack; argument_there = has.argument_there; slot_there = has.slot_there })
-    (λ s u has puts. record {
-      bytes = puts.written ∙ same_put kind s.bytes target (raw s)
-          ∙ ap (λ v. with_number s.bytes 4 target (meant kind v)) (same_number (number_at s.bytes 4 place));
-      others = λ q h k. puts.others q k ∙ unwritten s.regs 5 (cut kind (raw s)) q h;
+    makes_on z {P = HasSlot slot frame} {P' = HasSlot slot frame} {f = λ s. with_result r (cut kind (s.regs r)) s}
+    {S = IsPutFrom slot frame r}
+    (computes_runs z (λ q. q == r) (meant_code r kind) (λ regs. with_register regs r (cut kind (regs r)))
+    (meant_plain kind r few) (meant_made kind r nonzero))
+    (store_runs z frame slot.offset even below
+    (λ s has. record { stack = has.stack; there = number_there s.bytes 4 target has.there }) r few nonzero other stores)
+    (λ s has. record {
+      stack = unwritten s.regs r (cut kind (s.regs r)) 2 (λ e. still (sym e)) ∙ has.stack;
+      there = has.there;
     })
+    (λ s u has puts. record {
+      bytes = puts.written
+          ∙ ap (λ v. with_number s.bytes 4 target v) (written s.regs r (cut kind (s.regs r)) nonzero)
+          ∙ same_put kind s.bytes target (s.regs r);
+      others = λ q h k. puts.others q k ∙ unwritten s.regs r (cut kind (s.regs r)) q h;
+    })
+
+-- An argument that is a word, by whether a register holds it.
+module _ (z : Setting) (image : Fields) (slot : Slot) (frame i : ℕ) (can : CanBePut image slot frame i)
+    (loads : 8 ≤ i → z.allowed frame (Some (event.Load (frame + stacked_offset image i) Word)))
+    (stores : z.allowed frame (Some (event.Store (frame + slot.offset) Word))) where
+  abbrev offset : ℕ
+  offset = stacked_offset image i
+
+  abbrev passed_by : Bool → Data → Option ℕ
+  passed_by b s = if b then Some (s.regs (10 + i)) else number_at s.bytes 4 (frame + offset)
+
+  abbrev register_by : Bool → ℕ
+  register_by b = if b then 10 + i else 5
+
+  abbrev code_by : Bool → List Instr
+  code_by b = (if b then [] else load_code 5 offset) ++ meant_code (register_by b) slot.param.kind
+      ++ store_code (register_by b) slot.offset
+
+  -- what is put, as it is passed
+  done : (b : Bool) → nat_lt i 8 ≡ b → (s t : Data) (v : ℕ) → unwrap_or (passed_by b s) 0 ≡ v
+      → t.bytes ≡ with_argument frame s.bytes slot (arg.Word (meant slot.param.kind v))
+      → ((q : ℕ) → q ≢ register_by b → q ≢ 28 → t.regs q ≡ s.regs q) → IsArgumentPut image slot frame i s t
+  done b h s t v is bytes others = record {
+    bytes = bytes
+        ∙ ap (λ w. with_argument frame s.bytes slot (arg.Word (meant slot.param.kind w)))
+        (sym (ap (λ c. unwrap_or (passed_by c s) 0) h ∙ is));
+    others = λ q g k. others q (λ e. g (e ∙ sym (ap register_by h))) k;
+  }
+
+  word_by : (b : Bool) → nat_lt i 8 ≡ b
+      → Runs z (length (code_by b)) (code_by b) (HasWordArgument image slot frame i) (IsArgumentPut image slot frame i)
+  word_by true h =
+      let few = ltb-true i 8 h in
+      weaken_runs z {P' = HasWordArgument image slot frame i} {R' = IsArgumentPut image slot frame i}
+      (put_runs z slot frame (10 + i) (omega arith) (λ e. omega arith) (λ e. omega arith) (λ e. omega arith)
+      can.slot_aligned can.slot_ends stores)
+      (λ s has. record { stack = has.stack; there = has.slot_there })
+      (λ s t has put. done true h s t (s.regs (10 + i)) refl put.bytes put.others)
+  word_by false h =
+      let many = ltb-false i 8 h in
+      let raw = λ (s : Data). number_or_zero (number_at s.bytes 4 (frame + offset)) in
+      as_straight z
+      (sym (append_assoc (load_code 5 offset) (meant_code 5 slot.param.kind) (store_code 5 slot.offset)))
+      (makes_on z {P = HasWordArgument image slot frame i} {P' = HasSlot slot frame}
+      {f = λ s. with_result 5 (raw s) s} {S = IsArgumentPut image slot frame i}
+      (load_runs z frame offset (omega (arith, can.frame_aligned)) can.place_ends
+      (λ s has. record {
+        stack = has.stack;
+        there = ap (λ b. is_some (passed_by b s)) (sym h) ∙ has.passed;
+      })
+      5 (omega arith) (λ e. omega arith) (λ e. omega arith) (loads many))
+      (put_runs z slot frame 5 (omega arith) (λ e. omega arith) (λ e. omega arith) (λ e. omega arith)
+      can.slot_aligned can.slot_ends stores)
+      (λ s has. record { stack = has.stack; there = has.slot_there })
+      (λ s u has put.
+      done false h s u (raw s) (sym (same_number (number_at s.bytes 4 (frame + offset)))) put.bytes
+      (λ q g k. put.others q g k ∙ unwritten s.regs 5 (raw s) q g)))
+
+  pub word_runs : Runs z (length (argument_code image i slot SingleWord)) (argument_code image i slot SingleWord)
+      (HasWordArgument image slot frame i) (IsArgumentPut image slot frame i)
+  word_runs = word_by (nat_lt i 8) refl
 
 pub word_is_taken : WordIsTaken
 word_is_taken code start image slot frame i there can =
     let z : Setting = record {
       code = code;
-      allowed = IsPutting (frame + argument_offset image i) (frame + slot.offset);
+      allowed = IsPutting (frame + stacked_offset image i) (frame + slot.offset);
       silent = λ sp. tt;
     } in
     let is = argument_code image i slot SingleWord in
     does z start is (placed code start is there)
-    (word_runs z image slot frame i can (refl, refl, omega arith) (refl, refl, omega arith))
+    (word_runs z image slot frame i can (λ many. (refl, refl, omega arith)) (refl, refl, omega arith))
 
 pub result_is_handed_back : ResultIsHandedBack
 result_is_handed_back code start slot frame there even below =

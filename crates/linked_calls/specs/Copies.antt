@@ -6,10 +6,11 @@ use Rattle.linked_calls.specs.Below.{Array, ByteMap, MachineCode, Div, element_b
 use Rattle.linked_calls.specs.Below.{Kind, Mul, MutableArray, number_at, numbers_at, Slot, Store, with_argument}
 use Rattle.linked_calls.specs.Below.{with_numbers}
 use Rattle.linked_calls.specs.FunctionCode.{argument_offset, array_bytes, argument_code, by_words_code, copied_code}
-use Rattle.linked_calls.specs.FunctionCode.{copied_in_code, copied_out_code, copy_out_code}
+use Rattle.linked_calls.specs.FunctionCode.{copied_in_code, copied_out_code, copy_out_code, stacked_offset}
 use Rattle.linked_calls.specs.Sections.{handed_steps, taken_steps}
 use Rattle.linked_calls.specs.Does.{Data, Does, AreThere}
 use Rattle.linked_calls.specs.Meant.{meant}
+use Rattle.linked_calls.specs.Passing.{passed_in}
 use Rattle.linked_calls.specs.Stretches.{AreBytes, AreData, LiesIn}
 
 -- where the frame of a call lies, which argument it is, and where the argument points
@@ -18,9 +19,12 @@ pub record Pointed : Type 0 where
   pub index : ℕ
   pub pointer : ℕ
 
--- where the raw argument stands
-abbrev pub place_of : Fields → Pointed → ℕ
-place_of image spot = spot.frame + argument_offset image spot.index
+-- where the pointer may stand: with the caller before the body, and behind it in the room as well
+abbrev pub place_before : Fields → Pointed → ℕ
+place_before image spot = spot.frame + stacked_offset image spot.index
+
+abbrev pub place_behind : Fields → Pointed → ℕ
+place_behind image spot = spot.frame + argument_offset image spot.index
 
 -- where the slot lies
 abbrev pub slot_of : Slot → Pointed → ℕ
@@ -30,21 +34,22 @@ slot_of slot spot = spot.frame + slot.offset
 abbrev pub AreApart : ℕ → ℕ → ℕ → Type 0
 AreApart n one other = (one + n ≤ other) ⊎ (other + n ≤ one)
 
--- an array and its slot lie so that the one can be copied to the other
-pub record CanBeCopied (image : Fields) (slot : Slot) (spot : Pointed) : Type 0 where
+-- an array and its slot lie so that the one can be copied to the other, and so does a word for the pointer
+pub record CanBeCopied (slot : Slot) (spot : Pointed) (place : ℕ) : Type 0 where
   pub some : 0 < slot.param.length
   pub frame_aligned : spot.frame % 4 ≡ 0
   pub array_aligned : spot.pointer % element_bytes slot.param.kind ≡ 0
   pub slot_aligned : slot_of slot spot % 4 ≡ 0
-  pub place_ends : place_of image spot < 2 ^ 32
+  pub place_aligned : place % 4 ≡ 0
+  pub place_ends : place < 2 ^ 32
   pub array_ends : spot.pointer + array_bytes slot ≤ 2 ^ 32
   pub slot_ends : slot_of slot spot + array_bytes slot < 2 ^ 32
   pub apart : AreApart (array_bytes slot) spot.pointer (slot_of slot spot)
 
--- the frame's base is in x2, the pointer where the raw argument stands, array and slot are data, and data is bytes
-pub record HasArray (image : Fields) (slot : Slot) (spot : Pointed) (s : Data) : Type 0 where
+-- the frame's base is in x2, an argument is the pointer, array and slot are data, and data is bytes
+pub record HasArray (slot : Slot) (spot : Pointed) (argument : Data → Option ℕ) (s : Data) : Type 0 where
   pub stack : s.regs 2 ≡ spot.frame
-  pub argument : number_at s.bytes 4 (place_of image spot) ≡ Some spot.pointer
+  pub points : argument s ≡ Some spot.pointer
   pub array_there : AreData spot.pointer (spot.pointer + array_bytes slot) s.bytes
   pub slot_there : AreData (slot_of slot spot) (slot_of slot spot + array_bytes slot) s.bytes
   pub bytes : AreBytes s.bytes
@@ -77,11 +82,11 @@ abbrev pub ArrayIsTaken : Type 0
 ArrayIsTaken =
     (code : MachineCode) (start : ℕ) (image : Fields) (slot : Slot) (spot : Pointed)
     → AreThere code start (argument_code image spot.index slot FixedArray)
-    → CanBeCopied image slot spot
+    → CanBeCopied slot spot (place_before image spot)
     → Does code start (argument_code image spot.index slot FixedArray)
     (taken_steps image spot.index slot spot.pointer)
-    (IsCopying spot.frame (place_of image spot) (array_bytes slot) spot.pointer (slot_of slot spot))
-    (HasArray image slot spot) (IsArrayTaken slot spot)
+    (IsCopying spot.frame (place_before image spot) (array_bytes slot) spot.pointer (slot_of slot spot))
+    (HasArray slot spot (passed_in image spot.frame spot.index)) (IsArrayTaken slot spot)
 
 -- the array holds what the slot holds
 pub record IsHandedBack (slot : Slot) (spot : Pointed) (s t : Data) : Type 0 where
@@ -94,11 +99,11 @@ abbrev pub ArrayIsHandedBack : Type 0
 ArrayIsHandedBack =
     (code : MachineCode) (start : ℕ) (image : Fields) (slot : Slot) (spot : Pointed)
     → AreThere code start (copy_out_code image spot.index slot MutableArray)
-    → CanBeCopied image slot spot
+    → CanBeCopied slot spot (place_behind image spot)
     → Does code start (copy_out_code image spot.index slot MutableArray)
     (handed_steps image spot.index slot spot.pointer)
-    (IsCopying spot.frame (place_of image spot) (array_bytes slot) (slot_of slot spot) spot.pointer)
-    (HasArray image slot spot) (IsHandedBack slot spot)
+    (IsCopying spot.frame (place_behind image spot) (array_bytes slot) (slot_of slot spot) spot.pointer)
+    (HasArray slot spot (λ s. number_at s.bytes 4 (place_behind image spot))) (IsHandedBack slot spot)
 
 -- The code that copies elements, one by one or by words, for so many of them.
 pub record AreShort (kind : Kind) (count : ℕ) : Type 0 where

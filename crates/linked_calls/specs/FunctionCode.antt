@@ -2,12 +2,13 @@
 -- that hands results back and goes back to the caller. They may stand anywhere.
 --
 -- The room of a call lies below the caller's sp: the image's frame at its lower end, in whole blocks of 16 bytes,
--- then those of the caller's s0 to s11 that the body writes, and at its upper end those of a0 to a7 that are passed, so
--- that argument i stands in the i-th word from there on, also where C passes it on the stack.
+-- then those of the caller's s0 to s11 that the body writes, and at its upper end those of a0 to a7 that are needed
+-- behind the body. Arguments that no register holds stand with the caller, from the end of the room on.
 --
 -- An array of elements that are smaller than a word is copied by words where its pointer is a multiple of 4, which is
 -- tested when the function runs: pointers are public.
-use Rattle.std.specs.Prelude.{ℕ, ◌+◌, ◌-◌, ◌*◌, ◌/◌, ◌%◌, ◌^◌, ◌==◌, List, [], ◌∷◌, ◌++◌, length, map, replicate, take}
+use Rattle.std.specs.Prelude.{ℕ, ◌+◌, ◌-◌, ◌*◌, ◌/◌, ◌%◌, ◌^◌, ◌==◌, List, [], ◌∷◌, ◌++◌, length, map}
+use Rattle.std.specs.Prelude.{max, replicate, take}
 use Rattle.std.specs.Prelude.{Bool, true, false, ◌&&◌, nat_le, nat_lt, Option, Some, None, if◌then◌else◌}
 use Rattle.std.proofs.Common.{zero, suc}
 use Rattle.linked_calls.specs.Below.{Add, Addi, Andi, Beq, Bne, body_words, Boolean, Branch, constant_code, cut_code}
@@ -34,25 +35,42 @@ frame_room image = whole_blocks image.frame_bytes
 abbrev pub kept_of : Fields → List ℕ
 kept_of image = written_of (body_words image.words) saved_registers
 
--- those of a0 to a7 that are arguments
-abbrev pub passed_of : Fields → List ℕ
-passed_of image = take (length image.slots) argument_registers
+-- how many of a0 to a7 are needed behind the body for an argument: up to its own, where it points to an array that may
+-- be changed
+abbrev pub needed_for : ℕ → Form → ℕ
+needed_for i SingleWord = 0
+needed_for i FixedArray = 0
+needed_for i MutableArray = if nat_lt i 8 then i + 1 else 0
 
--- the bytes above the frame: a word for each register that is kept, and for each that is an argument
+-- and all from the i-th on
+abbrev pub needed_from : ℕ → List Slot → ℕ
+needed_from i [] = 0
+needed_from i (slot ∷ slots) = max (needed_for i slot.param.form) (needed_from (i + 1) slots)
+
+-- they are stored, with those below them
+abbrev pub needed_of : Fields → List ℕ
+needed_of image = take (needed_from 0 image.slots) argument_registers
+
+-- the bytes above the frame: a word for each register that is kept, and for each that is needed behind the body
 abbrev pub above_frame : Fields → ℕ
-above_frame image = whole_blocks (4 * (length (kept_of image) + length (passed_of image)))
+above_frame image = whole_blocks (4 * (length (kept_of image) + length (needed_of image)))
 
--- where the arguments in registers stand, from the frame's end on: at the end of the room
+-- where a0 is stored, from the frame's end on: at the end of the room
 abbrev pub first_argument : Fields → ℕ
-first_argument image = above_frame image - 4 * length (passed_of image)
+first_argument image = above_frame image - 4 * length (needed_of image)
 
 -- how many bytes of stack a call takes
 abbrev pub room_of : Fields → ℕ
 room_of image = frame_room image + above_frame image
 
--- where argument i stands, from x2 on
+-- where argument i stands with the caller, from x2 on, if no register holds it
+abbrev pub stacked_offset : Fields → ℕ → ℕ
+stacked_offset image i = room_of image + 4 * (i - 8)
+
+-- where it stands behind the body, if it points to an array that may be changed
 abbrev pub argument_offset : Fields → ℕ → ℕ
-argument_offset image i = frame_room image + first_argument image + 4 * i
+argument_offset image i =
+    if nat_lt i 8 then frame_room image + first_argument image + 4 * i else stacked_offset image i
 
 -- Pieces.
 
@@ -107,11 +125,11 @@ address_code r offset =
 abbrev pub above_code : ℕ → List Instr
 above_code above = if above == 0 then [] else added stack_register (4096 - above) ∷ []
 
--- room above the frame: what the caller has in registers that are kept, and the arguments in a0 to a7
+-- room above the frame: what the caller has in registers that are kept, and those of a0 to a7 that are needed
 abbrev pub entry_code : Fields → List Instr
 entry_code image =
     above_code (above_frame image) ++ stores_code stack_register 0 (kept_of image)
-    ++ stores_code stack_register (first_argument image) (passed_of image)
+    ++ stores_code stack_register (first_argument image) (needed_of image)
 
 -- a frame, zeroed run by run downward, so that nothing live ever lies below x2
 abbrev pub zeroed_code : ℕ → List Instr
@@ -161,18 +179,35 @@ meant_code r Uint8 = cut_code r (width_of Uint8)
 meant_code r Uint16 = cut_code r (width_of Uint16)
 meant_code r Uint32 = []
 
+-- the register that holds an argument: that of a0 to a7 in which it is passed, or x5 once it is loaded
+abbrev pub argument_register : ℕ → ℕ
+argument_register i = if nat_lt i 8 then 10 + i else 5
+
+-- the load of one that is passed on the stack
+abbrev pub stacked_code : Fields → ℕ → List Instr
+stacked_code image i = if nat_lt i 8 then [] else load_code 5 (stacked_offset image i)
+
 -- an argument that is a word into its slot
 abbrev pub word_code : Fields → ℕ → Slot → List Instr
-word_code image i slot = load_code 5 (argument_offset image i) ++ meant_code 5 slot.param.kind
-    ++ store_code 5 slot.offset
+word_code image i slot = stacked_code image i ++ meant_code (argument_register i) slot.param.kind
+    ++ store_code (argument_register i) slot.offset
 
 -- how many bytes the array of a slot has
 abbrev pub array_bytes : Slot → ℕ
 array_bytes slot = element_bytes slot.param.kind * slot.param.length
 
--- the caller's array from x5 on, and its slot from x6 on
-abbrev pub places_code : Fields → ℕ → Slot → List Instr
-places_code image i slot = load_code 5 (argument_offset image i) ++ address_code 6 slot.offset
+-- an argument that points to an array into x5, before the body
+abbrev pub pointer_in_code : Fields → ℕ → List Instr
+pointer_in_code image i =
+    if nat_lt i 8 then Immediate Addi 5 (10 + i) 0 ∷ [] else load_code 5 (stacked_offset image i)
+
+-- and behind it
+abbrev pub pointer_out_code : Fields → ℕ → List Instr
+pointer_out_code image i = load_code 5 (argument_offset image i)
+
+-- the caller's array from x5 on, by such code, and its slot from x6 on
+abbrev pub places_code : List Instr → Slot → List Instr
+places_code pointer slot = pointer ++ address_code 6 slot.offset
 
 -- eight elements more are done
 abbrev pub next_code : Kind → List Instr
@@ -262,7 +297,7 @@ array_code code by_words kind count =
 -- an array that the argument points to into its slot
 abbrev pub copy_in_code : Fields → ℕ → Slot → List Instr
 copy_in_code image i slot =
-    places_code image i slot
+    places_code (pointer_in_code image i) slot
     ++ array_code copied_in_code (goes_in_by_words slot.param.kind) slot.param.kind slot.param.length
 
 abbrev pub argument_code : Fields → ℕ → Slot → Form → List Instr
@@ -292,7 +327,7 @@ abbrev pub copy_out_code : Fields → ℕ → Slot → Form → List Instr
 copy_out_code image i slot SingleWord = []
 copy_out_code image i slot FixedArray = []
 copy_out_code image i slot MutableArray =
-    places_code image i slot
+    places_code (pointer_out_code image i) slot
     ++ array_code copied_out_code (goes_out_by_words slot.param.kind) slot.param.kind slot.param.length
 
 -- all arrays that may be changed, from the i-th argument on

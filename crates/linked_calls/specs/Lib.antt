@@ -4,7 +4,8 @@
 -- FunctionCode, Sections: the words of a function for C, and the same in sections.
 -- Written: which registers the instructions of words write.
 -- Words, Copies, Zeros, Cleared: its pieces: word arguments and results, arrays, the frame zeroed, registers cleared.
--- Does: what a piece of code does wherever it is; Meant, Stretches: raw words that are passed, and ranges of bytes.
+-- Does: what a piece of code does wherever it is; Passing, Meant: arguments as they are passed, and what raw words
+--   mean; Stretches: ranges of bytes.
 pub mod Called
 pub mod Callable
 pub mod Calls
@@ -14,6 +15,7 @@ pub mod Copies
 pub mod Does
 pub mod FunctionCode
 pub mod Meant
+pub mod Passing
 pub mod Sections
 pub mod Stretches
 pub mod Words

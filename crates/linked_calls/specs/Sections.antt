@@ -12,8 +12,8 @@ use Rattle.hepurita.specs.Blank.{Blank}
 use Rattle.linked_calls.specs.FunctionCode.{above_code, added, address_code, are_few, argument_code, blank_code}
 use Rattle.linked_calls.specs.FunctionCode.{copied_in_code, first_argument, lowered_code}
 use Rattle.linked_calls.specs.FunctionCode.{copied_out_code, down_code, elements_code, goes_in_by_words}
-use Rattle.linked_calls.specs.FunctionCode.{goes_out_by_words, kept_of, passed_count, passed_of, per_word}
-use Rattle.linked_calls.specs.FunctionCode.{places_code, result_code, copy_out_code}
+use Rattle.linked_calls.specs.FunctionCode.{goes_out_by_words, kept_of, needed_of, passed_count, per_word}
+use Rattle.linked_calls.specs.FunctionCode.{places_code, pointer_in_code, pointer_out_code, result_code, copy_out_code}
 use Rattle.linked_calls.specs.FunctionCode.{clear_registers_code, rest_words, wipe_code}
 use Rattle.linked_calls.specs.declared.section.Section.{Section}
 use Rattle.linked_calls.specs.declared.section.Section.TheVariants.{RoomAboveFrame, SavedRegisters, ArgumentRegisters}
@@ -66,7 +66,7 @@ leave_sections image =
 abbrev pub section_code : Fields → Section → List Instr
 section_code image RoomAboveFrame = above_code (above_frame image)
 section_code image SavedRegisters = stores_code stack_register 0 (kept_of image)
-section_code image ArgumentRegisters = stores_code stack_register (first_argument image) (passed_of image)
+section_code image ArgumentRegisters = stores_code stack_register (first_argument image) (needed_of image)
 section_code image FrameBase = constant_code 5 (frame_room image) ++ Register Sub 5 stack_register 5 ∷ []
 section_code image ClearedFrame = runs_code down_code (frame_room image)
 section_code image LoweredStack = lowered_code (frame_room image)
@@ -125,7 +125,7 @@ array_steps code by_words kind count pointer =
 
 abbrev pub taken_steps : Fields → ℕ → Slot → ℕ → ℕ
 taken_steps image i slot pointer =
-    length (places_code image i slot)
+    length (places_code (pointer_in_code image i) slot)
     + array_steps copied_in_code (goes_in_by_words slot.param.kind) slot.param.kind slot.param.length pointer
 
 abbrev pub argument_steps : Fields → (ℕ → ℕ) → ℕ → Slot → Form → ℕ
@@ -135,7 +135,7 @@ argument_steps image pointers i slot MutableArray = taken_steps image i slot (po
 
 abbrev pub handed_steps : Fields → ℕ → Slot → ℕ → ℕ
 handed_steps image i slot pointer =
-    length (places_code image i slot)
+    length (places_code (pointer_out_code image i) slot)
     + array_steps copied_out_code (goes_out_by_words slot.param.kind) slot.param.kind slot.param.length pointer
 
 abbrev pub section_steps : Fields → (ℕ → ℕ) → Section → ℕ

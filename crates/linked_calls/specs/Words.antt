@@ -1,36 +1,37 @@
 -- An argument that is a word, of which what it means is put into its slot before the body, and the result behind it.
-use Rattle.std.specs.Prelude.{◌≡◌, ◌≢◌, ℕ, ◌+◌, ◌%◌, ◌^◌, ◌<◌, ◌≤◌, length, Option, Some, None}
+use Rattle.std.specs.Prelude.{◌≡◌, ◌≢◌, ℕ, ◌+◌, ◌%◌, ◌^◌, ◌<◌, ◌≤◌, length, Option, Some, None, is_some, true}
 use Rattle.linked_calls.specs.Below.{MachineCode, Event, Fields, ResultSlot, SingleWord, Slot, with_argument, word_in}
 use Rattle.linked_calls.specs.Convention.{result_register}
-use Rattle.linked_calls.specs.FunctionCode.{argument_offset, argument_code, result_code}
+use Rattle.linked_calls.specs.FunctionCode.{argument_code, argument_register, result_code, stacked_offset}
 use Rattle.language.specs.declared.values.Arg.TheVariants.{Word}
 use Rattle.linked_calls.specs.Does.{Data, Does, AreThere}
 use Rattle.linked_calls.specs.Meant.{meant}
+use Rattle.linked_calls.specs.Passing.{passed_in, raw_in}
 use Rattle.linked_calls.specs.Stretches.{AreData}
 use Rattle.rv_machine.specs.declared.memory.Size.TheVariants as sizes
 use Rattle.rv_machine.specs.declared.observation.Event.TheVariants as event
 
--- the raw argument and the slot are words at multiples of 4, below 2^32
+-- the place of the raw argument on the stack and the slot are words at multiples of 4, below 2^32
 pub record CanBePut (image : Fields) (slot : Slot) (frame i : ℕ) : Type 0 where
   pub frame_aligned : frame % 4 ≡ 0
   pub slot_aligned : (frame + slot.offset) % 4 ≡ 0
-  pub place_ends : frame + argument_offset image i < 2 ^ 32
+  pub place_ends : frame + stacked_offset image i < 2 ^ 32
   pub slot_ends : frame + slot.offset < 2 ^ 32
 
--- the frame's base is in x2, and both words are data
+-- the frame's base is in x2, the raw argument is there, and the slot is data
 pub record HasWordArgument (image : Fields) (slot : Slot) (frame i : ℕ) (s : Data) : Type 0 where
   pub stack : s.regs 2 ≡ frame
-  pub argument_there : AreData (frame + argument_offset image i) (frame + argument_offset image i + 4) s.bytes
+  pub passed : is_some (passed_in image frame i s) ≡ true
   pub slot_there : AreData (frame + slot.offset) (frame + slot.offset + 4) s.bytes
 
 -- what the raw argument means
 abbrev pub meant_in : Fields → Slot → ℕ → ℕ → Data → ℕ
-meant_in image slot frame i s = meant slot.param.kind (word_in frame s.bytes (argument_offset image i))
+meant_in image slot frame i s = meant slot.param.kind (raw_in image frame i s)
 
 -- the slot holds it
 pub record IsArgumentPut (image : Fields) (slot : Slot) (frame i : ℕ) (s t : Data) : Type 0 where
   pub bytes : t.bytes ≡ with_argument frame s.bytes slot (Word (meant_in image slot frame i s))
-  pub others : (q : ℕ) → q ≢ 5 → q ≢ 28 → t.regs q ≡ s.regs q
+  pub others : (q : ℕ) → q ≢ argument_register i → q ≢ 28 → t.regs q ≡ s.regs q
 
 -- one load of a word, one store of a word, neither below the stack pointer, and no other access
 abbrev pub IsPutting : ℕ → ℕ → ℕ → Option Event → Type 0
@@ -47,7 +48,7 @@ WordIsTaken =
     → AreThere code start (argument_code image i slot SingleWord)
     → CanBePut image slot frame i
     → Does code start (argument_code image i slot SingleWord) (length (argument_code image i slot SingleWord))
-    (IsPutting (frame + argument_offset image i) (frame + slot.offset)) (HasWordArgument image slot frame i)
+    (IsPutting (frame + stacked_offset image i) (frame + slot.offset)) (HasWordArgument image slot frame i)
     (IsArgumentPut image slot frame i)
 
 -- The result, which a call hands back in a0.

@@ -9,7 +9,7 @@ pub enum Section {
     RoomAboveFrame,
     /// What the caller has in those of s0 to s11 that the body writes is kept.
     SavedRegisters,
-    /// The arguments in a0 to a7 are laid below those on the stack.
+    /// Those of a0 to a7 that are needed behind the body are stored.
     ArgumentRegisters,
     /// The frame's base into x5.
     FrameBase,

@@ -43,7 +43,7 @@ argument_title MutableArray = codes ": an array"
 abbrev pub section_title : Section → List ℕ
 section_title RoomAboveFrame = codes "room above the frame"
 section_title SavedRegisters = codes "the caller's registers"
-section_title ArgumentRegisters = codes "the arguments, below those on the stack"
+section_title ArgumentRegisters = codes "arguments that are needed behind the body"
 section_title FrameBase = codes "the frame's base"
 section_title ClearedFrame = codes "the frame, zeroed downward"
 section_title LoweredStack = codes "the frame's base"

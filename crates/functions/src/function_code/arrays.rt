@@ -3,13 +3,14 @@
 
 ghost use Rattle.std.specs.Prelude.{◌≡◌, ◌≤◌, ◌<◌, ◌++◌, length, OnOk};
 ghost use Rattle.functions.specs.Below.{array_code, by_alignment_code, by_words_code, copy_in_code, copy_out_code};
-ghost use Rattle.functions.specs.Below.{MutableArray, passed_count, places_code};
+ghost use Rattle.functions.specs.Below.{MutableArray, passed_count, pointer_in_code, pointer_out_code};
 ghost use Rattle.functions.specs.function_code.private.Ways.{element_code, goes_by_words};
 ghost use Rattle.functions.specs.function_code.Above.{IsAbove};
 
 use crate::function_code::copying::{MANY, ROUND, Way, copied, elements};
 use crate::function_code::pieces::address;
-use crate::function_code::room::argument_offset;
+use crate::function_code::registers;
+use crate::function_code::room::{IN_REGISTERS, argument_offset, stacked_offset};
 use codegen::expression_code::emit::load;
 use codegen::image_fields::{ImageFields, Slot};
 use language::Kind;
@@ -22,19 +23,36 @@ const WORD: u32 = 4;
 /// From how many elements on they may go by words.
 const FEW: u32 = 4;
 
-/// The caller's array in x5, and its slot in x6.
-fn places(
+/// An argument that points to an array into x5, before the body.
+fn pointer_in(
     code: &mut Vec<Instr>,
     image: &ImageFields,
     above: u32,
     index: u16,
-    slot: Slot,
 ) -> Result<(), AllocError>
     requires { IsAbove image.now above }
-    ensures { OnOk result (code.new.items ≡ code.old.items ++ places_code image.now index slot) }
+    ensures { OnOk result (code.new.items ≡ code.old.items ++ pointer_in_code image.now index) }
 {
-    load(code, Reg::X5, argument_offset(image, above, index))?;
-    address(code, Reg::X6, slot.offset)
+    if index < IN_REGISTERS {
+        let here = Immediate12::from_bits(0);
+        let register = registers::argument(index);
+        code.push(Instr::Immediate(ImmediateOperation::Addi, Reg::X5, register, here))?;
+        return Ok(());
+    }
+    load(code, Reg::X5, stacked_offset(image, above, index))
+}
+
+/// And behind it.
+fn pointer_out(
+    code: &mut Vec<Instr>,
+    image: &ImageFields,
+    above: u32,
+    index: u16,
+) -> Result<(), AllocError>
+    requires { IsAbove image.now above }
+    ensures { OnOk result (code.new.items ≡ code.old.items ++ pointer_out_code image.now index) }
+{
+    load(code, Reg::X5, argument_offset(image, above, index))
 }
 
 /// Whether elements go by words where their pointer is a multiple of 4: those that are smaller than a word, but not
@@ -136,7 +154,8 @@ pub fn copy_in(
     requires { IsAbove image.now above }
     ensures { OnOk result (code.new.items ≡ code.old.items ++ copy_in_code image.now index slot) }
 {
-    places(code, image, above, index, slot)?;
+    pointer_in(code, image, above, index)?;
+    address(code, Reg::X6, slot.offset)?;
     array(
         alloc,
         code,
@@ -158,7 +177,8 @@ pub fn copy_out(
     requires { IsAbove image.now above }
     ensures { OnOk result (code.new.items ≡ code.old.items ++ copy_out_code image.now index slot MutableArray) }
 {
-    places(code, image, above, index, slot)?;
+    pointer_out(code, image, above, index)?;
+    address(code, Reg::X6, slot.offset)?;
     array(
         alloc,
         code,

@@ -1,13 +1,15 @@
 // Instructions of the sections before the body.
 
 ghost use Rattle.std.specs.Prelude.{◌≡◌, ◌++◌, ◌∷◌, [], OnOk};
-ghost use Rattle.functions.specs.Below.{above_code, above_frame, argument_code, constant_code, meant_code, Register};
-ghost use Rattle.functions.specs.Below.{stack_register, Sub, word_code};
+ghost use Rattle.functions.specs.Below.{above_code, above_frame, argument_code, argument_register};
+ghost use Rattle.functions.specs.Below.{constant_code, meant_code, Register};
+ghost use Rattle.functions.specs.Below.{stack_register, stacked_code, Sub, word_code};
 ghost use Rattle.functions.specs.function_code.Above.{IsAbove};
 
 use crate::function_code::arrays::copy_in;
 use crate::function_code::pieces::added;
-use crate::function_code::room::argument_offset;
+use crate::function_code::registers;
+use crate::function_code::room::{IN_REGISTERS, stacked_offset};
 use codegen::expression_code::emit::{constant, load, store};
 use codegen::image_fields::{ImageFields, Slot};
 use language::{Form, Kind};
@@ -41,11 +43,10 @@ pub fn frame_base(code: &mut Vec<Instr>, room: u32) -> Result<(), AllocError>
     Ok(())
 }
 
-/// What a raw word in x5 means by its kind.
-fn meant(code: &mut Vec<Instr>, kind: Kind) -> Result<(), AllocError>
-    ensures { OnOk result (code.new.items ≡ code.old.items ++ meant_code 5 kind) }
+/// What a raw word in a register means by its kind.
+fn meant(code: &mut Vec<Instr>, r: Reg, kind: Kind) -> Result<(), AllocError>
+    ensures { OnOk result (code.new.items ≡ code.old.items ++ meant_code r kind) }
 {
-    let r = Reg::X5;
     match kind {
         Kind::Boolean => {
             code.push(Instr::Register(RegisterOperation::Sltu, r, Reg::X0, r))?;
@@ -66,6 +67,33 @@ fn meant(code: &mut Vec<Instr>, kind: Kind) -> Result<(), AllocError>
     }
 }
 
+/// The register that holds an argument: that in which it is passed, or x5 once it is loaded.
+fn argument_register(index: u16) -> Reg
+    ensures { result ≡ argument_register index }
+{
+    if index < IN_REGISTERS {
+        registers::argument(index)
+    } else {
+        Reg::X5
+    }
+}
+
+/// The load of an argument that is passed on the stack.
+fn stacked(
+    code: &mut Vec<Instr>,
+    image: &ImageFields,
+    above: u32,
+    index: u16,
+) -> Result<(), AllocError>
+    requires { IsAbove image.now above }
+    ensures { OnOk result (code.new.items ≡ code.old.items ++ stacked_code image.now index) }
+{
+    if index < IN_REGISTERS {
+        return Ok(());
+    }
+    load(code, Reg::X5, stacked_offset(image, above, index))
+}
+
 /// An argument that is a word into its slot.
 fn word(
     code: &mut Vec<Instr>,
@@ -77,9 +105,10 @@ fn word(
     requires { IsAbove image.now above }
     ensures { OnOk result (code.new.items ≡ code.old.items ++ word_code image.now index slot) }
 {
-    load(code, Reg::X5, argument_offset(image, above, index))?;
-    meant(code, slot.param.kind)?;
-    store(code, Reg::X5, slot.offset)
+    let register = argument_register(index);
+    stacked(code, image, above, index)?;
+    meant(code, register, slot.param.kind)?;
+    store(code, register, slot.offset)
 }
 
 /// An argument into its slot.

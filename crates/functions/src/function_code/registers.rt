@@ -40,6 +40,14 @@ pub fn saved() -> [Reg; 12]
     ]
 }
 
+/// That of a0 to a7 in which an argument is passed.
+pub fn argument(index: u16) -> Reg
+    requires { index < 8 }
+    ensures { result ≡ 10 + index }
+{
+    Reg::from_bits(10 + u32::from(index))
+}
+
 /// a0 to a7: the first arguments.
 pub fn arguments() -> [Reg; 8]
     ensures { result ≡ argument_registers }

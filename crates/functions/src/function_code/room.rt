@@ -1,11 +1,13 @@
 // How much of the stack a call takes, and where its parts lie.
 
 ghost use Rattle.std.specs.Prelude.{◌≡◌, ◌≤◌, ◌+◌, ◌*◌, length};
-ghost use Rattle.functions.specs.Below.{above_frame, argument_offset, first_argument, frame_room, passed_of, room_of};
+ghost use Rattle.functions.specs.Below.{above_frame, argument_offset, first_argument, frame_room, needed_for};
+ghost use Rattle.functions.specs.Below.{needed_from, needed_of, room_of, stacked_offset};
 ghost use Rattle.functions.specs.function_code.Above.{IsAbove};
 
 use crate::function_code::kept::kept_count;
-use codegen::image_fields::ImageFields;
+use codegen::image_fields::{ImageFields, Slot};
+use language::Form;
 
 /// A block of the stack, of which x2 is always a multiple.
 const BLOCK: u32 = 16;
@@ -14,7 +16,7 @@ const BLOCK: u32 = 16;
 const WORD: u32 = 4;
 
 /// How many arguments the registers a0 to a7 take.
-const IN_REGISTERS: usize = 8;
+pub const IN_REGISTERS: u16 = 8;
 
 /// The bytes of the frame, in whole blocks of 16.
 pub(crate) fn frame_room(image: &ImageFields) -> u32
@@ -24,29 +26,57 @@ pub(crate) fn frame_room(image: &ImageFields) -> u32
     image.frame_bytes().div_ceil(BLOCK) * BLOCK
 }
 
-/// How many of a0 to a7 are arguments.
-#[tactic(auto, using(crate::proofs::function_code_lemmas::ArgumentLemmas::taken_count))]
-pub(crate) fn passed_count(image: &ImageFields) -> u32
-    ensures count { result ≡ length (passed_of image.now) }
+/// How many of a0 to a7 an argument needs behind the body.
+fn needed_for(index: u16, form: Form) -> u16
+    ensures needed { result ≡ needed_for index form }
     ensures few { result ≤ 8 }
 {
-    image.slots().len().min(IN_REGISTERS) as u32
+    match form {
+        Form::SingleWord | Form::FixedArray => 0,
+        Form::MutableArray => { if index < IN_REGISTERS { index + 1 } else { 0 } }
+    }
 }
 
-/// The bytes above the frame: a word for each register that is kept, and for each that is an argument, in whole blocks.
+/// And all of these arguments.
+fn needed_from(slots: &[Slot]) -> u16
+    requires { length slots.now ≤ 8192 }
+    ensures needed { result ≡ needed_from 0 slots.now }
+    ensures few { result ≤ 8 }
+{
+    let mut needed = 0;
+    let mut index = 0;
+    for slot in slots {
+        needed = needed.max(needed_for(index, slot.param.form));
+        index += 1;
+    }
+    needed
+}
+
+/// How many of a0 to a7 are needed behind the body.
+#[tactic(auto, using(crate::proofs::function_code_lemmas::ArgumentLemmas::registers_taken))]
+pub(crate) fn needed_count(image: &ImageFields) -> u32
+    ensures count { result ≡ length (needed_of image.now) }
+    ensures needed { result ≡ needed_from 0 image.now.slots }
+    ensures few { result ≤ 8 }
+{
+    u32::from(needed_from(image.slots()))
+}
+
+/// The bytes above the frame: a word for each register that is kept, and for each that is needed behind the body, in
+/// whole blocks.
 pub fn above_frame(image: &ImageFields) -> u32
     ensures { IsAbove image.now result }
 {
-    (WORD * (kept_count(image) + passed_count(image))).div_ceil(BLOCK) * BLOCK
+    (WORD * (kept_count(image) + needed_count(image))).div_ceil(BLOCK) * BLOCK
 }
 
-/// Where the first argument stands above the frame.
+/// Where a0 is stored above the frame.
 pub(crate) fn first_argument(image: &ImageFields, above: u32) -> u32
     requires { IsAbove image.now above }
     ensures place { result ≡ first_argument image.now }
-    ensures ends { result + 4 * length (passed_of image.now) ≤ 80 }
+    ensures ends { result + 4 * length (needed_of image.now) ≤ 80 }
 {
-    above - WORD * passed_count(image)
+    above - WORD * needed_count(image)
 }
 
 /// The bytes of stack that a call takes.
@@ -56,10 +86,22 @@ pub fn room_of(image: &ImageFields) -> u32
     frame_room(image) + above_frame(image)
 }
 
-/// Where an argument stands, from the frame's base on.
+/// Where an argument that no register holds stands with the caller, from the frame's base on.
+pub(crate) fn stacked_offset(image: &ImageFields, above: u32, index: u16) -> u32
+    requires { IsAbove image.now above }
+    ensures { result ≡ stacked_offset image.now index }
+{
+    frame_room(image) + above + WORD * u32::from(index.saturating_sub(IN_REGISTERS))
+}
+
+/// Where an argument that points to an array that may be changed stands behind the body.
 pub(crate) fn argument_offset(image: &ImageFields, above: u32, index: u16) -> u32
     requires { IsAbove image.now above }
     ensures { result ≡ argument_offset image.now index }
 {
-    frame_room(image) + first_argument(image, above) + WORD * u32::from(index)
+    if index < IN_REGISTERS {
+        frame_room(image) + first_argument(image, above) + WORD * u32::from(index)
+    } else {
+        stacked_offset(image, above, index)
+    }
 }

@@ -3,7 +3,7 @@
 ghost use Rattle.std.specs.Prelude.{◌≡◌, ◌≤◌, ◌++◌, ◌∷◌, [], length, map, OnOk, IfOk};
 ghost use Rattle.std.specs.Option.{option_map};
 ghost use Rattle.functions.specs.Below.{argument_sections, array_section, array_sections, enter_sections};
-ghost use Rattle.functions.specs.Below.{first_argument, frame_sections, kept_of, leave_sections, loads_code, passed_of};
+ghost use Rattle.functions.specs.Below.{first_argument, frame_sections, kept_of, leave_sections, loads_code, needed_of};
 ghost use Rattle.functions.specs.Below.{section_code, stores_code};
 ghost use Rattle.functions.specs.function_code.Above.{IsAbove};
 ghost use Rattle.linked_calls.specs.declared.section.Section.TheVariants.{BlankWord, ClearedFrame, FrameBase};
@@ -15,7 +15,7 @@ use crate::function_code::kept::kept;
 use crate::function_code::leaving::{array, callers_stack, frame_top, go_back, result};
 use crate::function_code::pieces::{clear_registers, loads, stores};
 use crate::function_code::registers;
-use crate::function_code::room::{first_argument, frame_room, room_of};
+use crate::function_code::room::{first_argument, frame_room, needed_count, room_of};
 use crate::function_code::zeroing::{cleared_frame, wiped_room};
 use codegen::image_fields::{ImageFields, Slot};
 use language::Form;
@@ -158,8 +158,7 @@ fn restored_registers(
     loads(code, Reg::X5, 0, kept.as_slice())
 }
 
-/// The arguments in a0 to a7, above those.
-#[tactic(auto, using(crate::proofs::function_code_lemmas::ArgumentLemmas::taken_all))]
+/// Those of a0 to a7 that are needed behind the body, above those.
 fn argument_registers(
     code: &mut Vec<Instr>,
     image: &ImageFields,
@@ -167,16 +166,16 @@ fn argument_registers(
 ) -> Result<(), AllocError>
     requires { IsAbove image.now above }
     ensures { OnOk result (code.new.items
-        ≡ code.old.items ++ stores_code 2 (first_argument image.now) (passed_of image.now)) }
+        ≡ code.old.items ++ stores_code 2 (first_argument image.now) (needed_of image.now)) }
 {
     let arguments = registers::arguments();
-    let passed = image.slots().len();
-    let place = first_argument(image, above);
-    if passed < arguments.len() {
-        stores(code, Reg::X2, place, &arguments[..passed])
-    } else {
-        stores(code, Reg::X2, place, &arguments)
-    }
+    let needed = needed_count(image) as usize;
+    stores(
+        code,
+        Reg::X2,
+        first_argument(image, above),
+        &arguments[..needed],
+    )
 }
 
 /// Puts the instructions of a section of an image's function at the end.

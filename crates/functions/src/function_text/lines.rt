@@ -120,7 +120,7 @@ fn push_section_title(text: &mut String, section: Section) -> Result<(), AllocEr
     match section {
         Section::RoomAboveFrame => text.push_str("room above the frame"),
         Section::SavedRegisters => text.push_str("the caller's registers"),
-        Section::ArgumentRegisters => text.push_str("the arguments, below those on the stack"),
+        Section::ArgumentRegisters => text.push_str("arguments that are needed behind the body"),
         Section::FrameBase => text.push_str("the frame's base"),
         Section::ClearedFrame => text.push_str("the frame, zeroed downward"),
         Section::LoweredStack => text.push_str("the frame's base"),
