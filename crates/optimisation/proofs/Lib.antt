@@ -2,4 +2,5 @@ pub mod over_lemmas
 pub mod constants_lemmas
 pub mod element_words_lemmas
 pub mod live_words_lemmas
+pub mod needed_variables_lemmas
 pub mod set_first_lemmas

@@ -41,7 +41,7 @@ pub use Rattle.inline.specs.Limits.{most_variable_bytes}
 pub use Rattle.inline.specs.Path.{AreFine, bounded, decided, indexed, multiplied, Path}
 pub use Rattle.inline.specs.declared.flat.FlatVariable.{FlatVariable}
 pub use Rattle.branch_removal.specs.Bounds.{block_nodes, statement_nodes}
-unfoldable pub use Rattle.branch_removal.specs.Checked.{checked}
+unfoldable pub use Rattle.branch_removal.specs.Checked.{checked, redeclared}
 pub use Rattle.branch_removal.specs.Greatest.{greatest_of, heaviest, without_greatest}
 pub use Rattle.branch_removal.specs.Kept.{IsStraight}
 pub use Rattle.branch_removal.specs.Quiet.{is_quiet}

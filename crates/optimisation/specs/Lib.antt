@@ -1,12 +1,14 @@
 -- What this crate defines, by folder, one a module. What a pass promises is defined in `branch_removal`: Replaced.
--- constants, element_words, live_words: Exact has the one program that a pass makes; how it is made is in the folder
---   private of each: constants has Known, Folding, Powers, Fields, Choice and Simplification, element_words Narrowing,
---   Plan and Splitting, live_words Held, Gathering, Choice and Sharing. element_words also has Limits.
+-- constants, element_words, live_words, needed_variables: Exact has the one program that a pass makes; how it is made
+--   is in the folder private of each: constants has Known, Folding, Powers, Fields, Choice and Simplification,
+--   element_words Narrowing, Plan and Splitting, live_words Held, Gathering, Choice and Sharing, and needed_variables
+--   has Named. element_words also has Limits.
 -- set_first: Order has which code sets each variable before it reads it, Starts what that means for where it begins.
 -- private: which variables are words of one type.
 pub mod private
 pub mod constants
 pub mod element_words
 pub mod live_words
+pub mod needed_variables
 pub mod set_first
 pub mod Below

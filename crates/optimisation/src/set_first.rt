@@ -164,7 +164,10 @@ fn all_set_first(
 }
 
 /// Of a program's variables the parameters were set.
-fn known_parameters(alloc: Global, straight: &StraightCode<'_>) -> Result<Vec<bool>, AllocError>
+pub(crate) fn known_parameters(
+    alloc: Global,
+    straight: &StraightCode<'_>,
+) -> Result<Vec<bool>, AllocError>
     ensures { IfOk result (λ known. known.items ≡ known_parameters straight.now) }
 {
     let parameters = straight.parameters().len();
