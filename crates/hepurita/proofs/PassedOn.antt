@@ -1,8 +1,12 @@
 -- What a pass made is handed on, or else the code that it was given: either is straight code of each body that the
 -- code is of.
-use Rattle.std.proofs.Common.{◌≡◌, Option, None, Some, IfSome, subst, sym}
+use Rattle.std.proofs.Common.{◌≡◌, Option, None, Some, IfSome, ap, option_map, subst, sym, ◌∙◌}
 use Rattle.std.specs.Prelude.{unwrap_or}
-use Rattle.hepurita.specs.Below.{IsRemoved, RangedProgram, StraightProgram}
+use Rattle.hepurita.specs.Below.{IsRemoved, RangedProgram, simplified_of, StraightProgram}
+use Rattle.hepurita.specs.Exact.{after, finished_of, fitted_where_shared}
+use Rattle.optimisation.specs.element_words.Exact.{split_of}
+use Rattle.optimisation.specs.live_words.Exact.{shared_of}
+use Rattle.optimisation.specs.needed_variables.Exact.{fitted_of}
 use Rattle.branch_removal.specs.Replaced.{IsReplaced}
 
 pub stands_on : (ranged : RangedProgram) (made : Option StraightProgram) (given result : StraightProgram)
@@ -12,3 +16,17 @@ pub stands_on : (ranged : RangedProgram) (made : Option StraightProgram) (given 
 stands_on ranged None given result law replaced is removed = subst (IsRemoved ranged) (sym is) removed
 stands_on ranged (Some code) given result law replaced is removed =
     subst (IsRemoved ranged) (sym is) (law given code removed replaced)
+
+pub after_pass : (pass : StraightProgram → Option StraightProgram) (made : Option StraightProgram)
+    (given before result : StraightProgram)
+    → result ≡ unwrap_or made given → made ≡ pass given → given ≡ before → result ≡ after pass before
+after_pass pass made given before result is from same =
+    is ∙ (ap (λ (o : Option StraightProgram). unwrap_or o given) from ∙ ap (after pass) same)
+
+-- the end of the passes, where words share variables
+module _ (straight simpler : StraightProgram) (is : simpler ≡ after simplified_of (after split_of straight)) where
+  pub finished_shared : (shared fitted : StraightProgram) → shared_of simpler ≡ Some shared
+      → fitted ≡ fitted_of shared → finished_of straight ≡ fitted
+  finished_shared shared fitted found fits =
+      ap (after fitted_where_shared) (sym is)
+      ∙ (ap (λ (o : Option StraightProgram). unwrap_or (option_map fitted_of o) simpler) found ∙ sym fits)

@@ -1,6 +1,7 @@
 -- The one image for an exported procedure, behind those before it, for an observer, plain or optimised: what the
 -- passes make of it, one after another.
 use Rattle.std.specs.Prelude.{List, [], ◌∷◌, Option, None, Some, unwrap_or}
+use Rattle.std.specs.Option.{option_map}
 use Rattle.hepurita.specs.Below.{Fields, fields_of, flattened, optimised_fields_of, ProcedureTree, Profile, ranged}
 use Rattle.hepurita.specs.Below.{simplified_of, straight_of, StraightProgram, unrolled_of}
 use Rattle.hepurita.specs.Blank.{Blank, blank_of}
@@ -8,6 +9,7 @@ use Rattle.optimisation.specs.element_words.Exact.{split_of}
 use Rattle.hepurita.specs.declared.optimised.Optimisation.{Optimisation}
 use Rattle.hepurita.specs.declared.optimised.Optimisation.TheVariants.{Off, On}
 use Rattle.optimisation.specs.live_words.Exact.{shared_of}
+use Rattle.optimisation.specs.needed_variables.Exact.{fitted_of}
 
 -- the first image of those that are there, and else another
 abbrev pub first_of : List (Option Fields) → Fields → Fields
@@ -19,10 +21,14 @@ first_of (Some image ∷ images) otherwise = image
 abbrev pub after : (StraightProgram → Option StraightProgram) → StraightProgram → StraightProgram
 after pass straight = unwrap_or (pass straight) straight
 
+-- where words share variables, the code has only the variables that it needs
+abbrev pub fitted_where_shared : StraightProgram → Option StraightProgram
+fitted_where_shared straight = option_map fitted_of (shared_of straight)
+
 -- what the passes make of straight code whose loops are as they stay: its short arrays are words, what is known then is
--- a number, and words share variables
+-- a number, words share variables, and variables that nothing names have no room
 abbrev pub finished_of : StraightProgram → StraightProgram
-finished_of straight = after shared_of (after simplified_of (after split_of straight))
+finished_of straight = after fitted_where_shared (after simplified_of (after split_of straight))
 
 -- the images that are tried for straight code where optimised code is asked for: with its loops unrolled, and else with
 -- its loops. Each is there where it is within the limit on words

@@ -15,6 +15,7 @@ use language::Refusal;
 use optimisation::constants::{simplify, unroll};
 use optimisation::element_words::ElementWords;
 use optimisation::live_words::share_words;
+use optimisation::needed_variables::{needed_variables, with_needed};
 use std::alloc::Global;
 
 /// What a pass made, or else the code that it was given.
@@ -30,8 +31,26 @@ fn made_or_given<'a, 'f>(
     }
 }
 
+/// The optimised code of a program as it is, where it is within the limit on words. Only memory refuses it.
+fn optimised_code(alloc: Global, straight: &StraightCode<'_>) -> Result<Option<Generated>, Refusal>
+    ensures generated { IfOk result (λ made. IfSome made (IsCodeFor straight.now)) }
+    ensures exact { IfOk result (λ made. option_map (λ made. made.code) made ≡ optimised_fields_of straight.now) }
+    ensures blank { IfOk result (λ made. IfSome made (λ made. blank_in made ≡ blank_of straight.now)) }
+    ensures allowed { IfOk result (λ made. IfSome made (λ made. IsImage made.code)) }
+    ensures memory { IfErr result (λ refusal. IsWantOfMemory refusal.rule refusal.place) }
+{
+    match generate_optimised(alloc, straight)? {
+        Some(code) => {
+            let blank = blank_words(alloc, straight)?;
+            Ok(Some(Generated { code, blank }))
+        }
+        None => Ok(None),
+    }
+}
+
 /// The optimised code of a program whose loops are as they stay, where it is within the limit on words: short arrays
-/// become words, what is known then is a number, and words share variables. Only memory refuses it.
+/// become words, what is known then is a number, words share variables, and a variable that nothing names has no room.
+/// Only memory refuses it.
 fn finished(alloc: Global, straight: &StraightCode<'_>) -> Result<Option<Generated>, Refusal>
     ensures generated { IfOk result (λ made. IfSome made (IsCodeFor straight.now)) }
     ensures exact { IfOk result (λ made.
@@ -45,15 +64,14 @@ fn finished(alloc: Global, straight: &StraightCode<'_>) -> Result<Option<Generat
     let split = made_or_given(&with_words, straight);
     let with_numbers = simplify(alloc, split)?;
     let simpler = made_or_given(&with_numbers, split);
-    let with_shares = share_words(alloc, simpler)?;
-    let shared = made_or_given(&with_shares, simpler);
     replaced_is_removed();
-    match generate_optimised(alloc, shared)? {
-        Some(code) => {
-            let blank = blank_words(alloc, shared)?;
-            Ok(Some(Generated { code, blank }))
+    match share_words(alloc, simpler)? {
+        Some(shared) => {
+            let needed = needed_variables(alloc, &shared)?;
+            let fitted = with_needed(shared, needed.as_slice());
+            optimised_code(alloc, &fitted)
         }
-        None => Ok(None),
+        None => optimised_code(alloc, simpler),
     }
 }
 

@@ -1,16 +1,71 @@
-use Rattle.std.proofs.Common.{sym, ◌∙◌}
-use Rattle.hepurita.proofs.Anywhere.{optimised_is_code}
-use Rattle.hepurita.proofs.PassedOn.{stands_on}
+use Rattle.std.proofs.Common.{refl, subst, sym, ◌∙◌}
+use Rattle.std.specs.Prelude.{◌≡◌, IfOk, IfSome}
+use Rattle.std.specs.Option.{option_map}
+use Rattle.std.proofs.lemmas.Option.{IfSome_then}
+use Rattle.std.proofs.lemmas.Result.{IfOk-weaker}
+use Rattle.hepurita.specs.Below.{optimised_fields_of, simplified_of, StraightProgram}
+use Rattle.hepurita.specs.Blank.{blank_of}
+use Rattle.hepurita.specs.CodeFor.{blank_in}
+use Rattle.hepurita.specs.Exact.{after}
+use Rattle.optimisation.specs.element_words.Exact.{split_of}
+use Rattle.hepurita.proofs.PassedOn.{after_pass, finished_shared, stands_on}
 use Rattle.hepurita.proofs.optimising.finished.Goals as goal
 
 -- each of the programs may stand in the place of the one before
 pub returns-in-Some-clause-generated : goal.returns-in-Some-clause-generated
 returns-in-Some-clause-generated c =
     let law = c.replaced_is_removed.ensures in
-    let made = c.in_ok-code.ensures in
-    optimised_is_code c.args.straight.now c.made_or_given-shared.result.now _ c.in_ok-blank-in-Some.ensures.kept
-    (λ ranged removed.
-    stands_on ranged _ _ _ (law ranged) c.in_ok-with_shares.ensures.replaced c.made_or_given-shared.ensures
-    (stands_on ranged _ _ _ (law ranged) c.in_ok-with_numbers.ensures.replaced c.made_or_given-simpler.ensures
-    (stands_on ranged _ _ _ (law ranged) c.in_ok-with_words.ensures.replaced c.made_or_given-split.ensures removed)))
-    (rw c.in-Some.is at made.generated) (sym made.exact ∙ c.in-Some.is) c.in_ok-blank-in-Some.ensures.blank
+    IfOk-weaker c.optimised_code.result _ _
+    (λ made there.
+    IfSome_then made there (λ code is. record {
+      source = is.source;
+      stands = λ ranged removed.
+          is.stands ranged (law ranged _ _
+          (law ranged _ _
+          (stands_on ranged _ _ _ (law ranged) c.in_ok-with_numbers.ensures.replaced c.made_or_given-simpler.ensures
+          (stands_on ranged _ _ _ (law ranged) c.in_ok-with_words.ensures.replaced c.made_or_given-split.ensures
+          removed)) (rw c.in-Some.is at c.in_ok-shared.ensures.replaced))
+          c.with_needed-fitted.ensures.replaced);
+      generated = is.generated;
+      follows = is.follows;
+    }))
+    c.optimised_code.ensures.generated
+
+pub returns-in-Some-clause-exact : goal.returns-in-Some-clause-exact
+returns-in-Some-clause-exact c =
+    let p = c.args.straight.now in
+    let simpler : c.made_or_given-simpler.result.now ≡ after simplified_of (after split_of p) =
+    after_pass simplified_of _ _ _ _ c.made_or_given-simpler.ensures c.in_ok-with_numbers.ensures.exact
+    (after_pass split_of _ _ _ _ c.made_or_given-split.ensures c.in_ok-with_words.ensures.exact refl) in
+    subst (λ (q : StraightProgram). IfOk c.optimised_code.result
+    (λ made. option_map (λ made. made.code) made ≡ optimised_fields_of q))
+    (sym (finished_shared p _ simpler _ _ (sym c.in_ok-shared.ensures.exact ∙ c.in-Some.is)
+    c.with_needed-fitted.ensures.exact)) c.optimised_code.ensures.exact
+
+pub returns-in-Some-clause-blank : goal.returns-in-Some-clause-blank
+returns-in-Some-clause-blank c =
+    let p = c.args.straight.now in
+    let simpler : c.made_or_given-simpler.result.now ≡ after simplified_of (after split_of p) =
+    after_pass simplified_of _ _ _ _ c.made_or_given-simpler.ensures c.in_ok-with_numbers.ensures.exact
+    (after_pass split_of _ _ _ _ c.made_or_given-split.ensures c.in_ok-with_words.ensures.exact refl) in
+    subst (λ (q : StraightProgram). IfOk c.optimised_code.result
+    (λ made. IfSome made (λ made. blank_in made ≡ blank_of q)))
+    (sym (finished_shared p _ simpler _ _ (sym c.in_ok-shared.ensures.exact ∙ c.in-Some.is)
+    c.with_needed-fitted.ensures.exact)) c.optimised_code.ensures.blank
+
+pub returns-clause-generated : goal.returns-clause-generated
+returns-clause-generated c =
+    let law = c.replaced_is_removed.ensures in
+    IfOk-weaker c.optimised_code-in-None.result _ _
+    (λ made there.
+    IfSome_then made there (λ code is. record {
+      source = is.source;
+      stands = λ ranged removed.
+          is.stands ranged
+          (stands_on ranged _ _ _ (law ranged) c.in_ok-with_numbers.ensures.replaced c.made_or_given-simpler.ensures
+          (stands_on ranged _ _ _ (law ranged) c.in_ok-with_words.ensures.replaced c.made_or_given-split.ensures
+          removed));
+      generated = is.generated;
+      follows = is.follows;
+    }))
+    c.optimised_code-in-None.ensures.generated
