@@ -1,6 +1,6 @@
 // The registers of the calling convention, by what becomes of them.
 
-ghost use Rattle.std.specs.Prelude.{◌≡◌};
+ghost use Rattle.std.specs.Prelude.{◌≡◌, ◌<◌, ◌+◌};
 ghost use Rattle.functions.specs.Below.{argument_registers, link_register, result_register, saved_registers};
 ghost use Rattle.functions.specs.Below.{scratch_registers};
 

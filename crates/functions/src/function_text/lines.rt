@@ -113,6 +113,15 @@ fn push_array(text: &mut String, index: u16) -> Result<(), AllocError>
     Ok(())
 }
 
+/// What the section of a word is for that has to be zero.
+fn push_blank_word(text: &mut String, offset: u32) -> Result<(), AllocError>
+    ensures { OnOk result (string_bytes text.new
+        ≡ string_bytes text.old ++ (codes "the frame's word at " ++ decimal offset ++ codes ", zeroed")) }
+{
+    write!(text, "the frame's word at {offset}, zeroed")?;
+    Ok(())
+}
+
 /// What a section is for.
 fn push_section_title(text: &mut String, section: Section) -> Result<(), AllocError>
     ensures { OnOk result (string_bytes text.new ≡ string_bytes text.old ++ section_title section) }
@@ -124,11 +133,7 @@ fn push_section_title(text: &mut String, section: Section) -> Result<(), AllocEr
         Section::FrameBase => text.push_str("the frame's base"),
         Section::ClearedFrame => text.push_str("the frame, zeroed downward"),
         Section::LoweredStack => text.push_str("the frame's base"),
-        Section::BlankWord(offset) => {
-            text.push_str("the frame's word at ")?;
-            push_number(text, u64::from(offset))?;
-            text.push_str(", zeroed")
-        }
+        Section::BlankWord(offset) => push_blank_word(text, offset),
         Section::ArgumentIn(index, slot) => push_argument(text, index, slot.param.form),
         Section::ResultOut => text.push_str("the result"),
         Section::ArrayOut(index, _) => push_array(text, index),
