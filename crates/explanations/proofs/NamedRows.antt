@@ -57,7 +57,8 @@ pub name_found : (code : List ℕ) (rows : List Explanation) (found : Option Exp
     → found ≡ find (λ row. bytes_eq row.code.now code) rows → have_names rows ≡ true → IfSome found HasItsName
 name_found code rows found is all = subst (λ o. IfSome o HasItsName) (sym is) (found_named code rows all)
 
-pub named_in_either : (one other found : Option Explanation) → found ≡ option_or one other → IfSome one HasItsName
-    → IfSome other HasItsName → IfSome found HasItsName
-named_in_either None other found is a b = subst (λ o. IfSome o HasItsName) (sym is) b
-named_in_either (Some row) other found is a b = subst (λ o. IfSome o HasItsName) (sym is) a
+-- what holds of each of two rows, where there is one, holds of the first
+pub of_either : (P : Explanation → Type 0) (one other found : Option Explanation) → found ≡ option_or one other
+    → IfSome one P → IfSome other P → IfSome found P
+of_either P None other found is a b = subst (λ o. IfSome o P) (sym is) b
+of_either P (Some row) other found is a b = subst (λ o. IfSome o P) (sym is) a

@@ -23,11 +23,17 @@ pub fn explain_refusal(alloc: Global, source: &str, refusal: Refusal) -> Result<
     ensures said { IfOk result (λ lines. Explains source.now refusal (string_bytes lines)) }
     ensures memory { IfErr result (λ fault. IsWantOfMemory fault.rule fault.place) }
 {
+    Ok(lines_below(alloc, source, refusal)?)
+}
+
+/// The same lines.
+fn lines_below(alloc: Global, source: &str, refusal: Refusal) -> Result<String, AllocError>
+    ensures { IfOk result (λ lines. Explains source.now refusal (string_bytes lines)) }
+{
     let lines = place_lines(alloc, source, refusal.place)?;
     let details = details(alloc, source, refusal)?;
     let rule = row_of(refusal.rule).rule;
-    let text = format!(in alloc; "{lines}{details}{rule}")?;
-    Ok(text)
+    format!(in alloc; "{lines}{details}{rule}")
 }
 
 /// The line of a source at a place, marked; nothing where there is no place.

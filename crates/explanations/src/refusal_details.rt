@@ -15,9 +15,8 @@ mod source_names;
 mod type_lines;
 mod why_lines;
 
-ghost use Rattle.std.specs.Prelude.{IfOk, IfErr};
+ghost use Rattle.std.specs.Prelude.{IfOk};
 ghost use Rattle.std.specs.String.{string_bytes};
-ghost use Rattle.explanations.specs.Below.{IsWantOfMemory};
 ghost use Rattle.explanations.specs.refusal_details.Details.{Finds, FindsBeside, SaysDetails};
 
 use crate::refusal_details::characters::character_line;
@@ -25,21 +24,18 @@ use crate::refusal_details::expectations::expected_lines;
 use crate::refusal_details::programs::call_lines;
 use crate::refusal_details::why_lines::why_lines;
 use language::{Refusal, Rule, Why};
-use std::alloc::Global;
+use std::alloc::{AllocError, Global};
 
-/// What is said of a source's refusal beside its rule: lines, each with its end, or nothing. It fails only when out of
-/// memory.
-pub fn details(alloc: Global, source: &str, refusal: Refusal) -> Result<String, Refusal>
+/// What is said of a source's refusal beside its rule: lines, each with its end, or nothing.
+pub fn details(alloc: Global, source: &str, refusal: Refusal) -> Result<String, AllocError>
     ensures said { IfOk result (λ lines. SaysDetails source.now refusal (string_bytes lines)) }
-    ensures memory { IfErr result (λ fault. IsWantOfMemory fault.rule fault.place) }
 {
     let Some(place) = refusal.place else {
         return Ok(String::new(alloc));
     };
     let evidence = why_lines(alloc, source, refusal.why)?;
     let found = found_beside(alloc, source, refusal.rule, refusal.why, place.offset)?;
-    let lines = format!(in alloc; "{evidence}{found}")?;
-    Ok(lines)
+    format!(in alloc; "{evidence}{found}")
 }
 
 /// What is found in a source beside the evidence of a violation.
@@ -49,9 +45,8 @@ fn found_beside(
     rule: Rule,
     why: Why,
     at: u32,
-) -> Result<String, Refusal>
-    ensures said { IfOk result (λ lines. FindsBeside source.now rule why at (string_bytes lines)) }
-    ensures memory { IfErr result (λ fault. IsWantOfMemory fault.rule fault.place) }
+) -> Result<String, AllocError>
+    ensures { IfOk result (λ lines. FindsBeside source.now rule why at (string_bytes lines)) }
 {
     match why {
         Why::Plain => found_lines(alloc, source, rule, at),
@@ -61,12 +56,11 @@ fn found_beside(
 }
 
 /// What is found in a source behind so many bytes, where rule and place are all that is known.
-fn found_lines(alloc: Global, source: &str, rule: Rule, at: u32) -> Result<String, Refusal>
-    ensures said { IfOk result (λ lines. Finds source.now rule at (string_bytes lines)) }
-    ensures memory { IfErr result (λ fault. IsWantOfMemory fault.rule fault.place) }
+fn found_lines(alloc: Global, source: &str, rule: Rule, at: u32) -> Result<String, AllocError>
+    ensures { IfOk result (λ lines. Finds source.now rule at (string_bytes lines)) }
 {
     match rule {
-        Rule::UnknownCharacter => Ok(character_line(alloc, at, source.as_bytes())?),
+        Rule::UnknownCharacter => String::from_str(alloc, character_line(at, source.as_bytes())),
         Rule::UnexpectedToken => expected_lines(alloc, at, source),
         _ => Ok(String::new(alloc)),
     }

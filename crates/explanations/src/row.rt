@@ -1,7 +1,7 @@
 use std::fmt;
 
 /// What a code means. All texts are without a line feed at the end.
-#[derive(Clone, Copy, Debug, PartialEq, Eq)]
+#[derive(Clone, Copy)]
 pub struct Explanation {
     /// The code of a rule, such as `L1`, or the name of a stop, such as `Illegal`.
     pub code: &'static str,

@@ -1,8 +1,7 @@
 -- What an answer of the parser says; and what holds where a call succeeds.
 use Rattle.std.proofs.Common.{◌≡◌, ℕ, List, Option, None, Some, Result, Ok, Err, IfOk, sym, ◌∙◌, inl, inr}
 use Rattle.std.proofs.lemmas.Option.{none-some}
-use Rattle.explanations.specs.Below.{ParseAnswer, IsFirst, IsRefusedAs, IsRefusedFor, Place, Reads, Refusal, refused}
-use Rattle.explanations.specs.Below.{Rule, Violation}
+use Rattle.explanations.specs.Below.{ParseAnswer, IsRefusedAs, Place, Reads, Refusal, refused}
 use Rattle.explanations.specs.refusal_details.Details.{IsProgramOf, unread}
 
 -- a refusal with a place is an answer to the text
@@ -20,9 +19,3 @@ pub where_ok : {A E : Type 0} {P Q : A → Type 0} (result : Result A E) → ((x
     → IfOk result Q
 where_ok (Ok x) follows known = follows x known
 where_ok (Err e) follows known = known
-
--- a refusal with a place is for a violation, of which there is a first
-pub first_at : (all : List Violation) (rule : Rule) (place : Option Place) (p : Place) → place ≡ Some p
-    → IsRefusedFor all rule place → (first : Violation) × IsFirst all first
-first_at all rule place p some (inl memory) = absurd (none-some p (sym memory.1 ∙ some))
-first_at all rule place p some (inr named) = (named.0, named.1)

@@ -9,9 +9,9 @@ use Rattle.language.specs.declared.why.Counted.{Counted}
 use Rattle.language.specs.declared.why.Counted.TheVariants.{DeclaredBytes}
 use Rattle.language.specs.declared.why.Excess.{Excess}
 
--- a count: the greatest number stands for those above it too
-abbrev pub count_text : ℕ → List ℕ
-count_text n = if nat_lt n most_counted then decimal n else codes "18446744073709551615 or more"
+-- what stands behind a count: the greatest number stands for those above it too
+abbrev pub or_more : ℕ → List ℕ
+or_more n = if nat_lt n most_counted then [] else codes " or more"
 
 -- a part that has so many; of those that have more than can be counted it may not be the largest
 abbrev pub part_head : ℕ → List ℕ
@@ -19,20 +19,21 @@ part_head n = if nat_lt n most_counted then codes "; its largest part is at " el
 
 abbrev pub share_text : Option Share → List ℕ
 share_text None = []
-share_text (Some s) = part_head s.count ++ (place_text s.place ++ (codes ": " ++ count_text s.count))
+share_text (Some s) = part_head s.count ++ (place_text s.place ++ (codes ": " ++ (decimal s.count ++ or_more s.count)))
 
 -- S1, S2: a size, of which so much is allowed
 abbrev pub size_line : List ℕ → ℕ → Excess → List ℕ
 size_line things most e =
-    codes "  the export has " ++ (count_text e.whole ++ (codes " " ++ (things
-    ++ (codes ", and at most "
-    ++ (decimal most ++ (codes " are allowed" ++ (share_text e.largest ++ codes "\n")))))))
+    codes "  the export has " ++ (decimal e.whole ++ (or_more e.whole ++ (codes " " ++ (things
+    ++ (codes ", and at most " ++ (decimal most
+    ++ (codes " are allowed" ++ (share_text e.largest ++ codes "\n"))))))))
 
 -- S3: the work
 abbrev pub work_line : Excess → List ℕ
 work_line e =
-    codes "  the export's work is " ++ (count_text e.whole ++ (codes ", and at most " ++ (decimal most_work
-    ++ (codes " is allowed" ++ (share_text e.largest ++ codes "\n")))))
+    codes "  the export's work is " ++ (decimal e.whole ++ (or_more e.whole
+    ++ (codes ", and at most " ++ (decimal most_work
+    ++ (codes " is allowed" ++ (share_text e.largest ++ codes "\n"))))))
 
 -- by what is counted
 abbrev pub counted_line : Counted → Excess → List ℕ

@@ -1,5 +1,5 @@
 -- Types that a rule compares: lines, each with its end.
-use Rattle.std.specs.Prelude.{ℕ, Bool, List, ◌++◌, drop, codes, if◌then◌else◌}
+use Rattle.std.specs.Prelude.{ℕ, Bool, false, true, List, [], ◌++◌, drop, codes}
 use Rattle.std.specs.Fmt.{decimal}
 use Rattle.std.specs.List.{take_while}
 use Rattle.explanations.specs.Below.{Array, Boolean, is_word_byte, Kind, Nothing, Place, Uint16, Uint32, Uint8}
@@ -24,34 +24,40 @@ kind_text Uint8 = codes "uint8"
 kind_text Uint16 = codes "uint16"
 kind_text Uint32 = codes "uint32"
 
-abbrev pub label_text : Label → List ℕ
-label_text Public = codes "public "
-label_text Secret = codes "secret "
+-- a label and a blank, or nothing where labels are not shown
+abbrev pub label_text : Bool → Label → List ℕ
+label_text false label = []
+label_text true Public = codes "public "
+label_text true Secret = codes "secret "
 
 -- a type with its label, or without
-abbrev pub word_text : Bool → WordType → List ℕ
-word_text labelled w = if labelled then label_text w.label ++ kind_text w.kind else kind_text w.kind
-
 abbrev pub type_text : Bool → ValueType → List ℕ
-type_text labelled (Word w) = word_text labelled w
-type_text labelled (Array a) = word_text labelled a.element ++ (codes "[" ++ (decimal a.length ++ codes "]"))
+type_text labelled (Word w) = label_text labelled w.label ++ kind_text w.kind
+type_text labelled (Array a) =
+    label_text labelled a.element.label
+    ++ (kind_text a.element.kind ++ (codes "[" ++ (decimal a.length ++ codes "]")))
 type_text labelled Nothing = codes "void"
 
--- what a part is called
+-- what a part is called; of a parameter, without its name
+abbrev pub part_word : Part → List ℕ
+part_word Operand = codes "operand"
+part_word LeftOperand = codes "left operand"
+part_word RightOperand = codes "right operand"
+part_word Condition = codes "condition"
+part_word FirstBound = codes "first bound"
+part_word SecondBound = codes "second bound"
+part_word Index = codes "index"
+part_word Variable = codes "variable"
+part_word Element = codes "element"
+part_word Result = codes "result"
+part_word Value = codes "value"
+part_word Argument = codes "argument"
+part_word (Parameter place) = codes "parameter"
+
+-- a parameter has its name behind
 abbrev pub part_name : List ℕ → Part → List ℕ
-part_name source Operand = codes "operand"
-part_name source LeftOperand = codes "left operand"
-part_name source RightOperand = codes "right operand"
-part_name source Condition = codes "condition"
-part_name source FirstBound = codes "first bound"
-part_name source SecondBound = codes "second bound"
-part_name source Index = codes "index"
-part_name source Variable = codes "variable"
-part_name source Element = codes "element"
-part_name source Result = codes "result"
-part_name source Value = codes "value"
-part_name source Argument = codes "argument"
 part_name source (Parameter place) = codes "parameter `" ++ (name_at source place ++ codes "`")
+part_name source part = part_word part
 
 -- a part's type
 abbrev pub typed_text : Bool → List ℕ → TypedPart → List ℕ

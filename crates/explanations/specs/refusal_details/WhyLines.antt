@@ -17,12 +17,9 @@ use Rattle.language.specs.declared.why.Why.TheVariants as why
 use Rattle.explanations.specs.refusal_details.SizeLines.{excess_line}
 use Rattle.explanations.specs.refusal_details.TypeLines.{kind_text, name_at, two_line, type_lines, type_text}
 
--- so many of something
+-- the end of a word for so many
 abbrev pub ending : ℕ → List ℕ
 ending n = if n == 1 then [] else codes "s"
-
-abbrev pub things : ℕ → List ℕ → List ℕ
-things n one = decimal n ++ (codes " " ++ (one ++ ending n))
 
 -- T1: how a number is written in the width that is wanted
 abbrev pub suffix : Kind → List ℕ
@@ -58,9 +55,10 @@ amount_line n =
 -- T4: how many arguments a call has, and how many its procedure takes
 abbrev pub argument_line : List ℕ → ArgumentCounts → List ℕ
 argument_line source c =
-    codes "  the call has " ++ (things c.given (codes "argument") ++ (codes ", and `" ++ (name_at source c.procedure
+    codes "  the call has " ++ (decimal c.given ++ (codes " argument" ++ (ending c.given
+    ++ (codes ", and `" ++ (name_at source c.procedure
     ++ (codes "`, declared at "
-    ++ (place_text c.procedure ++ (codes ", takes " ++ (decimal c.taken ++ codes "\n")))))))
+    ++ (place_text c.procedure ++ (codes ", takes " ++ (decimal c.taken ++ codes "\n")))))))))
 
 -- N1: the nearest of the variables in scope
 abbrev pub nearest_line : List ℕ → Place → List ℕ
@@ -91,7 +89,8 @@ shared_line source s =
 abbrev pub value_line : ValueCounts → List ℕ
 value_line c =
     codes "  the array's length is "
-    ++ (decimal c.length ++ (codes ", and its list has " ++ (things c.values (codes "value") ++ codes "\n")))
+    ++ (decimal c.length ++ (codes ", and its list has "
+    ++ (decimal c.values ++ (codes " value" ++ (ending c.values ++ codes "\n")))))
 
 -- L1, L3, L4, L5, L7: the first secret name
 abbrev pub secret_line : List ℕ → Option Place → List ℕ

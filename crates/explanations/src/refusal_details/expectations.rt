@@ -1,23 +1,20 @@
 // A token that is unexpected.
 
-ghost use Rattle.std.specs.Prelude.{◌≡◌, ◌++◌, map, IfOk, IfErr, OnOk};
+ghost use Rattle.std.specs.Prelude.{◌≡◌, ◌++◌, map, IfOk, OnOk};
 ghost use Rattle.std.specs.String.{string_bytes};
-ghost use Rattle.explanations.specs.Below.{IsWantOfMemory};
 ghost use Rattle.explanations.specs.refusal_details.ExpectedLines.{SaysExpected, expected_line, more_names};
 
 use crate::expected_tokens::expected;
-use language::Refusal;
 use std::alloc::{AllocError, Global};
 
 /// What is said of the token that stands behind so many bytes of a text, or of its end there.
-pub fn expected_lines(alloc: Global, at: u32, text: &str) -> Result<String, Refusal>
-    ensures said { IfOk result (λ lines. SaysExpected text.now at (string_bytes lines)) }
-    ensures memory { IfErr result (λ refusal. IsWantOfMemory refusal.rule refusal.place) }
+pub fn expected_lines(alloc: Global, at: u32, text: &str) -> Result<String, AllocError>
+    ensures { IfOk result (λ lines. SaysExpected text.now at (string_bytes lines)) }
 {
     match text.split_at_checked(at as usize) {
         Some((front, _)) => {
             let names = expected(alloc, front)?;
-            Ok(expected_line(alloc, names.as_slice())?)
+            expected_line(alloc, names.as_slice())
         }
         None => Ok(String::new(alloc)),
     }

@@ -2,7 +2,7 @@
 
 ghost use Rattle.std.specs.Prelude.{◌≡◌, IfOk};
 ghost use Rattle.std.specs.String.{string_bytes};
-ghost use Rattle.explanations.specs.refusal_details.SizeLines.{count_text, excess_line, part_head, share_text};
+ghost use Rattle.explanations.specs.refusal_details.SizeLines.{excess_line, or_more, part_head, share_text};
 ghost use Rattle.explanations.specs.refusal_details.SizeLines.{size_line, work_line};
 
 use intervals::MOST_WORK;
@@ -26,19 +26,25 @@ pub fn excess_line(alloc: Global, excess: Excess) -> Result<String, AllocError>
 fn size_line(alloc: Global, things: &str, most: u32, excess: Excess) -> Result<String, AllocError>
     ensures { IfOk result (λ line. string_bytes line ≡ size_line things.now most excess) }
 {
-    let whole = count_text(alloc, excess.whole)?;
+    let whole = excess.whole;
+    let or_more = or_more(whole);
     let part = share_text(alloc, excess.largest)?;
-    format!(in alloc; "  the export has {whole} {things}, and at most {most} are allowed{part}\n")
+    format!(in alloc;
+        "  the export has {whole}{or_more} {things}, and at most {most} are allowed{part}\n"
+    )
 }
 
 /// The work.
 fn work_line(alloc: Global, excess: Excess) -> Result<String, AllocError>
     ensures { IfOk result (λ line. string_bytes line ≡ work_line excess) }
 {
-    let whole = count_text(alloc, excess.whole)?;
-    let part = share_text(alloc, excess.largest)?;
+    let whole = excess.whole;
+    let or_more = or_more(whole);
     let most = MOST_WORK;
-    format!(in alloc; "  the export's work is {whole}, and at most {most} is allowed{part}\n")
+    let part = share_text(alloc, excess.largest)?;
+    format!(in alloc;
+        "  the export's work is {whole}{or_more}, and at most {most} is allowed{part}\n"
+    )
 }
 
 /// Where the part stands that has most, and how much it has.
@@ -49,8 +55,9 @@ fn share_text(alloc: Global, share: Option<Share>) -> Result<String, AllocError>
         Some(share) => {
             let head = part_head(share.count);
             let place = share.place;
-            let count = count_text(alloc, share.count)?;
-            format!(in alloc; "{head}{place}: {count}")
+            let count = share.count;
+            let or_more = or_more(count);
+            format!(in alloc; "{head}{place}: {count}{or_more}")
         }
         None => Ok(String::new(alloc)),
     }
@@ -67,13 +74,9 @@ fn part_head(count: u64) -> &'static str
     }
 }
 
-/// A count. The greatest number stands for those above it too.
-fn count_text(alloc: Global, count: u64) -> Result<String, AllocError>
-    ensures { IfOk result (λ text. string_bytes text ≡ count_text count) }
+/// What stands behind a count: the greatest number stands for those above it too.
+fn or_more(count: u64) -> &'static str
+    ensures { result.now ≡ or_more count }
 {
-    if count < u64::MAX {
-        format!(in alloc; "{count}")
-    } else {
-        String::from_str(alloc, "18446744073709551615 or more")
-    }
+    if count < u64::MAX { "" } else { " or more" }
 }

@@ -3,11 +3,10 @@
 ghost use Rattle.std.specs.Prelude.{◌≡◌, IfOk};
 ghost use Rattle.std.specs.String.{string_bytes};
 ghost use Rattle.explanations.specs.refusal_details.TypeLines.{choice_lines, kind_text, label_text, name_at, one_line};
-ghost use Rattle.explanations.specs.refusal_details.TypeLines.{part_name, two_line, type_lines, type_text, typed_text};
-ghost use Rattle.explanations.specs.refusal_details.TypeLines.{word_text};
+ghost use Rattle.explanations.specs.refusal_details.TypeLines.{part_word, two_line, type_lines, type_text, typed_text};
 
 use crate::refusal_details::source_names::name_at;
-use language::{ComparedTypes, Kind, Label, Part, TypedPart, ValueType, WordType};
+use language::{ComparedTypes, Kind, Label, Part, TypedPart, ValueType};
 use std::alloc::{AllocError, Global};
 
 /// How a kind is written.
@@ -22,26 +21,14 @@ pub fn kind_text(kind: Kind) -> &'static str
     }
 }
 
-/// A label, and a blank.
-fn label_text(label: Label) -> &'static str
-    ensures { result.now ≡ label_text label }
+/// A label and a blank, or nothing where labels are not shown.
+fn label_text(labelled: bool, label: Label) -> &'static str
+    ensures { result.now ≡ label_text labelled label }
 {
-    match label {
-        Label::Public => "public ",
-        Label::Secret => "secret ",
-    }
-}
-
-/// The type of a word, with its label or without.
-fn word_text(alloc: Global, labelled: bool, word: WordType) -> Result<String, AllocError>
-    ensures { IfOk result (λ text. string_bytes text ≡ word_text labelled word) }
-{
-    let kind = kind_text(word.kind);
-    if labelled {
-        let label = label_text(word.label);
-        format!(in alloc; "{label}{kind}")
-    } else {
-        format!(in alloc; "{kind}")
+    match (labelled, label) {
+        (false, _) => "",
+        (true, Label::Public) => "public ",
+        (true, Label::Secret) => "secret ",
     }
 }
 
@@ -50,37 +37,39 @@ pub fn type_text(alloc: Global, labelled: bool, value: ValueType) -> Result<Stri
     ensures { IfOk result (λ text. string_bytes text ≡ type_text labelled value) }
 {
     match value {
-        ValueType::Word(word) => word_text(alloc, labelled, word),
-        ValueType::Array(array) => {
-            let element = word_text(alloc, labelled, array.element)?;
-            let length = array.length;
-            format!(in alloc; "{element}[{length}]")
+        ValueType::Word(word) => {
+            let label = label_text(labelled, word.label);
+            let kind = kind_text(word.kind);
+            format!(in alloc; "{label}{kind}")
         }
-        ValueType::Nothing => format!(in alloc; "void"),
+        ValueType::Array(array) => {
+            let label = label_text(labelled, array.element.label);
+            let kind = kind_text(array.element.kind);
+            let length = array.length;
+            format!(in alloc; "{label}{kind}[{length}]")
+        }
+        ValueType::Nothing => String::from_str(alloc, "void"),
     }
 }
 
-/// What a part is called.
-fn part_name(alloc: Global, source: &str, part: Part) -> Result<String, AllocError>
-    ensures { IfOk result (λ name. string_bytes name ≡ part_name source.now part) }
+/// What a part is called; of a parameter, without its name.
+fn part_word(part: Part) -> &'static str
+    ensures { result.now ≡ part_word part }
 {
     match part {
-        Part::Operand => String::from_str(alloc, "operand"),
-        Part::LeftOperand => String::from_str(alloc, "left operand"),
-        Part::RightOperand => String::from_str(alloc, "right operand"),
-        Part::Condition => String::from_str(alloc, "condition"),
-        Part::FirstBound => String::from_str(alloc, "first bound"),
-        Part::SecondBound => String::from_str(alloc, "second bound"),
-        Part::Index => String::from_str(alloc, "index"),
-        Part::Variable => String::from_str(alloc, "variable"),
-        Part::Element => String::from_str(alloc, "element"),
-        Part::Result => String::from_str(alloc, "result"),
-        Part::Value => String::from_str(alloc, "value"),
-        Part::Argument => String::from_str(alloc, "argument"),
-        Part::Parameter(place) => {
-            let name = name_at(source, place);
-            format!(in alloc; "parameter `{name}`")
-        }
+        Part::Operand => "operand",
+        Part::LeftOperand => "left operand",
+        Part::RightOperand => "right operand",
+        Part::Condition => "condition",
+        Part::FirstBound => "first bound",
+        Part::SecondBound => "second bound",
+        Part::Index => "index",
+        Part::Variable => "variable",
+        Part::Element => "element",
+        Part::Result => "result",
+        Part::Value => "value",
+        Part::Argument => "argument",
+        Part::Parameter(_) => "parameter",
     }
 }
 
@@ -93,9 +82,17 @@ fn typed_text(
 ) -> Result<String, AllocError>
     ensures { IfOk result (λ text. string_bytes text ≡ typed_text labelled source.now typed) }
 {
-    let name = part_name(alloc, source, typed.part)?;
     let value = type_text(alloc, labelled, typed.value)?;
-    format!(in alloc; "the {name} is {value}")
+    match typed.part {
+        Part::Parameter(place) => {
+            let name = name_at(source, place);
+            format!(in alloc; "the parameter `{name}` is {value}")
+        }
+        part => {
+            let name = part_word(part);
+            format!(in alloc; "the {name} is {value}")
+        }
+    }
 }
 
 /// The type of one part.

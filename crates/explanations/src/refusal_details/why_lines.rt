@@ -5,7 +5,7 @@ ghost use Rattle.std.specs.String.{string_bytes};
 ghost use Rattle.explanations.specs.refusal_details.WhyLines.{argument_line, control_lines, ending, fixed_line};
 ghost use Rattle.explanations.specs.refusal_details.WhyLines.{missing_line, nearest_line, returned_line, secret_line};
 ghost use Rattle.explanations.specs.refusal_details.WhyLines.{shared_line};
-ghost use Rattle.explanations.specs.refusal_details.WhyLines.{things, value_line, why_lines};
+ghost use Rattle.explanations.specs.refusal_details.WhyLines.{value_line, why_lines};
 
 use crate::refusal_details::number_lines::{
     amount_line, divisor_line, index_line, literal_line, number_line,
@@ -100,11 +100,14 @@ fn control_lines(alloc: Global, source: &str, control: SecretControl) -> Result<
 fn argument_line(alloc: Global, source: &str, counts: ArgumentCounts) -> Result<String, AllocError>
     ensures { IfOk result (λ line. string_bytes line ≡ argument_line source.now counts) }
 {
-    let given = things(alloc, counts.given, "argument")?;
+    let given = counts.given;
+    let ending = ending(given);
     let place = counts.procedure;
     let name = name_at(source, place);
     let taken = counts.taken;
-    format!(in alloc; "  the call has {given}, and `{name}`, declared at {place}, takes {taken}\n")
+    format!(in alloc;
+        "  the call has {given} argument{ending}, and `{name}`, declared at {place}, takes {taken}\n"
+    )
 }
 
 /// The nearest of the variables in scope, and where it is declared.
@@ -154,8 +157,9 @@ fn value_line(alloc: Global, counts: ValueCounts) -> Result<String, AllocError>
     ensures { IfOk result (λ line. string_bytes line ≡ value_line counts) }
 {
     let length = counts.length;
-    let values = things(alloc, counts.values, "value")?;
-    format!(in alloc; "  the array's length is {length}, and its list has {values}\n")
+    let values = counts.values;
+    let ending = ending(values);
+    format!(in alloc; "  the array's length is {length}, and its list has {values} value{ending}\n")
 }
 
 /// The end of a word for so many.
@@ -163,12 +167,4 @@ fn ending(count: usize) -> &'static str
     ensures { result.now ≡ ending count }
 {
     if count == 1 { "" } else { "s" }
-}
-
-/// So many of something, by its word for one.
-fn things(alloc: Global, count: usize, word: &str) -> Result<String, AllocError>
-    ensures { IfOk result (λ text. string_bytes text ≡ things count word.now) }
-{
-    let ending = ending(count);
-    format!(in alloc; "{count} {word}{ending}")
 }

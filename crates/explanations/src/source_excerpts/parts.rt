@@ -9,7 +9,7 @@ ghost use Rattle.explanations.specs.source_excerpts.Excerpt.{first_line, dots, e
 const MOST_SHOWN: usize = 100;
 
 /// What is shown of a part of a line, and three dots where it is not all.
-#[derive(Clone, Copy, Debug)]
+#[derive(Clone, Copy)]
 pub struct ExcerptPart<'a> {
     pub bytes: &'a [u8],
     pub dots: &'static [u8],

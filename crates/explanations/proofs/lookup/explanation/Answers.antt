@@ -4,10 +4,10 @@ use Rattle.std.specs.Option.{option_map, option_or}
 use Rattle.std.specs.Str.{bytes_eq}
 use Rattle.std.proofs.lemmas.List.Folds.{find-append}
 use Rattle.explanations.specs.Listed.{reading, names_and_types, labels, limits, files, runs, listed}
-use Rattle.explanations.specs.Table.{Row, text_in, table, reading_texts, name_and_type_texts, label_texts, limit_texts}
-use Rattle.explanations.specs.Table.{file_texts, run_texts}
+use Rattle.explanations.specs.Table.{HasItsName, Row, text_in, table, reading_texts, name_and_type_texts, label_texts}
+use Rattle.explanations.specs.Table.{limit_texts, file_texts, run_texts}
 use Rattle.explanations.specs.declared.row.Explanation.{Explanation}
-use Rattle.explanations.proofs.NamedRows.{named_in_either}
+use Rattle.explanations.proofs.NamedRows.{of_either}
 use Rattle.explanations.proofs.OneOfGroups.{known_in_either}
 use Rattle.explanations.proofs.lookup.explanation.Goals as goal
 
@@ -53,14 +53,30 @@ returns-clause-text c =
     c.or-4.ensures in
     in_both code f run_texts c.or-4.result c.row-6.result c.or-5.result five c.row-6.ensures.text c.or-5.ensures
 
+pub returns-clause-asked : goal.returns-clause-asked
+returns-clause-asked c =
+    let has_code : Explanation → Type 0 = λ row. row.code.now ≡ c.args.code.now in
+    let two = of_either has_code c.row.result c.row-2.result c.or.result c.or.ensures c.row.ensures.asked
+    c.row-2.ensures.asked in
+    let three = of_either has_code c.or.result c.row-3.result c.or-2.result c.or-2.ensures two
+    c.row-3.ensures.asked in
+    let four = of_either has_code c.or-2.result c.row-4.result c.or-3.result c.or-3.ensures three
+    c.row-4.ensures.asked in
+    let five = of_either has_code c.or-3.result c.row-5.result c.or-4.result c.or-4.ensures four
+    c.row-5.ensures.asked in
+    of_either has_code c.or-4.result c.row-6.result c.or-5.result c.or-5.ensures five c.row-6.ensures.asked
+
 pub returns-clause-named : goal.returns-clause-named
 returns-clause-named c =
-    let two = named_in_either c.row.result c.row-2.result c.or.result c.or.ensures c.row.ensures.named
+    let two = of_either HasItsName c.row.result c.row-2.result c.or.result c.or.ensures c.row.ensures.named
     c.row-2.ensures.named in
-    let three = named_in_either c.or.result c.row-3.result c.or-2.result c.or-2.ensures two c.row-3.ensures.named in
-    let four = named_in_either c.or-2.result c.row-4.result c.or-3.result c.or-3.ensures three c.row-4.ensures.named in
-    let five = named_in_either c.or-3.result c.row-5.result c.or-4.result c.or-4.ensures four c.row-5.ensures.named in
-    named_in_either c.or-4.result c.row-6.result c.or-5.result c.or-5.ensures five c.row-6.ensures.named
+    let three = of_either HasItsName c.or.result c.row-3.result c.or-2.result c.or-2.ensures two
+    c.row-3.ensures.named in
+    let four = of_either HasItsName c.or-2.result c.row-4.result c.or-3.result c.or-3.ensures three
+    c.row-4.ensures.named in
+    let five = of_either HasItsName c.or-3.result c.row-5.result c.or-4.result c.or-4.ensures four
+    c.row-5.ensures.named in
+    of_either HasItsName c.or-4.result c.row-6.result c.or-5.result c.or-5.ensures five c.row-6.ensures.named
 
 pub returns-clause-listed : goal.returns-clause-listed
 unfolding listed reading names_and_types labels limits files runs

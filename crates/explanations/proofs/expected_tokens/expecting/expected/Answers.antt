@@ -14,7 +14,7 @@ loop-name-preserved c =
     let names = c.loop-name.names.items in
     let known = c.loop-name.invariant in
     let can = c.in_ok-may_stand.field-0 in
-    let tried = c.in_ok-may_stand.ensures.known in
+    let tried = c.in_ok-may_stand.ensures in
     elim c.if-branch.branch [
       | then-branch+in_ok-push w ↦
           with_one (λ both. (both.0.now, both.1.now)) (λ name. name.now) c.args.front.now items i _

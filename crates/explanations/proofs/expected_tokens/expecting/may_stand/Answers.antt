@@ -3,13 +3,13 @@ use Rattle.explanations.specs.expected_tokens.Expected.{by_answer}
 use Rattle.explanations.proofs.expected_tokens_lemmas.ExpectedLemmas.{placed_at}
 use Rattle.explanations.proofs.expected_tokens.expecting.may_stand.Goals as goal
 
-pub returns-in-Ok-clause-known : goal.returns-in-Ok-clause-known
-returns-in-Ok-clause-known c =
+pub returns-in-Ok : goal.returns-in-Ok
+returns-in-Ok c =
     by_answer (accepted (program_tree c.in-Ok.field-0))
     (rw (c.as_str.ensures.value, c.in_ok-text.ensures.ok) at c.in-Ok.ensures.accepted)
 
-pub returns-in-Some-clause-known : goal.returns-in-Some-clause-known
-returns-in-Some-clause-known c =
+pub returns-in-Some : goal.returns-in-Some
+returns-in-Some c =
     let read = placed_at (Reads c.as_str.result.now) c.in-Err.refusal c.in-Some.place c.in-Some.is
     c.in-Err.ensures.refused in
     rw (c.lacks_tokens.ensures, c.as_str-in-Some.ensures.value, c.in_ok-text.ensures.ok)
