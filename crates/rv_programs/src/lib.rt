@@ -17,7 +17,6 @@ mod loaded;
 mod program;
 mod steps;
 
-pub use halfwords::HalfwordRegion;
 pub use laws::{
     images_are_programs, one_instruction_stands, one_program_run, program_runs_compose,
     programs_have_runs, stores_alone_are_refused,
