@@ -7,7 +7,7 @@ use Rattle.std.proofs.lemmas.Bool.{le-leb, le-ltb, leb-true}
 use Rattle.rv_programs.specs.Code.{no_halfword, no_word}
 use Rattle.elf_reports.specs.Below.{AreApart, Asked, Executable, first_unmet, HasNoCode, lies_in, LoadedSegment, needs}
 use Rattle.elf_reports.specs.Below.{no_code, PlacedCode, Profile, ProgramCode, return_address, Size, stack_begin}
-use Rattle.elf_runs.specs.Code.{code_in, code_of, halfword_code, halfwords_of, to_aligned, to_even, word_code, words_of}
+use Rattle.elf_runs.specs.Code.{code_in, code_of, halfword_code, halfwords_of, to_multiple, word_code, words_of}
 use Rattle.elf_runs.specs.Needs.{ends_by}
 use Rattle.elf_reports.specs.Loading.{addresses_of, alignment_by, code_among, code_for}
 use Rattle.elf_reports.proofs.Below.{segments_below}
@@ -43,7 +43,7 @@ module _ (stack a : ℕ) (segment : LoadedSegment) (below : stack ≤ a)
     (aligned : a % 4 ≡ 0) where
   words_behind : lies_in a (addresses_of (word_code segment)) ≡ false
   words_behind =
-      let skipped = to_aligned segment.address in
+      let skipped = to_multiple 4 segment.address in
       let left = length-drop skipped segment.bytes in
       let fit = words_fit (drop skipped segment.bytes) in
       let items = words_of (drop skipped segment.bytes) in
@@ -52,7 +52,7 @@ module _ (stack a : ℕ) (segment : LoadedSegment) (below : stack ≤ a)
 
   halfwords_behind : lies_in a (addresses_of (halfword_code segment)) ≡ false
   halfwords_behind =
-      let skipped = to_even segment.address in
+      let skipped = to_multiple 2 segment.address in
       let left = length-drop skipped segment.bytes in
       let fit = halfwords_fit (drop skipped segment.bytes) in
       let items = halfwords_of (drop skipped segment.bytes) in

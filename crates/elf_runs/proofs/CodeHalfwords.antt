@@ -3,7 +3,7 @@ use Rattle.std.proofs.Common.{◌≡◌, ◌<◌, ◌≤◌, ◌+◌, ◌*◌, �
 use Rattle.std.proofs.Common.{append_assoc, arith, drop, get_or, length, refl, w16}
 use Rattle.std.specs.Int.{from_le_bytes}
 use Rattle.std.proofs.lemmas.List.{append-nil, length-drop}
-use Rattle.elf_runs.specs.Code.{halfwords_of, to_even}
+use Rattle.elf_runs.specs.Code.{halfwords_of, to_multiple}
 use Rattle.elf_runs.proofs.CodeWords.{next}
 
 two : (bytes : List ℕ) (at : ℕ) → at + 2 ≤ length bytes
@@ -43,13 +43,13 @@ halfwords_fit (a ∷ b ∷ bytes) = omega (arith, halfwords_fit bytes)
 
 -- the halfwords of a segment end where it does, or before
 pub halfwords_within : (address size : ℕ) (bytes halfwords : List ℕ) → address + size ≤ 2 ^ 32 → length bytes ≤ size
-    → halfwords ≡ halfwords_of (drop (to_even address) bytes)
-    → address + to_even address + 2 * length halfwords ≤ 2 ^ 32
+    → halfwords ≡ halfwords_of (drop (to_multiple 2 address) bytes)
+    → address + to_multiple 2 address + 2 * length halfwords ≤ 2 ^ 32
 halfwords_within address size bytes halfwords fits few are =
-    let fit = halfwords_fit (drop (to_even address) bytes) in
-    let left = length-drop (to_even address) bytes in
+    let fit = halfwords_fit (drop (to_multiple 2 address) bytes) in
+    let left = length-drop (to_multiple 2 address) bytes in
     let count = ap length are in
     omega (arith, fits, few, left, fit, count)
 
-pub is_even : (address : ℕ) → (address + to_even address) % 2 ≡ 0
+pub is_even : (address : ℕ) → (address + to_multiple 2 address) % 2 ≡ 0
 is_even address = omega arith

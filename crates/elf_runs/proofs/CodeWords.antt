@@ -3,7 +3,7 @@ use Rattle.std.proofs.Common.{◌≡◌, ◌<◌, ◌≤◌, ◌+◌, ◌*◌, �
 use Rattle.std.proofs.Common.{arith, drop, get_or, length, refl, w32}
 use Rattle.std.specs.Int.{from_le_bytes}
 use Rattle.std.proofs.lemmas.List.{append-nil, drop_more, length-drop}
-use Rattle.elf_runs.specs.Code.{to_aligned, words_of}
+use Rattle.elf_runs.specs.Code.{to_multiple, words_of}
 
 pub next : (bytes : List ℕ) (i j : ℕ) → j ≡ i + 1 → i < length bytes → drop i bytes ≡ get_or bytes i 0 ∷ drop j bytes
 next bytes i j is lt = rw is (drop_more bytes i 0 lt)
@@ -56,9 +56,9 @@ words_fit (a ∷ b ∷ c ∷ d ∷ bytes) = omega (arith, words_fit bytes)
 
 -- the words of a segment end where it does, or before
 pub code_within : (address size : ℕ) (bytes words : List ℕ) → address + size ≤ 2 ^ 32 → length bytes ≤ size
-    → words ≡ words_of (drop (to_aligned address) bytes) → address + to_aligned address + 4 * length words ≤ 2 ^ 32
+    → words ≡ words_of (drop (to_multiple 4 address) bytes) → address + to_multiple 4 address + 4 * length words ≤ 2 ^ 32
 code_within address size bytes words fits few are =
-    let fit = words_fit (drop (to_aligned address) bytes) in
-    let left = length-drop (to_aligned address) bytes in
+    let fit = words_fit (drop (to_multiple 4 address) bytes) in
+    let left = length-drop (to_multiple 4 address) bytes in
     let count = ap length are in
     omega (arith, fits, few, left, fit, count)

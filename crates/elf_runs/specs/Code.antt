@@ -26,23 +26,21 @@ abbrev pub halfwords_of : List ℕ → List ℕ
 halfwords_of (a ∷ b ∷ bytes) = from_le_bytes w16 (a ∷ b ∷ []) ∷ halfwords_of bytes
 halfwords_of _ = []
 
--- so many bytes behind an address is the next multiple of 4
-abbrev pub to_aligned : ℕ → ℕ
-to_aligned address = (4 - address % 4) % 4
+-- so many bytes behind an address is the next multiple of a size
+abbrev pub to_multiple : ℕ → ℕ → ℕ
+to_multiple size address = (size - address % size) % size
 
--- and of 2
-abbrev pub to_even : ℕ → ℕ
-to_even address = address % 2
+-- the code of a segment in units of so many bytes, from the first address on that is a multiple of them
+abbrev pub aligned_code : ℕ → (List ℕ → List ℕ) → (ℕ → List ℕ → PlacedCode) → LoadedSegment → PlacedCode
+aligned_code size units from segment =
+    let skipped = to_multiple size segment.address in
+    from (segment.address + skipped) (units (drop skipped segment.bytes))
 
 abbrev pub word_code : LoadedSegment → PlacedCode
-word_code segment =
-    let skipped = to_aligned segment.address in
-    words_from (segment.address + skipped) (words_of (drop skipped segment.bytes))
+word_code = aligned_code 4 words_of words_from
 
 abbrev pub halfword_code : LoadedSegment → PlacedCode
-halfword_code segment =
-    let skipped = to_even segment.address in
-    halfwords_from (segment.address + skipped) (halfwords_of (drop skipped segment.bytes))
+halfword_code = aligned_code 2 halfwords_of halfwords_from
 
 -- the code of a segment of a program that says, or does not, that instructions of 16 bits may stand in it
 abbrev pub code_of : Bool → LoadedSegment → PlacedCode

@@ -1,26 +1,20 @@
 // The code of a program.
 
-ghost use Rattle.std.specs.Prelude.{◌≡◌, ◌%◌, drop, length, map, IfOk};
+ghost use Rattle.std.specs.Prelude.{◌≡◌, ◌<◌, ◌%◌, drop, length, map, IfOk};
 ghost use Rattle.elf_runs.specs.Below.{IsWithin};
-ghost use Rattle.elf_runs.specs.Code.{code_of, halfword_code, halfwords_of, placed, program_code, to_aligned, to_even};
+ghost use Rattle.elf_runs.specs.Code.{code_of, halfword_code, halfwords_of, placed, program_code, to_multiple};
 ghost use Rattle.elf_runs.specs.Code.{word_code, words_of};
 
 use crate::loaded_code::{Code, PlacedHalfwords, PlacedWords};
 use elf::{Program, Segment};
 use std::alloc::{AllocError, Global};
 
-/// How many bytes behind an address the next multiple of 4 is.
-fn to_aligned(address: u32) -> u32
-    ensures { result ≡ to_aligned address }
+/// How many bytes behind an address the next multiple of a size is.
+fn to_multiple(size: u32, address: u32) -> u32
+    requires { 0 < size }
+    ensures { result ≡ to_multiple size address }
 {
-    (4 - address % 4) % 4
-}
-
-/// How many bytes behind an address the next multiple of 2 is.
-fn to_even(address: u32) -> u32
-    ensures { result ≡ to_even address }
-{
-    address % 2
+    (size - address % size) % size
 }
 
 /// The bytes behind so many of them.
@@ -64,7 +58,7 @@ fn word_code(alloc: Global, segment: &Segment<'_>) -> Result<Code, AllocError>
     requires { IsWithin segment.now }
     ensures { IfOk result (λ code. placed code ≡ word_code segment.now) }
 {
-    let skipped = to_aligned(segment.address());
+    let skipped = to_multiple(4, segment.address());
     let bytes = bytes_behind(segment.bytes(), skipped);
     Ok(Code::Words(PlacedWords {
         begin: u64::from(segment.address()) + u64::from(skipped),
@@ -77,7 +71,7 @@ fn halfword_code(alloc: Global, segment: &Segment<'_>) -> Result<Code, AllocErro
     requires { IsWithin segment.now }
     ensures { IfOk result (λ code. placed code ≡ halfword_code segment.now) }
 {
-    let skipped = to_even(segment.address());
+    let skipped = to_multiple(2, segment.address());
     let bytes = bytes_behind(segment.bytes(), skipped);
     Ok(Code::Halfwords(PlacedHalfwords {
         begin: u64::from(segment.address()) + u64::from(skipped),
