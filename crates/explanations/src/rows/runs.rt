@@ -34,13 +34,18 @@ pub const ILLEGAL: &str =
     or, for an executable, `-march=rv32imc`): atomics and floating point are not in them.";
 
 pub const ACCESS_FAULT: &str =
-    "There is no code at the program counter, or a load or a store goes to a byte outside the frame. In\n\
-    code that a C compiler made, the stack has usually outgrown the frame, or an address is that of a\n\
-    table or a variable outside functions, which have no place in an image.";
+    "There is no code at the program counter; or a load or a store goes to a byte that is no data: in an\n\
+    image to one outside the frame, in an executable to one outside its segments and the stack; or a\n\
+    store goes to bytes of an executable that may not be changed, those of code and of constants. In\n\
+    code that a C compiler made, the stack has usually outgrown its room, which for an executable is\n\
+    `--stack`. In an image it may also be the address of a table or a variable outside functions, which\n\
+    have no place there.";
 
 pub const MISALIGNED: &str =
-    "The address of a load or store is not a multiple of its size, or the target of a jump is not a\n\
-    multiple of 4. In code that a C compiler made, compare the layout of the frame with the slots.";
+    "The address of a load or store is not a multiple of its size; or the program counter would not be a\n\
+    multiple of 4, or of 2 in an executable whose header says that it has 16-bit instructions. In code\n\
+    that a C compiler made, compare for an image the layout of the frame with the slots, and look in an\n\
+    executable for a pointer that was cast from one to a smaller type.";
 
 pub const BUDGET: &str =
     "The run has made as many steps as the image allows (`max_steps`) and has not ended. Give `wrap` a\n\
