@@ -9,6 +9,7 @@ pub mod Promises
 pub mod Spelling
 pub mod InStep
 pub mod Trying
+pub mod Tries
 pub mod MoreSet
 pub mod Found
 pub mod EndLines

@@ -5,7 +5,7 @@
 -- Encodings: what begins at an address of code; EncodingLines: its line, as in a listing.
 -- Calls: the calls that lead to a step; Places: how addresses are written by the symbols.
 -- Leaked: the listing of a function's run. Compared: where what two runs show differs; Witnessed: two runs that differ
---   in what is secret alone, and of which an observer sees not the same.
+--   in what is secret alone, and of which an observer sees not the same; Drawn: what is secret in the runs of each try.
 -- private: for contracts of private functions alone.
 pub mod Below
 pub mod Asking
@@ -19,4 +19,5 @@ pub mod Places
 pub mod Leaked
 pub mod Compared
 pub mod Witnessed
+pub mod Drawn
 pub mod private

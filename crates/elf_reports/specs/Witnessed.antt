@@ -1,11 +1,12 @@
 -- Two runs of a function, each on secrets of its own, of which an observer sees not the same.
-use Rattle.std.specs.Prelude.{◌≡◌, ℕ, List, length, map, None, ◌++◌}
+use Rattle.std.specs.Prelude.{◌≡◌, ◌⊎◌, ℕ, List, [], ◌∷◌, ◌++◌, length, map, Option, None, Some}
 use Rattle.elf_reports.specs.Below.{Asked, Executable, first_unmet, needs, object_named, Observation, Secret, Setting}
 use Rattle.elf_reports.specs.Below.{size_of}
 use Rattle.elf_reports.specs.Calls.{LeadThere}
 use Rattle.elf_reports.specs.Compared.{Compares, IsShown}
+use Rattle.elf_reports.specs.Drawn.{Try}
 use Rattle.elf_reports.specs.Loading.{machine_program, state_at_start}
-use Rattle.elf_reports.specs.declared.comparing.Comparison.TheVariants.{Differ}
+use Rattle.elf_reports.specs.declared.comparing.Comparison.TheVariants.{Differ, Same}
 use Rattle.elf_reports.specs.declared.options.RunOptions.{RunOptions}
 use Rattle.elf_reports.specs.declared.witnessing.Witness.{Witness}
 
@@ -24,6 +25,10 @@ set_size setting = (setting.object.items, length setting.bytes.items)
 -- a secret, and how many bytes it has
 abbrev pub secret_size : Executable → Secret → List ℕ × ℕ
 secret_size program secret = (secret.object.items, size_of (object_named program secret.object.items))
+
+-- the bytes that are set
+abbrev pub set_bytes : Setting → List ℕ
+set_bytes setting = setting.bytes.items
 
 -- one setting for each secret, of all its bytes
 abbrev pub SetEachSecret : Executable → List Secret → List Setting → Type 0
@@ -54,3 +59,37 @@ pub record IsWitness (program : Executable) (asked : Asked) (options : RunOption
   pub differ : Compares seen seen' (Differ witness.entry witness.step)
   pub calls : LeadThere (machine_program program one options.profile) (state_at_start program one) witness.step.entries
       witness.calls.items
+
+-- two runs of which an observer sees the same
+pub record ShowsSame (program : Executable) (asked : Asked) (options : RunOptions) (secrets secrets' : List Setting)
+    : Type 0 where
+  pub one : Asked
+  pub other : Asked
+  pub seen : List Observation
+  pub seen' : List Observation
+  pub runs : RunsSo program asked options secrets one seen
+  pub runs' : RunsSo program asked options secrets' other seen'
+  pub same : Compares seen seen' Same
+
+-- the secrets have the bytes of a try, in one run and in the other
+pub record AreOf (try : Try) (secrets secrets' : List Setting) : Type 0 where
+  pub one : map set_bytes secrets ≡ try.one
+  pub other : map set_bytes secrets' ≡ try.other
+
+-- a try finds this
+abbrev pub Finds : Executable → Asked → RunOptions → Try → Option Witness → Type 0
+Finds program asked options try found =
+    (witness : Witness) × (found ≡ Some witness) × AreOf try witness.one.items witness.other.items
+    × IsWitness program asked options witness
+
+-- a try finds nothing: an observer sees the same of its runs
+abbrev pub FindsNothing : Executable → Asked → RunOptions → Try → Type 0
+FindsNothing program asked options try =
+    (secrets secrets' : List Setting) × AreOf try secrets secrets' × ShowsSame program asked options secrets secrets'
+
+-- what the first of these tries finds that finds something; none where each finds nothing
+abbrev pub FoundFirst : Executable → Asked → RunOptions → List Try → Option Witness → Type 0
+FoundFirst program asked options [] found = found ≡ None
+FoundFirst program asked options (try ∷ tries) found =
+    Finds program asked options try found
+    ⊎ (FindsNothing program asked options try × FoundFirst program asked options tries found)

@@ -2,7 +2,8 @@
 
 ghost use Rattle.std.specs.Prelude.{◌≡◌, ◌^◌, ◌<◌, [], None, IfErr, IfOk, IfSome, OnOk};
 ghost use Rattle.elf_reports.specs.Below.{Asked, first_unmet, IsTold, needs, StartFault};
-ghost use Rattle.elf_reports.specs.Witnessed.{IsWitness, SetEachSecret, SetsBesides};
+ghost use Rattle.elf_reports.specs.Drawn.{tries_of};
+ghost use Rattle.elf_reports.specs.Witnessed.{FoundFirst, IsWitness, SetEachSecret, SetsBesides, ShowsSame};
 ghost use Rattle.elf_reports.specs.private.Loaded.{IsLoaded};
 
 use crate::calls::{Calls, calls_behind_entries};
@@ -71,6 +72,10 @@ fn witness_by(
     requires each_other { SetEachSecret program.now asked.old.secrets.items other.items }
     ensures witness { IfOk result (λ found.
         IfSome found (λ witness. IsWitness program.now asked.old options witness)) }
+    ensures given { IfOk result (λ found. IfSome found (λ witness.
+        (witness.one.items ≡ one.items) × (witness.other.items ≡ other.items))) }
+    ensures same { IfOk result (λ found.
+        found ≡ None → ShowsSame program.now asked.old options one.items other.items) }
     ensures asked { OnOk result (SetsBesides asked.old [] asked.new) }
     ensures fault { IfErr result (λ fault. fault ≡ StartFault.Memory) }
 {
@@ -101,10 +106,11 @@ fn witness_by(
     }))
 }
 
-/// Two runs of a function that differ in what is secret alone, and of which an observer sees not the same, if one of so
-/// many tries finds some. In each try each secret has pseudo-random bytes, or zeros, in both runs; all else that is not
-/// known (arguments that are any word, other registers, the stack) stays as it stands when a run begins, as zeros. That
-/// none is found promises nothing. What the request does not meet is refused.
+/// Two runs of a function that differ in what is secret alone, and of which an observer sees not the same: those of the
+/// first of so many tries that has such runs, and none where no try has. In each try each secret has pseudo-random
+/// bytes, or zeros, in both runs, the same ones in each call; all else that is not known (arguments that are any word,
+/// other registers, the stack) stays as it stands when a run begins, as zeros. That none is found promises nothing of
+/// other secrets. What the request does not meet is refused.
 pub fn find_witness(
     alloc: Global,
     program: &Program<'_>,
@@ -114,6 +120,8 @@ pub fn find_witness(
 ) -> Result<Option<Witness>, StartFault>
     requires { options.steps < 2 ^ 63 }
     ensures witness { IfOk result (λ found. IfSome found (λ witness. IsWitness program.now asked options witness)) }
+    ensures first { IfOk result (λ found.
+        FoundFirst program.now asked options (tries_of program.now asked tries) found) }
     ensures met { IfOk result (λ _. first_unmet (needs program.now asked) ≡ None) }
     ensures fault { IfErr result (λ fault. IsTold fault (needs program.now asked)) }
 {

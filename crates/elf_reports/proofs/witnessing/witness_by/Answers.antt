@@ -3,6 +3,7 @@ use Rattle.std.proofs.Common.{◌≡◌, ◌∙◌}
 use Rattle.elf_reports.specs.Witnessed.{SetsBesides}
 use Rattle.elf_reports.proofs.Found.{calls_so, runs_so}
 use Rattle.elf_reports.proofs.MoreSet.{met_same, sets_after}
+use Rattle.elf_reports.proofs.Tries.{same_shown}
 use Rattle.elf_reports.proofs.witnessing.witness_by.Goals as goal
 
 pub load_besides-requires-2-clause-met : goal.load_besides-requires-2-clause-met
@@ -38,4 +39,25 @@ returns-clause-witness c =
       runs' = runs_so second.2 (rw c.in_ok-second.ensures.more c.requires.each_other) sets' compared.3;
       differ = compared.4;
       calls = calls_so again.2 sets'' sets c.calls_behind_entries-calls.ensures;
+    }
+
+pub returns-clause-given : goal.returns-clause-given
+returns-clause-given c = (c.in_ok-again.ensures.more ∙ c.in_ok-first.ensures.more, c.in_ok-second.ensures.more)
+
+pub returns-in_default-clause-same : goal.returns-in_default-clause-same
+returns-in_default-clause-same c none =
+    let asked = c.args.asked.now in
+    let first = c.in_ok-first.ensures.loaded in
+    let second = c.in_ok-second.ensures.loaded in
+    let compared = c.compare-compared.ensures in
+    let sets : SetsBesides asked c.args.one.items first.0 = first.1 in
+    let sets' : SetsBesides asked c.args.other.items second.0 = sets_after c.in_ok-first.ensures.asked second.1 in
+    record {
+      one = first.0;
+      other = second.0;
+      seen = compared.0;
+      seen' = compared.1;
+      runs = runs_so first.2 c.requires.each sets compared.2;
+      runs' = runs_so second.2 c.requires.each_other sets' compared.3;
+      same = same_shown compared.0 compared.1 c.compare-compared.result compared.4 c.in_default.not-Differ;
     }
