@@ -1,4 +1,4 @@
-# ascon_permute: made by factc function; 568 words, 256 bytes of stack, profile 1
+# ascon_permute: made by factc function; 548 words, 224 bytes of stack, profile 1
     .option push
     .option norvc
     .option norelax
@@ -10,47 +10,19 @@
 ascon_permute:
     .cfi_startproc
     # room above the frame
-    .word 0xfd010113  # addi x2, x2, -48
-    .cfi_def_cfa_offset 48
+    .word 0xff010113  # addi x2, x2, -16
+    .cfi_def_cfa_offset 16
     # the caller's registers
     .word 0x00812023  # sw x8, 0(x2)
-    .cfi_offset 8, -48
-    # the arguments, below those on the stack
-    .word 0x00a12823  # sw x10, 16(x2)
-    .word 0x00b12a23  # sw x11, 20(x2)
+    .cfi_offset 8, -16
+    # arguments that are needed behind the body
+    .word 0x00a12623  # sw x10, 12(x2)
     # the frame's base
-    .word 0x0d000293  # addi x5, x0, 208
-    .word 0x405102b3  # sub x5, x2, x5
-    .cfi_def_cfa 5, 256
-    # the frame, zeroed downward
-    .word 0xff010113  # addi x2, x2, -16
-    .word 0x00012023  # sw x0, 0(x2)
-    .word 0x00012223  # sw x0, 4(x2)
-    .word 0x00012423  # sw x0, 8(x2)
-    .word 0x00012623  # sw x0, 12(x2)
-    .word 0xfc010113  # addi x2, x2, -64
-    .word 0x00012023  # sw x0, 0(x2)
-    .word 0x00012223  # sw x0, 4(x2)
-    .word 0x00012423  # sw x0, 8(x2)
-    .word 0x00012623  # sw x0, 12(x2)
-    .word 0x00012823  # sw x0, 16(x2)
-    .word 0x00012a23  # sw x0, 20(x2)
-    .word 0x00012c23  # sw x0, 24(x2)
-    .word 0x00012e23  # sw x0, 28(x2)
-    .word 0x02012023  # sw x0, 32(x2)
-    .word 0x02012223  # sw x0, 36(x2)
-    .word 0x02012423  # sw x0, 40(x2)
-    .word 0x02012623  # sw x0, 44(x2)
-    .word 0x02012823  # sw x0, 48(x2)
-    .word 0x02012a23  # sw x0, 52(x2)
-    .word 0x02012c23  # sw x0, 56(x2)
-    .word 0x02012e23  # sw x0, 60(x2)
-    .word 0xfa511ee3  # bne x2, x5, -68
-    .cfi_def_cfa 2, 256
+    .word 0xf3010113  # addi x2, x2, -208
+    .cfi_def_cfa 2, 224
     # parameter 0: an array
-    .word 0x0e012283  # lw x5, 224(x2)
-    .word 0x00000313  # addi x6, x0, 0
-    .word 0x00230333  # add x6, x6, x2
+    .word 0x00050293  # addi x5, x10, 0
+    .word 0x00010313  # addi x6, x2, 0
     .word 0x0002ae03  # lw x28, 0(x5)
     .word 0x01c32023  # sw x28, 0(x6)
     .word 0x0042ae03  # lw x28, 4(x5)
@@ -72,8 +44,7 @@ ascon_permute:
     .word 0x0242ae03  # lw x28, 36(x5)
     .word 0x03c32223  # sw x28, 36(x6)
     # parameter 1: a word
-    .word 0x0e412283  # lw x5, 228(x2)
-    .word 0x02512423  # sw x5, 40(x2)
+    .word 0x02b12423  # sw x11, 40(x2)
     # the body
     .word 0x00000293  # addi x5, x0, 0
     .word 0x00229293  # slli x5, x5, 2
@@ -531,9 +502,8 @@ ascon_permute:
     # the result
     .word 0x00000513  # addi x10, x0, 0
     # parameter 0: the array, back
-    .word 0x0e012283  # lw x5, 224(x2)
-    .word 0x00000313  # addi x6, x0, 0
-    .word 0x00230333  # add x6, x6, x2
+    .word 0x0dc12283  # lw x5, 220(x2)
+    .word 0x00010313  # addi x6, x2, 0
     .word 0x00032e03  # lw x28, 0(x6)
     .word 0x01c2a023  # sw x28, 0(x5)
     .word 0x00432e03  # lw x28, 4(x6)
@@ -555,15 +525,23 @@ ascon_permute:
     .word 0x02432e03  # lw x28, 36(x6)
     .word 0x03c2a223  # sw x28, 36(x5)
     # above the frame
-    .word 0x0d000293  # addi x5, x0, 208
-    .word 0x002282b3  # add x5, x5, x2
+    .word 0x0d010293  # addi x5, x2, 208
     # the caller's registers
     .word 0x0002a403  # lw x8, 0(x5)
     .cfi_restore 8
     # the caller's x2
-    .word 0x03028293  # addi x5, x5, 48
+    .word 0x01028293  # addi x5, x5, 16
     .cfi_def_cfa 5, 0
     # all the room, wiped upward
+    .word 0x00012023  # sw x0, 0(x2)
+    .word 0x00012223  # sw x0, 4(x2)
+    .word 0x00012423  # sw x0, 8(x2)
+    .word 0x00012623  # sw x0, 12(x2)
+    .word 0x00012823  # sw x0, 16(x2)
+    .word 0x00012a23  # sw x0, 20(x2)
+    .word 0x00012c23  # sw x0, 24(x2)
+    .word 0x00012e23  # sw x0, 28(x2)
+    .word 0x02010113  # addi x2, x2, 32
     .word 0x00012023  # sw x0, 0(x2)
     .word 0x00012223  # sw x0, 4(x2)
     .word 0x00012423  # sw x0, 8(x2)

@@ -1,4 +1,4 @@
-# base64_decode: made by factc function; 544 words, 240 bytes of stack, profile 1
+# base64_decode: made by factc function; 523 words, 224 bytes of stack, profile 1
     .option push
     .option norvc
     .option norelax
@@ -10,45 +10,37 @@
 base64_decode:
     .cfi_startproc
     # room above the frame
-    .word 0xfd010113  # addi x2, x2, -48
-    .cfi_def_cfa_offset 48
+    .word 0xfe010113  # addi x2, x2, -32
+    .cfi_def_cfa_offset 32
     # the caller's registers
     .word 0x00812023  # sw x8, 0(x2)
-    .cfi_offset 8, -48
+    .cfi_offset 8, -32
     .word 0x00912223  # sw x9, 4(x2)
-    .cfi_offset 9, -44
-    # the arguments, below those on the stack
-    .word 0x00a12823  # sw x10, 16(x2)
-    .word 0x00b12a23  # sw x11, 20(x2)
-    .word 0x00c12c23  # sw x12, 24(x2)
+    .cfi_offset 9, -28
+    # arguments that are needed behind the body
+    .word 0x00a12a23  # sw x10, 20(x2)
+    .word 0x00b12c23  # sw x11, 24(x2)
+    .word 0x00c12e23  # sw x12, 28(x2)
     # the frame's base
-    .word 0x0c000293  # addi x5, x0, 192
-    .word 0x405102b3  # sub x5, x2, x5
-    .cfi_def_cfa 5, 240
-    # the frame, zeroed downward
-    .word 0xfc010113  # addi x2, x2, -64
-    .word 0x00012023  # sw x0, 0(x2)
-    .word 0x00012223  # sw x0, 4(x2)
-    .word 0x00012423  # sw x0, 8(x2)
-    .word 0x00012623  # sw x0, 12(x2)
-    .word 0x00012823  # sw x0, 16(x2)
-    .word 0x00012a23  # sw x0, 20(x2)
-    .word 0x00012c23  # sw x0, 24(x2)
-    .word 0x00012e23  # sw x0, 28(x2)
-    .word 0x02012023  # sw x0, 32(x2)
-    .word 0x02012223  # sw x0, 36(x2)
-    .word 0x02012423  # sw x0, 40(x2)
-    .word 0x02012623  # sw x0, 44(x2)
-    .word 0x02012823  # sw x0, 48(x2)
-    .word 0x02012a23  # sw x0, 52(x2)
-    .word 0x02012c23  # sw x0, 56(x2)
-    .word 0x02012e23  # sw x0, 60(x2)
-    .word 0xfa511ee3  # bne x2, x5, -68
-    .cfi_def_cfa 2, 240
+    .word 0xf4010113  # addi x2, x2, -192
+    .cfi_def_cfa 2, 224
+    # the frame's word at 116, zeroed
+    .word 0x06012a23  # sw x0, 116(x2)
+    # the frame's word at 124, zeroed
+    .word 0x06012e23  # sw x0, 124(x2)
+    # the frame's word at 140, zeroed
+    .word 0x08012623  # sw x0, 140(x2)
+    # the frame's word at 144, zeroed
+    .word 0x08012823  # sw x0, 144(x2)
+    # the frame's word at 148, zeroed
+    .word 0x08012a23  # sw x0, 148(x2)
+    # the frame's word at 160, zeroed
+    .word 0x0a012023  # sw x0, 160(x2)
+    # the frame's word at 164, zeroed
+    .word 0x0a012223  # sw x0, 164(x2)
     # parameter 0: an array
-    .word 0x0d012283  # lw x5, 208(x2)
-    .word 0x00000313  # addi x6, x0, 0
-    .word 0x00230333  # add x6, x6, x2
+    .word 0x00050293  # addi x5, x10, 0
+    .word 0x00010313  # addi x6, x2, 0
     .word 0x0032fe13  # andi x28, x5, 3
     .word 0x040e0e63  # beq x28, x0, 92
     .word 0x04000393  # addi x7, x0, 64
@@ -95,12 +87,10 @@ base64_decode:
     .word 0x02030313  # addi x6, x6, 32
     .word 0xfa729ce3  # bne x5, x7, -72
     # parameter 1: a word
-    .word 0x0d412283  # lw x5, 212(x2)
-    .word 0x04512023  # sw x5, 64(x2)
+    .word 0x04b12023  # sw x11, 64(x2)
     # parameter 2: an array
-    .word 0x0d812283  # lw x5, 216(x2)
-    .word 0x04400313  # addi x6, x0, 68
-    .word 0x00230333  # add x6, x6, x2
+    .word 0x00060293  # addi x5, x12, 0
+    .word 0x04410313  # addi x6, x2, 68
     .word 0x0032fe13  # andi x28, x5, 3
     .word 0x040e0e63  # beq x28, x0, 92
     .word 0x03000393  # addi x7, x0, 48
@@ -467,9 +457,8 @@ base64_decode:
     # the result
     .word 0x09c12503  # lw x10, 156(x2)
     # parameter 2: the array, back
-    .word 0x0d812283  # lw x5, 216(x2)
-    .word 0x04400313  # addi x6, x0, 68
-    .word 0x00230333  # add x6, x6, x2
+    .word 0x0dc12283  # lw x5, 220(x2)
+    .word 0x04410313  # addi x6, x2, 68
     .word 0x0032fe13  # andi x28, x5, 3
     .word 0x040e0e63  # beq x28, x0, 92
     .word 0x03000393  # addi x7, x0, 48
@@ -519,15 +508,14 @@ base64_decode:
     .word 0x02c32e03  # lw x28, 44(x6)
     .word 0x03c2a623  # sw x28, 44(x5)
     # above the frame
-    .word 0x0c000293  # addi x5, x0, 192
-    .word 0x002282b3  # add x5, x5, x2
+    .word 0x0c010293  # addi x5, x2, 192
     # the caller's registers
     .word 0x0002a403  # lw x8, 0(x5)
     .cfi_restore 8
     .word 0x0042a483  # lw x9, 4(x5)
     .cfi_restore 9
     # the caller's x2
-    .word 0x03028293  # addi x5, x5, 48
+    .word 0x02028293  # addi x5, x5, 32
     .cfi_def_cfa 5, 0
     # all the room, wiped upward
     .word 0x00012023  # sw x0, 0(x2)
@@ -538,11 +526,7 @@ base64_decode:
     .word 0x00012a23  # sw x0, 20(x2)
     .word 0x00012c23  # sw x0, 24(x2)
     .word 0x00012e23  # sw x0, 28(x2)
-    .word 0x02012023  # sw x0, 32(x2)
-    .word 0x02012223  # sw x0, 36(x2)
-    .word 0x02012423  # sw x0, 40(x2)
-    .word 0x02012623  # sw x0, 44(x2)
-    .word 0x03010113  # addi x2, x2, 48
+    .word 0x02010113  # addi x2, x2, 32
     .word 0x00012023  # sw x0, 0(x2)
     .word 0x00012223  # sw x0, 4(x2)
     .word 0x00012423  # sw x0, 8(x2)

@@ -1,4 +1,4 @@
-# base64_encode: made by factc function; 400 words, 224 bytes of stack, profile 1
+# base64_encode: made by factc function; 357 words, 192 bytes of stack, profile 1
     .option push
     .option norvc
     .option norelax
@@ -10,56 +10,27 @@
 base64_encode:
     .cfi_startproc
     # room above the frame
-    .word 0xfd010113  # addi x2, x2, -48
-    .cfi_def_cfa_offset 48
+    .word 0xff010113  # addi x2, x2, -16
+    .cfi_def_cfa_offset 16
     # the caller's registers
     .word 0x00812023  # sw x8, 0(x2)
-    .cfi_offset 8, -48
-    # the arguments, below those on the stack
-    .word 0x00a12823  # sw x10, 16(x2)
-    .word 0x00b12a23  # sw x11, 20(x2)
-    .word 0x00c12c23  # sw x12, 24(x2)
+    .cfi_offset 8, -16
+    # arguments that are needed behind the body
+    .word 0x00a12223  # sw x10, 4(x2)
+    .word 0x00b12423  # sw x11, 8(x2)
+    .word 0x00c12623  # sw x12, 12(x2)
     # the frame's base
-    .word 0x0b000293  # addi x5, x0, 176
-    .word 0x405102b3  # sub x5, x2, x5
-    .cfi_def_cfa 5, 224
-    # the frame, zeroed downward
-    .word 0xfd010113  # addi x2, x2, -48
-    .word 0x00012023  # sw x0, 0(x2)
-    .word 0x00012223  # sw x0, 4(x2)
-    .word 0x00012423  # sw x0, 8(x2)
-    .word 0x00012623  # sw x0, 12(x2)
-    .word 0x00012823  # sw x0, 16(x2)
-    .word 0x00012a23  # sw x0, 20(x2)
-    .word 0x00012c23  # sw x0, 24(x2)
-    .word 0x00012e23  # sw x0, 28(x2)
-    .word 0x02012023  # sw x0, 32(x2)
-    .word 0x02012223  # sw x0, 36(x2)
-    .word 0x02012423  # sw x0, 40(x2)
-    .word 0x02012623  # sw x0, 44(x2)
-    .word 0xfc010113  # addi x2, x2, -64
-    .word 0x00012023  # sw x0, 0(x2)
-    .word 0x00012223  # sw x0, 4(x2)
-    .word 0x00012423  # sw x0, 8(x2)
-    .word 0x00012623  # sw x0, 12(x2)
-    .word 0x00012823  # sw x0, 16(x2)
-    .word 0x00012a23  # sw x0, 20(x2)
-    .word 0x00012c23  # sw x0, 24(x2)
-    .word 0x00012e23  # sw x0, 28(x2)
-    .word 0x02012023  # sw x0, 32(x2)
-    .word 0x02012223  # sw x0, 36(x2)
-    .word 0x02012423  # sw x0, 40(x2)
-    .word 0x02012623  # sw x0, 44(x2)
-    .word 0x02012823  # sw x0, 48(x2)
-    .word 0x02012a23  # sw x0, 52(x2)
-    .word 0x02012c23  # sw x0, 56(x2)
-    .word 0x02012e23  # sw x0, 60(x2)
-    .word 0xfa511ee3  # bne x2, x5, -68
-    .cfi_def_cfa 2, 224
+    .word 0xf5010113  # addi x2, x2, -176
+    .cfi_def_cfa 2, 192
+    # the frame's word at 132, zeroed
+    .word 0x08012223  # sw x0, 132(x2)
+    # the frame's word at 136, zeroed
+    .word 0x08012423  # sw x0, 136(x2)
+    # the frame's word at 140, zeroed
+    .word 0x08012623  # sw x0, 140(x2)
     # parameter 0: an array
-    .word 0x0c012283  # lw x5, 192(x2)
-    .word 0x00000313  # addi x6, x0, 0
-    .word 0x00230333  # add x6, x6, x2
+    .word 0x00050293  # addi x5, x10, 0
+    .word 0x00010313  # addi x6, x2, 0
     .word 0x0032fe13  # andi x28, x5, 3
     .word 0x040e0e63  # beq x28, x0, 92
     .word 0x03000393  # addi x7, x0, 48
@@ -109,12 +80,10 @@ base64_encode:
     .word 0x02c2ae03  # lw x28, 44(x5)
     .word 0x03c32623  # sw x28, 44(x6)
     # parameter 1: a word
-    .word 0x0c412283  # lw x5, 196(x2)
-    .word 0x02512823  # sw x5, 48(x2)
+    .word 0x02b12823  # sw x11, 48(x2)
     # parameter 2: an array
-    .word 0x0c812283  # lw x5, 200(x2)
-    .word 0x03400313  # addi x6, x0, 52
-    .word 0x00230333  # add x6, x6, x2
+    .word 0x00060293  # addi x5, x12, 0
+    .word 0x03410313  # addi x6, x2, 52
     .word 0x0032fe13  # andi x28, x5, 3
     .word 0x040e0e63  # beq x28, x0, 92
     .word 0x04000393  # addi x7, x0, 64
@@ -330,9 +299,8 @@ base64_encode:
     # the result
     .word 0x00000513  # addi x10, x0, 0
     # parameter 2: the array, back
-    .word 0x0c812283  # lw x5, 200(x2)
-    .word 0x03400313  # addi x6, x0, 52
-    .word 0x00230333  # add x6, x6, x2
+    .word 0x0bc12283  # lw x5, 188(x2)
+    .word 0x03410313  # addi x6, x2, 52
     .word 0x0032fe13  # andi x28, x5, 3
     .word 0x040e0e63  # beq x28, x0, 92
     .word 0x04000393  # addi x7, x0, 64
@@ -379,24 +347,14 @@ base64_encode:
     .word 0x02030313  # addi x6, x6, 32
     .word 0xfa729ce3  # bne x5, x7, -72
     # above the frame
-    .word 0x0b000293  # addi x5, x0, 176
-    .word 0x002282b3  # add x5, x5, x2
+    .word 0x0b010293  # addi x5, x2, 176
     # the caller's registers
     .word 0x0002a403  # lw x8, 0(x5)
     .cfi_restore 8
     # the caller's x2
-    .word 0x03028293  # addi x5, x5, 48
+    .word 0x01028293  # addi x5, x5, 16
     .cfi_def_cfa 5, 0
     # all the room, wiped upward
-    .word 0x00012023  # sw x0, 0(x2)
-    .word 0x00012223  # sw x0, 4(x2)
-    .word 0x00012423  # sw x0, 8(x2)
-    .word 0x00012623  # sw x0, 12(x2)
-    .word 0x00012823  # sw x0, 16(x2)
-    .word 0x00012a23  # sw x0, 20(x2)
-    .word 0x00012c23  # sw x0, 24(x2)
-    .word 0x00012e23  # sw x0, 28(x2)
-    .word 0x02010113  # addi x2, x2, 32
     .word 0x00012023  # sw x0, 0(x2)
     .word 0x00012223  # sw x0, 4(x2)
     .word 0x00012423  # sw x0, 8(x2)

@@ -1,4 +1,4 @@
-# blake2s_block: made by factc function; 1316 words, 480 bytes of stack, profile 1
+# blake2s_block: made by factc function; 1266 words, 448 bytes of stack, profile 1
     .option push
     .option norvc
     .option norelax
@@ -10,57 +10,19 @@
 blake2s_block:
     .cfi_startproc
     # room above the frame
-    .word 0xfd010113  # addi x2, x2, -48
-    .cfi_def_cfa_offset 48
+    .word 0xff010113  # addi x2, x2, -16
+    .cfi_def_cfa_offset 16
     # the caller's registers
     .word 0x00812023  # sw x8, 0(x2)
-    .cfi_offset 8, -48
-    # the arguments, below those on the stack
-    .word 0x00a12823  # sw x10, 16(x2)
-    .word 0x00b12a23  # sw x11, 20(x2)
-    .word 0x00c12c23  # sw x12, 24(x2)
-    .word 0x00d12e23  # sw x13, 28(x2)
+    .cfi_offset 8, -16
+    # arguments that are needed behind the body
+    .word 0x00a12623  # sw x10, 12(x2)
     # the frame's base
-    .word 0x1b000293  # addi x5, x0, 432
-    .word 0x405102b3  # sub x5, x2, x5
-    .cfi_def_cfa 5, 480
-    # the frame, zeroed downward
-    .word 0xfd010113  # addi x2, x2, -48
-    .word 0x00012023  # sw x0, 0(x2)
-    .word 0x00012223  # sw x0, 4(x2)
-    .word 0x00012423  # sw x0, 8(x2)
-    .word 0x00012623  # sw x0, 12(x2)
-    .word 0x00012823  # sw x0, 16(x2)
-    .word 0x00012a23  # sw x0, 20(x2)
-    .word 0x00012c23  # sw x0, 24(x2)
-    .word 0x00012e23  # sw x0, 28(x2)
-    .word 0x02012023  # sw x0, 32(x2)
-    .word 0x02012223  # sw x0, 36(x2)
-    .word 0x02012423  # sw x0, 40(x2)
-    .word 0x02012623  # sw x0, 44(x2)
-    .word 0xfc010113  # addi x2, x2, -64
-    .word 0x00012023  # sw x0, 0(x2)
-    .word 0x00012223  # sw x0, 4(x2)
-    .word 0x00012423  # sw x0, 8(x2)
-    .word 0x00012623  # sw x0, 12(x2)
-    .word 0x00012823  # sw x0, 16(x2)
-    .word 0x00012a23  # sw x0, 20(x2)
-    .word 0x00012c23  # sw x0, 24(x2)
-    .word 0x00012e23  # sw x0, 28(x2)
-    .word 0x02012023  # sw x0, 32(x2)
-    .word 0x02012223  # sw x0, 36(x2)
-    .word 0x02012423  # sw x0, 40(x2)
-    .word 0x02012623  # sw x0, 44(x2)
-    .word 0x02012823  # sw x0, 48(x2)
-    .word 0x02012a23  # sw x0, 52(x2)
-    .word 0x02012c23  # sw x0, 56(x2)
-    .word 0x02012e23  # sw x0, 60(x2)
-    .word 0xfa511ee3  # bne x2, x5, -68
-    .cfi_def_cfa 2, 480
+    .word 0xe5010113  # addi x2, x2, -432
+    .cfi_def_cfa 2, 448
     # parameter 0: an array
-    .word 0x1c012283  # lw x5, 448(x2)
-    .word 0x00000313  # addi x6, x0, 0
-    .word 0x00230333  # add x6, x6, x2
+    .word 0x00050293  # addi x5, x10, 0
+    .word 0x00010313  # addi x6, x2, 0
     .word 0x0002ae03  # lw x28, 0(x5)
     .word 0x01c32023  # sw x28, 0(x6)
     .word 0x0042ae03  # lw x28, 4(x5)
@@ -78,9 +40,8 @@ blake2s_block:
     .word 0x01c2ae03  # lw x28, 28(x5)
     .word 0x01c32e23  # sw x28, 28(x6)
     # parameter 1: an array
-    .word 0x1c412283  # lw x5, 452(x2)
-    .word 0x02000313  # addi x6, x0, 32
-    .word 0x00230333  # add x6, x6, x2
+    .word 0x00058293  # addi x5, x11, 0
+    .word 0x02010313  # addi x6, x2, 32
     .word 0x0032fe13  # andi x28, x5, 3
     .word 0x040e0e63  # beq x28, x0, 92
     .word 0x04000393  # addi x7, x0, 64
@@ -127,17 +88,15 @@ blake2s_block:
     .word 0x02030313  # addi x6, x6, 32
     .word 0xfa729ce3  # bne x5, x7, -72
     # parameter 2: an array
-    .word 0x1c812283  # lw x5, 456(x2)
-    .word 0x06000313  # addi x6, x0, 96
-    .word 0x00230333  # add x6, x6, x2
+    .word 0x00060293  # addi x5, x12, 0
+    .word 0x06010313  # addi x6, x2, 96
     .word 0x0002ae03  # lw x28, 0(x5)
     .word 0x01c32023  # sw x28, 0(x6)
     .word 0x0042ae03  # lw x28, 4(x5)
     .word 0x01c32223  # sw x28, 4(x6)
     # parameter 3: a word
-    .word 0x1cc12283  # lw x5, 460(x2)
-    .word 0x005032b3  # sltu x5, x0, x5
-    .word 0x06512423  # sw x5, 104(x2)
+    .word 0x00d036b3  # sltu x13, x0, x13
+    .word 0x06d12423  # sw x13, 104(x2)
     # the body
     .word 0x00000293  # addi x5, x0, 0
     .word 0x00229293  # slli x5, x5, 2
@@ -1276,9 +1235,8 @@ blake2s_block:
     # the result
     .word 0x00000513  # addi x10, x0, 0
     # parameter 0: the array, back
-    .word 0x1c012283  # lw x5, 448(x2)
-    .word 0x00000313  # addi x6, x0, 0
-    .word 0x00230333  # add x6, x6, x2
+    .word 0x1bc12283  # lw x5, 444(x2)
+    .word 0x00010313  # addi x6, x2, 0
     .word 0x00032e03  # lw x28, 0(x6)
     .word 0x01c2a023  # sw x28, 0(x5)
     .word 0x00432e03  # lw x28, 4(x6)
@@ -1296,24 +1254,14 @@ blake2s_block:
     .word 0x01c32e03  # lw x28, 28(x6)
     .word 0x01c2ae23  # sw x28, 28(x5)
     # above the frame
-    .word 0x1b000293  # addi x5, x0, 432
-    .word 0x002282b3  # add x5, x5, x2
+    .word 0x1b010293  # addi x5, x2, 432
     # the caller's registers
     .word 0x0002a403  # lw x8, 0(x5)
     .cfi_restore 8
     # the caller's x2
-    .word 0x03028293  # addi x5, x5, 48
+    .word 0x01028293  # addi x5, x5, 16
     .cfi_def_cfa 5, 0
     # all the room, wiped upward
-    .word 0x00012023  # sw x0, 0(x2)
-    .word 0x00012223  # sw x0, 4(x2)
-    .word 0x00012423  # sw x0, 8(x2)
-    .word 0x00012623  # sw x0, 12(x2)
-    .word 0x00012823  # sw x0, 16(x2)
-    .word 0x00012a23  # sw x0, 20(x2)
-    .word 0x00012c23  # sw x0, 24(x2)
-    .word 0x00012e23  # sw x0, 28(x2)
-    .word 0x02010113  # addi x2, x2, 32
     .word 0x00012023  # sw x0, 0(x2)
     .word 0x00012223  # sw x0, 4(x2)
     .word 0x00012423  # sw x0, 8(x2)

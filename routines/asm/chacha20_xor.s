@@ -1,4 +1,4 @@
-# chacha20_xor: made by factc function; 1101 words, 416 bytes of stack, profile 1
+# chacha20_xor: made by factc function; 1057 words, 400 bytes of stack, profile 1
     .option push
     .option norvc
     .option norelax
@@ -10,60 +10,24 @@
 chacha20_xor:
     .cfi_startproc
     # room above the frame
-    .word 0xfd010113  # addi x2, x2, -48
-    .cfi_def_cfa_offset 48
+    .word 0xfe010113  # addi x2, x2, -32
+    .cfi_def_cfa_offset 32
     # the caller's registers
     .word 0x00812023  # sw x8, 0(x2)
-    .cfi_offset 8, -48
+    .cfi_offset 8, -32
     .word 0x00912223  # sw x9, 4(x2)
-    .cfi_offset 9, -44
-    # the arguments, below those on the stack
+    .cfi_offset 9, -28
+    # arguments that are needed behind the body
     .word 0x00a12823  # sw x10, 16(x2)
     .word 0x00b12a23  # sw x11, 20(x2)
     .word 0x00c12c23  # sw x12, 24(x2)
     .word 0x00d12e23  # sw x13, 28(x2)
-    .word 0x02e12023  # sw x14, 32(x2)
     # the frame's base
-    .word 0x17000293  # addi x5, x0, 368
-    .word 0x405102b3  # sub x5, x2, x5
-    .cfi_def_cfa 5, 416
-    # the frame, zeroed downward
-    .word 0xfd010113  # addi x2, x2, -48
-    .word 0x00012023  # sw x0, 0(x2)
-    .word 0x00012223  # sw x0, 4(x2)
-    .word 0x00012423  # sw x0, 8(x2)
-    .word 0x00012623  # sw x0, 12(x2)
-    .word 0x00012823  # sw x0, 16(x2)
-    .word 0x00012a23  # sw x0, 20(x2)
-    .word 0x00012c23  # sw x0, 24(x2)
-    .word 0x00012e23  # sw x0, 28(x2)
-    .word 0x02012023  # sw x0, 32(x2)
-    .word 0x02012223  # sw x0, 36(x2)
-    .word 0x02012423  # sw x0, 40(x2)
-    .word 0x02012623  # sw x0, 44(x2)
-    .word 0xfc010113  # addi x2, x2, -64
-    .word 0x00012023  # sw x0, 0(x2)
-    .word 0x00012223  # sw x0, 4(x2)
-    .word 0x00012423  # sw x0, 8(x2)
-    .word 0x00012623  # sw x0, 12(x2)
-    .word 0x00012823  # sw x0, 16(x2)
-    .word 0x00012a23  # sw x0, 20(x2)
-    .word 0x00012c23  # sw x0, 24(x2)
-    .word 0x00012e23  # sw x0, 28(x2)
-    .word 0x02012023  # sw x0, 32(x2)
-    .word 0x02012223  # sw x0, 36(x2)
-    .word 0x02012423  # sw x0, 40(x2)
-    .word 0x02012623  # sw x0, 44(x2)
-    .word 0x02012823  # sw x0, 48(x2)
-    .word 0x02012a23  # sw x0, 52(x2)
-    .word 0x02012c23  # sw x0, 56(x2)
-    .word 0x02012e23  # sw x0, 60(x2)
-    .word 0xfa511ee3  # bne x2, x5, -68
-    .cfi_def_cfa 2, 416
+    .word 0xe9010113  # addi x2, x2, -368
+    .cfi_def_cfa 2, 400
     # parameter 0: an array
-    .word 0x18012283  # lw x5, 384(x2)
-    .word 0x00000313  # addi x6, x0, 0
-    .word 0x00230333  # add x6, x6, x2
+    .word 0x00050293  # addi x5, x10, 0
+    .word 0x00010313  # addi x6, x2, 0
     .word 0x0032fe13  # andi x28, x5, 3
     .word 0x040e0e63  # beq x28, x0, 92
     .word 0x02000393  # addi x7, x0, 32
@@ -105,12 +69,10 @@ chacha20_xor:
     .word 0x01c2ae03  # lw x28, 28(x5)
     .word 0x01c32e23  # sw x28, 28(x6)
     # parameter 1: a word
-    .word 0x18412283  # lw x5, 388(x2)
-    .word 0x02512023  # sw x5, 32(x2)
+    .word 0x02b12023  # sw x11, 32(x2)
     # parameter 2: an array
-    .word 0x18812283  # lw x5, 392(x2)
-    .word 0x02400313  # addi x6, x0, 36
-    .word 0x00230333  # add x6, x6, x2
+    .word 0x00060293  # addi x5, x12, 0
+    .word 0x02410313  # addi x6, x2, 36
     .word 0x0032fe13  # andi x28, x5, 3
     .word 0x060e0463  # beq x28, x0, 104
     .word 0x0002ce03  # lbu x28, 0(x5)
@@ -145,9 +107,8 @@ chacha20_xor:
     .word 0x0082ae03  # lw x28, 8(x5)
     .word 0x01c32423  # sw x28, 8(x6)
     # parameter 3: an array
-    .word 0x18c12283  # lw x5, 396(x2)
-    .word 0x03000313  # addi x6, x0, 48
-    .word 0x00230333  # add x6, x6, x2
+    .word 0x00068293  # addi x5, x13, 0
+    .word 0x03010313  # addi x6, x2, 48
     .word 0x0032fe13  # andi x28, x5, 3
     .word 0x040e0e63  # beq x28, x0, 92
     .word 0x04000393  # addi x7, x0, 64
@@ -194,8 +155,7 @@ chacha20_xor:
     .word 0x02030313  # addi x6, x6, 32
     .word 0xfa729ce3  # bne x5, x7, -72
     # parameter 4: a word
-    .word 0x19012283  # lw x5, 400(x2)
-    .word 0x06512823  # sw x5, 112(x2)
+    .word 0x06e12823  # sw x14, 112(x2)
     # the body
     .word 0x00000293  # addi x5, x0, 0
     .word 0x06512a23  # sw x5, 116(x2)
@@ -1034,8 +994,7 @@ chacha20_xor:
     .word 0x00000513  # addi x10, x0, 0
     # parameter 3: the array, back
     .word 0x18c12283  # lw x5, 396(x2)
-    .word 0x03000313  # addi x6, x0, 48
-    .word 0x00230333  # add x6, x6, x2
+    .word 0x03010313  # addi x6, x2, 48
     .word 0x0032fe13  # andi x28, x5, 3
     .word 0x040e0e63  # beq x28, x0, 92
     .word 0x04000393  # addi x7, x0, 64
@@ -1082,26 +1041,21 @@ chacha20_xor:
     .word 0x02030313  # addi x6, x6, 32
     .word 0xfa729ce3  # bne x5, x7, -72
     # above the frame
-    .word 0x17000293  # addi x5, x0, 368
-    .word 0x002282b3  # add x5, x5, x2
+    .word 0x17010293  # addi x5, x2, 368
     # the caller's registers
     .word 0x0002a403  # lw x8, 0(x5)
     .cfi_restore 8
     .word 0x0042a483  # lw x9, 4(x5)
     .cfi_restore 9
     # the caller's x2
-    .word 0x03028293  # addi x5, x5, 48
+    .word 0x02028293  # addi x5, x5, 32
     .cfi_def_cfa 5, 0
     # all the room, wiped upward
     .word 0x00012023  # sw x0, 0(x2)
     .word 0x00012223  # sw x0, 4(x2)
     .word 0x00012423  # sw x0, 8(x2)
     .word 0x00012623  # sw x0, 12(x2)
-    .word 0x00012823  # sw x0, 16(x2)
-    .word 0x00012a23  # sw x0, 20(x2)
-    .word 0x00012c23  # sw x0, 24(x2)
-    .word 0x00012e23  # sw x0, 28(x2)
-    .word 0x02010113  # addi x2, x2, 32
+    .word 0x01010113  # addi x2, x2, 16
     .word 0x00012023  # sw x0, 0(x2)
     .word 0x00012223  # sw x0, 4(x2)
     .word 0x00012423  # sw x0, 8(x2)

@@ -1,4 +1,4 @@
-# equal_32: made by factc function; 185 words, 128 bytes of stack, profile 1
+# equal_32: made by factc function; 161 words, 96 bytes of stack, profile 1
     .option push
     .option norvc
     .option norelax
@@ -10,49 +10,17 @@
 equal_32:
     .cfi_startproc
     # room above the frame
-    .word 0xfe010113  # addi x2, x2, -32
-    .cfi_def_cfa_offset 32
+    .cfi_def_cfa_offset 0
     # the caller's registers
-    # the arguments, below those on the stack
-    .word 0x00a12023  # sw x10, 0(x2)
-    .word 0x00b12223  # sw x11, 4(x2)
+    # arguments that are needed behind the body
     # the frame's base
-    .word 0x06000293  # addi x5, x0, 96
-    .word 0x405102b3  # sub x5, x2, x5
-    .cfi_def_cfa 5, 128
-    # the frame, zeroed downward
-    .word 0xfe010113  # addi x2, x2, -32
-    .word 0x00012023  # sw x0, 0(x2)
-    .word 0x00012223  # sw x0, 4(x2)
-    .word 0x00012423  # sw x0, 8(x2)
-    .word 0x00012623  # sw x0, 12(x2)
-    .word 0x00012823  # sw x0, 16(x2)
-    .word 0x00012a23  # sw x0, 20(x2)
-    .word 0x00012c23  # sw x0, 24(x2)
-    .word 0x00012e23  # sw x0, 28(x2)
-    .word 0xfc010113  # addi x2, x2, -64
-    .word 0x00012023  # sw x0, 0(x2)
-    .word 0x00012223  # sw x0, 4(x2)
-    .word 0x00012423  # sw x0, 8(x2)
-    .word 0x00012623  # sw x0, 12(x2)
-    .word 0x00012823  # sw x0, 16(x2)
-    .word 0x00012a23  # sw x0, 20(x2)
-    .word 0x00012c23  # sw x0, 24(x2)
-    .word 0x00012e23  # sw x0, 28(x2)
-    .word 0x02012023  # sw x0, 32(x2)
-    .word 0x02012223  # sw x0, 36(x2)
-    .word 0x02012423  # sw x0, 40(x2)
-    .word 0x02012623  # sw x0, 44(x2)
-    .word 0x02012823  # sw x0, 48(x2)
-    .word 0x02012a23  # sw x0, 52(x2)
-    .word 0x02012c23  # sw x0, 56(x2)
-    .word 0x02012e23  # sw x0, 60(x2)
-    .word 0xfa511ee3  # bne x2, x5, -68
-    .cfi_def_cfa 2, 128
+    .word 0xfa010113  # addi x2, x2, -96
+    .cfi_def_cfa 2, 96
+    # the frame's word at 64, zeroed
+    .word 0x04012023  # sw x0, 64(x2)
     # parameter 0: an array
-    .word 0x06012283  # lw x5, 96(x2)
-    .word 0x00000313  # addi x6, x0, 0
-    .word 0x00230333  # add x6, x6, x2
+    .word 0x00050293  # addi x5, x10, 0
+    .word 0x00010313  # addi x6, x2, 0
     .word 0x0032fe13  # andi x28, x5, 3
     .word 0x040e0e63  # beq x28, x0, 92
     .word 0x02000393  # addi x7, x0, 32
@@ -94,9 +62,8 @@ equal_32:
     .word 0x01c2ae03  # lw x28, 28(x5)
     .word 0x01c32e23  # sw x28, 28(x6)
     # parameter 1: an array
-    .word 0x06412283  # lw x5, 100(x2)
-    .word 0x02000313  # addi x6, x0, 32
-    .word 0x00230333  # add x6, x6, x2
+    .word 0x00058293  # addi x5, x11, 0
+    .word 0x02010313  # addi x6, x2, 32
     .word 0x0032fe13  # andi x28, x5, 3
     .word 0x040e0e63  # beq x28, x0, 92
     .word 0x02000393  # addi x7, x0, 32
@@ -171,13 +138,21 @@ equal_32:
     # the result
     .word 0x04812503  # lw x10, 72(x2)
     # above the frame
-    .word 0x06000293  # addi x5, x0, 96
-    .word 0x002282b3  # add x5, x5, x2
+    .word 0x06010293  # addi x5, x2, 96
     # the caller's registers
     # the caller's x2
-    .word 0x02028293  # addi x5, x5, 32
+    .word 0x00028293  # addi x5, x5, 0
     .cfi_def_cfa 5, 0
     # all the room, wiped upward
+    .word 0x00012023  # sw x0, 0(x2)
+    .word 0x00012223  # sw x0, 4(x2)
+    .word 0x00012423  # sw x0, 8(x2)
+    .word 0x00012623  # sw x0, 12(x2)
+    .word 0x00012823  # sw x0, 16(x2)
+    .word 0x00012a23  # sw x0, 20(x2)
+    .word 0x00012c23  # sw x0, 24(x2)
+    .word 0x00012e23  # sw x0, 28(x2)
+    .word 0x02010113  # addi x2, x2, 32
     .word 0x00012023  # sw x0, 0(x2)
     .word 0x00012223  # sw x0, 4(x2)
     .word 0x00012423  # sw x0, 8(x2)

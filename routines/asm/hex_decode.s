@@ -1,4 +1,4 @@
-# hex_decode: made by factc function; 295 words, 192 bytes of stack, profile 1
+# hex_decode: made by factc function; 283 words, 160 bytes of stack, profile 1
     .option push
     .option norvc
     .option norelax
@@ -10,49 +10,36 @@
 hex_decode:
     .cfi_startproc
     # room above the frame
-    .word 0xfd010113  # addi x2, x2, -48
-    .cfi_def_cfa_offset 48
+    .word 0xff010113  # addi x2, x2, -16
+    .cfi_def_cfa_offset 16
     # the caller's registers
     .word 0x00812023  # sw x8, 0(x2)
-    .cfi_offset 8, -48
+    .cfi_offset 8, -16
     .word 0x00912223  # sw x9, 4(x2)
-    .cfi_offset 9, -44
-    # the arguments, below those on the stack
-    .word 0x00a12823  # sw x10, 16(x2)
-    .word 0x00b12a23  # sw x11, 20(x2)
+    .cfi_offset 9, -12
+    # arguments that are needed behind the body
+    .word 0x00a12423  # sw x10, 8(x2)
+    .word 0x00b12623  # sw x11, 12(x2)
     # the frame's base
-    .word 0x09000293  # addi x5, x0, 144
-    .word 0x405102b3  # sub x5, x2, x5
-    .cfi_def_cfa 5, 192
-    # the frame, zeroed downward
-    .word 0xff010113  # addi x2, x2, -16
-    .word 0x00012023  # sw x0, 0(x2)
-    .word 0x00012223  # sw x0, 4(x2)
-    .word 0x00012423  # sw x0, 8(x2)
-    .word 0x00012623  # sw x0, 12(x2)
-    .word 0xfc010113  # addi x2, x2, -64
-    .word 0x00012023  # sw x0, 0(x2)
-    .word 0x00012223  # sw x0, 4(x2)
-    .word 0x00012423  # sw x0, 8(x2)
-    .word 0x00012623  # sw x0, 12(x2)
-    .word 0x00012823  # sw x0, 16(x2)
-    .word 0x00012a23  # sw x0, 20(x2)
-    .word 0x00012c23  # sw x0, 24(x2)
-    .word 0x00012e23  # sw x0, 28(x2)
-    .word 0x02012023  # sw x0, 32(x2)
-    .word 0x02012223  # sw x0, 36(x2)
-    .word 0x02012423  # sw x0, 40(x2)
-    .word 0x02012623  # sw x0, 44(x2)
-    .word 0x02012823  # sw x0, 48(x2)
-    .word 0x02012a23  # sw x0, 52(x2)
-    .word 0x02012c23  # sw x0, 56(x2)
-    .word 0x02012e23  # sw x0, 60(x2)
-    .word 0xfa511ee3  # bne x2, x5, -68
-    .cfi_def_cfa 2, 192
+    .word 0xf7010113  # addi x2, x2, -144
+    .cfi_def_cfa 2, 160
+    # the frame's word at 96, zeroed
+    .word 0x06012023  # sw x0, 96(x2)
+    # the frame's word at 100, zeroed
+    .word 0x06012223  # sw x0, 100(x2)
+    # the frame's word at 108, zeroed
+    .word 0x06012623  # sw x0, 108(x2)
+    # the frame's word at 112, zeroed
+    .word 0x06012823  # sw x0, 112(x2)
+    # the frame's word at 116, zeroed
+    .word 0x06012a23  # sw x0, 116(x2)
+    # the frame's word at 120, zeroed
+    .word 0x06012c23  # sw x0, 120(x2)
+    # the frame's word at 124, zeroed
+    .word 0x06012e23  # sw x0, 124(x2)
     # parameter 0: an array
-    .word 0x0a012283  # lw x5, 160(x2)
-    .word 0x00000313  # addi x6, x0, 0
-    .word 0x00230333  # add x6, x6, x2
+    .word 0x00050293  # addi x5, x10, 0
+    .word 0x00010313  # addi x6, x2, 0
     .word 0x0032fe13  # andi x28, x5, 3
     .word 0x040e0e63  # beq x28, x0, 92
     .word 0x04000393  # addi x7, x0, 64
@@ -99,9 +86,8 @@ hex_decode:
     .word 0x02030313  # addi x6, x6, 32
     .word 0xfa729ce3  # bne x5, x7, -72
     # parameter 1: an array
-    .word 0x0a412283  # lw x5, 164(x2)
-    .word 0x04000313  # addi x6, x0, 64
-    .word 0x00230333  # add x6, x6, x2
+    .word 0x00058293  # addi x5, x11, 0
+    .word 0x04010313  # addi x6, x2, 64
     .word 0x0032fe13  # andi x28, x5, 3
     .word 0x040e0e63  # beq x28, x0, 92
     .word 0x02000393  # addi x7, x0, 32
@@ -238,9 +224,8 @@ hex_decode:
     # the result
     .word 0x08012503  # lw x10, 128(x2)
     # parameter 1: the array, back
-    .word 0x0a412283  # lw x5, 164(x2)
-    .word 0x04000313  # addi x6, x0, 64
-    .word 0x00230333  # add x6, x6, x2
+    .word 0x09c12283  # lw x5, 156(x2)
+    .word 0x04010313  # addi x6, x2, 64
     .word 0x0032fe13  # andi x28, x5, 3
     .word 0x040e0e63  # beq x28, x0, 92
     .word 0x02000393  # addi x7, x0, 32
@@ -282,17 +267,25 @@ hex_decode:
     .word 0x01c32e03  # lw x28, 28(x6)
     .word 0x01c2ae23  # sw x28, 28(x5)
     # above the frame
-    .word 0x09000293  # addi x5, x0, 144
-    .word 0x002282b3  # add x5, x5, x2
+    .word 0x09010293  # addi x5, x2, 144
     # the caller's registers
     .word 0x0002a403  # lw x8, 0(x5)
     .cfi_restore 8
     .word 0x0042a483  # lw x9, 4(x5)
     .cfi_restore 9
     # the caller's x2
-    .word 0x03028293  # addi x5, x5, 48
+    .word 0x01028293  # addi x5, x5, 16
     .cfi_def_cfa 5, 0
     # all the room, wiped upward
+    .word 0x00012023  # sw x0, 0(x2)
+    .word 0x00012223  # sw x0, 4(x2)
+    .word 0x00012423  # sw x0, 8(x2)
+    .word 0x00012623  # sw x0, 12(x2)
+    .word 0x00012823  # sw x0, 16(x2)
+    .word 0x00012a23  # sw x0, 20(x2)
+    .word 0x00012c23  # sw x0, 24(x2)
+    .word 0x00012e23  # sw x0, 28(x2)
+    .word 0x02010113  # addi x2, x2, 32
     .word 0x00012023  # sw x0, 0(x2)
     .word 0x00012223  # sw x0, 4(x2)
     .word 0x00012423  # sw x0, 8(x2)

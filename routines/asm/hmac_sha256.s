@@ -1,4 +1,4 @@
-# hmac_sha256: made by factc function; 1721 words, 992 bytes of stack, profile 1
+# hmac_sha256: made by factc function; 1680 words, 976 bytes of stack, profile 1
     .option push
     .option norvc
     .option norelax
@@ -10,60 +10,29 @@
 hmac_sha256:
     .cfi_startproc
     # room above the frame
-    .word 0xfd010113  # addi x2, x2, -48
-    .cfi_def_cfa_offset 48
+    .word 0xfe010113  # addi x2, x2, -32
+    .cfi_def_cfa_offset 32
     # the caller's registers
     .word 0x00812023  # sw x8, 0(x2)
-    .cfi_offset 8, -48
+    .cfi_offset 8, -32
     .word 0x00912223  # sw x9, 4(x2)
-    .cfi_offset 9, -44
-    # the arguments, below those on the stack
-    .word 0x00a12823  # sw x10, 16(x2)
-    .word 0x00b12a23  # sw x11, 20(x2)
-    .word 0x00c12c23  # sw x12, 24(x2)
-    .word 0x00d12e23  # sw x13, 28(x2)
-    .word 0x02e12023  # sw x14, 32(x2)
+    .cfi_offset 9, -28
+    # arguments that are needed behind the body
+    .word 0x00a12623  # sw x10, 12(x2)
+    .word 0x00b12823  # sw x11, 16(x2)
+    .word 0x00c12a23  # sw x12, 20(x2)
+    .word 0x00d12c23  # sw x13, 24(x2)
+    .word 0x00e12e23  # sw x14, 28(x2)
     # the frame's base
-    .word 0x3b000293  # addi x5, x0, 944
-    .word 0x405102b3  # sub x5, x2, x5
-    .cfi_def_cfa 5, 992
-    # the frame, zeroed downward
-    .word 0xfd010113  # addi x2, x2, -48
-    .word 0x00012023  # sw x0, 0(x2)
-    .word 0x00012223  # sw x0, 4(x2)
-    .word 0x00012423  # sw x0, 8(x2)
-    .word 0x00012623  # sw x0, 12(x2)
-    .word 0x00012823  # sw x0, 16(x2)
-    .word 0x00012a23  # sw x0, 20(x2)
-    .word 0x00012c23  # sw x0, 24(x2)
-    .word 0x00012e23  # sw x0, 28(x2)
-    .word 0x02012023  # sw x0, 32(x2)
-    .word 0x02012223  # sw x0, 36(x2)
-    .word 0x02012423  # sw x0, 40(x2)
-    .word 0x02012623  # sw x0, 44(x2)
-    .word 0xfc010113  # addi x2, x2, -64
-    .word 0x00012023  # sw x0, 0(x2)
-    .word 0x00012223  # sw x0, 4(x2)
-    .word 0x00012423  # sw x0, 8(x2)
-    .word 0x00012623  # sw x0, 12(x2)
-    .word 0x00012823  # sw x0, 16(x2)
-    .word 0x00012a23  # sw x0, 20(x2)
-    .word 0x00012c23  # sw x0, 24(x2)
-    .word 0x00012e23  # sw x0, 28(x2)
-    .word 0x02012023  # sw x0, 32(x2)
-    .word 0x02012223  # sw x0, 36(x2)
-    .word 0x02012423  # sw x0, 40(x2)
-    .word 0x02012623  # sw x0, 44(x2)
-    .word 0x02012823  # sw x0, 48(x2)
-    .word 0x02012a23  # sw x0, 52(x2)
-    .word 0x02012c23  # sw x0, 56(x2)
-    .word 0x02012e23  # sw x0, 60(x2)
-    .word 0xfa511ee3  # bne x2, x5, -68
-    .cfi_def_cfa 2, 992
+    .word 0xc5010113  # addi x2, x2, -944
+    .cfi_def_cfa 2, 976
+    # the frame's word at 824, zeroed
+    .word 0x32012c23  # sw x0, 824(x2)
+    # the frame's word at 844, zeroed
+    .word 0x34012623  # sw x0, 844(x2)
     # parameter 0: an array
-    .word 0x3c012283  # lw x5, 960(x2)
-    .word 0x00000313  # addi x6, x0, 0
-    .word 0x00230333  # add x6, x6, x2
+    .word 0x00050293  # addi x5, x10, 0
+    .word 0x00010313  # addi x6, x2, 0
     .word 0x0032fe13  # andi x28, x5, 3
     .word 0x040e0e63  # beq x28, x0, 92
     .word 0x04000393  # addi x7, x0, 64
@@ -110,12 +79,10 @@ hmac_sha256:
     .word 0x02030313  # addi x6, x6, 32
     .word 0xfa729ce3  # bne x5, x7, -72
     # parameter 1: a word
-    .word 0x3c412283  # lw x5, 964(x2)
-    .word 0x04512023  # sw x5, 64(x2)
+    .word 0x04b12023  # sw x11, 64(x2)
     # parameter 2: an array
-    .word 0x3c812283  # lw x5, 968(x2)
-    .word 0x04400313  # addi x6, x0, 68
-    .word 0x00230333  # add x6, x6, x2
+    .word 0x00060293  # addi x5, x12, 0
+    .word 0x04410313  # addi x6, x2, 68
     .word 0x0032fe13  # andi x28, x5, 3
     .word 0x080e0a63  # beq x28, x0, 148
     .word 0x07000393  # addi x7, x0, 112
@@ -192,12 +159,10 @@ hmac_sha256:
     .word 0x0162ce03  # lbu x28, 22(x5)
     .word 0x01c30b23  # sb x28, 22(x6)
     # parameter 3: a word
-    .word 0x3cc12283  # lw x5, 972(x2)
-    .word 0x0a512e23  # sw x5, 188(x2)
+    .word 0x0ad12e23  # sw x13, 188(x2)
     # parameter 4: an array
-    .word 0x3d012283  # lw x5, 976(x2)
-    .word 0x0c000313  # addi x6, x0, 192
-    .word 0x00230333  # add x6, x6, x2
+    .word 0x00070293  # addi x5, x14, 0
+    .word 0x0c010313  # addi x6, x2, 192
     .word 0x0032fe13  # andi x28, x5, 3
     .word 0x040e0e63  # beq x28, x0, 92
     .word 0x02000393  # addi x7, x0, 32
@@ -1658,9 +1623,8 @@ hmac_sha256:
     # the result
     .word 0x00000513  # addi x10, x0, 0
     # parameter 4: the array, back
-    .word 0x3d012283  # lw x5, 976(x2)
-    .word 0x0c000313  # addi x6, x0, 192
-    .word 0x00230333  # add x6, x6, x2
+    .word 0x3cc12283  # lw x5, 972(x2)
+    .word 0x0c010313  # addi x6, x2, 192
     .word 0x0032fe13  # andi x28, x5, 3
     .word 0x040e0e63  # beq x28, x0, 92
     .word 0x02000393  # addi x7, x0, 32
@@ -1702,26 +1666,21 @@ hmac_sha256:
     .word 0x01c32e03  # lw x28, 28(x6)
     .word 0x01c2ae23  # sw x28, 28(x5)
     # above the frame
-    .word 0x3b000293  # addi x5, x0, 944
-    .word 0x002282b3  # add x5, x5, x2
+    .word 0x3b010293  # addi x5, x2, 944
     # the caller's registers
     .word 0x0002a403  # lw x8, 0(x5)
     .cfi_restore 8
     .word 0x0042a483  # lw x9, 4(x5)
     .cfi_restore 9
     # the caller's x2
-    .word 0x03028293  # addi x5, x5, 48
+    .word 0x02028293  # addi x5, x5, 32
     .cfi_def_cfa 5, 0
     # all the room, wiped upward
     .word 0x00012023  # sw x0, 0(x2)
     .word 0x00012223  # sw x0, 4(x2)
     .word 0x00012423  # sw x0, 8(x2)
     .word 0x00012623  # sw x0, 12(x2)
-    .word 0x00012823  # sw x0, 16(x2)
-    .word 0x00012a23  # sw x0, 20(x2)
-    .word 0x00012c23  # sw x0, 24(x2)
-    .word 0x00012e23  # sw x0, 28(x2)
-    .word 0x02010113  # addi x2, x2, 32
+    .word 0x01010113  # addi x2, x2, 16
     .word 0x00012023  # sw x0, 0(x2)
     .word 0x00012223  # sw x0, 4(x2)
     .word 0x00012423  # sw x0, 8(x2)

@@ -1,4 +1,4 @@
-# keccak_f1600: made by factc function; 1975 words, 944 bytes of stack, profile 1
+# keccak_f1600: made by factc function; 1945 words, 912 bytes of stack, profile 1
     .option push
     .option norvc
     .option norelax
@@ -10,41 +10,19 @@
 keccak_f1600:
     .cfi_startproc
     # room above the frame
-    .word 0xfd010113  # addi x2, x2, -48
-    .cfi_def_cfa_offset 48
+    .word 0xff010113  # addi x2, x2, -16
+    .cfi_def_cfa_offset 16
     # the caller's registers
     .word 0x00812023  # sw x8, 0(x2)
-    .cfi_offset 8, -48
-    # the arguments, below those on the stack
-    .word 0x00a12823  # sw x10, 16(x2)
+    .cfi_offset 8, -16
+    # arguments that are needed behind the body
+    .word 0x00a12623  # sw x10, 12(x2)
     # the frame's base
-    .word 0x38000293  # addi x5, x0, 896
-    .word 0x405102b3  # sub x5, x2, x5
-    .cfi_def_cfa 5, 944
-    # the frame, zeroed downward
-    .word 0xfc010113  # addi x2, x2, -64
-    .word 0x00012023  # sw x0, 0(x2)
-    .word 0x00012223  # sw x0, 4(x2)
-    .word 0x00012423  # sw x0, 8(x2)
-    .word 0x00012623  # sw x0, 12(x2)
-    .word 0x00012823  # sw x0, 16(x2)
-    .word 0x00012a23  # sw x0, 20(x2)
-    .word 0x00012c23  # sw x0, 24(x2)
-    .word 0x00012e23  # sw x0, 28(x2)
-    .word 0x02012023  # sw x0, 32(x2)
-    .word 0x02012223  # sw x0, 36(x2)
-    .word 0x02012423  # sw x0, 40(x2)
-    .word 0x02012623  # sw x0, 44(x2)
-    .word 0x02012823  # sw x0, 48(x2)
-    .word 0x02012a23  # sw x0, 52(x2)
-    .word 0x02012c23  # sw x0, 56(x2)
-    .word 0x02012e23  # sw x0, 60(x2)
-    .word 0xfa511ee3  # bne x2, x5, -68
-    .cfi_def_cfa 2, 944
+    .word 0xc8010113  # addi x2, x2, -896
+    .cfi_def_cfa 2, 912
     # parameter 0: an array
-    .word 0x39012283  # lw x5, 912(x2)
-    .word 0x00000313  # addi x6, x0, 0
-    .word 0x00230333  # add x6, x6, x2
+    .word 0x00050293  # addi x5, x10, 0
+    .word 0x00010313  # addi x6, x2, 0
     .word 0x0c000393  # addi x7, x0, 192
     .word 0x005383b3  # add x7, x7, x5
     .word 0x0002ae03  # lw x28, 0(x5)
@@ -1919,9 +1897,8 @@ keccak_f1600:
     # the result
     .word 0x00000513  # addi x10, x0, 0
     # parameter 0: the array, back
-    .word 0x39012283  # lw x5, 912(x2)
-    .word 0x00000313  # addi x6, x0, 0
-    .word 0x00230333  # add x6, x6, x2
+    .word 0x38c12283  # lw x5, 908(x2)
+    .word 0x00010313  # addi x6, x2, 0
     .word 0x0c000393  # addi x7, x0, 192
     .word 0x005383b3  # add x7, x7, x5
     .word 0x00032e03  # lw x28, 0(x6)
@@ -1948,28 +1925,19 @@ keccak_f1600:
     .word 0x00432e03  # lw x28, 4(x6)
     .word 0x01c2a223  # sw x28, 4(x5)
     # above the frame
-    .word 0x38000293  # addi x5, x0, 896
-    .word 0x002282b3  # add x5, x5, x2
+    .word 0x38010293  # addi x5, x2, 896
     # the caller's registers
     .word 0x0002a403  # lw x8, 0(x5)
     .cfi_restore 8
     # the caller's x2
-    .word 0x03028293  # addi x5, x5, 48
+    .word 0x01028293  # addi x5, x5, 16
     .cfi_def_cfa 5, 0
     # all the room, wiped upward
     .word 0x00012023  # sw x0, 0(x2)
     .word 0x00012223  # sw x0, 4(x2)
     .word 0x00012423  # sw x0, 8(x2)
     .word 0x00012623  # sw x0, 12(x2)
-    .word 0x00012823  # sw x0, 16(x2)
-    .word 0x00012a23  # sw x0, 20(x2)
-    .word 0x00012c23  # sw x0, 24(x2)
-    .word 0x00012e23  # sw x0, 28(x2)
-    .word 0x02012023  # sw x0, 32(x2)
-    .word 0x02012223  # sw x0, 36(x2)
-    .word 0x02012423  # sw x0, 40(x2)
-    .word 0x02012623  # sw x0, 44(x2)
-    .word 0x03010113  # addi x2, x2, 48
+    .word 0x01010113  # addi x2, x2, 16
     .word 0x00012023  # sw x0, 0(x2)
     .word 0x00012223  # sw x0, 4(x2)
     .word 0x00012423  # sw x0, 8(x2)

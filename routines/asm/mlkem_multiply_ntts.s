@@ -1,4 +1,4 @@
-# mlkem_multiply_ntts: made by factc function; 1087 words, 2224 bytes of stack, profile 1
+# mlkem_multiply_ntts: made by factc function; 1056 words, 2208 bytes of stack, profile 1
     .option push
     .option norvc
     .option norelax
@@ -10,48 +10,26 @@
 mlkem_multiply_ntts:
     .cfi_startproc
     # room above the frame
-    .word 0xfd010113  # addi x2, x2, -48
-    .cfi_def_cfa_offset 48
+    .word 0xfe010113  # addi x2, x2, -32
+    .cfi_def_cfa_offset 32
     # the caller's registers
     .word 0x00812023  # sw x8, 0(x2)
-    .cfi_offset 8, -48
+    .cfi_offset 8, -32
     .word 0x00912223  # sw x9, 4(x2)
-    .cfi_offset 9, -44
-    # the arguments, below those on the stack
-    .word 0x00a12823  # sw x10, 16(x2)
-    .word 0x00b12a23  # sw x11, 20(x2)
-    .word 0x00c12c23  # sw x12, 24(x2)
+    .cfi_offset 9, -28
+    # arguments that are needed behind the body
+    .word 0x00a12a23  # sw x10, 20(x2)
+    .word 0x00b12c23  # sw x11, 24(x2)
+    .word 0x00c12e23  # sw x12, 28(x2)
     # the frame's base
     .word 0x000012b7  # lui x5, 0x00001
     .word 0x88028293  # addi x5, x5, -1920
     .word 0x405102b3  # sub x5, x2, x5
-    .cfi_def_cfa 5, 2224
-    # the frame, zeroed downward
-    .word 0xfc010113  # addi x2, x2, -64
-    .word 0x00012023  # sw x0, 0(x2)
-    .word 0x00012223  # sw x0, 4(x2)
-    .word 0x00012423  # sw x0, 8(x2)
-    .word 0x00012623  # sw x0, 12(x2)
-    .word 0x00012823  # sw x0, 16(x2)
-    .word 0x00012a23  # sw x0, 20(x2)
-    .word 0x00012c23  # sw x0, 24(x2)
-    .word 0x00012e23  # sw x0, 28(x2)
-    .word 0x02012023  # sw x0, 32(x2)
-    .word 0x02012223  # sw x0, 36(x2)
-    .word 0x02012423  # sw x0, 40(x2)
-    .word 0x02012623  # sw x0, 44(x2)
-    .word 0x02012823  # sw x0, 48(x2)
-    .word 0x02012a23  # sw x0, 52(x2)
-    .word 0x02012c23  # sw x0, 56(x2)
-    .word 0x02012e23  # sw x0, 60(x2)
-    .word 0xfa511ee3  # bne x2, x5, -68
-    .cfi_def_cfa 2, 2224
+    .word 0x00028113  # addi x2, x5, 0
+    .cfi_def_cfa 2, 2208
     # parameter 0: an array
-    .word 0x000012b7  # lui x5, 0x00001
-    .word 0x002282b3  # add x5, x5, x2
-    .word 0x8902a283  # lw x5, -1904(x5)
-    .word 0x00000313  # addi x6, x0, 0
-    .word 0x00230333  # add x6, x6, x2
+    .word 0x00050293  # addi x5, x10, 0
+    .word 0x00010313  # addi x6, x2, 0
     .word 0x0032fe13  # andi x28, x5, 3
     .word 0x040e0e63  # beq x28, x0, 92
     .word 0x20000393  # addi x7, x0, 512
@@ -98,11 +76,8 @@ mlkem_multiply_ntts:
     .word 0x02030313  # addi x6, x6, 32
     .word 0xfa729ce3  # bne x5, x7, -72
     # parameter 1: an array
-    .word 0x000012b7  # lui x5, 0x00001
-    .word 0x002282b3  # add x5, x5, x2
-    .word 0x8942a283  # lw x5, -1900(x5)
-    .word 0x20000313  # addi x6, x0, 512
-    .word 0x00230333  # add x6, x6, x2
+    .word 0x00058293  # addi x5, x11, 0
+    .word 0x20010313  # addi x6, x2, 512
     .word 0x0032fe13  # andi x28, x5, 3
     .word 0x040e0e63  # beq x28, x0, 92
     .word 0x20000393  # addi x7, x0, 512
@@ -149,11 +124,8 @@ mlkem_multiply_ntts:
     .word 0x02030313  # addi x6, x6, 32
     .word 0xfa729ce3  # bne x5, x7, -72
     # parameter 2: an array
-    .word 0x000012b7  # lui x5, 0x00001
-    .word 0x002282b3  # add x5, x5, x2
-    .word 0x8982a283  # lw x5, -1896(x5)
-    .word 0x40000313  # addi x6, x0, 1024
-    .word 0x00230333  # add x6, x6, x2
+    .word 0x00060293  # addi x5, x12, 0
+    .word 0x40010313  # addi x6, x2, 1024
     .word 0x0032fe13  # andi x28, x5, 3
     .word 0x040e0e63  # beq x28, x0, 92
     .word 0x20000393  # addi x7, x0, 512
@@ -1012,9 +984,8 @@ mlkem_multiply_ntts:
     # parameter 2: the array, back
     .word 0x000012b7  # lui x5, 0x00001
     .word 0x002282b3  # add x5, x5, x2
-    .word 0x8982a283  # lw x5, -1896(x5)
-    .word 0x40000313  # addi x6, x0, 1024
-    .word 0x00230333  # add x6, x6, x2
+    .word 0x89c2a283  # lw x5, -1892(x5)
+    .word 0x40010313  # addi x6, x2, 1024
     .word 0x0032fe13  # andi x28, x5, 3
     .word 0x040e0e63  # beq x28, x0, 92
     .word 0x20000393  # addi x7, x0, 512
@@ -1070,7 +1041,7 @@ mlkem_multiply_ntts:
     .word 0x0042a483  # lw x9, 4(x5)
     .cfi_restore 9
     # the caller's x2
-    .word 0x03028293  # addi x5, x5, 48
+    .word 0x02028293  # addi x5, x5, 32
     .cfi_def_cfa 5, 0
     # all the room, wiped upward
     .word 0x00012023  # sw x0, 0(x2)
@@ -1081,11 +1052,7 @@ mlkem_multiply_ntts:
     .word 0x00012a23  # sw x0, 20(x2)
     .word 0x00012c23  # sw x0, 24(x2)
     .word 0x00012e23  # sw x0, 28(x2)
-    .word 0x02012023  # sw x0, 32(x2)
-    .word 0x02012223  # sw x0, 36(x2)
-    .word 0x02012423  # sw x0, 40(x2)
-    .word 0x02012623  # sw x0, 44(x2)
-    .word 0x03010113  # addi x2, x2, 48
+    .word 0x02010113  # addi x2, x2, 32
     .word 0x00012023  # sw x0, 0(x2)
     .word 0x00012223  # sw x0, 4(x2)
     .word 0x00012423  # sw x0, 8(x2)

@@ -1,4 +1,4 @@
-# modular_power_32: made by factc function; 264 words, 144 bytes of stack, profile 1
+# modular_power_32: made by factc function; 239 words, 112 bytes of stack, profile 1
     .option push
     .option norvc
     .option norelax
@@ -10,59 +10,27 @@
 modular_power_32:
     .cfi_startproc
     # room above the frame
-    .word 0xfd010113  # addi x2, x2, -48
-    .cfi_def_cfa_offset 48
+    .word 0xff010113  # addi x2, x2, -16
+    .cfi_def_cfa_offset 16
     # the caller's registers
     .word 0x00812023  # sw x8, 0(x2)
-    .cfi_offset 8, -48
+    .cfi_offset 8, -16
     .word 0x00912223  # sw x9, 4(x2)
-    .cfi_offset 9, -44
-    # the arguments, below those on the stack
-    .word 0x00a12823  # sw x10, 16(x2)
-    .word 0x00b12a23  # sw x11, 20(x2)
-    .word 0x00c12c23  # sw x12, 24(x2)
+    .cfi_offset 9, -12
+    # arguments that are needed behind the body
     # the frame's base
-    .word 0x06000293  # addi x5, x0, 96
-    .word 0x405102b3  # sub x5, x2, x5
-    .cfi_def_cfa 5, 144
-    # the frame, zeroed downward
-    .word 0xfe010113  # addi x2, x2, -32
-    .word 0x00012023  # sw x0, 0(x2)
-    .word 0x00012223  # sw x0, 4(x2)
-    .word 0x00012423  # sw x0, 8(x2)
-    .word 0x00012623  # sw x0, 12(x2)
-    .word 0x00012823  # sw x0, 16(x2)
-    .word 0x00012a23  # sw x0, 20(x2)
-    .word 0x00012c23  # sw x0, 24(x2)
-    .word 0x00012e23  # sw x0, 28(x2)
-    .word 0xfc010113  # addi x2, x2, -64
-    .word 0x00012023  # sw x0, 0(x2)
-    .word 0x00012223  # sw x0, 4(x2)
-    .word 0x00012423  # sw x0, 8(x2)
-    .word 0x00012623  # sw x0, 12(x2)
-    .word 0x00012823  # sw x0, 16(x2)
-    .word 0x00012a23  # sw x0, 20(x2)
-    .word 0x00012c23  # sw x0, 24(x2)
-    .word 0x00012e23  # sw x0, 28(x2)
-    .word 0x02012023  # sw x0, 32(x2)
-    .word 0x02012223  # sw x0, 36(x2)
-    .word 0x02012423  # sw x0, 40(x2)
-    .word 0x02012623  # sw x0, 44(x2)
-    .word 0x02012823  # sw x0, 48(x2)
-    .word 0x02012a23  # sw x0, 52(x2)
-    .word 0x02012c23  # sw x0, 56(x2)
-    .word 0x02012e23  # sw x0, 60(x2)
-    .word 0xfa511ee3  # bne x2, x5, -68
-    .cfi_def_cfa 2, 144
+    .word 0xfa010113  # addi x2, x2, -96
+    .cfi_def_cfa 2, 112
+    # the frame's word at 68, zeroed
+    .word 0x04012223  # sw x0, 68(x2)
+    # the frame's word at 72, zeroed
+    .word 0x04012423  # sw x0, 72(x2)
     # parameter 0: a word
-    .word 0x07012283  # lw x5, 112(x2)
-    .word 0x00512023  # sw x5, 0(x2)
+    .word 0x00a12023  # sw x10, 0(x2)
     # parameter 1: a word
-    .word 0x07412283  # lw x5, 116(x2)
-    .word 0x00512223  # sw x5, 4(x2)
+    .word 0x00b12223  # sw x11, 4(x2)
     # parameter 2: a word
-    .word 0x07812283  # lw x5, 120(x2)
-    .word 0x00512423  # sw x5, 8(x2)
+    .word 0x00c12423  # sw x12, 8(x2)
     # the body
     .word 0x00812283  # lw x5, 8(x2)
     .word 0x00100313  # addi x6, x0, 1
@@ -246,22 +214,29 @@ modular_power_32:
     # the result
     .word 0x04012503  # lw x10, 64(x2)
     # above the frame
-    .word 0x06000293  # addi x5, x0, 96
-    .word 0x002282b3  # add x5, x5, x2
+    .word 0x06010293  # addi x5, x2, 96
     # the caller's registers
     .word 0x0002a403  # lw x8, 0(x5)
     .cfi_restore 8
     .word 0x0042a483  # lw x9, 4(x5)
     .cfi_restore 9
     # the caller's x2
-    .word 0x03028293  # addi x5, x5, 48
+    .word 0x01028293  # addi x5, x5, 16
     .cfi_def_cfa 5, 0
     # all the room, wiped upward
     .word 0x00012023  # sw x0, 0(x2)
     .word 0x00012223  # sw x0, 4(x2)
     .word 0x00012423  # sw x0, 8(x2)
     .word 0x00012623  # sw x0, 12(x2)
-    .word 0x01010113  # addi x2, x2, 16
+    .word 0x00012823  # sw x0, 16(x2)
+    .word 0x00012a23  # sw x0, 20(x2)
+    .word 0x00012c23  # sw x0, 24(x2)
+    .word 0x00012e23  # sw x0, 28(x2)
+    .word 0x02012023  # sw x0, 32(x2)
+    .word 0x02012223  # sw x0, 36(x2)
+    .word 0x02012423  # sw x0, 40(x2)
+    .word 0x02012623  # sw x0, 44(x2)
+    .word 0x03010113  # addi x2, x2, 48
     .word 0x00012023  # sw x0, 0(x2)
     .word 0x00012223  # sw x0, 4(x2)
     .word 0x00012423  # sw x0, 8(x2)

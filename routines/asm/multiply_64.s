@@ -1,4 +1,4 @@
-# multiply_64: made by factc function; 144 words, 96 bytes of stack, profile 1
+# multiply_64: made by factc function; 116 words, 64 bytes of stack, profile 1
     .option push
     .option norvc
     .option norelax
@@ -10,44 +10,25 @@
 multiply_64:
     .cfi_startproc
     # room above the frame
-    .word 0xfd010113  # addi x2, x2, -48
-    .cfi_def_cfa_offset 48
+    .word 0xff010113  # addi x2, x2, -16
+    .cfi_def_cfa_offset 16
     # the caller's registers
     .word 0x00812023  # sw x8, 0(x2)
-    .cfi_offset 8, -48
-    # the arguments, below those on the stack
-    .word 0x00a12823  # sw x10, 16(x2)
-    .word 0x00b12a23  # sw x11, 20(x2)
-    .word 0x00c12c23  # sw x12, 24(x2)
+    .cfi_offset 8, -16
+    # arguments that are needed behind the body
+    .word 0x00a12223  # sw x10, 4(x2)
+    .word 0x00b12423  # sw x11, 8(x2)
+    .word 0x00c12623  # sw x12, 12(x2)
     # the frame's base
-    .word 0x03000293  # addi x5, x0, 48
-    .word 0x405102b3  # sub x5, x2, x5
-    .cfi_def_cfa 5, 96
-    # the frame, zeroed downward
     .word 0xfd010113  # addi x2, x2, -48
-    .word 0x00012023  # sw x0, 0(x2)
-    .word 0x00012223  # sw x0, 4(x2)
-    .word 0x00012423  # sw x0, 8(x2)
-    .word 0x00012623  # sw x0, 12(x2)
-    .word 0x00012823  # sw x0, 16(x2)
-    .word 0x00012a23  # sw x0, 20(x2)
-    .word 0x00012c23  # sw x0, 24(x2)
-    .word 0x00012e23  # sw x0, 28(x2)
-    .word 0x02012023  # sw x0, 32(x2)
-    .word 0x02012223  # sw x0, 36(x2)
-    .word 0x02012423  # sw x0, 40(x2)
-    .word 0x02012623  # sw x0, 44(x2)
-    .cfi_def_cfa 2, 96
+    .cfi_def_cfa 2, 64
     # parameter 0: a word
-    .word 0x04012283  # lw x5, 64(x2)
-    .word 0x00512023  # sw x5, 0(x2)
+    .word 0x00a12023  # sw x10, 0(x2)
     # parameter 1: a word
-    .word 0x04412283  # lw x5, 68(x2)
-    .word 0x00512223  # sw x5, 4(x2)
+    .word 0x00b12223  # sw x11, 4(x2)
     # parameter 2: an array
-    .word 0x04812283  # lw x5, 72(x2)
-    .word 0x00800313  # addi x6, x0, 8
-    .word 0x00230333  # add x6, x6, x2
+    .word 0x00060293  # addi x5, x12, 0
+    .word 0x00810313  # addi x6, x2, 8
     .word 0x0002ae03  # lw x28, 0(x5)
     .word 0x01c32023  # sw x28, 0(x6)
     .word 0x0042ae03  # lw x28, 4(x5)
@@ -115,32 +96,21 @@ multiply_64:
     # the result
     .word 0x00000513  # addi x10, x0, 0
     # parameter 2: the array, back
-    .word 0x04812283  # lw x5, 72(x2)
-    .word 0x00800313  # addi x6, x0, 8
-    .word 0x00230333  # add x6, x6, x2
+    .word 0x03c12283  # lw x5, 60(x2)
+    .word 0x00810313  # addi x6, x2, 8
     .word 0x00032e03  # lw x28, 0(x6)
     .word 0x01c2a023  # sw x28, 0(x5)
     .word 0x00432e03  # lw x28, 4(x6)
     .word 0x01c2a223  # sw x28, 4(x5)
     # above the frame
-    .word 0x03000293  # addi x5, x0, 48
-    .word 0x002282b3  # add x5, x5, x2
+    .word 0x03010293  # addi x5, x2, 48
     # the caller's registers
     .word 0x0002a403  # lw x8, 0(x5)
     .cfi_restore 8
     # the caller's x2
-    .word 0x03028293  # addi x5, x5, 48
+    .word 0x01028293  # addi x5, x5, 16
     .cfi_def_cfa 5, 0
     # all the room, wiped upward
-    .word 0x00012023  # sw x0, 0(x2)
-    .word 0x00012223  # sw x0, 4(x2)
-    .word 0x00012423  # sw x0, 8(x2)
-    .word 0x00012623  # sw x0, 12(x2)
-    .word 0x00012823  # sw x0, 16(x2)
-    .word 0x00012a23  # sw x0, 20(x2)
-    .word 0x00012c23  # sw x0, 24(x2)
-    .word 0x00012e23  # sw x0, 28(x2)
-    .word 0x02010113  # addi x2, x2, 32
     .word 0x00012023  # sw x0, 0(x2)
     .word 0x00012223  # sw x0, 4(x2)
     .word 0x00012423  # sw x0, 8(x2)

@@ -1,4 +1,4 @@
-# pkcs7_pad: made by factc function; 163 words, 80 bytes of stack, profile 1
+# pkcs7_pad: made by factc function; 140 words, 64 bytes of stack, profile 1
     .option push
     .option norvc
     .option norelax
@@ -10,38 +10,20 @@
 pkcs7_pad:
     .cfi_startproc
     # room above the frame
-    .word 0xfe010113  # addi x2, x2, -32
-    .cfi_def_cfa_offset 32
+    .word 0xff010113  # addi x2, x2, -16
+    .cfi_def_cfa_offset 16
     # the caller's registers
-    # the arguments, below those on the stack
-    .word 0x00a12023  # sw x10, 0(x2)
-    .word 0x00b12223  # sw x11, 4(x2)
+    # arguments that are needed behind the body
+    .word 0x00a12423  # sw x10, 8(x2)
+    .word 0x00b12623  # sw x11, 12(x2)
     # the frame's base
-    .word 0x03000293  # addi x5, x0, 48
-    .word 0x405102b3  # sub x5, x2, x5
-    .cfi_def_cfa 5, 80
-    # the frame, zeroed downward
     .word 0xfd010113  # addi x2, x2, -48
-    .word 0x00012023  # sw x0, 0(x2)
-    .word 0x00012223  # sw x0, 4(x2)
-    .word 0x00012423  # sw x0, 8(x2)
-    .word 0x00012623  # sw x0, 12(x2)
-    .word 0x00012823  # sw x0, 16(x2)
-    .word 0x00012a23  # sw x0, 20(x2)
-    .word 0x00012c23  # sw x0, 24(x2)
-    .word 0x00012e23  # sw x0, 28(x2)
-    .word 0x02012023  # sw x0, 32(x2)
-    .word 0x02012223  # sw x0, 36(x2)
-    .word 0x02012423  # sw x0, 40(x2)
-    .word 0x02012623  # sw x0, 44(x2)
-    .cfi_def_cfa 2, 80
+    .cfi_def_cfa 2, 64
     # parameter 0: a word
-    .word 0x03012283  # lw x5, 48(x2)
-    .word 0x00512023  # sw x5, 0(x2)
+    .word 0x00a12023  # sw x10, 0(x2)
     # parameter 1: an array
-    .word 0x03412283  # lw x5, 52(x2)
-    .word 0x00400313  # addi x6, x0, 4
-    .word 0x00230333  # add x6, x6, x2
+    .word 0x00058293  # addi x5, x11, 0
+    .word 0x00410313  # addi x6, x2, 4
     .word 0x0032fe13  # andi x28, x5, 3
     .word 0x040e0e63  # beq x28, x0, 92
     .word 0x01000393  # addi x7, x0, 16
@@ -109,9 +91,8 @@ pkcs7_pad:
     # the result
     .word 0x00000513  # addi x10, x0, 0
     # parameter 1: the array, back
-    .word 0x03412283  # lw x5, 52(x2)
-    .word 0x00400313  # addi x6, x0, 4
-    .word 0x00230333  # add x6, x6, x2
+    .word 0x03c12283  # lw x5, 60(x2)
+    .word 0x00410313  # addi x6, x2, 4
     .word 0x0032fe13  # andi x28, x5, 3
     .word 0x040e0e63  # beq x28, x0, 92
     .word 0x01000393  # addi x7, x0, 16
@@ -145,18 +126,12 @@ pkcs7_pad:
     .word 0x00c32e03  # lw x28, 12(x6)
     .word 0x01c2a623  # sw x28, 12(x5)
     # above the frame
-    .word 0x03000293  # addi x5, x0, 48
-    .word 0x002282b3  # add x5, x5, x2
+    .word 0x03010293  # addi x5, x2, 48
     # the caller's registers
     # the caller's x2
-    .word 0x02028293  # addi x5, x5, 32
+    .word 0x01028293  # addi x5, x5, 16
     .cfi_def_cfa 5, 0
     # all the room, wiped upward
-    .word 0x00012023  # sw x0, 0(x2)
-    .word 0x00012223  # sw x0, 4(x2)
-    .word 0x00012423  # sw x0, 8(x2)
-    .word 0x00012623  # sw x0, 12(x2)
-    .word 0x01010113  # addi x2, x2, 16
     .word 0x00012023  # sw x0, 0(x2)
     .word 0x00012223  # sw x0, 4(x2)
     .word 0x00012423  # sw x0, 8(x2)

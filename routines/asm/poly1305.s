@@ -1,4 +1,4 @@
-# poly1305: made by factc function; 1519 words, 736 bytes of stack, profile 1
+# poly1305: made by factc function; 1479 words, 720 bytes of stack, profile 1
     .option push
     .option norvc
     .option norelax
@@ -10,57 +10,26 @@
 poly1305:
     .cfi_startproc
     # room above the frame
-    .word 0xfd010113  # addi x2, x2, -48
-    .cfi_def_cfa_offset 48
+    .word 0xfe010113  # addi x2, x2, -32
+    .cfi_def_cfa_offset 32
     # the caller's registers
     .word 0x00812023  # sw x8, 0(x2)
-    .cfi_offset 8, -48
-    # the arguments, below those on the stack
+    .cfi_offset 8, -32
+    # arguments that are needed behind the body
     .word 0x00a12823  # sw x10, 16(x2)
     .word 0x00b12a23  # sw x11, 20(x2)
     .word 0x00c12c23  # sw x12, 24(x2)
     .word 0x00d12e23  # sw x13, 28(x2)
     # the frame's base
-    .word 0x2b000293  # addi x5, x0, 688
-    .word 0x405102b3  # sub x5, x2, x5
-    .cfi_def_cfa 5, 736
-    # the frame, zeroed downward
-    .word 0xfd010113  # addi x2, x2, -48
-    .word 0x00012023  # sw x0, 0(x2)
-    .word 0x00012223  # sw x0, 4(x2)
-    .word 0x00012423  # sw x0, 8(x2)
-    .word 0x00012623  # sw x0, 12(x2)
-    .word 0x00012823  # sw x0, 16(x2)
-    .word 0x00012a23  # sw x0, 20(x2)
-    .word 0x00012c23  # sw x0, 24(x2)
-    .word 0x00012e23  # sw x0, 28(x2)
-    .word 0x02012023  # sw x0, 32(x2)
-    .word 0x02012223  # sw x0, 36(x2)
-    .word 0x02012423  # sw x0, 40(x2)
-    .word 0x02012623  # sw x0, 44(x2)
-    .word 0xfc010113  # addi x2, x2, -64
-    .word 0x00012023  # sw x0, 0(x2)
-    .word 0x00012223  # sw x0, 4(x2)
-    .word 0x00012423  # sw x0, 8(x2)
-    .word 0x00012623  # sw x0, 12(x2)
-    .word 0x00012823  # sw x0, 16(x2)
-    .word 0x00012a23  # sw x0, 20(x2)
-    .word 0x00012c23  # sw x0, 24(x2)
-    .word 0x00012e23  # sw x0, 28(x2)
-    .word 0x02012023  # sw x0, 32(x2)
-    .word 0x02012223  # sw x0, 36(x2)
-    .word 0x02012423  # sw x0, 40(x2)
-    .word 0x02012623  # sw x0, 44(x2)
-    .word 0x02012823  # sw x0, 48(x2)
-    .word 0x02012a23  # sw x0, 52(x2)
-    .word 0x02012c23  # sw x0, 56(x2)
-    .word 0x02012e23  # sw x0, 60(x2)
-    .word 0xfa511ee3  # bne x2, x5, -68
-    .cfi_def_cfa 2, 736
+    .word 0xd5010113  # addi x2, x2, -688
+    .cfi_def_cfa 2, 720
+    # the frame's word at 664, zeroed
+    .word 0x28012c23  # sw x0, 664(x2)
+    # the frame's word at 668, zeroed
+    .word 0x28012e23  # sw x0, 668(x2)
     # parameter 0: an array
-    .word 0x2c012283  # lw x5, 704(x2)
-    .word 0x00000313  # addi x6, x0, 0
-    .word 0x00230333  # add x6, x6, x2
+    .word 0x00050293  # addi x5, x10, 0
+    .word 0x00010313  # addi x6, x2, 0
     .word 0x0032fe13  # andi x28, x5, 3
     .word 0x040e0e63  # beq x28, x0, 92
     .word 0x02000393  # addi x7, x0, 32
@@ -102,9 +71,8 @@ poly1305:
     .word 0x01c2ae03  # lw x28, 28(x5)
     .word 0x01c32e23  # sw x28, 28(x6)
     # parameter 1: an array
-    .word 0x2c412283  # lw x5, 708(x2)
-    .word 0x02000313  # addi x6, x0, 32
-    .word 0x00230333  # add x6, x6, x2
+    .word 0x00058293  # addi x5, x11, 0
+    .word 0x02010313  # addi x6, x2, 32
     .word 0x0032fe13  # andi x28, x5, 3
     .word 0x040e0e63  # beq x28, x0, 92
     .word 0x04000393  # addi x7, x0, 64
@@ -151,12 +119,10 @@ poly1305:
     .word 0x02030313  # addi x6, x6, 32
     .word 0xfa729ce3  # bne x5, x7, -72
     # parameter 2: a word
-    .word 0x2c812283  # lw x5, 712(x2)
-    .word 0x06512023  # sw x5, 96(x2)
+    .word 0x06c12023  # sw x12, 96(x2)
     # parameter 3: an array
-    .word 0x2cc12283  # lw x5, 716(x2)
-    .word 0x06400313  # addi x6, x0, 100
-    .word 0x00230333  # add x6, x6, x2
+    .word 0x00068293  # addi x5, x13, 0
+    .word 0x06410313  # addi x6, x2, 100
     .word 0x0032fe13  # andi x28, x5, 3
     .word 0x040e0e63  # beq x28, x0, 92
     .word 0x01000393  # addi x7, x0, 16
@@ -1464,8 +1430,7 @@ poly1305:
     .word 0x00000513  # addi x10, x0, 0
     # parameter 3: the array, back
     .word 0x2cc12283  # lw x5, 716(x2)
-    .word 0x06400313  # addi x6, x0, 100
-    .word 0x00230333  # add x6, x6, x2
+    .word 0x06410313  # addi x6, x2, 100
     .word 0x0032fe13  # andi x28, x5, 3
     .word 0x040e0e63  # beq x28, x0, 92
     .word 0x01000393  # addi x7, x0, 16
@@ -1499,24 +1464,19 @@ poly1305:
     .word 0x00c32e03  # lw x28, 12(x6)
     .word 0x01c2a623  # sw x28, 12(x5)
     # above the frame
-    .word 0x2b000293  # addi x5, x0, 688
-    .word 0x002282b3  # add x5, x5, x2
+    .word 0x2b010293  # addi x5, x2, 688
     # the caller's registers
     .word 0x0002a403  # lw x8, 0(x5)
     .cfi_restore 8
     # the caller's x2
-    .word 0x03028293  # addi x5, x5, 48
+    .word 0x02028293  # addi x5, x5, 32
     .cfi_def_cfa 5, 0
     # all the room, wiped upward
     .word 0x00012023  # sw x0, 0(x2)
     .word 0x00012223  # sw x0, 4(x2)
     .word 0x00012423  # sw x0, 8(x2)
     .word 0x00012623  # sw x0, 12(x2)
-    .word 0x00012823  # sw x0, 16(x2)
-    .word 0x00012a23  # sw x0, 20(x2)
-    .word 0x00012c23  # sw x0, 24(x2)
-    .word 0x00012e23  # sw x0, 28(x2)
-    .word 0x02010113  # addi x2, x2, 32
+    .word 0x01010113  # addi x2, x2, 16
     .word 0x00012023  # sw x0, 0(x2)
     .word 0x00012223  # sw x0, 4(x2)
     .word 0x00012423  # sw x0, 8(x2)

@@ -1,4 +1,4 @@
-# salsa20_block: made by factc function; 1082 words, 432 bytes of stack, profile 1
+# salsa20_block: made by factc function; 1053 words, 416 bytes of stack, profile 1
     .option push
     .option norvc
     .option norelax
@@ -10,44 +10,22 @@
 salsa20_block:
     .cfi_startproc
     # room above the frame
-    .word 0xfd010113  # addi x2, x2, -48
-    .cfi_def_cfa_offset 48
+    .word 0xfe010113  # addi x2, x2, -32
+    .cfi_def_cfa_offset 32
     # the caller's registers
     .word 0x00812023  # sw x8, 0(x2)
-    .cfi_offset 8, -48
-    # the arguments, below those on the stack
+    .cfi_offset 8, -32
+    # arguments that are needed behind the body
     .word 0x00a12823  # sw x10, 16(x2)
     .word 0x00b12a23  # sw x11, 20(x2)
     .word 0x00c12c23  # sw x12, 24(x2)
     .word 0x00d12e23  # sw x13, 28(x2)
     # the frame's base
-    .word 0x18000293  # addi x5, x0, 384
-    .word 0x405102b3  # sub x5, x2, x5
-    .cfi_def_cfa 5, 432
-    # the frame, zeroed downward
-    .word 0xfc010113  # addi x2, x2, -64
-    .word 0x00012023  # sw x0, 0(x2)
-    .word 0x00012223  # sw x0, 4(x2)
-    .word 0x00012423  # sw x0, 8(x2)
-    .word 0x00012623  # sw x0, 12(x2)
-    .word 0x00012823  # sw x0, 16(x2)
-    .word 0x00012a23  # sw x0, 20(x2)
-    .word 0x00012c23  # sw x0, 24(x2)
-    .word 0x00012e23  # sw x0, 28(x2)
-    .word 0x02012023  # sw x0, 32(x2)
-    .word 0x02012223  # sw x0, 36(x2)
-    .word 0x02012423  # sw x0, 40(x2)
-    .word 0x02012623  # sw x0, 44(x2)
-    .word 0x02012823  # sw x0, 48(x2)
-    .word 0x02012a23  # sw x0, 52(x2)
-    .word 0x02012c23  # sw x0, 56(x2)
-    .word 0x02012e23  # sw x0, 60(x2)
-    .word 0xfa511ee3  # bne x2, x5, -68
-    .cfi_def_cfa 2, 432
+    .word 0xe8010113  # addi x2, x2, -384
+    .cfi_def_cfa 2, 416
     # parameter 0: an array
-    .word 0x19012283  # lw x5, 400(x2)
-    .word 0x00000313  # addi x6, x0, 0
-    .word 0x00230333  # add x6, x6, x2
+    .word 0x00050293  # addi x5, x10, 0
+    .word 0x00010313  # addi x6, x2, 0
     .word 0x0032fe13  # andi x28, x5, 3
     .word 0x040e0e63  # beq x28, x0, 92
     .word 0x02000393  # addi x7, x0, 32
@@ -89,9 +67,8 @@ salsa20_block:
     .word 0x01c2ae03  # lw x28, 28(x5)
     .word 0x01c32e23  # sw x28, 28(x6)
     # parameter 1: an array
-    .word 0x19412283  # lw x5, 404(x2)
-    .word 0x02000313  # addi x6, x0, 32
-    .word 0x00230333  # add x6, x6, x2
+    .word 0x00058293  # addi x5, x11, 0
+    .word 0x02010313  # addi x6, x2, 32
     .word 0x0032fe13  # andi x28, x5, 3
     .word 0x040e0463  # beq x28, x0, 72
     .word 0x0002ce03  # lbu x28, 0(x5)
@@ -116,17 +93,15 @@ salsa20_block:
     .word 0x0042ae03  # lw x28, 4(x5)
     .word 0x01c32223  # sw x28, 4(x6)
     # parameter 2: an array
-    .word 0x19812283  # lw x5, 408(x2)
-    .word 0x02800313  # addi x6, x0, 40
-    .word 0x00230333  # add x6, x6, x2
+    .word 0x00060293  # addi x5, x12, 0
+    .word 0x02810313  # addi x6, x2, 40
     .word 0x0002ae03  # lw x28, 0(x5)
     .word 0x01c32023  # sw x28, 0(x6)
     .word 0x0042ae03  # lw x28, 4(x5)
     .word 0x01c32223  # sw x28, 4(x6)
     # parameter 3: an array
-    .word 0x19c12283  # lw x5, 412(x2)
-    .word 0x03000313  # addi x6, x0, 48
-    .word 0x00230333  # add x6, x6, x2
+    .word 0x00068293  # addi x5, x13, 0
+    .word 0x03010313  # addi x6, x2, 48
     .word 0x0032fe13  # andi x28, x5, 3
     .word 0x040e0e63  # beq x28, x0, 92
     .word 0x04000393  # addi x7, x0, 64
@@ -1010,8 +985,7 @@ salsa20_block:
     .word 0x00000513  # addi x10, x0, 0
     # parameter 3: the array, back
     .word 0x19c12283  # lw x5, 412(x2)
-    .word 0x03000313  # addi x6, x0, 48
-    .word 0x00230333  # add x6, x6, x2
+    .word 0x03010313  # addi x6, x2, 48
     .word 0x0032fe13  # andi x28, x5, 3
     .word 0x040e0e63  # beq x28, x0, 92
     .word 0x04000393  # addi x7, x0, 64
@@ -1058,13 +1032,12 @@ salsa20_block:
     .word 0x02030313  # addi x6, x6, 32
     .word 0xfa729ce3  # bne x5, x7, -72
     # above the frame
-    .word 0x18000293  # addi x5, x0, 384
-    .word 0x002282b3  # add x5, x5, x2
+    .word 0x18010293  # addi x5, x2, 384
     # the caller's registers
     .word 0x0002a403  # lw x8, 0(x5)
     .cfi_restore 8
     # the caller's x2
-    .word 0x03028293  # addi x5, x5, 48
+    .word 0x02028293  # addi x5, x5, 32
     .cfi_def_cfa 5, 0
     # all the room, wiped upward
     .word 0x00012023  # sw x0, 0(x2)
@@ -1075,11 +1048,7 @@ salsa20_block:
     .word 0x00012a23  # sw x0, 20(x2)
     .word 0x00012c23  # sw x0, 24(x2)
     .word 0x00012e23  # sw x0, 28(x2)
-    .word 0x02012023  # sw x0, 32(x2)
-    .word 0x02012223  # sw x0, 36(x2)
-    .word 0x02012423  # sw x0, 40(x2)
-    .word 0x02012623  # sw x0, 44(x2)
-    .word 0x03010113  # addi x2, x2, 48
+    .word 0x02010113  # addi x2, x2, 32
     .word 0x00012023  # sw x0, 0(x2)
     .word 0x00012223  # sw x0, 4(x2)
     .word 0x00012423  # sw x0, 8(x2)

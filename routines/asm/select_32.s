@@ -1,4 +1,4 @@
-# select_32: made by factc function; 279 words, 176 bytes of stack, profile 1
+# select_32: made by factc function; 250 words, 160 bytes of stack, profile 1
     .option push
     .option norvc
     .option norelax
@@ -10,48 +10,25 @@
 select_32:
     .cfi_startproc
     # room above the frame
-    .word 0xfd010113  # addi x2, x2, -48
-    .cfi_def_cfa_offset 48
+    .word 0xfe010113  # addi x2, x2, -32
+    .cfi_def_cfa_offset 32
     # the caller's registers
     .word 0x00812023  # sw x8, 0(x2)
-    .cfi_offset 8, -48
-    # the arguments, below those on the stack
+    .cfi_offset 8, -32
+    # arguments that are needed behind the body
     .word 0x00a12823  # sw x10, 16(x2)
     .word 0x00b12a23  # sw x11, 20(x2)
     .word 0x00c12c23  # sw x12, 24(x2)
     .word 0x00d12e23  # sw x13, 28(x2)
     # the frame's base
-    .word 0x08000293  # addi x5, x0, 128
-    .word 0x405102b3  # sub x5, x2, x5
-    .cfi_def_cfa 5, 176
-    # the frame, zeroed downward
-    .word 0xfc010113  # addi x2, x2, -64
-    .word 0x00012023  # sw x0, 0(x2)
-    .word 0x00012223  # sw x0, 4(x2)
-    .word 0x00012423  # sw x0, 8(x2)
-    .word 0x00012623  # sw x0, 12(x2)
-    .word 0x00012823  # sw x0, 16(x2)
-    .word 0x00012a23  # sw x0, 20(x2)
-    .word 0x00012c23  # sw x0, 24(x2)
-    .word 0x00012e23  # sw x0, 28(x2)
-    .word 0x02012023  # sw x0, 32(x2)
-    .word 0x02012223  # sw x0, 36(x2)
-    .word 0x02012423  # sw x0, 40(x2)
-    .word 0x02012623  # sw x0, 44(x2)
-    .word 0x02012823  # sw x0, 48(x2)
-    .word 0x02012a23  # sw x0, 52(x2)
-    .word 0x02012c23  # sw x0, 56(x2)
-    .word 0x02012e23  # sw x0, 60(x2)
-    .word 0xfa511ee3  # bne x2, x5, -68
-    .cfi_def_cfa 2, 176
+    .word 0xf8010113  # addi x2, x2, -128
+    .cfi_def_cfa 2, 160
     # parameter 0: a word
-    .word 0x09012283  # lw x5, 144(x2)
-    .word 0x005032b3  # sltu x5, x0, x5
-    .word 0x00512023  # sw x5, 0(x2)
+    .word 0x00a03533  # sltu x10, x0, x10
+    .word 0x00a12023  # sw x10, 0(x2)
     # parameter 1: an array
-    .word 0x09412283  # lw x5, 148(x2)
-    .word 0x00400313  # addi x6, x0, 4
-    .word 0x00230333  # add x6, x6, x2
+    .word 0x00058293  # addi x5, x11, 0
+    .word 0x00410313  # addi x6, x2, 4
     .word 0x0032fe13  # andi x28, x5, 3
     .word 0x040e0e63  # beq x28, x0, 92
     .word 0x02000393  # addi x7, x0, 32
@@ -93,9 +70,8 @@ select_32:
     .word 0x01c2ae03  # lw x28, 28(x5)
     .word 0x01c32e23  # sw x28, 28(x6)
     # parameter 2: an array
-    .word 0x09812283  # lw x5, 152(x2)
-    .word 0x02400313  # addi x6, x0, 36
-    .word 0x00230333  # add x6, x6, x2
+    .word 0x00060293  # addi x5, x12, 0
+    .word 0x02410313  # addi x6, x2, 36
     .word 0x0032fe13  # andi x28, x5, 3
     .word 0x040e0e63  # beq x28, x0, 92
     .word 0x02000393  # addi x7, x0, 32
@@ -137,9 +113,8 @@ select_32:
     .word 0x01c2ae03  # lw x28, 28(x5)
     .word 0x01c32e23  # sw x28, 28(x6)
     # parameter 3: an array
-    .word 0x09c12283  # lw x5, 156(x2)
-    .word 0x04400313  # addi x6, x0, 68
-    .word 0x00230333  # add x6, x6, x2
+    .word 0x00068293  # addi x5, x13, 0
+    .word 0x04410313  # addi x6, x2, 68
     .word 0x0032fe13  # andi x28, x5, 3
     .word 0x040e0e63  # beq x28, x0, 92
     .word 0x02000393  # addi x7, x0, 32
@@ -212,8 +187,7 @@ select_32:
     .word 0x00000513  # addi x10, x0, 0
     # parameter 3: the array, back
     .word 0x09c12283  # lw x5, 156(x2)
-    .word 0x04400313  # addi x6, x0, 68
-    .word 0x00230333  # add x6, x6, x2
+    .word 0x04410313  # addi x6, x2, 68
     .word 0x0032fe13  # andi x28, x5, 3
     .word 0x040e0e63  # beq x28, x0, 92
     .word 0x02000393  # addi x7, x0, 32
@@ -255,13 +229,12 @@ select_32:
     .word 0x01c32e03  # lw x28, 28(x6)
     .word 0x01c2ae23  # sw x28, 28(x5)
     # above the frame
-    .word 0x08000293  # addi x5, x0, 128
-    .word 0x002282b3  # add x5, x5, x2
+    .word 0x08010293  # addi x5, x2, 128
     # the caller's registers
     .word 0x0002a403  # lw x8, 0(x5)
     .cfi_restore 8
     # the caller's x2
-    .word 0x03028293  # addi x5, x5, 48
+    .word 0x02028293  # addi x5, x5, 32
     .cfi_def_cfa 5, 0
     # all the room, wiped upward
     .word 0x00012023  # sw x0, 0(x2)
@@ -272,11 +245,7 @@ select_32:
     .word 0x00012a23  # sw x0, 20(x2)
     .word 0x00012c23  # sw x0, 24(x2)
     .word 0x00012e23  # sw x0, 28(x2)
-    .word 0x02012023  # sw x0, 32(x2)
-    .word 0x02012223  # sw x0, 36(x2)
-    .word 0x02012423  # sw x0, 40(x2)
-    .word 0x02012623  # sw x0, 44(x2)
-    .word 0x03010113  # addi x2, x2, 48
+    .word 0x02010113  # addi x2, x2, 32
     .word 0x00012023  # sw x0, 0(x2)
     .word 0x00012223  # sw x0, 4(x2)
     .word 0x00012423  # sw x0, 8(x2)

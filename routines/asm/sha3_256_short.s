@@ -1,4 +1,4 @@
-# sha3_256_short: made by factc function; 2201 words, 1136 bytes of stack, profile 1
+# sha3_256_short: made by factc function; 2173 words, 1120 bytes of stack, profile 1
     .option push
     .option norvc
     .option norelax
@@ -10,45 +10,23 @@
 sha3_256_short:
     .cfi_startproc
     # room above the frame
-    .word 0xfd010113  # addi x2, x2, -48
-    .cfi_def_cfa_offset 48
+    .word 0xfe010113  # addi x2, x2, -32
+    .cfi_def_cfa_offset 32
     # the caller's registers
     .word 0x00812023  # sw x8, 0(x2)
-    .cfi_offset 8, -48
+    .cfi_offset 8, -32
     .word 0x00912223  # sw x9, 4(x2)
-    .cfi_offset 9, -44
-    # the arguments, below those on the stack
-    .word 0x00a12823  # sw x10, 16(x2)
-    .word 0x00b12a23  # sw x11, 20(x2)
-    .word 0x00c12c23  # sw x12, 24(x2)
+    .cfi_offset 9, -28
+    # arguments that are needed behind the body
+    .word 0x00a12a23  # sw x10, 20(x2)
+    .word 0x00b12c23  # sw x11, 24(x2)
+    .word 0x00c12e23  # sw x12, 28(x2)
     # the frame's base
-    .word 0x44000293  # addi x5, x0, 1088
-    .word 0x405102b3  # sub x5, x2, x5
-    .cfi_def_cfa 5, 1136
-    # the frame, zeroed downward
-    .word 0xfc010113  # addi x2, x2, -64
-    .word 0x00012023  # sw x0, 0(x2)
-    .word 0x00012223  # sw x0, 4(x2)
-    .word 0x00012423  # sw x0, 8(x2)
-    .word 0x00012623  # sw x0, 12(x2)
-    .word 0x00012823  # sw x0, 16(x2)
-    .word 0x00012a23  # sw x0, 20(x2)
-    .word 0x00012c23  # sw x0, 24(x2)
-    .word 0x00012e23  # sw x0, 28(x2)
-    .word 0x02012023  # sw x0, 32(x2)
-    .word 0x02012223  # sw x0, 36(x2)
-    .word 0x02012423  # sw x0, 40(x2)
-    .word 0x02012623  # sw x0, 44(x2)
-    .word 0x02012823  # sw x0, 48(x2)
-    .word 0x02012a23  # sw x0, 52(x2)
-    .word 0x02012c23  # sw x0, 56(x2)
-    .word 0x02012e23  # sw x0, 60(x2)
-    .word 0xfa511ee3  # bne x2, x5, -68
-    .cfi_def_cfa 2, 1136
+    .word 0xbc010113  # addi x2, x2, -1088
+    .cfi_def_cfa 2, 1120
     # parameter 0: an array
-    .word 0x45012283  # lw x5, 1104(x2)
-    .word 0x00000313  # addi x6, x0, 0
-    .word 0x00230333  # add x6, x6, x2
+    .word 0x00050293  # addi x5, x10, 0
+    .word 0x00010313  # addi x6, x2, 0
     .word 0x0032fe13  # andi x28, x5, 3
     .word 0x080e0a63  # beq x28, x0, 148
     .word 0x08000393  # addi x7, x0, 128
@@ -117,12 +95,10 @@ sha3_256_short:
     .word 0x0062ce03  # lbu x28, 6(x5)
     .word 0x01c30323  # sb x28, 6(x6)
     # parameter 1: a word
-    .word 0x45412283  # lw x5, 1108(x2)
-    .word 0x08512423  # sw x5, 136(x2)
+    .word 0x08b12423  # sw x11, 136(x2)
     # parameter 2: an array
-    .word 0x45812283  # lw x5, 1112(x2)
-    .word 0x08c00313  # addi x6, x0, 140
-    .word 0x00230333  # add x6, x6, x2
+    .word 0x00060293  # addi x5, x12, 0
+    .word 0x08c10313  # addi x6, x2, 140
     .word 0x0032fe13  # andi x28, x5, 3
     .word 0x040e0e63  # beq x28, x0, 92
     .word 0x02000393  # addi x7, x0, 32
@@ -2132,9 +2108,8 @@ sha3_256_short:
     # the result
     .word 0x00000513  # addi x10, x0, 0
     # parameter 2: the array, back
-    .word 0x45812283  # lw x5, 1112(x2)
-    .word 0x08c00313  # addi x6, x0, 140
-    .word 0x00230333  # add x6, x6, x2
+    .word 0x45c12283  # lw x5, 1116(x2)
+    .word 0x08c10313  # addi x6, x2, 140
     .word 0x0032fe13  # andi x28, x5, 3
     .word 0x040e0e63  # beq x28, x0, 92
     .word 0x02000393  # addi x7, x0, 32
@@ -2176,15 +2151,14 @@ sha3_256_short:
     .word 0x01c32e03  # lw x28, 28(x6)
     .word 0x01c2ae23  # sw x28, 28(x5)
     # above the frame
-    .word 0x44000293  # addi x5, x0, 1088
-    .word 0x002282b3  # add x5, x5, x2
+    .word 0x44010293  # addi x5, x2, 1088
     # the caller's registers
     .word 0x0002a403  # lw x8, 0(x5)
     .cfi_restore 8
     .word 0x0042a483  # lw x9, 4(x5)
     .cfi_restore 9
     # the caller's x2
-    .word 0x03028293  # addi x5, x5, 48
+    .word 0x02028293  # addi x5, x5, 32
     .cfi_def_cfa 5, 0
     # all the room, wiped upward
     .word 0x00012023  # sw x0, 0(x2)
@@ -2195,11 +2169,7 @@ sha3_256_short:
     .word 0x00012a23  # sw x0, 20(x2)
     .word 0x00012c23  # sw x0, 24(x2)
     .word 0x00012e23  # sw x0, 28(x2)
-    .word 0x02012023  # sw x0, 32(x2)
-    .word 0x02012223  # sw x0, 36(x2)
-    .word 0x02012423  # sw x0, 40(x2)
-    .word 0x02012623  # sw x0, 44(x2)
-    .word 0x03010113  # addi x2, x2, 48
+    .word 0x02010113  # addi x2, x2, 32
     .word 0x00012023  # sw x0, 0(x2)
     .word 0x00012223  # sw x0, 4(x2)
     .word 0x00012423  # sw x0, 8(x2)

@@ -1,4 +1,4 @@
-# siphash24: made by factc function; 817 words, 288 bytes of stack, profile 1
+# siphash24: made by factc function; 775 words, 272 bytes of stack, profile 1
     .option push
     .option norvc
     .option norelax
@@ -10,57 +10,22 @@
 siphash24:
     .cfi_startproc
     # room above the frame
-    .word 0xfd010113  # addi x2, x2, -48
-    .cfi_def_cfa_offset 48
+    .word 0xfe010113  # addi x2, x2, -32
+    .cfi_def_cfa_offset 32
     # the caller's registers
     .word 0x00812023  # sw x8, 0(x2)
-    .cfi_offset 8, -48
-    # the arguments, below those on the stack
+    .cfi_offset 8, -32
+    # arguments that are needed behind the body
     .word 0x00a12823  # sw x10, 16(x2)
     .word 0x00b12a23  # sw x11, 20(x2)
     .word 0x00c12c23  # sw x12, 24(x2)
     .word 0x00d12e23  # sw x13, 28(x2)
     # the frame's base
-    .word 0x0f000293  # addi x5, x0, 240
-    .word 0x405102b3  # sub x5, x2, x5
-    .cfi_def_cfa 5, 288
-    # the frame, zeroed downward
-    .word 0xfd010113  # addi x2, x2, -48
-    .word 0x00012023  # sw x0, 0(x2)
-    .word 0x00012223  # sw x0, 4(x2)
-    .word 0x00012423  # sw x0, 8(x2)
-    .word 0x00012623  # sw x0, 12(x2)
-    .word 0x00012823  # sw x0, 16(x2)
-    .word 0x00012a23  # sw x0, 20(x2)
-    .word 0x00012c23  # sw x0, 24(x2)
-    .word 0x00012e23  # sw x0, 28(x2)
-    .word 0x02012023  # sw x0, 32(x2)
-    .word 0x02012223  # sw x0, 36(x2)
-    .word 0x02012423  # sw x0, 40(x2)
-    .word 0x02012623  # sw x0, 44(x2)
-    .word 0xfc010113  # addi x2, x2, -64
-    .word 0x00012023  # sw x0, 0(x2)
-    .word 0x00012223  # sw x0, 4(x2)
-    .word 0x00012423  # sw x0, 8(x2)
-    .word 0x00012623  # sw x0, 12(x2)
-    .word 0x00012823  # sw x0, 16(x2)
-    .word 0x00012a23  # sw x0, 20(x2)
-    .word 0x00012c23  # sw x0, 24(x2)
-    .word 0x00012e23  # sw x0, 28(x2)
-    .word 0x02012023  # sw x0, 32(x2)
-    .word 0x02012223  # sw x0, 36(x2)
-    .word 0x02012423  # sw x0, 40(x2)
-    .word 0x02012623  # sw x0, 44(x2)
-    .word 0x02012823  # sw x0, 48(x2)
-    .word 0x02012a23  # sw x0, 52(x2)
-    .word 0x02012c23  # sw x0, 56(x2)
-    .word 0x02012e23  # sw x0, 60(x2)
-    .word 0xfa511ee3  # bne x2, x5, -68
-    .cfi_def_cfa 2, 288
+    .word 0xf1010113  # addi x2, x2, -240
+    .cfi_def_cfa 2, 272
     # parameter 0: an array
-    .word 0x10012283  # lw x5, 256(x2)
-    .word 0x00000313  # addi x6, x0, 0
-    .word 0x00230333  # add x6, x6, x2
+    .word 0x00050293  # addi x5, x10, 0
+    .word 0x00010313  # addi x6, x2, 0
     .word 0x0032fe13  # andi x28, x5, 3
     .word 0x040e0e63  # beq x28, x0, 92
     .word 0x01000393  # addi x7, x0, 16
@@ -94,9 +59,8 @@ siphash24:
     .word 0x00c2ae03  # lw x28, 12(x5)
     .word 0x01c32623  # sw x28, 12(x6)
     # parameter 1: an array
-    .word 0x10412283  # lw x5, 260(x2)
-    .word 0x01000313  # addi x6, x0, 16
-    .word 0x00230333  # add x6, x6, x2
+    .word 0x00058293  # addi x5, x11, 0
+    .word 0x01010313  # addi x6, x2, 16
     .word 0x0032fe13  # andi x28, x5, 3
     .word 0x080e0a63  # beq x28, x0, 148
     .word 0x03800393  # addi x7, x0, 56
@@ -172,12 +136,10 @@ siphash24:
     .word 0x03e2ce03  # lbu x28, 62(x5)
     .word 0x03c30f23  # sb x28, 62(x6)
     # parameter 2: a word
-    .word 0x10812283  # lw x5, 264(x2)
-    .word 0x04512823  # sw x5, 80(x2)
+    .word 0x04c12823  # sw x12, 80(x2)
     # parameter 3: an array
-    .word 0x10c12283  # lw x5, 268(x2)
-    .word 0x05400313  # addi x6, x0, 84
-    .word 0x00230333  # add x6, x6, x2
+    .word 0x00068293  # addi x5, x13, 0
+    .word 0x05410313  # addi x6, x2, 84
     .word 0x0032fe13  # andi x28, x5, 3
     .word 0x040e0463  # beq x28, x0, 72
     .word 0x0002ce03  # lbu x28, 0(x5)
@@ -771,8 +733,7 @@ siphash24:
     .word 0x00000513  # addi x10, x0, 0
     # parameter 3: the array, back
     .word 0x10c12283  # lw x5, 268(x2)
-    .word 0x05400313  # addi x6, x0, 84
-    .word 0x00230333  # add x6, x6, x2
+    .word 0x05410313  # addi x6, x2, 84
     .word 0x0032fe13  # andi x28, x5, 3
     .word 0x040e0463  # beq x28, x0, 72
     .word 0x00034e03  # lbu x28, 0(x6)
@@ -797,24 +758,19 @@ siphash24:
     .word 0x00432e03  # lw x28, 4(x6)
     .word 0x01c2a223  # sw x28, 4(x5)
     # above the frame
-    .word 0x0f000293  # addi x5, x0, 240
-    .word 0x002282b3  # add x5, x5, x2
+    .word 0x0f010293  # addi x5, x2, 240
     # the caller's registers
     .word 0x0002a403  # lw x8, 0(x5)
     .cfi_restore 8
     # the caller's x2
-    .word 0x03028293  # addi x5, x5, 48
+    .word 0x02028293  # addi x5, x5, 32
     .cfi_def_cfa 5, 0
     # all the room, wiped upward
     .word 0x00012023  # sw x0, 0(x2)
     .word 0x00012223  # sw x0, 4(x2)
     .word 0x00012423  # sw x0, 8(x2)
     .word 0x00012623  # sw x0, 12(x2)
-    .word 0x00012823  # sw x0, 16(x2)
-    .word 0x00012a23  # sw x0, 20(x2)
-    .word 0x00012c23  # sw x0, 24(x2)
-    .word 0x00012e23  # sw x0, 28(x2)
-    .word 0x02010113  # addi x2, x2, 32
+    .word 0x01010113  # addi x2, x2, 16
     .word 0x00012023  # sw x0, 0(x2)
     .word 0x00012223  # sw x0, 4(x2)
     .word 0x00012423  # sw x0, 8(x2)

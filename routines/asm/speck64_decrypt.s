@@ -1,4 +1,4 @@
-# speck64_decrypt: made by factc function; 242 words, 224 bytes of stack, profile 1
+# speck64_decrypt: made by factc function; 215 words, 208 bytes of stack, profile 1
     .option push
     .option norvc
     .option norelax
@@ -10,40 +10,18 @@
 speck64_decrypt:
     .cfi_startproc
     # room above the frame
-    .word 0xfe010113  # addi x2, x2, -32
-    .cfi_def_cfa_offset 32
+    .word 0xff010113  # addi x2, x2, -16
+    .cfi_def_cfa_offset 16
     # the caller's registers
-    # the arguments, below those on the stack
-    .word 0x00a12023  # sw x10, 0(x2)
-    .word 0x00b12223  # sw x11, 4(x2)
+    # arguments that are needed behind the body
+    .word 0x00a12423  # sw x10, 8(x2)
+    .word 0x00b12623  # sw x11, 12(x2)
     # the frame's base
-    .word 0x0c000293  # addi x5, x0, 192
-    .word 0x405102b3  # sub x5, x2, x5
-    .cfi_def_cfa 5, 224
-    # the frame, zeroed downward
-    .word 0xfc010113  # addi x2, x2, -64
-    .word 0x00012023  # sw x0, 0(x2)
-    .word 0x00012223  # sw x0, 4(x2)
-    .word 0x00012423  # sw x0, 8(x2)
-    .word 0x00012623  # sw x0, 12(x2)
-    .word 0x00012823  # sw x0, 16(x2)
-    .word 0x00012a23  # sw x0, 20(x2)
-    .word 0x00012c23  # sw x0, 24(x2)
-    .word 0x00012e23  # sw x0, 28(x2)
-    .word 0x02012023  # sw x0, 32(x2)
-    .word 0x02012223  # sw x0, 36(x2)
-    .word 0x02012423  # sw x0, 40(x2)
-    .word 0x02012623  # sw x0, 44(x2)
-    .word 0x02012823  # sw x0, 48(x2)
-    .word 0x02012a23  # sw x0, 52(x2)
-    .word 0x02012c23  # sw x0, 56(x2)
-    .word 0x02012e23  # sw x0, 60(x2)
-    .word 0xfa511ee3  # bne x2, x5, -68
-    .cfi_def_cfa 2, 224
+    .word 0xf4010113  # addi x2, x2, -192
+    .cfi_def_cfa 2, 208
     # parameter 0: an array
-    .word 0x0c012283  # lw x5, 192(x2)
-    .word 0x00000313  # addi x6, x0, 0
-    .word 0x00230333  # add x6, x6, x2
+    .word 0x00050293  # addi x5, x10, 0
+    .word 0x00010313  # addi x6, x2, 0
     .word 0x0002ae03  # lw x28, 0(x5)
     .word 0x01c32023  # sw x28, 0(x6)
     .word 0x0042ae03  # lw x28, 4(x5)
@@ -53,9 +31,8 @@ speck64_decrypt:
     .word 0x00c2ae03  # lw x28, 12(x5)
     .word 0x01c32623  # sw x28, 12(x6)
     # parameter 1: an array
-    .word 0x0c412283  # lw x5, 196(x2)
-    .word 0x01000313  # addi x6, x0, 16
-    .word 0x00230333  # add x6, x6, x2
+    .word 0x00058293  # addi x5, x11, 0
+    .word 0x01010313  # addi x6, x2, 16
     .word 0x0002ae03  # lw x28, 0(x5)
     .word 0x01c32023  # sw x28, 0(x6)
     .word 0x0042ae03  # lw x28, 4(x5)
@@ -212,30 +189,24 @@ speck64_decrypt:
     # the result
     .word 0x00000513  # addi x10, x0, 0
     # parameter 1: the array, back
-    .word 0x0c412283  # lw x5, 196(x2)
-    .word 0x01000313  # addi x6, x0, 16
-    .word 0x00230333  # add x6, x6, x2
+    .word 0x0cc12283  # lw x5, 204(x2)
+    .word 0x01010313  # addi x6, x2, 16
     .word 0x00032e03  # lw x28, 0(x6)
     .word 0x01c2a023  # sw x28, 0(x5)
     .word 0x00432e03  # lw x28, 4(x6)
     .word 0x01c2a223  # sw x28, 4(x5)
     # above the frame
-    .word 0x0c000293  # addi x5, x0, 192
-    .word 0x002282b3  # add x5, x5, x2
+    .word 0x0c010293  # addi x5, x2, 192
     # the caller's registers
     # the caller's x2
-    .word 0x02028293  # addi x5, x5, 32
+    .word 0x01028293  # addi x5, x5, 16
     .cfi_def_cfa 5, 0
     # all the room, wiped upward
     .word 0x00012023  # sw x0, 0(x2)
     .word 0x00012223  # sw x0, 4(x2)
     .word 0x00012423  # sw x0, 8(x2)
     .word 0x00012623  # sw x0, 12(x2)
-    .word 0x00012823  # sw x0, 16(x2)
-    .word 0x00012a23  # sw x0, 20(x2)
-    .word 0x00012c23  # sw x0, 24(x2)
-    .word 0x00012e23  # sw x0, 28(x2)
-    .word 0x02010113  # addi x2, x2, 32
+    .word 0x01010113  # addi x2, x2, 16
     .word 0x00012023  # sw x0, 0(x2)
     .word 0x00012223  # sw x0, 4(x2)
     .word 0x00012423  # sw x0, 8(x2)

@@ -1,4 +1,4 @@
-# square_root_32: made by factc function; 121 words, 80 bytes of stack, profile 1
+# square_root_32: made by factc function; 95 words, 48 bytes of stack, profile 1
     .option push
     .option norvc
     .option norelax
@@ -10,33 +10,18 @@
 square_root_32:
     .cfi_startproc
     # room above the frame
-    .word 0xfe010113  # addi x2, x2, -32
-    .cfi_def_cfa_offset 32
+    .cfi_def_cfa_offset 0
     # the caller's registers
-    # the arguments, below those on the stack
-    .word 0x00a12023  # sw x10, 0(x2)
+    # arguments that are needed behind the body
     # the frame's base
-    .word 0x03000293  # addi x5, x0, 48
-    .word 0x405102b3  # sub x5, x2, x5
-    .cfi_def_cfa 5, 80
-    # the frame, zeroed downward
     .word 0xfd010113  # addi x2, x2, -48
-    .word 0x00012023  # sw x0, 0(x2)
-    .word 0x00012223  # sw x0, 4(x2)
-    .word 0x00012423  # sw x0, 8(x2)
-    .word 0x00012623  # sw x0, 12(x2)
-    .word 0x00012823  # sw x0, 16(x2)
-    .word 0x00012a23  # sw x0, 20(x2)
-    .word 0x00012c23  # sw x0, 24(x2)
+    .cfi_def_cfa 2, 48
+    # the frame's word at 28, zeroed
     .word 0x00012e23  # sw x0, 28(x2)
+    # the frame's word at 32, zeroed
     .word 0x02012023  # sw x0, 32(x2)
-    .word 0x02012223  # sw x0, 36(x2)
-    .word 0x02012423  # sw x0, 40(x2)
-    .word 0x02012623  # sw x0, 44(x2)
-    .cfi_def_cfa 2, 80
     # parameter 0: a word
-    .word 0x03012283  # lw x5, 48(x2)
-    .word 0x00512023  # sw x5, 0(x2)
+    .word 0x00a12023  # sw x10, 0(x2)
     # the body
     .word 0x00012283  # lw x5, 0(x2)
     .word 0x00512223  # sw x5, 4(x2)
@@ -101,18 +86,12 @@ square_root_32:
     # the result
     .word 0x01812503  # lw x10, 24(x2)
     # above the frame
-    .word 0x03000293  # addi x5, x0, 48
-    .word 0x002282b3  # add x5, x5, x2
+    .word 0x03010293  # addi x5, x2, 48
     # the caller's registers
     # the caller's x2
-    .word 0x02028293  # addi x5, x5, 32
+    .word 0x00028293  # addi x5, x5, 0
     .cfi_def_cfa 5, 0
     # all the room, wiped upward
-    .word 0x00012023  # sw x0, 0(x2)
-    .word 0x00012223  # sw x0, 4(x2)
-    .word 0x00012423  # sw x0, 8(x2)
-    .word 0x00012623  # sw x0, 12(x2)
-    .word 0x01010113  # addi x2, x2, 16
     .word 0x00012023  # sw x0, 0(x2)
     .word 0x00012223  # sw x0, 4(x2)
     .word 0x00012423  # sw x0, 8(x2)
@@ -125,12 +104,7 @@ square_root_32:
     .word 0x02012223  # sw x0, 36(x2)
     .word 0x02012423  # sw x0, 40(x2)
     .word 0x02012623  # sw x0, 44(x2)
-    .word 0x02012823  # sw x0, 48(x2)
-    .word 0x02012a23  # sw x0, 52(x2)
-    .word 0x02012c23  # sw x0, 56(x2)
-    .word 0x02012e23  # sw x0, 60(x2)
-    .word 0x04010113  # addi x2, x2, 64
-    .word 0xfa511ee3  # bne x2, x5, -68
+    .word 0x03010113  # addi x2, x2, 48
     .cfi_def_cfa 2, 0
     # temporaries, wiped
     .word 0x00000293  # addi x5, x0, 0

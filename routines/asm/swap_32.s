@@ -1,4 +1,4 @@
-# swap_32: made by factc function; 288 words, 128 bytes of stack, profile 1
+# swap_32: made by factc function; 268 words, 112 bytes of stack, profile 1
     .option push
     .option norvc
     .option norelax
@@ -10,54 +10,24 @@
 swap_32:
     .cfi_startproc
     # room above the frame
-    .word 0xfe010113  # addi x2, x2, -32
-    .cfi_def_cfa_offset 32
+    .word 0xff010113  # addi x2, x2, -16
+    .cfi_def_cfa_offset 16
     # the caller's registers
-    # the arguments, below those on the stack
-    .word 0x00a12023  # sw x10, 0(x2)
-    .word 0x00b12223  # sw x11, 4(x2)
-    .word 0x00c12423  # sw x12, 8(x2)
+    # arguments that are needed behind the body
+    .word 0x00a12223  # sw x10, 4(x2)
+    .word 0x00b12423  # sw x11, 8(x2)
+    .word 0x00c12623  # sw x12, 12(x2)
     # the frame's base
-    .word 0x06000293  # addi x5, x0, 96
-    .word 0x405102b3  # sub x5, x2, x5
-    .cfi_def_cfa 5, 128
-    # the frame, zeroed downward
-    .word 0xfe010113  # addi x2, x2, -32
-    .word 0x00012023  # sw x0, 0(x2)
-    .word 0x00012223  # sw x0, 4(x2)
-    .word 0x00012423  # sw x0, 8(x2)
-    .word 0x00012623  # sw x0, 12(x2)
-    .word 0x00012823  # sw x0, 16(x2)
-    .word 0x00012a23  # sw x0, 20(x2)
-    .word 0x00012c23  # sw x0, 24(x2)
-    .word 0x00012e23  # sw x0, 28(x2)
-    .word 0xfc010113  # addi x2, x2, -64
-    .word 0x00012023  # sw x0, 0(x2)
-    .word 0x00012223  # sw x0, 4(x2)
-    .word 0x00012423  # sw x0, 8(x2)
-    .word 0x00012623  # sw x0, 12(x2)
-    .word 0x00012823  # sw x0, 16(x2)
-    .word 0x00012a23  # sw x0, 20(x2)
-    .word 0x00012c23  # sw x0, 24(x2)
-    .word 0x00012e23  # sw x0, 28(x2)
-    .word 0x02012023  # sw x0, 32(x2)
-    .word 0x02012223  # sw x0, 36(x2)
-    .word 0x02012423  # sw x0, 40(x2)
-    .word 0x02012623  # sw x0, 44(x2)
-    .word 0x02012823  # sw x0, 48(x2)
-    .word 0x02012a23  # sw x0, 52(x2)
-    .word 0x02012c23  # sw x0, 56(x2)
-    .word 0x02012e23  # sw x0, 60(x2)
-    .word 0xfa511ee3  # bne x2, x5, -68
-    .cfi_def_cfa 2, 128
+    .word 0xfa010113  # addi x2, x2, -96
+    .cfi_def_cfa 2, 112
+    # the frame's word at 72, zeroed
+    .word 0x04012423  # sw x0, 72(x2)
     # parameter 0: a word
-    .word 0x06012283  # lw x5, 96(x2)
-    .word 0x005032b3  # sltu x5, x0, x5
-    .word 0x00512023  # sw x5, 0(x2)
+    .word 0x00a03533  # sltu x10, x0, x10
+    .word 0x00a12023  # sw x10, 0(x2)
     # parameter 1: an array
-    .word 0x06412283  # lw x5, 100(x2)
-    .word 0x00400313  # addi x6, x0, 4
-    .word 0x00230333  # add x6, x6, x2
+    .word 0x00058293  # addi x5, x11, 0
+    .word 0x00410313  # addi x6, x2, 4
     .word 0x0032fe13  # andi x28, x5, 3
     .word 0x040e0e63  # beq x28, x0, 92
     .word 0x02000393  # addi x7, x0, 32
@@ -99,9 +69,8 @@ swap_32:
     .word 0x01c2ae03  # lw x28, 28(x5)
     .word 0x01c32e23  # sw x28, 28(x6)
     # parameter 2: an array
-    .word 0x06812283  # lw x5, 104(x2)
-    .word 0x02400313  # addi x6, x0, 36
-    .word 0x00230333  # add x6, x6, x2
+    .word 0x00060293  # addi x5, x12, 0
+    .word 0x02410313  # addi x6, x2, 36
     .word 0x0032fe13  # andi x28, x5, 3
     .word 0x040e0e63  # beq x28, x0, 92
     .word 0x02000393  # addi x7, x0, 32
@@ -189,9 +158,8 @@ swap_32:
     # the result
     .word 0x00000513  # addi x10, x0, 0
     # parameter 1: the array, back
-    .word 0x06412283  # lw x5, 100(x2)
-    .word 0x00400313  # addi x6, x0, 4
-    .word 0x00230333  # add x6, x6, x2
+    .word 0x06812283  # lw x5, 104(x2)
+    .word 0x00410313  # addi x6, x2, 4
     .word 0x0032fe13  # andi x28, x5, 3
     .word 0x040e0e63  # beq x28, x0, 92
     .word 0x02000393  # addi x7, x0, 32
@@ -233,9 +201,8 @@ swap_32:
     .word 0x01c32e03  # lw x28, 28(x6)
     .word 0x01c2ae23  # sw x28, 28(x5)
     # parameter 2: the array, back
-    .word 0x06812283  # lw x5, 104(x2)
-    .word 0x02400313  # addi x6, x0, 36
-    .word 0x00230333  # add x6, x6, x2
+    .word 0x06c12283  # lw x5, 108(x2)
+    .word 0x02410313  # addi x6, x2, 36
     .word 0x0032fe13  # andi x28, x5, 3
     .word 0x040e0e63  # beq x28, x0, 92
     .word 0x02000393  # addi x7, x0, 32
@@ -277,13 +244,25 @@ swap_32:
     .word 0x01c32e03  # lw x28, 28(x6)
     .word 0x01c2ae23  # sw x28, 28(x5)
     # above the frame
-    .word 0x06000293  # addi x5, x0, 96
-    .word 0x002282b3  # add x5, x5, x2
+    .word 0x06010293  # addi x5, x2, 96
     # the caller's registers
     # the caller's x2
-    .word 0x02028293  # addi x5, x5, 32
+    .word 0x01028293  # addi x5, x5, 16
     .cfi_def_cfa 5, 0
     # all the room, wiped upward
+    .word 0x00012023  # sw x0, 0(x2)
+    .word 0x00012223  # sw x0, 4(x2)
+    .word 0x00012423  # sw x0, 8(x2)
+    .word 0x00012623  # sw x0, 12(x2)
+    .word 0x00012823  # sw x0, 16(x2)
+    .word 0x00012a23  # sw x0, 20(x2)
+    .word 0x00012c23  # sw x0, 24(x2)
+    .word 0x00012e23  # sw x0, 28(x2)
+    .word 0x02012023  # sw x0, 32(x2)
+    .word 0x02012223  # sw x0, 36(x2)
+    .word 0x02012423  # sw x0, 40(x2)
+    .word 0x02012623  # sw x0, 44(x2)
+    .word 0x03010113  # addi x2, x2, 48
     .word 0x00012023  # sw x0, 0(x2)
     .word 0x00012223  # sw x0, 4(x2)
     .word 0x00012423  # sw x0, 8(x2)

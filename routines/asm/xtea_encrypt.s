@@ -1,4 +1,4 @@
-# xtea_encrypt: made by factc function; 186 words, 112 bytes of stack, profile 1
+# xtea_encrypt: made by factc function; 155 words, 80 bytes of stack, profile 1
     .option push
     .option norvc
     .option norelax
@@ -10,44 +10,22 @@
 xtea_encrypt:
     .cfi_startproc
     # room above the frame
-    .word 0xfd010113  # addi x2, x2, -48
-    .cfi_def_cfa_offset 48
+    .word 0xff010113  # addi x2, x2, -16
+    .cfi_def_cfa_offset 16
     # the caller's registers
     .word 0x00812023  # sw x8, 0(x2)
-    .cfi_offset 8, -48
+    .cfi_offset 8, -16
     .word 0x00912223  # sw x9, 4(x2)
-    .cfi_offset 9, -44
-    # the arguments, below those on the stack
-    .word 0x00a12823  # sw x10, 16(x2)
-    .word 0x00b12a23  # sw x11, 20(x2)
+    .cfi_offset 9, -12
+    # arguments that are needed behind the body
+    .word 0x00a12423  # sw x10, 8(x2)
+    .word 0x00b12623  # sw x11, 12(x2)
     # the frame's base
-    .word 0x04000293  # addi x5, x0, 64
-    .word 0x405102b3  # sub x5, x2, x5
-    .cfi_def_cfa 5, 112
-    # the frame, zeroed downward
     .word 0xfc010113  # addi x2, x2, -64
-    .word 0x00012023  # sw x0, 0(x2)
-    .word 0x00012223  # sw x0, 4(x2)
-    .word 0x00012423  # sw x0, 8(x2)
-    .word 0x00012623  # sw x0, 12(x2)
-    .word 0x00012823  # sw x0, 16(x2)
-    .word 0x00012a23  # sw x0, 20(x2)
-    .word 0x00012c23  # sw x0, 24(x2)
-    .word 0x00012e23  # sw x0, 28(x2)
-    .word 0x02012023  # sw x0, 32(x2)
-    .word 0x02012223  # sw x0, 36(x2)
-    .word 0x02012423  # sw x0, 40(x2)
-    .word 0x02012623  # sw x0, 44(x2)
-    .word 0x02012823  # sw x0, 48(x2)
-    .word 0x02012a23  # sw x0, 52(x2)
-    .word 0x02012c23  # sw x0, 56(x2)
-    .word 0x02012e23  # sw x0, 60(x2)
-    .word 0xfa511ee3  # bne x2, x5, -68
-    .cfi_def_cfa 2, 112
+    .cfi_def_cfa 2, 80
     # parameter 0: an array
-    .word 0x05012283  # lw x5, 80(x2)
-    .word 0x00000313  # addi x6, x0, 0
-    .word 0x00230333  # add x6, x6, x2
+    .word 0x00050293  # addi x5, x10, 0
+    .word 0x00010313  # addi x6, x2, 0
     .word 0x0002ae03  # lw x28, 0(x5)
     .word 0x01c32023  # sw x28, 0(x6)
     .word 0x0042ae03  # lw x28, 4(x5)
@@ -57,9 +35,8 @@ xtea_encrypt:
     .word 0x00c2ae03  # lw x28, 12(x5)
     .word 0x01c32623  # sw x28, 12(x6)
     # parameter 1: an array
-    .word 0x05412283  # lw x5, 84(x2)
-    .word 0x01000313  # addi x6, x0, 16
-    .word 0x00230333  # add x6, x6, x2
+    .word 0x00058293  # addi x5, x11, 0
+    .word 0x01010313  # addi x6, x2, 16
     .word 0x0002ae03  # lw x28, 0(x5)
     .word 0x01c32023  # sw x28, 0(x6)
     .word 0x0042ae03  # lw x28, 4(x5)
@@ -152,38 +129,28 @@ xtea_encrypt:
     # the result
     .word 0x00000513  # addi x10, x0, 0
     # parameter 1: the array, back
-    .word 0x05412283  # lw x5, 84(x2)
-    .word 0x01000313  # addi x6, x0, 16
-    .word 0x00230333  # add x6, x6, x2
+    .word 0x04c12283  # lw x5, 76(x2)
+    .word 0x01010313  # addi x6, x2, 16
     .word 0x00032e03  # lw x28, 0(x6)
     .word 0x01c2a023  # sw x28, 0(x5)
     .word 0x00432e03  # lw x28, 4(x6)
     .word 0x01c2a223  # sw x28, 4(x5)
     # above the frame
-    .word 0x04000293  # addi x5, x0, 64
-    .word 0x002282b3  # add x5, x5, x2
+    .word 0x04010293  # addi x5, x2, 64
     # the caller's registers
     .word 0x0002a403  # lw x8, 0(x5)
     .cfi_restore 8
     .word 0x0042a483  # lw x9, 4(x5)
     .cfi_restore 9
     # the caller's x2
-    .word 0x03028293  # addi x5, x5, 48
+    .word 0x01028293  # addi x5, x5, 16
     .cfi_def_cfa 5, 0
     # all the room, wiped upward
     .word 0x00012023  # sw x0, 0(x2)
     .word 0x00012223  # sw x0, 4(x2)
     .word 0x00012423  # sw x0, 8(x2)
     .word 0x00012623  # sw x0, 12(x2)
-    .word 0x00012823  # sw x0, 16(x2)
-    .word 0x00012a23  # sw x0, 20(x2)
-    .word 0x00012c23  # sw x0, 24(x2)
-    .word 0x00012e23  # sw x0, 28(x2)
-    .word 0x02012023  # sw x0, 32(x2)
-    .word 0x02012223  # sw x0, 36(x2)
-    .word 0x02012423  # sw x0, 40(x2)
-    .word 0x02012623  # sw x0, 44(x2)
-    .word 0x03010113  # addi x2, x2, 48
+    .word 0x01010113  # addi x2, x2, 16
     .word 0x00012023  # sw x0, 0(x2)
     .word 0x00012223  # sw x0, 4(x2)
     .word 0x00012423  # sw x0, 8(x2)

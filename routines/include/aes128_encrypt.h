@@ -6,7 +6,7 @@
 #define FACT_aes128_encrypt_H
 #include <stdbool.h>
 #include <stdint.h>
-#define aes128_encrypt_STACK_BYTES 1712
+#define aes128_encrypt_STACK_BYTES 1680
 #ifdef __cplusplus
 extern "C" {
 #endif

@@ -6,7 +6,7 @@
 #define FACT_equal_32_H
 #include <stdbool.h>
 #include <stdint.h>
-#define equal_32_STACK_BYTES 128
+#define equal_32_STACK_BYTES 96
 #ifdef __cplusplus
 extern "C" {
 #endif

@@ -6,7 +6,7 @@
 #define FACT_hex_decode_H
 #include <stdbool.h>
 #include <stdint.h>
-#define hex_decode_STACK_BYTES 192
+#define hex_decode_STACK_BYTES 160
 #ifdef __cplusplus
 extern "C" {
 #endif

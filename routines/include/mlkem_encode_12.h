@@ -6,7 +6,7 @@
 #define FACT_mlkem_encode_12_H
 #include <stdbool.h>
 #include <stdint.h>
-#define mlkem_encode_12_STACK_BYTES 976
+#define mlkem_encode_12_STACK_BYTES 944
 #ifdef __cplusplus
 extern "C" {
 #endif

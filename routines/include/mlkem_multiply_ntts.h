@@ -6,7 +6,7 @@
 #define FACT_mlkem_multiply_ntts_H
 #include <stdbool.h>
 #include <stdint.h>
-#define mlkem_multiply_ntts_STACK_BYTES 2224
+#define mlkem_multiply_ntts_STACK_BYTES 2208
 #ifdef __cplusplus
 extern "C" {
 #endif

@@ -6,7 +6,7 @@
 #define FACT_poly1305_H
 #include <stdbool.h>
 #include <stdint.h>
-#define poly1305_STACK_BYTES 736
+#define poly1305_STACK_BYTES 720
 #ifdef __cplusplus
 extern "C" {
 #endif

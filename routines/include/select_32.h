@@ -6,7 +6,7 @@
 #define FACT_select_32_H
 #include <stdbool.h>
 #include <stdint.h>
-#define select_32_STACK_BYTES 176
+#define select_32_STACK_BYTES 160
 #ifdef __cplusplus
 extern "C" {
 #endif

@@ -7,10 +7,10 @@
     .globl largest_frame
     .type largest_frame, @function
 largest_frame:
-    # room above the frame, 32 bytes, and the arguments there
-    addi x2, x2, -32
-    sw x10, 0(x2)
-    sw x11, 4(x2)
+    # room above the frame, 16 bytes, and at its end the arguments up to the array that goes back
+    addi x2, x2, -16
+    sw x10, 8(x2)
+    sw x11, 12(x2)
     # 65,536 bytes below
     lui x5, 16
     addi x5, x5, 0
@@ -33,15 +33,10 @@ largest_frame:
     sw x0, 56(x2)
     sw x0, 60(x2)
     bne x2, x5, 1b
-    # argument 0, at 65,536, to 0
-    lui x5, 16
-    add x5, x5, x2
-    lw x5, 0(x5)
-    sw x5, 0(x2)
-    # argument 1, at 65,540: two words to 65,524
-    lui x5, 16
-    add x5, x5, x2
-    lw x5, 4(x5)
+    # argument 0 to 0
+    sw x10, 0(x2)
+    # argument 1: two words to 65,524
+    addi x5, x11, 0
     lui x6, 16
     addi x6, x6, -12
     add x6, x6, x2
@@ -62,10 +57,10 @@ largest_frame:
     lui x10, 16
     add x10, x10, x2
     lw x10, -4(x10)
-    # the array back
+    # the array back: where it goes is at 65,548
     lui x5, 16
     add x5, x5, x2
-    lw x5, 4(x5)
+    lw x5, 12(x5)
     lui x6, 16
     addi x6, x6, -12
     add x6, x6, x2
@@ -77,17 +72,13 @@ largest_frame:
     lui x5, 16
     addi x5, x5, 0
     add x5, x5, x2
-    addi x5, x5, 32
-    # eight words, and runs of 16
+    addi x5, x5, 16
+    # four words, and runs of 16
     sw x0, 0(x2)
     sw x0, 4(x2)
     sw x0, 8(x2)
     sw x0, 12(x2)
-    sw x0, 16(x2)
-    sw x0, 20(x2)
-    sw x0, 24(x2)
-    sw x0, 28(x2)
-    addi x2, x2, 32
+    addi x2, x2, 16
 1:  sw x0, 0(x2)
     sw x0, 4(x2)
     sw x0, 8(x2)
