@@ -4,6 +4,8 @@
 --   element_words Narrowing, Plan and Splitting, live_words Held, Gathering, Choice and Sharing, and needed_variables
 --   has Named. element_words also has Limits.
 -- set_first: Order has which code sets each variable before it reads it, Starts what that means for where it begins.
+-- set_whole: Watching has which elements of an array code sets before it reads them, Whole which arrays it sets whole,
+--   and what that means for its arguments.
 -- private: which variables are words of one type.
 pub mod private
 pub mod constants
@@ -11,4 +13,5 @@ pub mod element_words
 pub mod live_words
 pub mod needed_variables
 pub mod set_first
+pub mod set_whole
 pub mod Below

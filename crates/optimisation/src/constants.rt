@@ -14,10 +14,10 @@ mod choice;
 mod copy_propagation;
 mod fields;
 mod known;
-mod operators;
+pub(crate) mod operators;
 mod powers;
 mod simplification;
 mod statements;
-mod terms;
+pub(crate) mod terms;
 
 pub use simplification::{simplify, unroll};

@@ -1,8 +1,9 @@
 // The passes of optimised code: `constants` works out what is known and makes loops their iterations, `element_words`
 // makes short arrays words, `live_words` leaves out what nobody reads and lets words share variables, and
 // `needed_variables` gives no room to variables that nothing names. What each makes of straight code may stand in the
-// place of that code: the outcome is the same, and what is public stays public. Another module, `set_first`, says of
-// straight code whether it sets each variable before it reads it. They stand on `inline` and `branch_removal`.
+// place of that code: the outcome is the same, and what is public stays public. Two other modules say of straight code
+// what it sets before it reads it: `set_first` whether each variable, and `set_whole` which arrays that it is given.
+// They stand on `inline` and `branch_removal`.
 #![tactic(auto)]
 
 pub mod constants;
@@ -11,3 +12,4 @@ pub mod live_words;
 pub mod needed_variables;
 mod same_words;
 pub mod set_first;
+pub mod set_whole;

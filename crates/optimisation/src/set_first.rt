@@ -100,7 +100,7 @@ fn note_set_by(known: &mut Vec<bool>, statement: &StraightStatement)
 }
 
 /// Whether all three hold.
-fn all_three(one: bool, two: bool, three: bool) -> bool
+pub(crate) fn all_three(one: bool, two: bool, three: bool) -> bool
     ensures { result ≡ (one && two && three) }
 {
     one && two && three

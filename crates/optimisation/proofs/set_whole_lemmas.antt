@@ -1,0 +1,4 @@
+pub mod FlagLemmas
+pub mod Counters
+pub mod Watched
+pub mod Arguments
