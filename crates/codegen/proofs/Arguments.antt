@@ -15,6 +15,13 @@ use Rattle.codegen.proofs.Language.{WordType, Arg, Word, Array, element_bytes, a
 use Rattle.codegen.proofs.Logic.{number_at_same, place_within, none-some, bytes_by, bytes_of, place_of, Setting}
 use Rattle.codegen.proofs.Logic.{place_ends, option_map}
 use Rattle.codegen.proofs.Slots.{Laid, cut_number}
+use Rattle.codegen.proofs.Slotted.{given_slotted, slotless_zero, slotted_first, slotted_kinds}
+use Rattle.codegen.proofs.Logic.{AreOfKinds, fits_kinds}
+use Rattle.codegen.proofs.Language.{Fits, HasLength, types_of}
+use Rattle.codegen.proofs.Machine.{home_of}
+use Rattle.codegen.specs.expression_code.Layout.{slotted}
+use Rattle.codegen.specs.private.Homes.{is_no_array}
+use Rattle.std.specs.List.{AllByRecursion}
 use Rattle.inline.specs.FlatSize as flat_size
 use Rattle.codegen.proofs.Numbers.{numbers_beside, number_data, numbers_data, numbers_there, zero_byte, zero_number}
 
@@ -157,17 +164,36 @@ module _ (frame size : ℕ) where
 
 module _ (z : Setting) (ps : List Param) (args : List Arg)
     (first : take (length ps) z.declared ≡ map declaration_of ps)
-    (few : declared_words (map declaration_of ps) ≤ declared_words z.declared)
+    (slots : z.laid ≡ slotted (length ps) z.allocation.homes z.declared)
+    (few : declared_words (map declaration_of ps) ≤ declared_words z.laid)
     (within : AreWithin ps args) (s : State) (base : s.regs 2 ≡ z.frame)
     (bytes : s.bytes ≡ with_arguments z.frame (zeros z.frame z.size) (slots_from 0 ps) args) where
   blank : (o : ℕ) → o < z.size → zeros z.frame z.size (z.frame + o) ≡ Some 0
   blank o inside = zero_byte z.frame z.size (z.frame + o) (omega arith) (omega (arith, inside))
 
-  behind : (o : ℕ) → result_offset z.declared ≤ o → o < z.size → s.bytes (z.frame + o) ≡ Some 0
+  behind : (o : ℕ) → result_offset z.laid ≤ o → o < z.size → s.bytes (z.frame + o) ≡ Some 0
   behind o above inside =
       ap (λ (b : ByteMap). b (z.frame + o)) bytes
       ∙ (arguments_beside z.frame (zeros z.frame z.size) 0 ps args (z.frame + o) within
       (inr (omega (arith, few, above))) ∙ blank o inside)
+
+  -- the parameters are laid out as they are declared
+  first_laid : take (length ps) z.laid ≡ map declaration_of ps
+  first_laid =
+      ap (λ (ds : List FlatVariable). take (length ps) ds) slots
+      ∙ (slotted_first (length ps) (length ps) z.allocation.homes 0 z.declared (omega arith) ∙ first)
+
+  held : Fits (types_of z.code.profile z.declared) (given z.declared args)
+  held x d is = given_fits ps z.declared args within first x d is
+
+  -- a word with a home is no array
+  one_word : (x home : ℕ) → home_of z.allocation.homes x ≡ Some home → (d : FlatVariable)
+      → slice_get z.declared x ≡ Some d → d.elements ≡ None
+  one_word x home at d known = by_elements d.elements refl
+    where
+      by_elements : (elements : Option ℕ) → d.elements ≡ elements → elements ≡ None
+      by_elements None is = refl
+      by_elements (Some size) is = absurd (none-some home (sym (z.allocated.words x d size known is) ∙ at))
 
   -- the beginning of a run
   pub loaded : Laid z (record { variables = given z.declared args; controls = λ c. false }) s
@@ -177,14 +203,26 @@ module _ (z : Setting) (ps : List Param) (args : List Arg)
       data_there = λ o inside. ap (λ (b : ByteMap). is_some (b (z.frame + o))) bytes
           ∙ arguments_data z.frame (zeros z.frame z.size) 0 ps args (z.frame + o) (ap is_some (blank o inside));
     };
-    fits = given_fits ps z.declared args within first;
+    fits = fits_kinds (types_of z.code.profile z.declared) (given z.declared args) held;
+    laid_fits = subst (λ (ds : List FlatVariable). AreOfKinds (types_of z.code.profile ds) (given z.declared args))
+        (sym slots)
+        (slotted_kinds z.code.profile (length ps) z.allocation.homes z.declared (given z.declared args)
+        (fits_kinds (types_of z.code.profile z.declared) (given z.declared args) held));
     slots_there = λ x d i is below.
-        let from : place_of z.declared x d i ≡ 0 + place_of z.declared x d i = omega arith in
+        let from : place_of z.laid x d i ≡ 0 + place_of z.laid x d i = omega arith in
+        let same : given z.laid args x ≡ given z.declared args x =
+        ap (λ (ds : List FlatVariable). given ds args x) slots
+        ∙ given_slotted (length ps) z.allocation.homes z.declared args x d
+        (ap (λ (ds : List FlatVariable). slice_get ds x) (sym slots) ∙ is) (omega (arith, below)) in
         ap₂ (λ (b : ByteMap) o. number_at b (bytes_of d) (z.frame + o)) bytes from
-        ∙ laid z.frame z.size (zeros z.frame z.size) 0 ps args z.declared x d i within first (λ o low. blank o) is below
-        (omega (arith, place_ends z x d i is below));
+        ∙ (laid z.frame z.size (zeros z.frame z.size) 0 ps args z.laid x d i within first_laid (λ o low. blank o) is
+        below (omega (arith, place_ends z x d i is below))
+        ∙ ap (λ (l : List ℕ). Some (slice_index l i)) same);
+    zeros_there = λ x home at array.
+        slotless_zero ps z.allocation.homes z.declared args x within (one_word x home at)
+        (ap (λ (ds : List FlatVariable). is_no_array (slice_get ds x)) (sym slots) ∙ array);
     controls_there = λ c below.
-        zero_number s.bytes z.frame 4 (control_offset z.declared c)
+        zero_number s.bytes z.frame 4 (control_offset z.laid c)
         (λ b from to. behind b (omega (arith, from)) (omega (arith, to, below, z.room)));
   }
 
@@ -213,28 +251,30 @@ LiesAt bytes d at vs =
 
 -- one parameter's slot
 array_is : (frame : ℕ) (bytes : ByteMap) (kind : Kind) (label : Label) (n low : ℕ) (form : Form) (vs : List ℕ)
-    → ((size : ℕ) → (declaration_of (made kind label n form)).elements ≡ Some size
+    → HasLength form n
+    → ((size : ℕ) → (declaration_of (made kind label n form)).elements ≡ Some size → 0 < size
     → LiesAt bytes (declaration_of (made kind label n form)) (frame + low) vs)
     → array_in frame bytes form (record { param = made kind label n form; offset = low }) ≡ array_of form vs
-array_is frame bytes kind label n low SingleWord vs lies = refl
-array_is frame bytes kind label n low FixedArray vs lies = refl
-array_is frame bytes kind label n low MutableArray vs lies =
-    let here = lies n refl in
-    let long = here.0 in
+array_is frame bytes kind label n low SingleWord vs long lies = refl
+array_is frame bytes kind label n low FixedArray vs long lies = refl
+array_is frame bytes kind label n low MutableArray vs long lies =
+    let here = lies n refl (omega (arith, long.0)) in
+    let many = here.0 in
     ap (λ (ws : List ℕ). ws ∷ [])
-    (ap (λ m. numbers_at bytes (element_bytes kind) (frame + low) m) (sym long)
-    ∙ numbers_are bytes (element_bytes kind) (frame + low) vs (λ i less. here.1 i (omega (arith, less, long))))
+    (ap (λ m. numbers_at bytes (element_bytes kind) (frame + low) m) (sym many)
+    ∙ numbers_are bytes (element_bytes kind) (frame + low) vs (λ i less. here.1 i (omega (arith, less, many))))
 
 -- The arrays, where each array's numbers lie in its slot. The parameters are the first variables of these: the first of
 -- them has this number and lies at this offset.
 pub arrays_are : (frame : ℕ) (bytes : ByteMap) (m : Values) (ps : List Param) (ds : List FlatVariable) (x low : ℕ)
     → take (length ps) ds ≡ map declaration_of ps
-    → ((y : ℕ) (d : FlatVariable) (size : ℕ) → slice_get ds y ≡ Some d → d.elements ≡ Some size
+    → AllByRecursion (λ (parameter : Param). HasLength parameter.form parameter.length) ps
+    → ((y : ℕ) (d : FlatVariable) (size : ℕ) → slice_get ds y ≡ Some d → d.elements ≡ Some size → 0 < size
     → LiesAt bytes d (frame + (low + variable_offset ds y)) (m (x + y)))
     → arrays_in frame bytes (slots_from low ps) ≡ arrays_from x ps m
-arrays_are frame bytes m [] ds x low first there = refl
-arrays_are frame bytes m (p ∷ ps) [] x low first there = absurd cc
-arrays_are frame bytes m (p ∷ ps) (e ∷ ds) x low first there =
+arrays_are frame bytes m [] ds x low first lengths there = refl
+arrays_are frame bytes m (p ∷ ps) [] x low first lengths there = absurd cc
+arrays_are frame bytes m (p ∷ ps) (e ∷ ds) x low first lengths there =
     let own = declaration_of p in
     let same : e ≡ own = cc in
     let words = ap flat_size.words_of same in
@@ -242,13 +282,13 @@ arrays_are frame bytes m (p ∷ ps) (e ∷ ds) x low first there =
     λ f a b i j here number h.
     subst (λ c. LiesAt bytes f c (m j)) here (subst (λ n. LiesAt bytes f a (m n)) number h) in
     ap₂ (λ (one others : List (List ℕ)). one ++ others)
-    (array_is frame bytes p.kind p.label p.length low p.form (m x)
-    (λ size is. moved own (frame + (low + variable_offset (e ∷ ds) 0)) (frame + low) (x + 0) x (omega arith)
-    (omega arith) (there 0 own size (ap Some same) is)))
-    (arrays_are frame bytes m ps ds (x + 1) (low + 4 * flat_size.words_of own) (ap (λ xs. drop 1 xs) first)
-    (λ y f size get is. moved f (frame + (low + variable_offset (e ∷ ds) (suc y)))
+    (array_is frame bytes p.kind p.label p.length low p.form (m x) lengths.0
+    (λ size is some. moved own (frame + (low + variable_offset (e ∷ ds) 0)) (frame + low) (x + 0) x (omega arith)
+    (omega arith) (there 0 own size (ap Some same) is some)))
+    (arrays_are frame bytes m ps ds (x + 1) (low + 4 * flat_size.words_of own) (ap (λ xs. drop 1 xs) first) lengths.1
+    (λ y f size get is some. moved f (frame + (low + variable_offset (e ∷ ds) (suc y)))
     (frame + (low + 4 * flat_size.words_of own + variable_offset ds y)) (x + suc y) (x + 1 + y)
-    (omega (arith, words)) (omega arith) (there (suc y) f size get is)))
+    (omega (arith, words)) (omega arith) (there (suc y) f size get is some)))
 
 -- where there is a result, its slot has it
 abbrev pub Left : ℕ → List FlatVariable → Option TermTree → Values → ByteMap → Type 0

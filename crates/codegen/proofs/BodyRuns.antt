@@ -26,7 +26,11 @@ use Rattle.std.proofs.lemmas.Bool.{and_parts, ltb-true}
 use Rattle.codegen.proofs.Slots.{Laid, laid_same}
 use Rattle.rv_code.specs.declared.instructions.Instr.TheVariants as instr
 use Rattle.rv_machine.specs.Machine as machine
-use Rattle.codegen.proofs.ImageLemmas.{room_frame}
+use Rattle.codegen.proofs.ImageLemmas.{first_laid, parameters_fit, room_frame}
+use Rattle.codegen.proofs.Slotted.{slotted_length, slotted_there, slotted_was}
+use Rattle.codegen.proofs.Machine.{laid_out}
+use Rattle.codegen.proofs.Language.{numbers_in}
+use Rattle.std.proofs.Common.{◌<◌}
 
 -- the state that the value is taken in
 abbrev last_state : StraightProgram → StraightState → StraightState
@@ -61,10 +65,13 @@ module _ (a : Allocation) (p : StraightProgram) (room : HasRoom p) (fitting : Is
     size = (image_of a p).frame_bytes;
     counts = p.iterations;
     declared = p.declared;
+    laid = laid_out a p;
     controls = p.controls;
     depths = depth_in_all p.body;
     allocation = a;
     allocated = fitting.allocated;
+    as_many = slotted_length (length p.parameters) a.homes 0 p.declared;
+    lies = λ x d is away. slotted_there (length p.parameters) a.homes p.declared x d is away;
     even = there.frame_aligned;
     ends = there.frame_ends;
     room = omega arith;
@@ -81,7 +88,12 @@ module _ (a : Allocation) (p : StraightProgram) (room : HasRoom p) (fitting : Is
   body_runs =
       cheaper (omega (arith, room.worked, fitting.few))
       (program_runs setting p.returned p.value room.typed.result (omega arith) p.body (starts_fresh p)
-      (λ y on. ltb-true y (length p.declared) (and_parts _ _ on).0) (λ y on. (and_parts _ _ on).1) fitting.within
+      (λ y on. omega (
+        arith,
+        ltb-true y (length p.declared) (and_parts _ _ on).0,
+        slotted_length (length p.parameters) a.homes 0 p.declared,
+      )) (λ y on. (and_parts _ _ on).1)
+      (omega (arith, fitting.within, slotted_length (length p.parameters) a.homes 0 p.declared))
       room.typed.body fitting.read (omega arith) (omega arith)
       (omega (arith, length-append {A = Instr}, short, room.nodes)))
 
@@ -95,7 +107,8 @@ module _ (a : Allocation) (p : StraightProgram) (room : HasRoom p) (fitting : Is
       → Laid setting (start_of p args) s
   begins args s laid within =
       let first = loaded_at 0 frame (image_of a p) args in
-      let begun = loaded setting p.parameters args room.typed.parameters room.parameters within first refl refl in
+      let begun = loaded setting p.parameters args room.typed.parameters refl (parameters_fit a p room) within first
+      refl refl in
       laid_same setting setting.size (omega arith) (start_of p args) first s begun
       (record {
         base = laid.base;
@@ -110,14 +123,18 @@ module _ (a : Allocation) (p : StraightProgram) (room : HasRoom p) (fitting : Is
   outcome args s t done =
       let m = (last_state p (start_of p args)).variables in
       ap₂ (λ r arrays. record { returned = r; arrays = arrays })
-      (returned_is frame p.declared (types_of p.profile p.declared) p.returned p.value m t.bytes
+      (returned_is frame (laid_out a p) (types_of p.profile p.declared) p.returned p.value m t.bytes
       room.typed.result done.left)
-      (arrays_are frame t.bytes m p.parameters p.declared 0 0 room.typed.parameters
-      (λ y d size is array.
+      (arrays_are frame t.bytes m p.parameters (laid_out a p) 0 0 (first_laid a p room) room.lengths
+      (λ y d size laid array some.
+      let many : 0 < numbers_in d.elements =
+      subst (λ (elements : Option ℕ). 0 < numbers_in elements) (sym array) some in
+      let is = slotted_was (length p.parameters) a.homes p.declared y d laid many in
       let e : 0 + y ≡ y = omega arith in (
-        ap (λ k. length (m k)) e ∙ (done.fits y d is).count,
+        ap (λ k. length (m k)) e ∙ (done.arrays_held y d size is array).count many,
         λ i below.
-            let f : frame + (0 + variable_offset p.declared y) + bytes_of d * i ≡ frame + place_of p.declared y d i =
+            let f : frame + (0 + variable_offset (laid_out a p) y) + bytes_of d * i
+            ≡ frame + place_of (laid_out a p) y d i =
             omega arith in
             ap (λ a. number_at t.bytes (bytes_of d) a) f
             ∙ (done.arrays_there y d size i is array below
@@ -233,7 +250,7 @@ module _ (a : Allocation) (p : StraightProgram) (code frame : ℕ) (bases : AreB
 -- What is generated.
 
 -- the slots have the parameters
-slot_params : (low : ℕ) (ps : List Param) → map (λ (slot : Slot). slot.param) (slots_from low ps) ≡ ps
+pub slot_params : (low : ℕ) (ps : List Param) → map (λ (slot : Slot). slot.param) (slots_from low ps) ≡ ps
 slot_params low [] = refl
 slot_params low (p ∷ ps) =
     ap (λ (rest : List Param). p ∷ rest) (slot_params (low + 4 * words_of (declaration_of p)) ps)
@@ -252,7 +269,7 @@ is_generated a p room fitting short =
     record {
       profile = refl;
       parameters = slot_params 0 p.parameters;
-      returned = slot_type p.declared p.returned;
+      returned = slot_type (laid_out a p) p.returned;
       max_steps = refl;
       frame_size = room_frame a p room;
       word_count = omega (arith, short, words);

@@ -11,6 +11,7 @@ use Rattle.codegen.proofs.Logic.{cases_eq, cases_lt, length-replicate, with_numb
 use Rattle.codegen.proofs.Logic.{layout_of}
 use Rattle.codegen.proofs.Logic.{lt-ltb, registers_after, is_free, computing_within, frame_runs, plain_append}
 use Rattle.codegen.proofs.Logic.{after_append, constant_plain, constant_after, constant_length, kind_known, HeldAt}
+use Rattle.codegen.proofs.Logic.{array_lies, held_kind}
 use Rattle.codegen.proofs.Logic.{Held, held_regs, frame_there, bytes_of, place_of, place_within, ends_before_result}
 use Rattle.codegen.proofs.Logic.{Setting, setting, none, none_low, Runs, Still, looping, never, quiet, weaken, gives}
 use Rattle.codegen.proofs.Logic.{cheaper, along, as_code, Ready, number_same, HomesKept, homes_by, homes_computed}
@@ -272,7 +273,7 @@ module _ (z : Setting) (depth x size : ℕ) (typed : IsFilled z.code.profile z.d
   d = array_as typed.word typed.mutable size
 
   abbrev place : ℕ
-  place = variable_offset z.declared x
+  place = variable_offset z.laid x
 
   abbrev count : ℕ
   count = array_words typed.word.kind size
@@ -282,11 +283,11 @@ module _ (z : Setting) (depth x size : ℕ) (typed : IsFilled z.code.profile z.d
       → t.bytes ≡ zeroed s.bytes (z.frame + place) count → HomesKept z s t
       → Ready z (with_variable env x (replicate size 0)) t
   ready_cleared env s t ready held cleared homes =
-      ready_changed z x d typed.known (z.allocated.words x d size typed.known refl) (replicate size 0) (held_zeros d)
-      env s t ready held
+      ready_changed z x d typed.known (z.allocated.words x d size typed.known refl) (replicate size 0)
+      (held_kind (held_zeros d)) env s t ready held
       (λ j less.
-      let w = place_within z.declared x d j less in
-      zero_number t.bytes z.frame (bytes_of d) (place_of z.declared x d j)
+      let w = place_within z.laid x d j less in
+      zero_number t.bytes z.frame (bytes_of d) (place_of z.laid x d j)
       (λ b low high. ap (λ (m : ByteMap). m (z.frame + b)) cleared
       ∙ zeroed_there s.bytes (z.frame + place) count (z.frame + b) (omega (arith, low))
       (omega (arith, high, w)))
@@ -305,8 +306,9 @@ module _ (z : Setting) (depth x size : ℕ) (typed : IsFilled z.code.profile z.d
       (statement_code (layout_of z) depth (array x size [])) (Ready z)
       (StateShown z depth (λ env. after env (array x size [])))
   clear_runs =
-      let first = ends_before_result z.declared x d typed.known in
-      as_code (ap (λ k. clear_code place (array_words k size)) (kind_known z.declared x d typed.known))
+      let lies = array_lies z x size typed.word typed.mutable typed.known in
+      let first = ends_before_result z.laid x d lies in
+      as_code (ap (λ k. clear_code place (array_words k size)) (kind_known z.laid x d lies))
       (cheaper (omega (arith, words_few typed.word.kind size))
       (weaken
       (λ env s fine ready. ready.held)

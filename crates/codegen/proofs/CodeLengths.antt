@@ -1,8 +1,8 @@
 -- How long the code of statements is. And well-typed statements that the frame has room for have their places.
 use Rattle.std.proofs.Common.{ℕ, ◌+◌, ◌*◌, ◌≤◌, nat_lt, List, [], ◌∷◌, ◌++◌, length, Option, None, Some, arith}
-use Rattle.std.proofs.Common.{length-append, ◌≡◌, ◌==◌, Bool, true, false, slice_get}
+use Rattle.std.proofs.Common.{length-append, ◌≡◌, ◌<◌, ◌==◌, Bool, true, false, slice_get, subst, sym}
 use Rattle.codegen.proofs.Language.{statement_nodes, block_nodes, StraightTree, set, array, put, take, branch, repeats}
-use Rattle.codegen.proofs.Language.{StraightBlock, nothing, first, TermTree, array_as, term_nodes}
+use Rattle.codegen.proofs.Language.{FlatVariable, StraightBlock, nothing, first, TermTree, array_as, term_nodes}
 use Rattle.codegen.proofs.Language.{terms_nodes, declared_words, Kind, element_bytes, array_words, IsTyped, AreTyped}
 use Rattle.codegen.proofs.Language.{types_but, types_of, AllSuit, HasCount, TermHasType, Boolean, WordType, Profile}
 use Rattle.codegen.proofs.Choices.{when_not}
@@ -19,7 +19,8 @@ use Rattle.codegen.specs.private.Emitted.{put_under_near_code}
 use Rattle.codegen.specs.private.Erased.{erase_under_code}
 use Rattle.codegen.specs.Below.{depth_in, depth_in_all, height_in, height_in_all, height_of_all}
 use Rattle.codegen.proofs.Machine.{ArePlacedTerms, control_location, HasPlace, HavePlaces, register_of, variable_offset}
-use Rattle.codegen.proofs.Machine.{Frame}
+use Rattle.codegen.proofs.Machine.{Frame, IsAmong}
+use Rattle.codegen.proofs.Slotted.{first_words}
 use Rattle.codegen.proofs.Machine.{temporaries_offset, kind_at, near_element, height_of, Instr, slots_to}
 use Rattle.codegen.proofs.Machine.{InRegister, InSlot, Location, variable_location, unless_unread}
 use Rattle.codegen.specs.private.Placed.{IsPlaced}
@@ -182,23 +183,30 @@ values_few : (size : ℕ) (es : List TermTree) → HasCount size es → length e
 values_few size [] count = omega arith
 values_few size (e ∷ es) count = omega (arith, count)
 
-module _ (profile : Profile) (layout : Frame) (small : 4 * declared_words layout.declared ≤ 40768) where
+module _ (profile : Profile) (layout : Frame) (declared : List FlatVariable)
+    (as_many : length layout.declared ≡ length declared) (small : 4 * declared_words declared ≤ 40768)
+    (laid_small : 4 * declared_words layout.declared ≤ 40768) where
   abbrev base : ℕ
   base = temporaries_offset layout
 
-  term_placed : {e : TermTree} {word : WordType} (place : ℕ) → TermHasType (types_of profile layout.declared) e word
+  term_placed : {e : TermTree} {word : WordType} (place : ℕ) → TermHasType (types_of profile declared) e word
       → base + 4 * slots_to layout.allocation.count (height_of e + place) ≤ 65536
       → IsPlaced layout place e
-  term_placed place has room = (typed_among profile layout.declared has, room)
+  term_placed {e = e} place has room =
+      (subst (λ n. IsAmong n e) (sym as_many) (typed_among profile declared has), room)
 
-  values_placed : (x : ℕ) (word : WordType) (es : List TermTree) → AllSuit (types_but profile layout.declared x) word es
+  -- a variable that is typed is laid out
+  is_laid : (x : ℕ) (d : FlatVariable) → slice_get declared x ≡ Some d → x < length layout.declared
+  is_laid x d known = omega (arith, slice_get_within declared x d known, as_many)
+
+  values_placed : (x : ℕ) (word : WordType) (es : List TermTree) → AllSuit (types_but profile declared x) word es
       → base + 4 * slots_to layout.allocation.count (height_of_all es) ≤ 65536
       → ArePlacedTerms layout es
   values_placed x word [] suit room = tt
   values_placed x word (e ∷ es) suit room = (
     (
-      typed_within (length layout.declared) (types_but profile layout.declared x)
-          (λ y d is. slice_get_within layout.declared y d (when_not (y == x) (slice_get layout.declared y) d is))
+      typed_within (length layout.declared) (types_but profile declared x)
+          (λ y d is. is_laid y d (when_not (y == x) (slice_get declared y) d is))
           suit.0.has_type,
       omega (arith, room),
     ),
@@ -206,32 +214,33 @@ module _ (profile : Profile) (layout : Frame) (small : 4 * declared_words layout
   )
 
   fits_in_frame : (x size : ℕ) (word : WordType) (mutable : Bool)
-      → slice_get layout.declared x ≡ Some (array_as word mutable size)
+      → slice_get declared x ≡ Some (array_as word mutable size)
       → (size ≤ 65536) × (variable_offset layout.declared x + 4 * size ≤ 262144)
   fits_in_frame x size word mutable known =
-      let e = ends_before_result layout.declared x (array_as word mutable size) known in
+      let e = ends_before_result declared x (array_as word mutable size) known in
       let n = elements_in_words word.kind size in
-      (omega (arith, e, n, small), omega (arith, e, n, small))
+      let before = first_words x layout.declared in
+      (omega (arith, e, n, small), omega (arith, e, n, small, before, laid_small))
 
   mutual
-    statement_placed : (depth : ℕ) (s : StraightTree) → IsTyped profile layout.declared layout.controls s
+    statement_placed : (depth : ℕ) (s : StraightTree) → IsTyped profile declared layout.controls s
         → base + 4 * slots_to layout.allocation.count (height_in s) ≤ 65536 → depth + depth_in s ≤ layout.depths
         → HasPlace layout depth s
     statement_placed depth (set within x value) typed room deep = (
       typed.0,
-      slice_get_within layout.declared x _ typed.1.known,
+      is_laid x _ typed.1.known,
       term_placed 0 typed.1.suits.has_type (omega (arith, room)),
     )
     statement_placed depth (array x size values) typed room deep =
         let fits = fits_in_frame x size typed.word typed.mutable typed.known in (
-          slice_get_within layout.declared x _ typed.known,
+          is_laid x _ typed.known,
           fits.0,
           values_placed x typed.word values typed.suit room,
           omega (arith, fits.1, values_few size values typed.count),
         )
     statement_placed depth (put within place x size index value) typed room deep = (
       typed.0,
-      slice_get_within layout.declared x _ typed.1.known,
+      is_laid x _ typed.1.known,
       term_placed 0 typed.1.index_type (omega (arith, room)),
       term_placed 1 typed.1.suits.has_type (omega (arith, room)),
     )
@@ -243,14 +252,14 @@ module _ (profile : Profile) (layout : Frame) (small : 4 * declared_words layout
       blocks_placed depth otherwise typed.2 (omega (arith, room)) (omega (arith, deep)),
     )
     statement_placed depth (repeats x low high body) typed room deep = (
-      slice_get_within layout.declared x _ typed.2,
+      is_laid x _ typed.2,
       omega (arith, deep),
       term_placed 0 typed.0 (omega (arith, room)),
       term_placed 0 typed.1 (omega (arith, room)),
       blocks_placed (depth + 1) body typed.3 (omega (arith, room)) (omega (arith, deep)),
     )
 
-    pub blocks_placed : (depth : ℕ) (b : StraightBlock) → AreTyped profile layout.declared layout.controls b
+    pub blocks_placed : (depth : ℕ) (b : StraightBlock) → AreTyped profile declared layout.controls b
         → base + 4 * slots_to layout.allocation.count (height_in_all b) ≤ 65536 → depth + depth_in_all b ≤ layout.depths
         → HavePlaces layout depth b
     blocks_placed depth nothing typed room deep = tt

@@ -12,6 +12,7 @@ use Rattle.codegen.proofs.Language.{value_in, path_in, types_of, AllSuit, indexe
 use Rattle.codegen.proofs.Language.{TermSuits, array, after, path_at, IsElementSet, Kind, Place, Profile}
 use Rattle.codegen.proofs.Logic.{eqb-true, nil_from_length, but_among, suits_among, one_path_all, all_values, steps_of}
 use Rattle.codegen.proofs.Logic.{layout_of}
+use Rattle.codegen.proofs.Logic.{array_lies}
 use Rattle.codegen.proofs.Logic.{kind_known, homes_beside, Held, place_of, place_even, place_before, place_ends}
 use Rattle.codegen.proofs.Logic.{Setting, base_of, none, Runs, seq, quiet, gives, cheaper, beside, along, as_code, idle}
 use Rattle.codegen.proofs.Logic.{height, Ready, Wrote}
@@ -48,11 +49,12 @@ one_at : (z : Setting) (depth : ℕ) → depth ≤ z.depths → (x size : ℕ) (
     → base_of z + 4 * slots_to z.allocation.count (height_of e) ≤ z.size
     → Runs z (16 * term_nodes e + 3) (steps_of e)
     (into_element_code (layout_of z) word.kind
-    (place_of z.declared x (array_as word mutable size) k) (stored_value z.allocation word.kind e))
+    (place_of z.laid x (array_as word mutable size) k) (stored_value z.allocation word.kind e))
     (Ready z) (StateShown z depth (λ env. with_element env x k (value_in env.variables e)))
 one_at z depth within x size word mutable known k e below suits room =
     let d = array_as word mutable size in
-    let at = place_of z.declared x d k in
+    let at = place_of z.laid x d k in
+    let lies = array_lies z x size word mutable known in
     let n = element_bytes word.kind in
     let other = stored_value z.allocation word.kind e in
     let is_cut = stored_cut z.allocation word.kind suits.has_type in
@@ -70,12 +72,12 @@ one_at z depth within x size word mutable known k e below suits room =
     record {
       ready = ready_put z x k v w d known (z.allocated.words x d size known refl) below fits env m t
           (ready_offered z other env s m ready done.first) wrote (is_cut.cut env.variables fits);
-      hidden = hidden_valued z depth within other env n at w s m t (omega (arith, place_before z x d k known below))
+      hidden = hidden_valued z depth within other env n at w s m t (omega (arith, place_before z x d k lies below))
           done.first wrote;
     })
     (quiet (offered_runs z is_cut.has_type (omega (arith, room, height)))
-    (offered_element z r (offered_low z other) word.kind at (place_even z.declared x d k)
-    (place_ends z x d k known below))
+    (offered_element z r (offered_low z other) word.kind at (place_even z.laid x d k)
+    (place_ends z x d k lies below))
     (λ env s t ready offered. offered.held))))
 
 -- One element, at an index.
@@ -115,7 +117,7 @@ module _ (z : Setting) (depth : ℕ) (place : Place) (x size : ℕ) (index value
 
   -- where the index is in a register
   put_far : Puts z access None value (index_code (layout_of z) index put_value
-      ++ put_code index_register value_register kind (variable_offset z.declared x))
+      ++ put_code index_register value_register kind (variable_offset z.laid x))
   put_far =
       along (λ env. ap (λ p. path_in env.variables index ++ indexed place size (number env) ∷ p)
       (sym (stored_path z.allocation kind value env.variables)))
@@ -170,7 +172,7 @@ module _ (z : Setting) (depth : ℕ) (within : depth ≤ z.depths) (x size : ℕ
   d = array_as word mutable size
 
   abbrev at : ℕ → ℕ
-  at k = place_of z.declared x d k
+  at k = place_of z.laid x d k
 
   -- one element is set, and then those after it
   abbrev step : ℕ → TermTree → StraightState → StraightState
@@ -255,8 +257,8 @@ fill_runs z depth x size e es typed room within =
     let values = e ∷ es in
     let d : FlatVariable = array_as typed.word typed.mutable size in
     let long : length (e ∷ es) ≡ size = typed.count in
-    as_code (ap (λ k. fill_code (layout_of z) k (variable_offset z.declared x) values)
-    (kind_known z.declared x d typed.known))
+    as_code (ap (λ k. fill_code (layout_of z) k (variable_offset z.laid x) values)
+    (kind_known z.laid x d (array_lies z x size typed.word typed.mutable typed.known)))
     (cheaper (omega arith)
     (gives
     (λ env s t fine ready done. record {
@@ -264,9 +266,9 @@ fill_runs z depth x size e es typed room within =
           ready_same z (filled z depth within x size typed.word typed.mutable typed.known 0 values env)
           (with_variable env x (map (value_at env) values)) t
           (filled_is z depth within x size typed.word typed.mutable typed.known 0 values env [] (env.variables x)
-          typed.suit refl refl ((ready.fits x d typed.known).count ∙ sym long))
+          typed.suit refl refl ((ready.fits x d typed.known).count (omega (arith, long)) ∙ sym long))
           (controls_kept z depth within x size typed.word typed.mutable typed.known 0 values env) done.ready;
       hidden = done.hidden;
     })
-    (fill_from z depth within x size typed.word typed.mutable typed.known 0 (variable_offset z.declared x) values
+    (fill_from z depth within x size typed.word typed.mutable typed.known 0 (variable_offset z.laid x) values
     (omega arith) typed.suit (omega arith) room)))

@@ -15,11 +15,11 @@ use Rattle.rv_code.specs.declared.instructions.Instr.TheVariants as instr
 use Rattle.branch_removal.specs.Straight as straight
 use Rattle.codegen.proofs.Slots.{StateShown, suits_fits, ready_with, read_source, source_apart, hidden_by}
 use Rattle.codegen.proofs.Masks.{mask_apart, mask_free, mask_register}
-use Rattle.codegen.proofs.Elements.{ElementAccess, addressed_at, at_element, away, kind_is, stores, value_beside}
+use Rattle.codegen.proofs.Elements.{ElementAccess, addressed_at, at_element, away, kind_is, lies, stores, value_beside}
 use Rattle.codegen.proofs.Elements.{value_source, put_by, Puts, put_access}
 use Rattle.codegen.proofs.ElementRuns.{offered_element}
 use Rattle.codegen.proofs.UnderRuns.{number_under, read_begun, merges}
-use Rattle.codegen.specs.Below.{Fits}
+use Rattle.codegen.proofs.Logic.{AreOfKinds}
 use Rattle.codegen.proofs.expression_code_lemmas.Moves.{is_left, is_written}
 
 module _ (z : Setting) (depth : ℕ) (place : Place) (x size : ℕ) (index value : TermTree)
@@ -36,16 +36,16 @@ module _ (z : Setting) (depth : ℕ) (place : Place) (x size : ℕ) (index value
   array = array_as typed.word typed.mutable size
 
   abbrev offset : ℕ
-  offset = variable_offset z.declared x
+  offset = variable_offset z.laid x
 
   -- where an element lies
   abbrev place_at : ℕ → ℕ
-  place_at i = place_of z.declared x array i
+  place_at i = place_of z.laid x array i
 
   abbrev new_value : StraightState → ℕ
   new_value env = value_in env.variables value
 
-  new_fits : (env : StraightState) → Fits (types_of z.code.profile z.declared) env.variables
+  new_fits : (env : StraightState) → AreOfKinds (types_of z.code.profile z.declared) env.variables
       → new_value env < 2 ^ bits_of kind
   new_fits env all = suits_fits z.code.profile z.declared typed.word value env.variables all typed.suits
 
@@ -71,8 +71,8 @@ module _ (z : Setting) (depth : ℕ) (place : Place) (x size : ℕ) (index value
         same = load.1.bytes;
       })
       (loading z rs field (place_at i) small fits (load_by kind) q low high
-      (ap (λ m. place_at i % m) n ∙ place_even z.declared x array i)
-      (omega (arith, place_ends z x array i typed.known below)))
+      (ap (λ m. place_at i % m) n ∙ place_even z.laid x array i)
+      (omega (arith, place_ends z x array i (lies z access) below)))
 
   -- at an index in a register
   under_far : Puts z access (Some c) value (index_code (layout_of z) index value
@@ -127,7 +127,7 @@ module _ (z : Setting) (depth : ℕ) (place : Place) (x size : ℕ) (index value
       let k = mask_register z c 7 in
       let five = free_from 5 (omega arith) (omega arith) in
       let six = free_from 6 (omega arith) (omega arith) in
-      let h = place_ends z x array i typed.known below in
+      let h = place_ends z x array i (lies z access) below in
       cheaper (omega arith)
       (number_under z depth within c among read x i array typed.known (away z access) below new_value new_fits
       {New = λ regs v. regs r ≡ v} {Aims = λ regs. Unit {0}} 6 7 5 (omega arith) (omega arith)
@@ -150,7 +150,7 @@ module _ (z : Setting) (depth : ℕ) (place : Place) (x size : ℕ) (index value
       (λ env s fine given. given.0)
       (λ env s t fine given wrote. subst (λ a. Wrote z (element_bytes kind) a (s.regs 5) s t) (sym is) wrote)
       (offered_element z 5 (omega arith) kind o
-      (ap (λ a. a % element_bytes kind) (sym is) ∙ place_even z.declared x array i) (omega arith)))
+      (ap (λ a. a % element_bytes kind) (sym is) ∙ place_even z.laid x array i) (omega arith)))
       (gives (λ env s t fine ready done. (done, tt))
       (read_begun z depth within c among read typed.suits.has_type (omega arith))))
 
@@ -158,7 +158,7 @@ module _ (z : Setting) (depth : ℕ) (place : Place) (x size : ℕ) (index value
       (straight.put (Some c) place x size index value))
   put_under_runs =
       as_code
-      (ap (λ k. code_by (near_element z.declared z.allocation x index)
+      (ap (λ k. code_by (near_element z.laid z.allocation x index)
       (λ o. put_under_near_code (layout_of z) control_at k o value)
       (index_code (layout_of z) index value
       ++ put_under_code (read_register z.allocation 5 index) (read_register z.allocation 6 value) control_at k offset))

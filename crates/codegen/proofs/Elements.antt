@@ -4,7 +4,8 @@ use Rattle.std.proofs.Common.{None, Some, slice_get, refl, sym, ap, ap₂, subst
 use Rattle.codegen.proofs.Language.{FlatVariable, StraightState, with_element, element_bytes, TermTree, array_as}
 use Rattle.codegen.proofs.Language.{term_nodes, value_in, path_in, indexed, WordType, Kind, Boolean, bits_of, Place}
 use Rattle.codegen.proofs.Language.{TermHasType, counter_type, holds, path_at, put, IsElementSet, types_of}
-use Rattle.codegen.proofs.Logic.{register-at, lower_fits, Addressed, address_runs, steps_of, kind_known, HomesKept}
+use Rattle.codegen.proofs.Logic.{register-at, lower_fits, Addressed, address_runs, array_lies, steps_of, kind_known}
+use Rattle.codegen.proofs.Logic.{HomesKept}
 use Rattle.codegen.proofs.Logic.{layout_of}
 use Rattle.codegen.proofs.Logic.{homes_by, HeldAt, free_from, storing, place_of, place_even, place_before, place_ends}
 use Rattle.codegen.proofs.Logic.{Setting, setting, base_of, MarkKnown, by_index, by_known_index, by_option, none, Runs}
@@ -71,8 +72,11 @@ module _ (z : Setting) (access : ElementAccess z) where
   abbrev pub array : FlatVariable
   array = array_as access.word access.mutable access.size
 
+  pub lies : slice_get z.laid access.x ≡ Some array
+  lies = array_lies z access.x access.size access.word access.mutable access.known
+
   abbrev pub offset : ℕ
-  offset = variable_offset z.declared access.x
+  offset = variable_offset z.laid access.x
 
   -- no array has a home
   pub away : home_of z.allocation.homes access.x ≡ None
@@ -80,7 +84,7 @@ module _ (z : Setting) (access : ElementAccess z) where
 
   -- where an element lies
   abbrev pub element_at : ℕ → ℕ
-  element_at i = place_of z.declared access.x array i
+  element_at i = place_of z.laid access.x array i
 
   abbrev pub number_of : StraightState → ℕ
   number_of env = value_in env.variables access.index
@@ -117,7 +121,7 @@ module _ (z : Setting) (access : ElementAccess z) where
   addressed_at i below =
       weaken
       (λ env s fine aimed.
-      (aimed.ready.held, aimed.five, omega (arith, place_ends z access.x array i access.known below)))
+      (aimed.ready.held, aimed.five, omega (arith, place_ends z access.x array i lies below)))
       (λ env s t fine aimed done. done)
       (address_runs z 5 index_register (free_from 5 (omega arith) (omega arith))
       (free_from index_register index_source.low (omega (arith, index_source.high))) (omega arith)
@@ -138,8 +142,8 @@ module _ (z : Setting) (access : ElementAccess z) where
         homes = homes_by z s t done.1.regs;
       })
       (storing z 5 (lower_part offset) (element_at i) (omega arith) (lower_fits offset) (store_by kind) r small
-      (ap (λ m. element_at i % m) n ∙ place_even z.declared access.x array i)
-      (omega (arith, place_ends z access.x array i access.known below)))
+      (ap (λ m. element_at i % m) n ∙ place_even z.laid access.x array i)
+      (omega (arith, place_ends z access.x array i lies below)))
 
   -- what an element's store leaves, where only registers had changed before
   pub put_at : (i v w : ℕ) → i < access.size → v < 2 ^ bits_of kind → w % 256 ^ element_bytes kind ≡ v
@@ -147,7 +151,7 @@ module _ (z : Setting) (access : ElementAccess z) where
       → HomesKept z s m → Wrote z (element_bytes kind) (element_at i) w m t
       → Hidden z access.depth s t × Ready z (with_element env access.x i v) t
   put_at i v w below fits cut env s m t ready held same homes wrote =
-      let b = place_before z access.x array i access.known below in (
+      let b = place_before z access.x array i lies below in (
         hidden_then z access.depth s m t (hidden_by z access.depth s m same)
             (hidden_wrote z access.depth (element_bytes kind) (element_at i) w m t (omega arith) wrote),
         ready_put z access.x i v w array access.known away below fits env m t
@@ -191,13 +195,13 @@ module _ (z : Setting) (access : ElementAccess z) where
       })
       (quiet (value_piece i) (act i below) (λ env s t given done. done.0)))))
 
-  pub kind_is : kind_at z.declared access.x ≡ kind
-  kind_is = kind_known z.declared access.x array access.known
+  pub kind_is : kind_at z.laid access.x ≡ kind
+  kind_is = kind_known z.laid access.x array lies
 
   -- where an access whose instruction holds the element's offset finds it
-  near_at : (o : ℕ) (near : NearElement z.declared access.x access.index o) → element_at near.i ≡ o
+  near_at : (o : ℕ) (near : NearElement z.laid access.x access.index o) → element_at near.i ≡ o
   near_at o near =
-      ap (λ k. variable_offset z.declared access.x + element_bytes k * near.i) (sym kind_is) ∙ near.at
+      ap (λ k. variable_offset z.laid access.x + element_bytes k * near.i) (sym kind_is) ∙ near.at
 
   -- An element that is set to a value, where an enclosing control value is true.
   module _ (within : Option ℕ) (value : TermTree) where
@@ -216,7 +220,7 @@ module _ (z : Setting) (access : ElementAccess z) where
     module _ {n : ℕ} (few : n ≤ 32 * (1 + term_nodes value)) (code : ℕ → List Instr)
         (one : (i o : ℕ) → i < access.size → element_at i ≡ o → o < 2048
         → Runs z n (steps_of value) (code o) (Ready z) (StateShown z access.depth (put_with i))) where
-      module _ (o : ℕ) (near : NearElement z.declared access.x access.index o) where
+      module _ (o : ℕ) (near : NearElement z.laid access.x access.index o) where
         near_runs : Puts (code o)
         near_runs =
             let number_is = λ (env : StraightState). known access.index near.i near.is env.variables in
@@ -233,7 +237,7 @@ module _ (z : Setting) (access : ElementAccess z) where
 
       -- of that code and the one for an index in a register, the one that is emitted
       pub put_by : {far : List Instr} → Puts far
-          → Puts (code_by (near_element z.declared z.allocation access.x access.index) code far)
+          → Puts (code_by (near_element z.laid z.allocation access.x access.index) code far)
       put_by far_runs =
-          by_option (near_element z.declared z.allocation access.x access.index)
-          (λ o is. near_runs o (near_known z.declared z.allocation access.x access.index o is)) (λ none. far_runs)
+          by_option (near_element z.laid z.allocation access.x access.index)
+          (λ o is. near_runs o (near_known z.laid z.allocation access.x access.index o is)) (λ none. far_runs)

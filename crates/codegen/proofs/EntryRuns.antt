@@ -1,15 +1,20 @@
--- The code that begins a program: each home gets what lies in its word's slot.
-use Rattle.std.proofs.Common.{◌≡◌, ℕ, zero, suc, ◌+◌, ◌-◌, ◌*◌, ◌%◌, ◌<◌, ◌≤◌, Bool, true, false, cond, nat_lt}
+-- The code that begins a program: each home gets what lies in its word's slot, or 0 where there is none.
+use Rattle.std.proofs.Common.{◌≡◌, ◌≢◌, ℕ, zero, suc, ◌+◌, ◌-◌, ◌*◌, ◌%◌, ◌<◌, ◌≤◌, Bool, true, false, cond, nat_lt}
 use Rattle.std.proofs.Common.{below_more, List, [], ◌∷◌, length, get_or, Option, None, Some, slice_get, slice_index}
 use Rattle.std.proofs.Common.{refl, sym, ap, ap₂, ◌∙◌, subst, arith}
+use Rattle.std.proofs.lemmas.Bool.{true≢false}
 use Rattle.std.proofs.lemmas.Option.{slice_get-get_or}
+use Rattle.codegen.proofs.CountingRuns.{one_computed}
 use Rattle.codegen.proofs.Language.{counter_type, FlatVariable, numbers_in, StraightState, word_as}
-use Rattle.codegen.proofs.Logic.{at_control, bytes_by, bytes_of, cheaper, gives, Holds, idle, lt-ltb, mask_of}
+use Rattle.codegen.proofs.Logic.{at_control, bytes_by, bytes_of, cheaper, gives, HeldAt, Holds, idle, lt-ltb, mask_of}
 use Rattle.codegen.proofs.Logic.{move_runs, nat_tests, none, none-some, slice_get_within, number_or_zero, same_Some}
 use Rattle.codegen.proofs.Logic.{place_ends, place_of, quiet, Ready, Runs, Setting, take, unwritten, weaken, written}
-use Rattle.codegen.proofs.Machine.{ByteMap, control_offset, entry_code, home_count, home_of, load_code, number_at}
-use Rattle.codegen.proofs.Machine.{variable_offset, word_offset}
+use Rattle.codegen.proofs.Machine.{ByteMap, constant_code, control_offset, entry_code, first_code, home_count, home_of}
+use Rattle.codegen.proofs.Machine.{load_code, number_at, variable_offset, word_offset}
 use Rattle.codegen.proofs.Slots.{Laid, laid_same}
+use Rattle.codegen.specs.private.Homes.{is_no_array, is_word}
+use Rattle.rv_code.specs.declared.instructions.Instr.TheVariants as instr
+use Rattle.codegen.specs.Below.{Addi}
 use Rattle.rv_machine.specs.Machine as machine
 
 -- a home that there is is in the list
@@ -18,12 +23,22 @@ home_within [] x home is = absurd (none-some home is)
 home_within (h ∷ homes) zero home is = omega arith
 home_within (h ∷ homes) (suc x) home is = omega (arith, home_within homes x home is)
 
-module _ (z : Setting) (within : length z.allocation.homes ≤ length z.declared + z.controls) where
+one_word : (elements : Option ℕ) → is_word elements ≡ true → elements ≡ None
+one_word None is = refl
+one_word (Some size) is = absurd (true≢false (sym is))
+
+-- where there is an array, there is a variable
+array_there : (ds : List FlatVariable) (x : ℕ) → is_no_array (slice_get ds x) ≡ false → x < length ds
+array_there [] x is = absurd (true≢false is)
+array_there (d ∷ ds) zero is = omega arith
+array_there (d ∷ ds) (suc x) is = omega (arith, array_there ds x is)
+
+module _ (z : Setting) (within : length z.allocation.homes ≤ length z.laid + z.controls) where
   abbrev homes : List (Option ℕ)
   homes = z.allocation.homes
 
   abbrev variables : ℕ
-  variables = length z.declared
+  variables = length z.laid
 
   -- what a word that has a home is: a variable's value, or a control value's mask
   abbrev word_value : StraightState → ℕ → ℕ
@@ -41,81 +56,109 @@ module _ (z : Setting) (within : length z.allocation.homes ≤ length z.declared
       × ((env : StraightState) (s : machine.State) → Laid z env s
       → number_at s.bytes 4 (z.frame + o) ≡ Some (v env))
 
-  -- that of a variable that has a home
-  module _ (x home : ℕ) (d : FlatVariable) (known : slice_get z.declared x ≡ Some d)
-      (at : home_of homes x ≡ Some home) where
-    one_word : (elements : Option ℕ) → d.elements ≡ elements → d.elements ≡ None
-    one_word None is = is
-    one_word (Some size) is = absurd (none-some home (sym (z.allocated.words x d size known is) ∙ at))
-
-    is_word : d.elements ≡ None
-    is_word = one_word d.elements refl
-
+  -- that of a variable that has one
+  module _ (x : ℕ) (d : FlatVariable) (known : slice_get z.laid x ≡ Some d) (is_one : d.elements ≡ None) where
     four_bytes : bytes_of d ≡ 4
-    four_bytes = ap (bytes_by d.word.kind) is_word
+    four_bytes = ap (bytes_by d.word.kind) is_one
 
     has_one : 0 < numbers_in d.elements
-    has_one = subst (λ (elements : Option ℕ). 0 < numbers_in elements) (sym is_word) (omega arith)
+    has_one = subst (λ (elements : Option ℕ). 0 < numbers_in elements) (sym is_one) (omega arith)
 
-    variable_word : HasWord (variable_offset z.declared x) (λ env. slice_index (env.variables x) 0)
+    variable_word : HasWord (variable_offset z.laid x) (λ env. slice_index (env.variables x) 0)
     variable_word = (
       omega arith,
       omega (arith, place_ends z x d 0 known has_one, four_bytes),
       λ env s laid.
-          let first : variable_offset z.declared x ≡ place_of z.declared x d 0 = omega arith in
+          let first : variable_offset z.laid x ≡ place_of z.laid x d 0 = omega arith in
           ap₂ (λ n o. number_at s.bytes n (z.frame + o)) (sym four_bytes) first
           ∙ laid.slots_there x d 0 known has_one,
     )
 
   -- and that of a control value
   control_word : (c : ℕ) → c < z.controls
-      → HasWord (control_offset z.declared c) (λ env. mask_of (env.controls c))
+      → HasWord (control_offset z.laid c) (λ env. mask_of (env.controls c))
   control_word c below =
       (omega arith, omega (arith, below, z.room), λ env s laid. laid.controls_there c below)
 
-  word_there : (x home : ℕ) → home_of homes x ≡ Some home
-      → HasWord (word_offset z.declared x) (λ env. word_value env x)
-  word_there x home at = by_test (nat_lt x variables) refl
+  word_there : (x home : ℕ) → home_of homes x ≡ Some home → is_no_array (slice_get z.laid x) ≡ true
+      → HasWord (word_offset z.laid x) (λ env. word_value env x)
+  word_there x home at word = by_test (nat_lt x variables) refl
     where
       by_test : (b : Bool) → nat_lt x variables ≡ b
-          → HasWord (cond b (variable_offset z.declared x) (control_offset z.declared (x - variables)))
+          → HasWord (cond b (variable_offset z.laid x) (control_offset z.laid (x - variables)))
           (λ env. cond b (slice_index (env.variables x) 0) (mask_of (env.controls (x - variables))))
       by_test true test =
           let any = word_as counter_type false in
-          variable_word x home (get_or z.declared x any)
-          (slice_get-get_or z.declared x any (grind (arith, nat_tests, test))) at
+          let d = get_or z.laid x any in
+          let known : slice_get z.laid x ≡ Some d = slice_get-get_or z.laid x any (grind (arith, nat_tests, test)) in
+          variable_word x d known (one_word d.elements (ap is_no_array (sym known) ∙ word))
       by_test false test =
           let above : variables ≤ x = grind (arith, nat_tests, test) in
           control_word (x - variables) (omega (arith, above, home_within homes x home at, within))
 
-  -- one home is filled
-  one_runs : (x home : ℕ) → home_of homes x ≡ Some home
-      → Runs z 3 none (load_code home (word_offset z.declared x)) (Entered x) (λ env s t. Entered (x + 1) env t)
-  one_runs x home at =
+  variable_value : (env : StraightState) (x : ℕ) → x < variables
+      → word_value env x ≡ slice_index (env.variables x) 0
+  variable_value env x below = rw (lt-ltb x variables below)
+
+  -- the next home is filled, and nothing else changes
+  entered_more : (x home : ℕ) → home_of homes x ≡ Some home → (env : StraightState) (s t : machine.State)
+      → Entered x env s → HeldAt z t → t.bytes ≡ s.bytes → t.regs home ≡ word_value env x
+      → ((r : ℕ) → r ≢ home → t.regs r ≡ s.regs r) → Entered (x + 1) env t
+  entered_more x home at env s t entered held same there others = record {
+    laid = laid_same z z.size (omega (arith, z.room)) env s t entered.laid held
+        (λ o below. ap (λ (b : ByteMap). b (z.frame + o)) same);
+    homed =
+        below_more (λ y. (other : ℕ) → home_of homes y ≡ Some other → t.regs other ≡ word_value env y) x
+        (λ y less other there'.
+        others other (λ same. omega (arith, less, z.allocated.apart y x home (there' ∙ ap Some same) at))
+        ∙ entered.homed y less other there')
+        (λ other there'. ap t.regs (sym (same_Some home other (sym at ∙ there'))) ∙ there);
+  }
+
+  -- one home is filled from its slot
+  loads : (x home : ℕ) → home_of homes x ≡ Some home → is_no_array (slice_get z.laid x) ≡ true
+      → Runs z 3 none (load_code home (word_offset z.laid x)) (Entered x) (λ env s t. Entered (x + 1) env t)
+  loads x home at slot =
       let is = z.allocated.allowed x home at in
-      let word = word_there x home at in
+      let word = word_there x home at slot in
       weaken
       (λ env s fine entered. entered.laid.held)
-      (λ env s t fine entered moved. record {
-        laid = laid_same z z.size (omega (arith, z.room)) env s t entered.laid moved.held
-            (λ o below. ap (λ (b : ByteMap). b (z.frame + o)) moved.bytes);
-        homed =
-            below_more (λ y. (other : ℕ) → home_of homes y ≡ Some other → t.regs other ≡ word_value env y) x
-            (λ y less other there.
-            ap (λ (regs : ℕ → ℕ). regs other) moved.regs
-            ∙ (unwritten s.regs home _ other
-            (λ same. omega (arith, less, z.allocated.apart y x home (there ∙ ap Some same) at))
-            ∙ entered.homed y less other there))
-            (λ other there.
-            let same : home ≡ other = same_Some home other (sym at ∙ there) in
-            ap t.regs (sym same)
-            ∙ (ap (λ (regs : ℕ → ℕ). regs home) moved.regs
-            ∙ (written s.regs home _ (λ e. omega (arith, is.0, e))
-            ∙ ap number_or_zero (word.2 env s entered.laid))));
-      })
-      (move_runs z (take home (word_offset z.declared x))
+      (λ env s t fine entered moved.
+      entered_more x home at env s t entered moved.held moved.bytes
+      (ap (λ (regs : ℕ → ℕ). regs home) moved.regs
+      ∙ (written s.regs home _ (λ e. omega (arith, is.0, e))
+      ∙ ap number_or_zero (word.2 env s entered.laid)))
+      (λ r apart. ap (λ (regs : ℕ → ℕ). regs r) moved.regs ∙ unwritten s.regs home _ r apart))
+      (move_runs z (take home (word_offset z.laid x))
       (simp (lt-ltb 4 home (omega (arith, is.0)), lt-ltb home 32 (omega (arith, is.1))))
       (word.0, word.1))
+
+  -- or it gets 0, where it has none
+  zeroes : (x home : ℕ) → home_of homes x ≡ Some home → is_no_array (slice_get z.laid x) ≡ false
+      → Runs z 3 none (constant_code home 0) (Entered x) (λ env s t. Entered (x + 1) env t)
+  zeroes x home at no_slot =
+      let is = z.allocated.allowed x home at in
+      let below = array_there z.laid x no_slot in
+      cheaper (omega arith)
+      (weaken
+      (λ env s fine entered. entered.laid.held)
+      (λ env s t fine entered done.
+      entered_more x home at env s t entered done.held done.same
+      (done.there ∙ (sym (entered.laid.zeros_there x home at no_slot) ∙ sym (variable_value env x below)))
+      done.others)
+      (one_computed z (instr.Immediate Addi home 0 0)
+      (simp (lt-ltb 4 home (omega (arith, is.0)), lt-ltb home 32 (omega (arith, is.1))))
+      (λ e. omega (arith, is.0, e))))
+
+  one_runs : (x home : ℕ) → home_of homes x ≡ Some home
+      → Runs z 3 none (first_code z.laid x home) (Entered x) (λ env s t. Entered (x + 1) env t)
+  one_runs x home at = by_slot (is_no_array (slice_get z.laid x)) refl
+    where
+      by_slot : (b : Bool) → is_no_array (slice_get z.laid x) ≡ b
+          → Runs z 3 none (cond b (load_code home (word_offset z.laid x)) (constant_code home 0)) (Entered x)
+          (λ env s t. Entered (x + 1) env t)
+      by_slot true slot = loads x home at slot
+      by_slot false slot = zeroes x home at slot
 
   -- a word without a home is passed by
   passed : (x : ℕ) → home_of homes x ≡ None → (env : StraightState) (s : machine.State) → Entered x env s
@@ -128,7 +171,7 @@ module _ (z : Setting) (within : length z.allocation.homes ≤ length z.declared
   }
 
   from : (rest : List (Option ℕ)) (x : ℕ) → ((y : ℕ) → home_of homes (x + y) ≡ home_of rest y)
-      → Runs z (3 * home_count rest) none (entry_code z.declared x rest) (Entered x)
+      → Runs z (3 * home_count rest) none (entry_code z.laid x rest) (Entered x)
       (λ env s t. Entered (x + length rest) env t)
   from [] x are =
       let end : x ≡ x + 0 = omega arith in
@@ -152,10 +195,6 @@ module _ (z : Setting) (within : length z.allocation.homes ≤ length z.declared
       ap (λ n. home_of homes n) next ∙ are (suc y)))
       (λ env s t entered done. done)))
 
-  variable_value : (env : StraightState) (x : ℕ) → x < variables
-      → word_value env x ≡ slice_index (env.variables x) 0
-  variable_value env x below = rw (lt-ltb x variables below)
-
   control_value : (env : StraightState) (c : ℕ) → word_value env (variables + c) ≡ mask_of (env.controls c)
   control_value env c =
       let behind : nat_lt (variables + c) variables ≡ false = grind (arith, nat_tests) in
@@ -163,7 +202,7 @@ module _ (z : Setting) (within : length z.allocation.homes ≤ length z.declared
       rw (behind, same)
 
   -- all homes are filled: so what is laid is shown
-  pub entry_runs : Runs z (3 * home_count homes) none (entry_code z.declared 0 homes) (Laid z)
+  pub entry_runs : Runs z (3 * home_count homes) none (entry_code z.laid 0 homes) (Laid z)
       (λ env s t. Ready z env t)
   entry_runs =
       weaken
@@ -172,8 +211,8 @@ module _ (z : Setting) (within : length z.allocation.homes ≤ length z.declared
         held = done.laid.held;
         fits = done.laid.fits;
         homes_there = λ x home d is at. done.homed x (omega (arith, home_within homes x home at)) home at
-            ∙ variable_value env x (slice_get_within z.declared x d is);
-        variables_there = λ x d i is away below. done.laid.slots_there x d i is below;
+            ∙ variable_value env x (omega (arith, slice_get_within z.declared x d is, z.as_many));
+        variables_there = λ x d i is away below. done.laid.slots_there x d i (z.lies x d is away) below;
         controls_there = λ c below read. at_control z c (λ l. Holds z l t (mask_of (env.controls c)))
             (λ home at. done.homed (variables + c) (omega (arith, home_within homes (variables + c) home at)) home at
             ∙ control_value env c)

@@ -23,13 +23,13 @@ use Rattle.inline.specs.Flat as flat
 use Rattle.codegen.specs.Below.{Kind}
 use Rattle.codegen.specs.expression_code.Layout.{term_layout}
 
-neither_of_three : (a b c : Bool) → (a || (b || c)) ≡ false → (a ≡ false) × (b ≡ false) × (c ≡ false)
+pub neither_of_three : (a b c : Bool) → (a || (b || c)) ≡ false → (a ≡ false) × (b ≡ false) × (c ≡ false)
 neither_of_three a b c h =
     let first = or_parts a (b || c) h in
     let rest = or_parts b c first.1 in
     (first.0, rest.0, rest.1)
 
-neither_of_four : (a b c d : Bool) → (a || (b || (c || d))) ≡ false
+pub neither_of_four : (a b c d : Bool) → (a || (b || (c || d))) ≡ false
     → (a ≡ false) × (b ≡ false) × (c ≡ false) × (d ≡ false)
 neither_of_four a b c d h =
     let first = or_parts a (b || (c || d)) h in

@@ -1,6 +1,6 @@
 -- Straight code within the limits has room in a frame and in an image, and the fields of its image are allowed.
 use Rattle.std.proofs.Common.{◌≡◌, ℕ, suc, ◌+◌, ◌*◌, ◌%◌, ◌^◌, ◌<◌, ◌≤◌, true, List, [], ◌∷◌, length, map, Option}
-use Rattle.std.proofs.Common.{None, Some, IfSome, refl, sym, ap, subst, ◌∙◌, arith, length-append, zero, take, Bool}
+use Rattle.std.proofs.Common.{None, Some, IfSome, refl, sym, ap, subst, ◌∙◌, arith, length-append, take, Bool}
 use Rattle.std.proofs.Common.{if◌then◌else◌}
 use Rattle.codegen.proofs.Logic.{eq-eqb, le-leb, and_from, length-map, option_map, parameter_words}
 use Rattle.codegen.proofs.Logic.{load_length, none-some, typed_among, same_Some}
@@ -12,6 +12,11 @@ use Rattle.codegen.proofs.Machine.{image_within, most_words, Fields, result_code
 use Rattle.codegen.proofs.Machine.{HasRoom, Allocation, entry_code, HavePlaces, home_count, IsAmong}
 use Rattle.codegen.proofs.Machine.{IsFitting, Instr, plain, word_offset}
 use Rattle.codegen.proofs.FewerHomes.{homes_fewer}
+use Rattle.codegen.proofs.Choices.{of_choice}
+use Rattle.codegen.proofs.Slotted.{first_words, slotted_first, slotted_length, slotted_words}
+use Rattle.codegen.proofs.Machine.{first_code, laid_out}
+use Rattle.codegen.specs.private.Homes.{is_no_array}
+use Rattle.std.proofs.Common.{slice_get}
 use Rattle.codegen.specs.private.Fresh.{homes_but, starts_fresh}
 use Rattle.codegen.proofs.ReadControls.{plain_reads}
 use Rattle.codegen.proofs.Language.{StraightProgram, most_elements, Form}
@@ -105,11 +110,30 @@ returned_inside : (declared : List FlatVariable) (frame : ℕ) (word : Option Wo
 returned_inside declared frame None room = tt
 returned_inside declared frame (Some word) room = omega (arith, room)
 
+-- variables as they are laid out take no more words than as they are declared
+pub laid_words : (a : Allocation) (p : StraightProgram) → declared_words (laid_out a p) ≤ declared_words p.declared
+laid_words a p = slotted_words (length p.parameters) a.homes 0 p.declared
+
+pub laid_length : (a : Allocation) (p : StraightProgram) → length (laid_out a p) ≡ length p.declared
+laid_length a p = slotted_length (length p.parameters) a.homes 0 p.declared
+
+-- the parameters are the first of them
+pub first_laid : (a : Allocation) (p : StraightProgram) → HasRoom p
+    → take (length p.parameters) (laid_out a p) ≡ map declaration_of p.parameters
+first_laid a p room =
+    slotted_first (length p.parameters) (length p.parameters) a.homes 0 p.declared (omega arith)
+    ∙ room.typed.parameters
+
+pub parameters_fit : (a : Allocation) (p : StraightProgram) → HasRoom p
+    → words_in p.parameters ≤ declared_words (laid_out a p)
+parameters_fit a p room =
+    omega (arith, first_words (length p.parameters) (laid_out a p), ap declared_words (first_laid a p room))
+
 -- the frame of a program with room
 pub room_frame : (a : Allocation) (p : StraightProgram) → HasRoom p
     → temporaries_offset (frame_of a p) + 4 * program_slots a p ≤ 65536
 room_frame a p room =
-    omega (arith, room.declared, room.nodes, room.frame)
+    omega (arith, room.declared, laid_words a p, room.nodes, room.frame)
 
 -- How long its code is.
 
@@ -119,12 +143,22 @@ result_length layout None = omega arith
 result_length layout (Some value) =
     omega (arith, assign_length layout value (result_offset layout.declared))
 
-entry_length : (declared : List FlatVariable) (x : ℕ) (homes : List (Option ℕ))
-    → length (entry_code declared x homes) ≤ 3 * home_count homes
-entry_length declared x [] = omega arith
-entry_length declared x (None ∷ homes) = entry_length declared (x + 1) homes
-entry_length declared x (Some home ∷ homes) =
-    simp length-append (omega (arith, load_length home (word_offset declared x), entry_length declared (x + 1) homes))
+first_length : (laid : List FlatVariable) (x home : ℕ) → length (first_code laid x home) ≤ 3
+first_length laid x home =
+    of_choice (λ (is : List Instr). length is ≤ 3) (is_no_array (slice_get laid x))
+    (load_length home (word_offset laid x)) (omega arith)
+
+entry_length : (laid : List FlatVariable) (x : ℕ) (homes : List (Option ℕ))
+    → length (entry_code laid x homes) ≤ 3 * home_count homes
+entry_length laid x [] = omega arith
+entry_length laid x (None ∷ homes) = entry_length laid (x + 1) homes
+entry_length laid x (Some home ∷ homes) =
+    omega (
+      arith,
+      length-append (first_code laid x home) (entry_code laid (x + 1) homes),
+      first_length laid x home,
+      entry_length laid (x + 1) homes,
+    )
 
 -- of a program of no more nodes than its source
 pub program_length : (a : Allocation) (p : StraightProgram) → IsCounted p → IsFitting p a
@@ -134,7 +168,7 @@ program_length a p counted fitting =
     omega (
       arith,
       length-append {A = Instr},
-      entry_length p.declared 0 (homes_but (starts_fresh p) 0 a.homes),
+      entry_length (laid_out a p) 0 (homes_but (starts_fresh p) 0 a.homes),
       (homes_fewer (starts_fresh p) 0 a.homes).0,
       body,
       result_length (frame_of a p) p.value,
@@ -162,19 +196,19 @@ pub image_allowed : (a : Allocation) (p : StraightProgram) (profile : Profile) �
     → AllByRecursion (λ word. word < 2 ^ 32) (map word_of (program_code a p))
     → IsImage (record (image_of a p) { profile = profile })
 image_allowed a p profile room fitting short fit =
-    let few = room.parameters in
-    let d = room.declared in
+    let few = parameters_fit a p room in
+    let d : 4 * declared_words (laid_out a p) ≤ 40768 = omega (arith, room.declared, laid_words a p) in
     let end = slots_end-slots_from 0 p.parameters in
     record {
       count = omega (arith, length-slots_from 0 p.parameters, count_in_words p.parameters room.lengths, room.given);
       slots = slots_are 0 p.parameters room.lengths refl (omega (arith, few, d));
-      returned = returned_is p.declared (slots_end 0 (slots_from 0 p.parameters)) p.returned
+      returned = returned_is (laid_out a p) (slots_end 0 (slots_from 0 p.parameters)) p.returned
           (omega (arith, end, few)) d;
       frame_aligned = omega arith;
       frame_size = room_frame a p room;
       slots_inside = slots_inside 0 (temporaries_offset (frame_of a p) + 4 * program_slots a p) p.parameters
           (omega (arith, few));
-      returned_inside = returned_inside p.declared (temporaries_offset (frame_of a p) + 4 * program_slots a p)
+      returned_inside = returned_inside (laid_out a p) (temporaries_offset (frame_of a p) + 4 * program_slots a p)
           p.returned (omega arith);
       some_step = omega arith;
       steps = omega (arith, room.work);
@@ -184,12 +218,6 @@ image_allowed a p profile room fitting short fit =
     }
 
 -- Room.
-
--- the first variables take no more words than all
-first_words : (count : ℕ) (ds : List FlatVariable) → declared_words (take count ds) ≤ declared_words ds
-first_words zero ds = omega arith
-first_words (suc count) [] = omega arith
-first_words (suc count) (d ∷ ds) = omega (arith, first_words count ds)
 
 pub has_room : (p : StraightProgram) → IsStraight p → HasRoom p
 has_room p is = record {
@@ -218,8 +246,8 @@ result_among profile declared returned value typed e is = absurd typed
 pub body_placed : (a : Allocation) (p : StraightProgram) → HasRoom p
     → HavePlaces (frame_of a p) 0 p.body
 body_placed a p room =
-    let d = room.declared in
-    blocks_placed p.profile (frame_of a p) d 0 p.body room.typed.body
+    let d : 4 * declared_words (laid_out a p) ≤ 40768 = omega (arith, room.declared, laid_words a p) in
+    blocks_placed p.profile (frame_of a p) p.declared (laid_length a p) room.declared d 0 p.body room.typed.body
     (omega (arith, d, room.nodes, room.frame)) (omega arith)
 
 -- no homes fit any program

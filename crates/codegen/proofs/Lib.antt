@@ -34,8 +34,10 @@ pub mod StatementRuns
 pub mod StatementCode
 pub mod ImageLemmas
 pub mod Standing
+pub mod Slotted
 pub mod EntryRuns
 pub mod FewerHomes
+pub mod TypedBut
 pub mod FreshRuns
 pub mod BodyRuns
 pub mod WeightLengths

@@ -11,6 +11,8 @@ pub use Rattle.codegen.proofs.expression_code_lemmas.Below.{registers_after, seq
 pub use Rattle.codegen.proofs.expression_code_lemmas.Elements.{address_runs, Addressed, load_bytes, load_plain}
 pub use Rattle.codegen.proofs.expression_code_lemmas.Events.{by_bounds, by_index, by_known_index, condition_kind}
 pub use Rattle.codegen.proofs.expression_code_lemmas.ExpressionRuns.{into_runs}
+pub use Rattle.codegen.proofs.expression_code_lemmas.Fitting.{AreOfKinds, fits_kinds, held_kind, IsOfKind}
+pub use Rattle.codegen.proofs.expression_code_lemmas.Fitting.{value_fits}
 pub use Rattle.codegen.proofs.expression_code_lemmas.Frame.{After, base_of, Before, by_option, frame_runs, frame_there}
 pub use Rattle.codegen.proofs.expression_code_lemmas.Frame.{Held, held_regs, HeldAt, layout_of, Runs, seen_by}
 pub use Rattle.codegen.proofs.expression_code_lemmas.Frame.{Setting, setting, Steps, terms_at}
@@ -31,16 +33,15 @@ pub use Rattle.codegen.proofs.expression_code_lemmas.TermLengths.{address_length
 pub use Rattle.codegen.proofs.expression_code_lemmas.TermLengths.{fetch_length, height, into_length, load_length}
 pub use Rattle.codegen.proofs.expression_code_lemmas.TermLengths.{move_length, one_of, store_length, typed_among}
 pub use Rattle.codegen.proofs.expression_code_lemmas.TermLengths.{typed_within}
-pub use Rattle.codegen.proofs.expression_code_lemmas.Values.{at_control, control_stays, controls_kept, Holds, homes_by}
-pub use Rattle.codegen.proofs.expression_code_lemmas.Values.{homes_then, HomesKept, Kept, kept_by, kept_less}
-pub use Rattle.codegen.proofs.expression_code_lemmas.Values.{kept_number, kept_then, Leaves, number_same, place_before}
-pub use Rattle.codegen.proofs.expression_code_lemmas.Values.{place_ends, Ready, ready_after, ready_below, value_word}
-pub use Rattle.codegen.proofs.expression_code_lemmas.Values.{ValuedIn, variables_home, variables_kept, Wrote}
+pub use Rattle.codegen.proofs.expression_code_lemmas.Values.{array_lies, at_control, control_stays, controls_kept}
+pub use Rattle.codegen.proofs.expression_code_lemmas.Values.{Holds, homes_by, homes_then, HomesKept, Kept, kept_by}
+pub use Rattle.codegen.proofs.expression_code_lemmas.Values.{kept_less, kept_number, kept_then, Leaves, number_same}
+pub use Rattle.codegen.proofs.expression_code_lemmas.Values.{place_before, place_ends, Ready, ready_after, ready_below}
+pub use Rattle.codegen.proofs.expression_code_lemmas.Values.{value_word, ValuedIn, variables_home, variables_kept, Wrote}
 pub use Rattle.codegen.proofs.expression_code_lemmas.Values.{wrote_kept, wrote_there}
 pub use Rattle.codegen.proofs.expression_code_lemmas.WorkRegisters.{free_from, home_allowed, home_beside, home_target}
 pub use Rattle.codegen.proofs.expression_code_lemmas.WorkRegisters.{IsHome, IsTarget, place_target, works_at}
-pub use Rattle.inline.proofs.Fitting.{value_fits}
-pub use Rattle.inline.proofs.FittingBodies.{fits_assigned, one_held}
+pub use Rattle.inline.proofs.FittingBodies.{one_held}
 pub use Rattle.rv_machine.proofs.ByteLaws.{number_at-suc, number_at-with_number, number_at-zero, number_at_apart}
 pub use Rattle.rv_machine.proofs.ByteLaws.{number_at_same, with_byte_other, with_byte_same, with_number-suc}
 pub use Rattle.rv_machine.proofs.ByteLaws.{with_number-zero, with_number_above, with_number_below}

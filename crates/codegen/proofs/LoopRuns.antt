@@ -121,11 +121,11 @@ module _ (z : Setting) (depth : ℕ) (within : depth < z.depths) where
   -- in its slot, or in its home
   taken_by : (x left i : ℕ) → slice_get z.declared x ≡ Some (word_as counter_type false) → (h : Option ℕ)
       → home_of z.allocation.homes x ≡ h
-      → Runs z 3 none (put_word_code 6 (at_home h (InSlot (variable_offset z.declared x)))) (Iterations left i)
+      → Runs z 3 none (put_word_code 6 (at_home h (InSlot (variable_offset z.laid x)))) (Iterations left i)
       (Taken x i)
   taken_by x left i known None away =
-      let o = variable_offset z.declared x in
-      let before = word_before z x counter_type false known in
+      let o = variable_offset z.laid x in
+      let before = word_before z x counter_type false known away in
       weaken {P' = Iterations left i}
       (λ env s fine given. given.0.ready.held)
       (λ env s t fine given moved.
@@ -166,7 +166,7 @@ module _ (z : Setting) (depth : ℕ) (within : depth < z.depths) where
 
   -- and then the next number is stored
   count_runs : (x left i : ℕ) → slice_get z.declared x ≡ Some (word_as counter_type false)
-      → Runs z 7 none (count_code next (variable_location z.declared z.allocation x)) (Iterations left i)
+      → Runs z 7 none (count_code next (variable_location z.laid z.allocation x)) (Iterations left i)
       (Counted x left i)
   count_runs x left i known =
       gives
@@ -276,7 +276,7 @@ module _ (z : Setting) (depth : ℕ) (within : depth < z.depths) where
       (has_high : TermHasType (types_of z.code.profile z.declared) high counter_type)
       (room_low : base_of z + 4 * slots_to z.allocation.count (height_of low) ≤ z.size)
       (room_high : base_of z + 4 * slots_to z.allocation.count (height_of high) ≤ z.size)
-      (near : 2 * (length (test_code next) + length (count_code next (variable_location z.declared z.allocation x)
+      (near : 2 * (length (test_code next) + length (count_code next (variable_location z.laid z.allocation x)
       ++ ys)) + 8 < 2 ^ 19)
       (inner : Runs z n (λ env. path_along env body) ys (Ready z)
       (StateShown z (depth + 1) (λ env. after_all env body))) where
@@ -289,7 +289,7 @@ module _ (z : Setting) (depth : ℕ) (within : depth < z.depths) where
     -- an iteration
     body_runs : (left i : ℕ)
         → Runs z (7 + n) (λ env. path_along (counted x i env) body)
-        (count_code next (variable_location z.declared z.allocation x) ++ ys) (Iterations left i) (Done left i)
+        (count_code next (variable_location z.laid z.allocation x) ++ ys) (Iterations left i) (Done left i)
     body_runs left i =
         gives
         (λ env u v fine given done.
@@ -337,7 +337,7 @@ module _ (z : Setting) (depth : ℕ) (within : depth < z.depths) where
     -- with bounds that are known beforehand
     loop_at : (b : ℕ × ℕ)
         → Runs z ((b.1 - b.0 + 1) * (7 + (7 + n) + 2)) (λ env. path_by env (bounds env))
-        (loop_code (test_code next) (count_code next (variable_location z.declared z.allocation x) ++ ys))
+        (loop_code (test_code next) (count_code next (variable_location z.laid z.allocation x) ++ ys))
         (MarkKnown (setting z) (ℕ × ℕ) (λ c. c.1 - c.0 ≤ slice_index z.counts x) Beginning bounds b)
         (λ env s t. Over (iterations ((bounds env).1 - (bounds env).0) (bounds env).0 one_iteration env) s t)
     loop_at b =
@@ -367,7 +367,7 @@ module _ (z : Setting) (depth : ℕ) (within : depth < z.depths) where
 
     loop_runs : Runs z ((slice_index z.counts x + 1) * (7 + (7 + n) + 2))
         (λ env. bounded x (bounds env).0 (bounds env).1 ∷ path_by env (bounds env))
-        (loop_code (test_code next) (count_code next (variable_location z.declared z.allocation x) ++ ys))
+        (loop_code (test_code next) (count_code next (variable_location z.laid z.allocation x) ++ ys))
         Beginning (λ env s t. Over (iterations ((bounds env).1 - (bounds env).0) (bounds env).0 one_iteration env) s t)
     loop_runs =
         by_bounds z x bounds
@@ -378,7 +378,7 @@ module _ (z : Setting) (depth : ℕ) (within : depth < z.depths) where
     pub repeats_runs : Runs z (16 * term_nodes low + 3 + (16 * term_nodes high + 3)
         + (slice_index z.counts x + 1) * (7 + (7 + n) + 2)) (λ env. path_at env (repeats x low high body))
         (bounds_code (layout_of z) next low high
-        ++ loop_code (test_code next) (count_code next (variable_location z.declared z.allocation x) ++ ys))
+        ++ loop_code (test_code next) (count_code next (variable_location z.laid z.allocation x) ++ ys))
         (Ready z) (StateShown z depth (λ env. after env (repeats x low high body)))
     repeats_runs =
         gives

@@ -15,9 +15,9 @@ pub use Rattle.codegen.specs.private.Emitted.{put_element_code, put_under_near_c
 pub use Rattle.codegen.specs.private.Emitted.{stored_register, gives_zero}
 pub use Rattle.branch_removal.specs.Heights.{depth_in_all, height_of_all, height_of_put, depth_in, height_in}
 pub use Rattle.branch_removal.specs.Heights.{height_in_all, program_height, result_height, height_of}
-pub use Rattle.codegen.specs.private.Generated.{body_of, entry_code, frame_of, home_count, image_of, program_code}
-pub use Rattle.codegen.specs.private.Generated.{program_slots, result_code, image_within, most_words, result_slot}
-pub use Rattle.codegen.specs.private.Generated.{step_limit}
+pub use Rattle.codegen.specs.private.Generated.{body_of, entry_code, first_code, frame_of, home_count, image_of}
+pub use Rattle.codegen.specs.private.Generated.{image_within, laid_out, most_words, program_code, program_slots}
+pub use Rattle.codegen.specs.private.Generated.{result_code, result_slot, step_limit}
 pub use Rattle.codegen.specs.private.Jumps.{AreNear, IsFar, branch_code, far, leave, loop_code, unless_code}
 pub use Rattle.codegen.specs.private.Placed.{ArePlacedTerms, HasPlace, HavePlaces}
 pub use Rattle.codegen.specs.private.Room.{HasRoom, IsFitting}

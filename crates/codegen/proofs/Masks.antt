@@ -20,8 +20,8 @@ use Rattle.codegen.proofs.Slots.{Hidden, hidden_wrote, other_number}
 
 module _ (z : Setting) where
   -- two control values lie apart
-  controls_apart : (y c : ℕ) → (y == c) ≡ false → (control_offset z.declared y + 4 ≤ control_offset z.declared c)
-      ⊎ (control_offset z.declared c + 4 ≤ control_offset z.declared y)
+  controls_apart : (y c : ℕ) → (y == c) ≡ false → (control_offset z.laid y + 4 ≤ control_offset z.laid c)
+      ⊎ (control_offset z.laid c + 4 ≤ control_offset z.laid y)
   controls_apart y c h = apart c y _ h (λ below. inl (omega arith)) (λ above. inr (omega arith))
 
   -- the register of a control value's mask: its home, or a spare one
@@ -32,22 +32,22 @@ module _ (z : Setting) where
   pub mask_apart : (c spare q : ℕ) → q < 8 → spare ≢ q → mask_register c spare ≢ q
   mask_apart c spare q low other =
       at_control z c (λ l. register_of l spare ≢ q)
-      (λ home at e. omega (arith, z.allocated.some, (z.allocated.allowed (length z.declared + c) home at).0, e, low))
+      (λ home at e. omega (arith, z.allocated.some, (z.allocated.allowed (length z.laid + c) home at).0, e, low))
       (λ away e. other e)
 
   -- nor does any other word live there
-  pub mask_beside : (c spare y home : ℕ) → spare < 8 → y ≢ length z.declared + c
+  pub mask_beside : (c spare y home : ℕ) → spare < 8 → y ≢ length z.laid + c
       → home_of z.allocation.homes y ≡ Some home → home ≢ mask_register c spare
   mask_beside c spare y home low other here =
       at_control z c (λ l. home ≢ register_of l spare)
-      (λ own at e. other (z.allocated.apart y (length z.declared + c) own (here ∙ ap Some e) at))
+      (λ own at e. other (z.allocated.apart y (length z.laid + c) own (here ∙ ap Some e) at))
       (λ away e. omega (arith, z.allocated.some, (z.allocated.allowed y home here).0, e, low))
 
   -- code may work on it
   pub mask_free : (c spare : ℕ) → 4 < spare → spare < 32 → IsFree (mask_register c spare)
   mask_free c spare low high =
       at_control z c (λ l. IsFree (register_of l spare))
-      (λ home at. let is = z.allocated.allowed (length z.declared + c) home at in
+      (λ home at. let is = z.allocated.allowed (length z.laid + c) home at in
       free_from home (omega arith) (omega arith))
       (λ away. free_from spare low high)
 
@@ -77,11 +77,11 @@ module _ (z : Setting) where
   pub record MaskPut (c v : ℕ) (s t : machine.State) : Type 0 where
     pub held : HeldAt z t
     pub others : (q : ℕ) → q ≢ 28 → t.regs q ≡ s.regs q
-    pub written : is_unread z.allocation c ≡ false → home_of z.allocation.homes (length z.declared + c) ≡ None
-        → number_at t.bytes 4 (z.frame + control_offset z.declared c) ≡ Some v
-    pub apart : (n x : ℕ) → (x + n ≤ control_offset z.declared c) ⊎ (control_offset z.declared c + 4 ≤ x)
+    pub written : is_unread z.allocation c ≡ false → home_of z.allocation.homes (length z.laid + c) ≡ None
+        → number_at t.bytes 4 (z.frame + control_offset z.laid c) ≡ Some v
+    pub apart : (n x : ℕ) → (x + n ≤ control_offset z.laid c) ⊎ (control_offset z.laid c + 4 ≤ x)
         → number_at t.bytes n (z.frame + x) ≡ number_at s.bytes n (z.frame + x)
-    pub lower : Kept z (control_offset z.declared c) s t
+    pub lower : Kept z (control_offset z.laid c) s t
     pub hidden : (depth : ℕ) → Hidden z depth s t
 
   -- both control values of a condition are set
@@ -93,7 +93,7 @@ module _ (z : Setting) where
       (five : is_unread z.allocation (c + 1) ≡ false → m.regs (mask_register (c + 1) 5) ≡ mask_of g)
       (one : MaskPut c (mask_of f) m t) (two : MaskPut (c + 1) (mask_of g) t u) where
     abbrev n : ℕ
-    n = length z.declared
+    n = length z.laid
 
     stays : HomesKept z m u
     stays r home =
@@ -113,7 +113,7 @@ module _ (z : Setting) where
         → home_of z.allocation.homes (n + d) ≡ Some home → u.regs home ≡ v
     at_home_of d spare v is home at =
         let same : mask_register d spare ≡ home =
-        ap (λ h. register_of (at_home h (InSlot (control_offset z.declared d))) spare) at in
+        ap (λ h. register_of (at_home h (InSlot (control_offset z.laid d))) spare) at in
         stays home (z.allocated.allowed (n + d) home at) ∙ (ap m.regs (sym same) ∙ is)
 
     control_there : (y : ℕ) → y < z.controls → is_unread z.allocation y ≡ false
@@ -125,7 +125,7 @@ module _ (z : Setting) where
               let own = rw is at read in
               rw (is, eq-eqb c c refl)
               (at_control z c (λ l. Holds z l u (mask_of f)) (at_home_of c 7 (mask_of f) (seven own))
-              (λ away. two.apart 4 (control_offset z.declared c) (inl (omega arith)) ∙ one.written own away))
+              (λ away. two.apart 4 (control_offset z.laid c) (inl (omega arith)) ∙ one.written own away))
           | inr other ↦ rw (ne_eqb y c other) (elim (cases_eq y (c + 1)) [
             | inl is ↦
                 let own = rw is at read in
@@ -135,9 +135,9 @@ module _ (z : Setting) where
             | inr another ↦ rw (ne_eqb y (c + 1) another)
                 (control_stays z y (mask_of (env.controls y)) s u
                 (λ home at. others (n + y) home (λ e. other (omega arith)) (λ e. another (omega arith)) at)
-                (two.apart 4 (control_offset z.declared y) (controls_apart y (c + 1) (ne_eqb y (c + 1) another))
-                ∙ (one.apart 4 (control_offset z.declared y) (controls_apart y c (ne_eqb y c other))
-                ∙ kept_number z (base_of z) s m kept 4 (control_offset z.declared y) (omega arith)))
+                (two.apart 4 (control_offset z.laid y) (controls_apart y (c + 1) (ne_eqb y (c + 1) another))
+                ∙ (one.apart 4 (control_offset z.laid y) (controls_apart y c (ne_eqb y c other))
+                ∙ kept_number z (base_of z) s m kept 4 (control_offset z.laid y) (omega arith)))
                 (ready.controls_there y below read))
           ])
         ]
@@ -148,14 +148,14 @@ module _ (z : Setting) where
       fits = ready.fits;
       homes_there = λ x home d is at.
           let below = slice_get_within z.declared x d is in
-          others x home (omega arith) (omega arith) at
+          others x home (omega (arith, below, z.as_many)) (omega (arith, below, z.as_many)) at
           ∙ ready.homes_there x home d is at;
       variables_there =
-          variables_kept z (control_offset z.declared c) env s u (omega arith) ready
-          (kept_then z (control_offset z.declared c) s t u
-          (kept_then z (control_offset z.declared c) s m t
-          (kept_less z (control_offset z.declared c) (base_of z) s m (omega arith) kept) one.lower)
-          (kept_less z (control_offset z.declared c) (control_offset z.declared (c + 1)) t u (omega arith) two.lower));
+          variables_kept z (control_offset z.laid c) env s u (omega arith) ready
+          (kept_then z (control_offset z.laid c) s t u
+          (kept_then z (control_offset z.laid c) s m t
+          (kept_less z (control_offset z.laid c) (base_of z) s m (omega arith) kept) one.lower)
+          (kept_less z (control_offset z.laid c) (control_offset z.laid (c + 1)) t u (omega arith) two.lower));
       controls_there = control_there;
     }
 
@@ -163,7 +163,7 @@ module _ (z : Setting) where
   abbrev PutsMask : ℕ → ℕ → (StraightState → ℕ) → List Instr → Type 0
   PutsMask c r v code = Runs z 3 none code
       (λ env s. HeldAt z s × (v env < 2 ^ 32)
-      × (is_unread z.allocation c ≡ false → home_of z.allocation.homes (length z.declared + c) ≡ None
+      × (is_unread z.allocation c ≡ false → home_of z.allocation.homes (length z.laid + c) ≡ None
       → s.regs r ≡ v env))
       (λ env s t. MaskPut c (v env) s t)
 
@@ -174,8 +174,8 @@ module _ (z : Setting) where
   mask_put c r v among ok = by_test (is_unread z.allocation c) refl
     where
       untouched : (env : StraightState) (s : machine.State) → HeldAt z s
-          → (is_unread z.allocation c ≡ false → home_of z.allocation.homes (length z.declared + c) ≡ None
-          → number_at s.bytes 4 (z.frame + control_offset z.declared c) ≡ Some (v env))
+          → (is_unread z.allocation c ≡ false → home_of z.allocation.homes (length z.laid + c) ≡ None
+          → number_at s.bytes 4 (z.frame + control_offset z.laid c) ≡ Some (v env))
           → MaskPut c (v env) s s
       untouched env s held there = assumption
 
@@ -184,7 +184,7 @@ module _ (z : Setting) where
       by_test true unread =
           idle (λ env s given. untouched env s given.0 (λ read away. absurd (true≢false (sym unread ∙ read))))
       by_test false read =
-          let o = control_offset z.declared c in
+          let o = control_offset z.laid c in
           at_control z c (λ l. PutsMask c r v (kept_code l r))
           (λ home at.
           idle (λ env s given. untouched env s given.0 (λ is away. absurd (none-some home (sym away ∙ at)))))

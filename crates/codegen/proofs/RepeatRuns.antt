@@ -46,23 +46,23 @@ module _ (z : Setting) (depth x : ℕ) (within : depth < z.depths) (low high : T
       (Ready z) (StateShown z depth (λ env. after env (repeats x low high body)))
 
   by_home : (home bound : Option ℕ)
-      → counting_home (variable_location z.declared z.allocation x) (any_sets x body) ys ≡ home
+      → counting_home (variable_location z.laid z.allocation x) (any_sets x body) ys ≡ home
       → short_number high ≡ bound
-      → length (loop_from (layout_of z) next (variable_location z.declared z.allocation x) low
+      → length (loop_from (layout_of z) next (variable_location z.laid z.allocation x) low
       high ys home bound) < far
-      → Loops (loop_from (layout_of z) next (variable_location z.declared z.allocation x) low
+      → Loops (loop_from (layout_of z) next (variable_location z.laid z.allocation x) low
       high ys home bound)
   by_home None bound counts short few =
       repeats_runs z depth within x low high body n known has_low has_high room_low room_high
       (iteration_near next (bounds_code (layout_of z) next low high)
-      (variable_location z.declared z.allocation x) ys few) inner
+      (variable_location z.laid z.allocation x) ys few) inner
   by_home (Some h) (Some bound) counts short few =
-      let c = counts_by (home_of z.allocation.homes x) (variable_offset z.declared x) (any_sets x body) ys h counts in
+      let c = counts_by (home_of z.allocation.homes x) (variable_offset z.laid x) (any_sets x body) ys h counts in
       cheaper (omega arith)
       (to_number_runs z depth x h within known c.there low high body n has_low room_low c.unset c.short inner bound
       (short_is high bound short))
   by_home (Some h) None counts short few =
-      let c = counts_by (home_of z.allocation.homes x) (variable_offset z.declared x) (any_sets x body) ys h counts in
+      let c = counts_by (home_of z.allocation.homes x) (variable_offset z.laid x) (any_sets x body) ys h counts in
       cheaper (omega arith)
       (to_word_runs z depth x h within known c.there low high body n has_low room_low c.unset c.short inner has_high
       room_high)
@@ -70,5 +70,5 @@ module _ (z : Setting) (depth x : ℕ) (within : depth < z.depths) (low high : T
   pub loops_run : length (repeat_code (layout_of z) depth x low high (any_sets x body) ys) < far
       → Loops (repeat_code (layout_of z) depth x low high (any_sets x body) ys)
   loops_run =
-      by_home (counting_home (variable_location z.declared z.allocation x) (any_sets x body) ys) (short_number high)
+      by_home (counting_home (variable_location z.laid z.allocation x) (any_sets x body) ys) (short_number high)
       refl refl

@@ -25,11 +25,11 @@ module _ (z : Setting) where
       → base_of z + 4 * slots_to z.allocation.count (height_of value) ≤ z.size → depth ≤ z.depths
       → (h : Option ℕ) → home_of z.allocation.homes x ≡ h
       → Runs z (32 * set_work None value) (steps_of value)
-      (set_code (layout_of z) None (at_home h (InSlot (variable_offset z.declared x))) value)
+      (set_code (layout_of z) None (at_home h (InSlot (variable_offset z.laid x))) value)
       (Ready z) (StateShown z depth (λ env. with_variable env x (value_in env.variables value ∷ [])))
   set_by depth x value typed room within None away =
-      let o = variable_offset z.declared x in
-      let before = word_before z x typed.word typed.mutable typed.known in
+      let o = variable_offset z.laid x in
+      let before = word_before z x typed.word typed.mutable typed.known away in
       cheaper (omega (arith, set_cost value))
       (gives
       (λ env s t fine ready done.
@@ -61,7 +61,7 @@ module _ (z : Setting) where
   pub set_runs : (depth x : ℕ) (value : TermTree) → IsSet z.code.profile z.declared x value
       → base_of z + 4 * slots_to z.allocation.count (height_of value) ≤ z.size → depth ≤ z.depths
       → Runs z (32 * set_work None value) (steps_of value)
-      (set_code (layout_of z) None (variable_location z.declared z.allocation x) value)
+      (set_code (layout_of z) None (variable_location z.laid z.allocation x) value)
       (Ready z) (StateShown z depth (λ env. with_variable env x (value_in env.variables value ∷ [])))
   set_runs depth x value typed room within =
       set_by depth x value typed room within (home_of z.allocation.homes x) refl
@@ -76,7 +76,7 @@ steps_of_result value env = path_of_result env.variables value
 pub record ResultGiven (z : Setting) (value : Option TermTree) (env : StraightState)
     (s t : machine.State) : Type 0 where
   pub ready : Ready z env t
-  pub left : Left z.frame z.declared value env.variables t.bytes
+  pub left : Left z.frame z.laid value env.variables t.bytes
 
 pub result_runs : (z : Setting) (returned : Option WordType) (value : Option TermTree)
     → IsResult (types_of z.code.profile z.declared) returned value
@@ -87,7 +87,7 @@ result_runs z returned None typed room =
     idle (λ env s ready. record { ready = ready; left = tt })
 result_runs z None (Some value) typed room = absurd typed
 result_runs z (Some word) (Some value) typed room =
-    let o = result_offset z.declared in
+    let o = result_offset z.laid in
     cheaper (omega arith)
     (gives
     (λ env s t fine ready done.

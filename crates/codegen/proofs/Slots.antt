@@ -9,10 +9,10 @@ use Rattle.codegen.proofs.Machine.{assign_code, byte_count, home_of_term, home_o
 use Rattle.codegen.proofs.Machine.{stored_code, stored_register, gives_zero, slots_to, height_of, home_of, into_code}
 use Rattle.codegen.proofs.Machine.{store_code, Instr, Sw}
 use Rattle.codegen.proofs.Language.{StraightState, with_variable, with_element, FlatVariable, numbers_in, IsWithinKind}
-use Rattle.codegen.proofs.Language.{word_as, TermTree, term_nodes, Boolean, WordType, value_in, types_of, IsHeld, Fits}
+use Rattle.codegen.proofs.Language.{word_as, TermTree, term_nodes, Boolean, WordType, value_in, types_of}
 use Rattle.codegen.proofs.Language.{Kind, bits_of, Values, TermHasType, TermSuits, Profile}
 use Rattle.codegen.proofs.Logic.{length-set, get_or-set_same, get_or-set_other, set-get_or, All-set, none-some}
-use Rattle.codegen.proofs.Logic.{terms_at}
+use Rattle.codegen.proofs.Logic.{AreOfKinds, IsOfKind, terms_at}
 use Rattle.codegen.proofs.Logic.{layout_of}
 use Rattle.codegen.proofs.Logic.{same_Some, eqb-true, controls_kept, number_at_apart, number_at-with_number, HeldAt}
 use Rattle.codegen.proofs.Logic.{mask_of, bytes_by, bytes_of, place_of, place_within, ends_before_result, apart_from}
@@ -23,6 +23,7 @@ use Rattle.codegen.proofs.Logic.{place_target, variables_home, is_free, idle, lt
 use Rattle.codegen.proofs.Logic.{move_runs, setting, Runs, gives, cheaper, kept_less, kept_by, ready_below, along}
 use Rattle.codegen.proofs.Logic.{home_allowed, home_there, known, none, quiet, ready_after, register-at, value_fits}
 use Rattle.codegen.specs.expression_code.Allocation.{slot_of}
+use Rattle.codegen.specs.private.Homes.{is_no_array}
 use Rattle.codegen.specs.Below.{register, StoreOperation, words_of}
 use Rattle.codegen.proofs.expression_code_lemmas.Operands.{put_wrote}
 use Rattle.codegen.proofs.expression_code_lemmas.Moves.{is_left, put_code, putting}
@@ -65,14 +66,17 @@ module _ (z : Setting) where
 
   -- the numbers of a variable without a home are others, and all that lies outside its words is as it was
   module _ (x : ℕ) (d : FlatVariable) (known : slice_get z.declared x ≡ Some d)
-      (away : home_of z.allocation.homes x ≡ None) (l : List ℕ) (holds : IsHeld d l) (env : StraightState)
+      (away : home_of z.allocation.homes x ≡ None) (l : List ℕ) (holds : IsOfKind d l) (env : StraightState)
       (s t : machine.State) (ready : Ready z env s) (held : HeldAt z t)
       (there : (j : ℕ) → j < numbers_in d.elements
-      → number_at t.bytes (bytes_of d) (z.frame + place_of z.declared x d j) ≡ Some (slice_index l j))
-      (apart : (n o : ℕ) → (o + n ≤ variable_offset z.declared x)
-      ⊎ (variable_offset z.declared x + 4 * words_of d ≤ o)
+      → number_at t.bytes (bytes_of d) (z.frame + place_of z.laid x d j) ≡ Some (slice_index l j))
+      (apart : (n o : ℕ) → (o + n ≤ variable_offset z.laid x)
+      ⊎ (variable_offset z.laid x + 4 * words_of d ≤ o)
       → number_at t.bytes n (z.frame + o) ≡ number_at s.bytes n (z.frame + o))
       (homes : HomesKept z s t) where
+    lies : slice_get z.laid x ≡ Some d
+    lies = z.lies x d known away
+
     -- what is so of the variable and its new numbers, and of each other one and its old ones, is so of each
     at_each : (P : ℕ → FlatVariable → List ℕ → Type 0) → P x d l
         → ((y : ℕ) (e : FlatVariable) → slice_get z.declared y ≡ Some e → (y == x) ≡ false → P y e (env.variables y))
@@ -89,52 +93,53 @@ module _ (z : Setting) where
     ready_changed =
         record {
           held = held;
-          fits = at_each (λ y e m. IsHeld e m) holds (λ y e is q. ready.fits y e is);
+          fits = at_each (λ y e m. IsOfKind e m) holds (λ y e is q. ready.fits y e is);
           homes_there = λ y home e.
               at_each (λ n f m. home_of z.allocation.homes n ≡ Some home → t.regs home ≡ slice_index m 0)
               (λ at. absurd (none-some home (sym away ∙ at)))
               (λ n f is q at. variables_home z env s t ready homes n home f is at) y e;
           variables_there = λ y e j.
               at_each (λ n f m. home_of z.allocation.homes n ≡ None → j < numbers_in f.elements
-              → number_at t.bytes (bytes_of f) (z.frame + place_of z.declared n f j) ≡ Some (slice_index m j))
+              → number_at t.bytes (bytes_of f) (z.frame + place_of z.laid n f j) ≡ Some (slice_index m j))
               (λ out. there j)
               (λ n f is q out more.
-              apart (bytes_of f) (place_of z.declared n f j) (apart_from z.declared x n d f j known is more q)
+              apart (bytes_of f) (place_of z.laid n f j) (apart_from z.laid x n d f j lies
+              (z.lies n f is out) more q)
               ∙ ready.variables_there n f j is out more) y e;
           controls_there = λ c among read. controls_kept z env s t ready homes c among read
-              (apart 4 (control_offset z.declared c) (inr (omega (arith, ends_before_result z.declared x d known))));
+              (apart 4 (control_offset z.laid c) (inr (omega (arith, ends_before_result z.laid x d lies))));
         }
 
   module _ (x i v w : ℕ) (d : FlatVariable) (known : slice_get z.declared x ≡ Some d)
       (away : home_of z.allocation.homes x ≡ None) (below : i < numbers_in d.elements)
       (fits : v < 2 ^ bits_of d.word.kind)
       (env : StraightState) (s t : machine.State) (ready : Ready z env s)
-      (wrote : Wrote z (bytes_of d) (place_of z.declared x d i) w s t) (cut : w % 256 ^ bytes_of d ≡ v) where
+      (wrote : Wrote z (bytes_of d) (place_of z.laid x d i) w s t) (cut : w % 256 ^ bytes_of d ≡ v) where
     abbrev old : List ℕ
     old = env.variables x
 
     same_there : (j : ℕ) → j < numbers_in d.elements
-        → number_at t.bytes (bytes_of d) (z.frame + place_of z.declared x d j)
+        → number_at t.bytes (bytes_of d) (z.frame + place_of z.laid x d j)
         ≡ Some (slice_index (slice_set old i v) j)
     same_there j more =
         elim (cases_eq j i) [
           | inl same ↦
-              let long = (ready.fits x d known).count in
-              let at = z.frame + place_of z.declared x d i in
+              let long = (ready.fits x d known).count (omega (arith, below)) in
+              let at = z.frame + place_of z.laid x d i in
               rw same (ap (λ (b : ByteMap). number_at b (bytes_of d) at) wrote.written
               ∙ (number_at-with_number s.bytes (bytes_of d) at w
               ∙ ap Some (cut ∙ sym (get_or-set_same old i v 0 (omega arith)))))
           | inr other ↦
-              other_number (bytes_of d) (place_of z.declared x d i) w (bytes_of d) (place_of z.declared x d j) s t wrote
-              (elements_apart z.declared x d i j (ne_eqb j i other))
+              other_number (bytes_of d) (place_of z.laid x d i) w (bytes_of d) (place_of z.laid x d j) s t wrote
+              (elements_apart z.laid x d i j (ne_eqb j i other))
               ∙ (ready.variables_there x d j known away more ∙ ap Some (sym (get_or-set_other old i j v 0 other)))
         ]
 
-    outside : (n o : ℕ) → (o + n ≤ variable_offset z.declared x) ⊎ (variable_offset z.declared x + 4 * words_of d ≤ o)
+    outside : (n o : ℕ) → (o + n ≤ variable_offset z.laid x) ⊎ (variable_offset z.laid x + 4 * words_of d ≤ o)
         → number_at t.bytes n (z.frame + o) ≡ number_at s.bytes n (z.frame + o)
     outside n o apart =
-        other_number (bytes_of d) (place_of z.declared x d i) w n o s t wrote
-        (elim apart [ inl h ↦ inl (omega arith) | inr h ↦ inr (omega (arith, place_within z.declared x d i below)) ])
+        other_number (bytes_of d) (place_of z.laid x d i) w n o s t wrote
+        (elim apart [ inl h ↦ inl (omega arith) | inr h ↦ inr (omega (arith, place_within z.laid x d i below)) ])
 
     -- a number of a variable is set
     pub ready_put : Ready z (with_element env x i v) t
@@ -142,7 +147,7 @@ module _ (z : Setting) where
         let before = ready.fits x d known in
         ready_changed x d known away (slice_set old i v)
         (record {
-          count = length-set old i v ∙ before.count;
+          count = λ some. length-set old i v ∙ before.count some;
           within = All-set (IsWithinKind d.word.kind) old i v fits before.within;
         })
         env s t ready wrote.held same_there outside wrote.homes
@@ -159,12 +164,12 @@ module _ (z : Setting) where
   module _ (x v : ℕ) (word : WordType) (mutable : Bool) (known : slice_get z.declared x ≡ Some (word_as word mutable))
       (away : home_of z.allocation.homes x ≡ None) (fits : v < 2 ^ bits_of word.kind)
       (env : StraightState) (s t : machine.State) (ready : Ready z env s)
-      (wrote : Wrote z 4 (variable_offset z.declared x) v s t) where
+      (wrote : Wrote z 4 (variable_offset z.laid x) v s t) where
     pub ready_set : Ready z (with_variable env x (v ∷ [])) t
     ready_set =
         let small = kind_fits word.kind v fits in
-        let first : variable_offset z.declared x ≡ place_of z.declared x (word_as word mutable) 0 = omega arith in
-        ready_alone env x v t (ready.fits x (word_as word mutable) known).count
+        let first : variable_offset z.laid x ≡ place_of z.laid x (word_as word mutable) 0 = omega arith in
+        ready_alone env x v t ((ready.fits x (word_as word mutable) known).count (omega arith))
         (ready_put x 0 v v (word_as word mutable) known away (omega arith) fits env s t ready
         (subst (λ o. Wrote z 4 o v s t) first wrote) (omega arith))
 
@@ -178,14 +183,18 @@ module _ (z : Setting) where
       (λ y. cond_both (y == x) _ (env.variables y) (λ (l : List ℕ). l ≡ env.variables y)
       (λ e. set-get_or (env.variables x) i 0 ∙ ap env.variables (sym (eqb-true y x e))) (λ e. refl)) (λ c. refl) ready
 
--- each variable, with a home or without, has its values in its slot, and each control value too
+-- Each variable, with a home or without, has its values in its slot, and each control value too. One that takes no
+-- words is 0.
 pub record Laid (z : Setting) (env : StraightState) (s : machine.State) : Type 0 where
   pub held : HeldAt z s
-  pub fits : Fits (types_of z.code.profile z.declared) env.variables
-  pub slots_there : (x : ℕ) (d : FlatVariable) (i : ℕ) → slice_get z.declared x ≡ Some d → i < numbers_in d.elements
-      → number_at s.bytes (bytes_of d) (z.frame + place_of z.declared x d i) ≡ Some (slice_index (env.variables x) i)
+  pub fits : AreOfKinds (types_of z.code.profile z.declared) env.variables
+  pub laid_fits : AreOfKinds (types_of z.code.profile z.laid) env.variables
+  pub slots_there : (x : ℕ) (d : FlatVariable) (i : ℕ) → slice_get z.laid x ≡ Some d → i < numbers_in d.elements
+      → number_at s.bytes (bytes_of d) (z.frame + place_of z.laid x d i) ≡ Some (slice_index (env.variables x) i)
+  pub zeros_there : (x home : ℕ) → home_of z.allocation.homes x ≡ Some home
+      → is_no_array (slice_get z.laid x) ≡ false → slice_index (env.variables x) 0 ≡ 0
   pub controls_there : (c : ℕ) → c < z.controls
-      → number_at s.bytes 4 (z.frame + control_offset z.declared c) ≡ Some (mask_of (env.controls c))
+      → number_at s.bytes 4 (z.frame + control_offset z.laid c) ≡ Some (mask_of (env.controls c))
 
 -- where the bytes before the temporaries are the same, whatever the registers hold
 pub laid_same : (z : Setting) (free : ℕ) → next_offset (layout_of z) 0 ≤ free
@@ -193,9 +202,11 @@ pub laid_same : (z : Setting) (free : ℕ) → next_offset (layout_of z) 0 ≤ f
 laid_same z free above env s t laid held kept = record {
   held = held;
   fits = laid.fits;
-  slots_there = λ x d i is below. kept_number z free s t kept (bytes_of d) (place_of z.declared x d i)
+  laid_fits = laid.laid_fits;
+  zeros_there = laid.zeros_there;
+  slots_there = λ x d i is below. kept_number z free s t kept (bytes_of d) (place_of z.laid x d i)
       (omega (arith, place_before z x d i is below, above)) ∙ laid.slots_there x d i is below;
-  controls_there = λ c below. kept_number z free s t kept 4 (control_offset z.declared c)
+  controls_there = λ c below. kept_number z free s t kept 4 (control_offset z.laid c)
       (omega arith) ∙ laid.controls_there c below;
 }
 
@@ -246,7 +257,7 @@ puts z {asked = asked} {r = r} source =
 
 -- a value that suits a type is within the type's kind
 pub suits_fits : (profile : Profile) (declared : List FlatVariable) (word : WordType) (e : TermTree) (m : Values)
-    → Fits (types_of profile declared) m → TermSuits (types_of profile declared) word e
+    → AreOfKinds (types_of profile declared) m → TermSuits (types_of profile declared) word e
     → value_in m e < 2 ^ bits_of word.kind
 suits_fits profile declared word e m fits suits =
     subst (λ (kind : Kind). value_in m e < 2 ^ bits_of kind) suits.kind
@@ -328,23 +339,23 @@ module _ (z : Setting) where
 
   -- or only the result's slot
   pub ready_result : (env : StraightState) (s t : machine.State) (w : ℕ) → Ready z env s
-      → Wrote z 4 (result_offset z.declared) w s t → Ready z env t
+      → Wrote z 4 (result_offset z.laid) w s t → Ready z env t
   ready_result env s t w ready wrote = record {
     held = wrote.held;
     fits = ready.fits;
     homes_there = variables_home z env s t ready wrote.homes;
-    variables_there = variables_kept z (result_offset z.declared) env s t (omega arith) ready
-        (wrote_kept z 4 (result_offset z.declared) w s t wrote);
+    variables_there = variables_kept z (result_offset z.laid) env s t (omega arith) ready
+        (wrote_kept z 4 (result_offset z.laid) w s t wrote);
     controls_there = λ c below read. controls_kept z env s t ready wrote.homes c below read
-        (other_number z 4 (result_offset z.declared) w 4 (control_offset z.declared c) s t wrote
+        (other_number z 4 (result_offset z.laid) w 4 (control_offset z.laid c) s t wrote
         (inr (omega arith)));
   }
 
-  -- a word that is declared lies before the result
+  -- a word without a home lies before the result
   pub word_before : (x : ℕ) (word : WordType) (mutable : Bool) → slice_get z.declared x ≡ Some (word_as word mutable)
-      → variable_offset z.declared x + 4 ≤ result_offset z.declared
-  word_before x word mutable known =
-      omega (arith, ends_before_result z.declared x (word_as word mutable) known)
+      → home_of z.allocation.homes x ≡ None → variable_offset z.laid x + 4 ≤ result_offset z.laid
+  word_before x word mutable known away =
+      omega (arith, ends_before_result z.laid x (word_as word mutable) (z.lies x (word_as word mutable) known away))
 
   pub wrote_as : (n o v w : ℕ) (s t : machine.State) → v ≡ w → Wrote z n o v s t → Wrote z n o w s t
   wrote_as n o v w s t is wrote = subst (λ u. Wrote z n o u s t) is wrote

@@ -103,7 +103,7 @@ module _ (z : Setting) where
 
     a_beside : a ≢ b
     a_beside = at_control z (c + 1) (λ l. a ≢ register_of l 5)
-        (λ home at e. mask_beside z c 7 (length z.declared + (c + 1)) home (omega arith) (λ e. omega (arith, e)) at
+        (λ home at e. mask_beside z c 7 (length z.laid + (c + 1)) home (omega arith) (λ e. omega (arith, e)) at
         (sym e))
         (λ away. mask_apart z c 7 5 (omega arith) (λ e. omega (arith, e)))
 
@@ -232,10 +232,10 @@ module _ (z : Setting) where
 
     -- a register that is no home holds the mask of what has none
     in_spare : (d spare v : ℕ) (t : machine.State) → t.regs (mask_register z d spare) ≡ v
-        → home_of z.allocation.homes (length z.declared + d) ≡ None → t.regs spare ≡ v
+        → home_of z.allocation.homes (length z.laid + d) ≡ None → t.regs spare ≡ v
     in_spare d spare v t is away =
         let same : mask_register z d spare ≡ spare =
-        ap (λ h. register_of (at_home h (InSlot (control_offset z.declared d))) spare) away in
+        ap (λ h. register_of (at_home h (InSlot (control_offset z.laid d))) spare) away in
         ap t.regs (sym same) ∙ is
 
     pub take_runs : IsAmong z.controls within → IsKeptWithin z.allocation.unread within

@@ -33,7 +33,7 @@ use Rattle.codegen.proofs.expression_code_lemmas.NumberCode.{zero_known}
 use Rattle.codegen.proofs.expression_code_lemmas.Values.{kind_fits}
 use Rattle.codegen.proofs.expression_code_lemmas.WorkRegisters.{IsFree}
 use Rattle.std.proofs.lemmas.Bool.{or_from}
-use Rattle.codegen.specs.Below.{Fits}
+use Rattle.codegen.proofs.Logic.{AreOfKinds}
 
 -- either of two numbers fits where both do
 chosen_fits : (b : Bool) (v old n : ℕ) → v < n → old < n → (if b then v else old) < n
@@ -136,7 +136,7 @@ module _ (z : Setting) (depth : ℕ) (within : depth ≤ z.depths) (c : ℕ) (am
   -- A number of a variable without a home.
   module _ (x i : ℕ) (d : FlatVariable) (known : slice_get z.declared x ≡ Some d)
       (away : home_of z.allocation.homes x ≡ None) (below : i < numbers_in d.elements) (new : StraightState → ℕ)
-      (fits : (env : StraightState) → Fits (types_of z.code.profile z.declared) env.variables
+      (fits : (env : StraightState) → AreOfKinds (types_of z.code.profile z.declared) env.variables
       → new env < 2 ^ bits_of d.word.kind) where
     abbrev old : StraightState → ℕ
     old env = slice_index (env.variables x) i
@@ -153,7 +153,7 @@ module _ (z : Setting) (depth : ℕ) (within : depth ≤ z.depths) (c : ℕ) (am
         (loaded : Runs z m none loads (λ env s. Ready z env s × Aims s.regs) (λ env s t. Fetched z o o (old env) s t))
         (chooses : Chooses (λ q. q == w) New w o (mask_register z c spare) combine)
         (stored : Runs z n none stores (λ env s. HeldAt z s × Aims s.regs)
-        (λ env s t. Wrote z (bytes_of d) (place_of z.declared x d i) (s.regs w) s t)) where
+        (λ env s t. Wrote z (bytes_of d) (place_of z.laid x d i) (s.regs w) s t)) where
       others : (env : StraightState) (s t : machine.State) → Computed z combine env s t → (q : ℕ) → q ≢ w
           → t.regs q ≡ s.regs q
       others env s t done q other =
@@ -179,11 +179,11 @@ module _ (z : Setting) (depth : ℕ) (within : depth ≤ z.depths) (c : ℕ) (am
           let b = env.controls c in
           let v = new env in
           let kind = d.word.kind in
-          let place = place_of z.declared x d i in
-          let before = place_before z x d i known below in
+          let place = place_of z.laid x d i in
+          let before = place_before z x d i (z.lies x d known away) below in
           let held = one.0.fits x d known in
           let new_fits = fits env one.0.fits in
-          let old_fits = held.within i 0 (omega (arith, held.count, below)) in
+          let old_fits = held.within i 0 (omega (arith, held.count (omega (arith, below)), below)) in
           let chosen = chosen_fits b v (old env) (2 ^ bits_of kind) new_fits old_fits in
           let result = if b then v else old env in
           let made : m4.regs w ≡ result =
@@ -237,7 +237,7 @@ module _ (z : Setting) (depth : ℕ) (within : depth ≤ z.depths) (c : ℕ) (am
     abbrev Sets : ℕ → Steps → List Instr → Type 0
     Sets n steps code = Runs z n steps code (Ready z) (StateShown z depth (λ env. after env (set (Some c) x value)))
 
-    fits : (env : StraightState) → Fits (types_of z.code.profile z.declared) env.variables
+    fits : (env : StraightState) → AreOfKinds (types_of z.code.profile z.declared) env.variables
         → new env < 2 ^ bits_of typed.word.kind
     fits env all = suits_fits z.code.profile z.declared typed.word value env.variables all typed.suits
 
@@ -249,17 +249,18 @@ module _ (z : Setting) (depth : ℕ) (within : depth ≤ z.depths) (c : ℕ) (am
       pub slot_under : home_of z.allocation.homes x ≡ None
           → Chooses (λ q. q == 5) New 5 6 (mask_register z c 7) combine
           → Sets (n + 3 + 3 + length combine + 3) steps
-          (front ++ (((load_code 6 (variable_offset z.declared x) ++ fetch_code control 7) ++ combine)
-          ++ store_code 5 (variable_offset z.declared x)))
+          (front ++ (((load_code 6 (variable_offset z.laid x) ++ fetch_code control 7) ++ combine)
+          ++ store_code 5 (variable_offset z.laid x)))
       slot_under away chooses =
-          let o = variable_offset z.declared x in
-          let at : o ≡ place_of z.declared x d 0 = omega arith in
-          let before = word_before z x typed.word typed.mutable typed.known in
+          let o = variable_offset z.laid x in
+          let at : o ≡ place_of z.laid x d 0 = omega arith in
+          let before = word_before z x typed.word typed.mutable typed.known away in
           let inside : o + 4 ≤ z.size = omega (arith, before, z.room) in
           as_code (simp append_assoc)
           (gives
           (λ env s t fine ready done. record {
-            ready = under_alone z (env.controls c) x (new env) env t (ready.fits x d typed.known).count done.ready;
+            ready = under_alone z (env.controls c) x (new env) env t
+                ((ready.fits x d typed.known).count (omega arith)) done.ready;
             hidden = done.hidden;
           })
           (number_under x 0 d typed.known away (omega arith) new fits {New = New} {Aims = λ regs. Unit {0}} 6 7 5
@@ -298,7 +299,7 @@ module _ (z : Setting) (depth : ℕ) (within : depth ≤ z.depths) (c : ℕ) (am
           let v = new env in
           let old = slice_index (env.variables x) 0 in
           let held = ready.fits x d typed.known in
-          let count = held.count in
+          let count = held.count (omega arith) in
           let new_fits = fits env ready.fits in
           let old_fits = held.within 0 0 (omega (arith, count)) in
           let kind = typed.word.kind in
@@ -365,7 +366,7 @@ module _ (z : Setting) (depth : ℕ) (within : depth ≤ z.depths) (c : ℕ) (am
       nothing = idle (λ env s ready. (ready, λ o low high. refl, zero env))
 
       erased_at : (h : Option ℕ) → home_of z.allocation.homes x ≡ h
-          → Sets 11 none (erase_under_code (at_home h (InSlot (variable_offset z.declared x))) control)
+          → Sets 11 none (erase_under_code (at_home h (InSlot (variable_offset z.laid x))) control)
       erased_at None away =
           cheaper (omega arith)
           (slot_under {New = λ regs v. v ≡ 0} (λ regs after v same none. none) nothing away
@@ -394,7 +395,7 @@ module _ (z : Setting) (depth : ℕ) (within : depth ≤ z.depths) (c : ℕ) (am
 
       merged_at : (h : Option ℕ) → home_of z.allocation.homes x ≡ h
           → Sets (32 * (1 + term_nodes value)) (steps_of value) (read_code (layout_of z) 5 0 value
-          ++ set_under_code r (at_home h (InSlot (variable_offset z.declared x))) control)
+          ++ set_under_code r (at_home h (InSlot (variable_offset z.laid x))) control)
       merged_at None away =
           cheaper (omega arith)
           (slot_under {New = λ regs v. regs r ≡ v} stays (read_begun typed.suits.has_type room) away

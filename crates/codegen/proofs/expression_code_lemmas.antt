@@ -1,4 +1,5 @@
 pub mod Below
+pub mod Fitting
 pub mod Frame
 pub mod Moves
 pub mod Events

@@ -1,7 +1,7 @@
 -- The one image for straight code: two answers of `generate` are one. How its words are made is private.
-use Rattle.codegen.specs.Below.{StraightProgram}
-use Rattle.std.specs.Prelude.{Option}
-use Rattle.codegen.specs.private.Generated.{image_of, image_within}
+use Rattle.codegen.specs.Below.{FlatVariable, StraightProgram}
+use Rattle.std.specs.Prelude.{List, Option}
+use Rattle.codegen.specs.private.Generated.{image_of, image_within, laid_out}
 use Rattle.codegen.specs.private.Homes.{word_homes}
 use Rattle.codegen.specs.expression_code.Allocation.{plain}
 use Rattle.codegen.specs.image_fields.Fields.{Fields}
@@ -13,3 +13,7 @@ fields_of straight = image_of plain straight
 -- `generate_optimised` are one
 unfoldable pub optimised_fields_of : StraightProgram → Option Fields
 optimised_fields_of straight = image_within (word_homes straight) straight
+
+-- its variables as that image lays them out: one that lives in a register, and is no parameter, takes no words
+unfoldable pub optimised_variables : StraightProgram → List FlatVariable
+optimised_variables straight = laid_out (word_homes straight) straight

@@ -16,6 +16,6 @@ mod truths;
 pub use allocation::{Allocation, REGISTER_COUNT};
 pub use expressions::{expression, height, into};
 pub use laws::expressions_are_computed;
-pub use layout::{Layout, WORD_BYTES, offsets, slots};
+pub use layout::{Layout, WORD_BYTES, offsets, slots, slotted};
 pub use locations::{Location, fetch, move_register};
 pub use numbers::number;

@@ -1,13 +1,14 @@
 ghost use Rattle.std.specs.Prelude.{◌≡◌, [], ◌∷◌, ◌++◌, ◌+◌, ◌*◌, ◌<◌, ◌≤◌, ◌^◌, length, map, All, OnOk, IfOk, IfErr};
 ghost use Rattle.std.specs.Prelude.{IfSome, IfNone};
 ghost use Rattle.std.specs.Option.{option_map};
-ghost use Rattle.codegen.specs.Exact.{fields_of, optimised_fields_of};
+ghost use Rattle.codegen.specs.Exact.{fields_of, optimised_fields_of, optimised_variables};
 ghost use Rattle.codegen.specs.Followed.{IsGenerated};
 ghost use Rattle.codegen.specs.private.Fresh.{homes_but, starts_fresh};
 ghost use Rattle.codegen.specs.Below.{Ecall, most_nodes, most_work, program_height, word_of};
 ghost use Rattle.codegen.specs.expression_code.Allocation.{slots_to};
-ghost use Rattle.codegen.specs.private.Generated.{entry_code, program_code, result_slot, most_words};
-ghost use Rattle.codegen.specs.private.Generated.{step_limit, image_of, image_within};
+ghost use Rattle.codegen.specs.expression_code.Layout.{slotted};
+ghost use Rattle.codegen.specs.private.Generated.{entry_code, first_code, program_code, result_slot};
+ghost use Rattle.codegen.specs.private.Generated.{most_words, step_limit, image_of, image_within};
 ghost use Rattle.codegen.specs.private.Jumps.{IsFar};
 ghost use Rattle.codegen.specs.private.Room.{HasRoom, IsFitting, frame_of};
 ghost use Rattle.codegen.specs.image_fields.Fields.{IsImage};
@@ -16,18 +17,19 @@ ghost use Rattle.language.specs.WantOfMemory.{IsWantOfMemory};
 use crate::Code;
 use crate::control_uses::unread_controls;
 use crate::expression_code::{
-    Allocation, Layout, REGISTER_COUNT, WORD_BYTES, emit, offsets, slots,
+    Allocation, Layout, REGISTER_COUNT, WORD_BYTES, emit, offsets, slots, slotted,
 };
 use crate::fresh::starts_fresh;
 use crate::heights::{program_extent, temporary_registers};
-use crate::homes::word_homes;
+use crate::homes::{is_no_array, word_homes};
 use crate::image_fields::{ImageFields, ResultSlot};
 use crate::reading::assign;
 use crate::statements::statements;
 use crate::unemitted::Unemitted;
 use branch_removal::{Straight, StraightCode};
+use inline::FlatVariable;
 use language::Refusal;
-use rv_code::{Instr, encode};
+use rv_code::{Instr, Reg, encode};
 use std::alloc::{AllocError, Global};
 
 /// The register of the first temporary.
@@ -45,7 +47,24 @@ fn words(alloc: Global, code: &[Instr]) -> Result<Vec<u32>, AllocError>
     Ok(words)
 }
 
-/// The words that have homes, from their slots into these, but those that start fresh.
+/// What the home of a word gets first: what lies in its slot, and 0 where it has none.
+fn begin(
+    code: &mut Vec<Instr>,
+    layout: &Layout<'_>,
+    number: usize,
+    home: Reg,
+) -> Result<(), AllocError>
+    requires { number < length layout.now.declared + layout.now.controls }
+    ensures { OnOk result (code.new.items ≡ code.old.items ++ first_code layout.now.declared number home) }
+{
+    if is_no_array(layout.declared(), number) {
+        emit::load(code, home, layout.word(number))
+    } else {
+        emit::constant(code, home, 0)
+    }
+}
+
+/// The same of all words that have homes, but those that start fresh.
 fn enter(
     code: &mut Vec<Instr>,
     straight: &StraightCode<'_>,
@@ -58,7 +77,7 @@ fn enter(
     for (number, home) in layout.homes().iter().enumerate() {
         if let Some(register) = home {
             if !starts_fresh(straight, number) {
-                emit::load(code, *register, layout.word(number))?;
+                begin(code, layout, number, *register)?;
             }
         }
     }
@@ -137,8 +156,7 @@ fn temporary_slots(height: u32, layout: &Layout<'_>) -> u32
 
 /// The slot of the result, where there is one.
 fn result_slot(straight: &StraightCode<'_>, layout: &Layout<'_>) -> Option<ResultSlot>
-    requires { layout.now ≡ frame_of layout.now.allocation straight.now }
-    ensures { result ≡ option_map (result_slot straight.now.declared) straight.now.returned }
+    ensures { result ≡ option_map (result_slot layout.now.declared) straight.now.returned }
 {
     let word = straight.returned()?;
     Some(ResultSlot {
@@ -183,6 +201,23 @@ fn listed(
     Ok(ImageFields::new(profile, slots, returned, frame_bytes, max_steps, words))
 }
 
+/// A program's variables as they are laid out, where words have these homes.
+fn laid_out(
+    alloc: Global,
+    straight: &StraightCode<'_>,
+    homes: &[Option<Reg>],
+) -> Result<Vec<FlatVariable>, AllocError>
+    ensures { IfOk result (λ laid. laid.items
+        ≡ slotted (length straight.now.parameters) homes.now straight.now.declared) }
+{
+    slotted(
+        alloc,
+        straight.parameters().len(),
+        homes,
+        straight.declared(),
+    )
+}
+
 /// The code of a straight program, with registers given out so, where it has no more words than it may have.
 fn generate_with(
     alloc: Global,
@@ -196,7 +231,8 @@ fn generate_with(
     ensures memory { IfErr result (λ refusal. IsWantOfMemory refusal.rule refusal.place) }
 {
     let extent = program_extent(straight);
-    let declared = straight.declared();
+    let laid = laid_out(alloc, straight, allocation.homes())?;
+    let declared = laid.as_slice();
     let offsets = offsets(alloc, declared)?;
     let layout = Layout::new(
         declared,
@@ -247,4 +283,17 @@ pub fn generate_optimised(
     let unread = unread_controls(alloc, straight)?;
     let allocation = Allocation::new(count, homes.as_slice()).with_immediates(unread.as_slice());
     generate_with(alloc, straight, allocation)
+}
+
+/// The variables of a program as that image lays them out: one that lives in a register, and is no parameter, takes no
+/// words.
+pub fn optimised_variables(
+    alloc: Global,
+    straight: &StraightCode<'_>,
+) -> Result<Vec<FlatVariable>, AllocError>
+    ensures { IfOk result (λ laid. laid.items ≡ optimised_variables straight.now) }
+{
+    let count = temporary_registers(straight);
+    let homes = word_homes(alloc, straight, FIRST_TEMPORARY + count)?;
+    laid_out(alloc, straight, homes.as_slice())
 }

@@ -25,4 +25,4 @@ mod stored_values;
 mod unemitted;
 
 pub use code::Code;
-pub use generator::{generate, generate_optimised};
+pub use generator::{generate, generate_optimised, optimised_variables};

@@ -27,7 +27,6 @@ pub use Rattle.codegen.specs.expression_code.TermCode.{number_step_code, of_bits
 pub use Rattle.branch_removal.specs.Heights.{height_of}
 pub use Rattle.codegen.specs.declared.expression_code.locations.Location.{Location}
 pub use Rattle.codegen.specs.declared.expression_code.locations.Location.TheVariants.{InRegister, InSlot}
-pub use Rattle.inline.proofs.Fitting.{value_fits}
 pub use Rattle.inline.specs.Fitting.{Fits, IsWithinKind}
 pub use Rattle.inline.specs.Flat.{array_as, binary, convert, declaration_of, element, elements_by, numbers_in, prefix}
 pub use Rattle.inline.specs.Flat.{rotate, select, TermTree, variable, word_as}

@@ -25,7 +25,7 @@ use Rattle.codegen.proofs.expression_code_lemmas.Events.{by_known_index}
 use Rattle.codegen.proofs.expression_code_lemmas.NumberCode.{known, near_known}
 use Rattle.codegen.proofs.expression_code_lemmas.Operands.{RegisterOutcome}
 use Rattle.codegen.proofs.expression_code_lemmas.Places.{place_of, place_even, kind_known}
-use Rattle.codegen.proofs.expression_code_lemmas.Values.{Leaves, Ready, ValuedIn, place_ends}
+use Rattle.codegen.proofs.expression_code_lemmas.Values.{array_lies, Leaves, Ready, ValuedIn, place_ends}
 use Rattle.codegen.proofs.expression_code_lemmas.OperandRuns.{made, none_yet, Slots, still_ready, steps_of}
 
 -- with the lower part of the offset it is the address of an element
@@ -132,14 +132,14 @@ module _ (slots : Slots) (place d : ℕ) (target : IsTarget slots.z.allocation.c
       → (rs offset : ℕ) → rs < 32 → offset < 4096
       → Runs z 1 none (instr.Load (load_by word.kind) d rs offset ∷ [])
       (λ env s. HeldAt z s
-      × (address_of s.regs rs offset ≡ z.frame + place_of z.declared x (array_as word mutable size) i)
+      × (address_of s.regs rs offset ≡ z.frame + place_of z.laid x (array_as word mutable size) i)
       × (number_at s.bytes (element_bytes word.kind)
-      (z.frame + place_of z.declared x (array_as word mutable size) i) ≡ Some (slice_index (env.variables x) i))
+      (z.frame + place_of z.laid x (array_as word mutable size) i) ≡ Some (slice_index (env.variables x) i))
       × (value_in env.variables index ≡ i))
       (λ env s t. RegisterOutcome z works d (value_in env.variables (element source x size index)) s t)
   loaded source x size word mutable i index known below rs offset small short =
       let array = array_as word mutable size in
-      let a = place_of z.declared x array i in
+      let a = place_of z.laid x array i in
       let bytes = load_bytes word.kind in
       weaken
       (λ env s fine given. (given.0, given.1))
@@ -154,21 +154,26 @@ module _ (slots : Slots) (place d : ℕ) (target : IsTarget slots.z.allocation.c
         same = two.1.bytes;
       })
       (loading z rs offset a small short (load_by word.kind) d target.free.low target.free.small
-      (ap (λ n. a % n) bytes ∙ place_even z.declared x array i) (omega (arith, place_ends z x array i known below)))
+      (ap (λ n. a % n) bytes ∙ place_even z.laid x array i) (omega (
+        arith,
+        place_ends z x array i
+            (array_lies z x size word mutable known) below,
+      )))
 
   -- and that at an index that is in a register
   pub picked : (r : ℕ) → IsFree r
       → (source : Place) (x size : ℕ) (word : WordType) (mutable : Bool) (i : ℕ) (index : TermTree)
       → slice_get z.declared x ≡ Some (array_as word mutable size) → i < size
-      → Runs z 5 none (element_code d r word.kind (variable_offset z.declared x))
+      → Runs z 5 none (element_code d r word.kind (variable_offset z.laid x))
       (MarkKnown (setting z) ℕ (λ j. j < size) (λ env s. Ready z env s × (s.regs r ≡ value_in env.variables index))
       (λ env. value_in env.variables index) i)
       (λ env s t. RegisterOutcome z works d (value_in env.variables (element source x size index)) s t)
   picked r at source x size word mutable i index known below =
-      let o = variable_offset z.declared x in
+      let o = variable_offset z.laid x in
       let array = array_as word mutable size in
-      let a = place_of z.declared x array i in
+      let a = place_of z.laid x array i in
       let away = z.allocated.words x array size known refl in
+      let lies = array_lies z x size word mutable known in
       gives
       (λ env s t fine given done.
       let one = done.first in
@@ -181,7 +186,7 @@ module _ (slots : Slots) (place d : ℕ) (target : IsTarget slots.z.allocation.c
       (quiet
       (weaken
       (λ env s fine given.
-      (given.given.0.held, given.given.1 ∙ given.is, omega (arith, place_ends z x array i known below)))
+      (given.given.0.held, given.given.1 ∙ given.is, omega (arith, place_ends z x array i lies below)))
       (λ env s t fine given done. done)
       (address_runs z d r target.free at target.no_address word.kind o (λ env. i)))
       (loaded source x size word mutable i index known below d (lower_part o) target.free.small (lower_fits o))
@@ -192,15 +197,16 @@ module _ (slots : Slots) (place d : ℕ) (target : IsTarget slots.z.allocation.c
   -- so the element at an index that is known to be one whose access holds its offset
   pub near_runs : (source : Place) {x size : ℕ} {index : TermTree} {word : WordType} {mutable : Bool}
       → slice_get z.declared x ≡ Some (array_as word mutable size)
-      → (o : ℕ) → near_element z.declared z.allocation x index ≡ Some o
-      → Runs z 1 (steps_of (element source x size index)) (near_code d (kind_at z.declared x) o) (Ready z)
+      → (o : ℕ) → near_element z.laid z.allocation x index ≡ Some o
+      → Runs z 1 (steps_of (element source x size index)) (near_code d (kind_at z.laid x) o) (Ready z)
       (ValuedIn z (element source x size index) free d place)
   near_runs source {x = x} {size = size} {index = index} {word = word} {mutable = mutable} is o e =
       let array = array_as word mutable size in
-      let near = near_known z.declared z.allocation x index o e in
-      let kind = kind_known z.declared x array is in
-      let at : place_of z.declared x array near.i ≡ o =
-      ap (λ k. variable_offset z.declared x + element_bytes k * near.i) (sym kind) ∙ near.at in
+      let near = near_known z.laid z.allocation x index o e in
+      let lies = array_lies z x size word mutable is in
+      let kind = kind_known z.laid x array lies in
+      let at : place_of z.laid x array near.i ≡ o =
+      ap (λ k. variable_offset z.laid x + element_bytes k * near.i) (sym kind) ∙ near.at in
       as_code (ap (λ k. near_code d k o) kind)
       (along (λ env. ap (λ (p : Path). p ++ indexed source size (value_in env.variables index) ∷ [])
       (known index near.i near.is env.variables).1)
@@ -212,7 +218,7 @@ module _ (slots : Slots) (place d : ℕ) (target : IsTarget slots.z.allocation.c
       (λ env s fine ready. (
         ready.held,
         ap (λ b. sum_of b (sign_extended 12 o)) ready.held.base
-            ∙ (near_address z.frame o near.near (omega (arith, place_ends z x array near.i is below))
+            ∙ (near_address z.frame o near.near (omega (arith, place_ends z x array near.i lies below))
             ∙ ap (λ a. z.frame + a) (sym at)),
         ready.variables_there x array near.i is (z.allocated.words x array size is refl) below,
         (known index near.i near.is env.variables).0,

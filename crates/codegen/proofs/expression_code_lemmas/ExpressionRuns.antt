@@ -12,10 +12,11 @@ use Rattle.codegen.proofs.expression_code_lemmas.Below.{number_at, number_code, 
 use Rattle.codegen.proofs.expression_code_lemmas.Below.{of_conversion, of_element, of_number, of_prefix, of_rotation}
 use Rattle.codegen.proofs.expression_code_lemmas.Below.{of_selection, of_truth, of_variable, operand, operated, Path}
 use Rattle.codegen.proofs.expression_code_lemmas.Below.{path_in, Place, right_row, select, slots_to, term_nodes}
-use Rattle.codegen.proofs.expression_code_lemmas.Below.{TermTree, types_of, value_fits, value_in, Values, variable}
+use Rattle.codegen.proofs.expression_code_lemmas.Below.{TermTree, types_of, value_in, Values, variable}
 use Rattle.codegen.proofs.expression_code_lemmas.Below.{variable_offset, weaken, Width, width_of, only_computes}
 use Rattle.codegen.proofs.expression_code_lemmas.Below.{registers_after, word_as, word_of, WordType, working_register}
 use Rattle.codegen.proofs.expression_code_lemmas.Events.{by_index}
+use Rattle.codegen.proofs.expression_code_lemmas.Fitting.{value_fits}
 use Rattle.codegen.proofs.expression_code_lemmas.Frame.{Setting, Steps, base_of, by_option, Runs, HeldAt, terms_at}
 use Rattle.codegen.proofs.expression_code_lemmas.WorkRegisters.{place_works, IsFree, ArePair, IsTarget, free_from}
 use Rattle.codegen.proofs.expression_code_lemmas.WorkRegisters.{working_free, operand_apart, operand_not, own_target}
@@ -33,8 +34,8 @@ use Rattle.codegen.proofs.expression_code_lemmas.Homes.{conversion_kept}
 use Rattle.codegen.proofs.expression_code_lemmas.Places.{kind_known}
 use Rattle.codegen.proofs.expression_code_lemmas.TermLengths.{height, constant_length, move_length, convert_length}
 use Rattle.codegen.proofs.expression_code_lemmas.TermLengths.{number_length, prefix_length, rotate_length}
-use Rattle.codegen.proofs.expression_code_lemmas.Values.{Leaves, Ready, Valued, ValuedIn, kind_fits, place_ends}
-use Rattle.codegen.proofs.expression_code_lemmas.Values.{value_word}
+use Rattle.codegen.proofs.expression_code_lemmas.Values.{array_lies, Leaves, Ready, Valued, ValuedIn, kind_fits}
+use Rattle.codegen.proofs.expression_code_lemmas.Values.{place_ends, value_word}
 use Rattle.codegen.proofs.expression_code_lemmas.Elements.{near_runs, picked}
 use Rattle.codegen.proofs.expression_code_lemmas.OperandRuns.{found, found_apart, found_free, found_is, HasSlot, Lies}
 use Rattle.codegen.proofs.expression_code_lemmas.OperandRuns.{made, OperandsFetched, none_yet, one_fetched, one_more}
@@ -127,11 +128,11 @@ module _ (z : Setting) (free : ℕ) (aligned : free % 4 ≡ 0) (above : base_of 
     -- A variable, from its slot or its home.
     copied : {x : ℕ} {word : WordType} {mutable : Bool} → slice_get z.declared x ≡ Some (word_as word mutable)
         → (h : Option ℕ) → home_of z.allocation.homes x ≡ h
-        → Runs z 3 none (copy_code d (at_home h (InSlot (variable_offset z.declared x)))) (Ready z)
+        → Runs z 3 none (copy_code d (at_home h (InSlot (variable_offset z.laid x)))) (Ready z)
         (λ env s t. RegisterOutcome z works d (value_in env.variables (variable x)) s t)
     copied {x = x} {word = word} {mutable = mutable} is None at =
         let v = word_as word mutable in
-        let o = variable_offset z.declared x in
+        let o = variable_offset z.laid x in
         let first : o + 4 * 0 ≡ o = omega arith in
         weaken
         (λ env s fine ready. ready.held)
@@ -142,7 +143,7 @@ module _ (z : Setting) (free : ℕ) (aligned : free % 4 ≡ 0) (above : base_of 
         let others : Leaves works s t = λ q h. got.others q (not_written works q d h own) in
         assumption)
         (move_runs z (take d o) (simp (lt-ltb 4 d target.free.low, lt-ltb d 32 target.free.small))
-        (omega arith, omega (arith, place_ends z x v 0 is (omega arith))))
+        (omega arith, omega (arith, place_ends z x v 0 (z.lies x v is at) (omega arith))))
     copied {x = x} {word = word} {mutable = mutable} is (Some home) at =
         let there = z.allocated.allowed x home at in
         let source : IsFree home = free_from home (omega arith) (omega arith) in
@@ -377,11 +378,11 @@ module _ (z : Setting) (free : ℕ) (aligned : free % 4 ≡ 0) (above : base_of 
       let e = λ (j : ℕ). index in
       let array = array_as word mutable size in
       let r = found slots place index 29 in
-      let kind = kind_known z.declared x array is in
-      by_option (near_element z.declared z.allocation x index)
+      let kind = kind_known z.laid x array (array_lies z x size word mutable is) in
+      by_option (near_element z.laid z.allocation x index)
       (λ o near. cheaper (omega arith) (near_runs slots place d target source is o near))
       (λ far. as_code (ap (λ kind. placed_at place index ++ fetched place index 29
-      ++ element_code d r kind (variable_offset z.declared x)) kind)
+      ++ element_code d r kind (variable_offset z.laid x)) kind)
       (cheaper (omega (arith, height index))
       (made slots place e d (one_fetched slots place e 0 (omega arith) (omega arith) (omega arith)
       (one_more slots place e 0 (none_yet slots place e) (lies has place room (into_runs has place))))

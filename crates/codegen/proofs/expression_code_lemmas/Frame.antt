@@ -1,11 +1,11 @@
 -- Where code and frame lie: the setting of all pieces of code here. They are run beside a state of straight code, the
 -- marks of a path are those of the inlined program, and all accesses stay inside the frame.
 use Rattle.std.proofs.Common.{◌≡◌, ◌⊎◌, inl, inr, ℕ, zero, suc, ◌+◌, ◌%◌, ◌^◌, ◌<◌, ◌≤◌, Bool, true, false, ◌&&◌, List}
-use Rattle.std.proofs.Common.{[], ◌∷◌, ◌++◌, length, All, Option, Some, None, is_some, refl, ap, ◌∙◌, arith}
+use Rattle.std.proofs.Common.{[], ◌∷◌, ◌++◌, length, All, Option, Some, None, is_some, slice_get, refl, ap, ◌∙◌, arith}
 use Rattle.codegen.proofs.expression_code_lemmas.Below.{Allocation, AreFine, byte_count, ByteMap, MachineCode}
-use Rattle.codegen.proofs.expression_code_lemmas.Below.{FlatVariable, Instr, code_by, IsAllocation, IsInside, joined}
-use Rattle.codegen.proofs.expression_code_lemmas.Below.{Mark, number_at, number_at-suc, number_at-zero, Observation}
-use Rattle.codegen.proofs.expression_code_lemmas.Below.{Path, seen-append, Size, State, StraightState}
+use Rattle.codegen.proofs.expression_code_lemmas.Below.{FlatVariable, home_of, Instr, code_by, IsAllocation, IsInside}
+use Rattle.codegen.proofs.expression_code_lemmas.Below.{joined, Mark, number_at, number_at-suc, number_at-zero}
+use Rattle.codegen.proofs.expression_code_lemmas.Below.{Observation, Path, seen-append, Size, State, StraightState}
 use Rattle.codegen.proofs.expression_code_lemmas.Below.{temporaries_offset, with_number, with_number_above}
 use Rattle.codegen.proofs.expression_code_lemmas.Below.{with_number_below}
 use Rattle.codegen.specs.Below.{seen as seen_of}
@@ -14,21 +14,25 @@ use Rattle.codegen.proofs.program_logic_lemmas.Face as logic
 use Rattle.rv_machine.specs.declared.observation.Event.TheVariants as event
 
 -- where code and frame lie, how the frame is laid out, how registers are given out, and how many iterations are counted
--- for each counter
+-- for each counter; variables as they are typed, and as they are laid out: one without a home is so as it is typed
 pub record Setting : Type 0 where
   pub code : MachineCode
   pub frame : ℕ
   pub size : ℕ
   pub counts : List ℕ
   pub declared : List FlatVariable
+  pub laid : List FlatVariable
   pub controls : ℕ
   pub depths : ℕ
   pub allocation : Allocation
   pub allocated : IsAllocation declared allocation
+  pub as_many : length laid ≡ length declared
+  pub lies : (x : ℕ) (d : FlatVariable) → slice_get declared x ≡ Some d → home_of allocation.homes x ≡ None
+      → slice_get laid x ≡ Some d
   pub even : frame % 4 ≡ 0
   pub ends : frame + size < 2 ^ 32
   pub room : temporaries_offset (record {
-    declared = declared;
+    declared = laid;
     controls = controls;
     depths = depths;
     allocation = allocation;
@@ -36,11 +40,11 @@ pub record Setting : Type 0 where
 
 -- how the frame is laid out
 abbrev pub layout_of : Setting → Frame
-layout_of z = record { declared = z.declared; controls = z.controls; depths = z.depths; allocation = z.allocation }
+layout_of z = record { declared = z.laid; controls = z.controls; depths = z.depths; allocation = z.allocation }
 
 -- what the code of expressions goes by, where the slots of temporaries begin at this offset
 abbrev pub terms_at : Setting → ℕ → TermLayout
-terms_at z free = record { declared = z.declared; allocation = z.allocation; free = free }
+terms_at z free = record { declared = z.laid; allocation = z.allocation; free = free }
 
 -- where the temporaries begin
 abbrev pub base_of : Setting → ℕ

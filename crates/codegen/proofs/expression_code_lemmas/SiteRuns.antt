@@ -1,11 +1,12 @@
 -- The law of expressions: the code of one, at a site.
-use Rattle.std.proofs.Common.{◌≡◌, ℕ, ◌+◌, ◌<◌, List, [], Some, sym, ap, arith, append-nil, false, nat_lt}
+use Rattle.std.proofs.Common.{◌≡◌, ℕ, ◌+◌, ◌<◌, List, [], Some, refl, sym, ap, arith, append-nil, false, nat_lt}
 use Rattle.codegen.proofs.expression_code_lemmas.Below.{TermHasType, InRegister, InSlot, IsComputed, IsSiteOf, Location}
 use Rattle.codegen.proofs.expression_code_lemmas.Below.{ltb-false, ltb-true, Observation, operand, Path, path_in, Site}
 use Rattle.codegen.proofs.expression_code_lemmas.Below.{slot_of, State, StraightState, TermTree, types_of, value_in}
 use Rattle.codegen.proofs.expression_code_lemmas.Below.{Values, word_in, WordType, ends_on}
 use Rattle.codegen.specs.expression_code.Computed.{temporary_in}
 use Rattle.std.proofs.lemmas.Bool.{cond_both}
+use Rattle.codegen.proofs.expression_code_lemmas.Fitting.{fits_kinds}
 use Rattle.codegen.proofs.expression_code_lemmas.Frame.{frame_kept, Setting, seen_by}
 use Rattle.codegen.proofs.expression_code_lemmas.WorkRegisters.{works_in, lower_stays}
 use Rattle.codegen.proofs.expression_code_lemmas.Values.{Ready, Kept, Leaves, Holds, homes_left, kept_number}
@@ -20,10 +21,13 @@ setting_of e site fit = record {
   size = site.size;
   counts = [];
   declared = site.layout.declared;
+  laid = site.layout.declared;
   controls = 0;
   depths = 0;
   allocation = site.layout.allocation;
   allocated = fit.allocated;
+  as_many = refl;
+  lies = λ x d is away. is;
   even = fit.even;
   ends = fit.ends;
   room = omega arith;
@@ -65,7 +69,7 @@ expressions_are_computed e word site has fit =
           let path = seen_by z (path_in m e) in
           let ready : Ready z (state_of m) s = record {
             held = assumption;
-            fits = there.fits;
+            fits = fits_kinds (types_of site.code.profile site.layout.declared) m there.fits;
             homes_there = there.homes_there;
             variables_there = there.variables_there;
             controls_there = λ c below read. absurd (omega arith);

@@ -1,16 +1,17 @@
 -- What is shown of the state of straight code, and what the code of an expression leaves.
 use Rattle.std.proofs.Common.{◌≡◌, ◌≢◌, ℕ, ◌+◌, ◌-◌, ◌%◌, ◌^◌, ◌<◌, ◌≤◌, Bool, false, nat_lt, List, None, Some, inl}
-use Rattle.std.proofs.Common.{inr, length, slice_get, slice_index, ap, ◌∙◌, arith, sym}
-use Rattle.codegen.proofs.expression_code_lemmas.Below.{ByteMap, control_location, control_offset, is_unread, Fits}
-use Rattle.codegen.proofs.expression_code_lemmas.Below.{FlatVariable, TermHasType, home_of, InRegister, InSlot}
-use Rattle.codegen.proofs.expression_code_lemmas.Below.{IsWithinKind, Kind, Location, ltb-false, ltb-true, next_offset}
-use Rattle.codegen.proofs.expression_code_lemmas.Below.{number_at, number_at-with_number, number_at_same, numbers_in}
+use Rattle.std.proofs.Common.{inr, length, slice_get, slice_index, refl, ap, ◌∙◌, arith, sym}
+use Rattle.codegen.proofs.expression_code_lemmas.Below.{ByteMap, control_location, control_offset, is_unread}
+use Rattle.codegen.proofs.expression_code_lemmas.Below.{array_as, FlatVariable, TermHasType, home_of, InRegister}
+use Rattle.codegen.proofs.expression_code_lemmas.Below.{InSlot, IsWithinKind, Kind, Location, ltb-false, ltb-true}
+use Rattle.codegen.proofs.expression_code_lemmas.Below.{next_offset, number_at, number_at-with_number, number_at_same, numbers_in}
 use Rattle.codegen.proofs.expression_code_lemmas.Below.{operand, Profile, result_offset, slot_of, State, StraightState}
-use Rattle.codegen.proofs.expression_code_lemmas.Below.{TermTree, types_of, value_fits, value_in, Values, with_number}
+use Rattle.codegen.proofs.expression_code_lemmas.Below.{TermTree, types_of, value_in, Values, with_number}
 use Rattle.codegen.proofs.expression_code_lemmas.Below.{with_number_below, WordType}
 use Rattle.std.proofs.lemmas.Bool.{cond_both}
 use Rattle.codegen.specs.Below.{Uint32}
 use Rattle.codegen.proofs.expression_code_lemmas.Frame.{Setting, base_of, HeldAt, Held, layout_of, terms_at}
+use Rattle.codegen.proofs.expression_code_lemmas.Fitting.{AreOfKinds, value_fits}
 use Rattle.codegen.proofs.expression_code_lemmas.Arithmetic.{mask_of}
 use Rattle.codegen.proofs.expression_code_lemmas.WorkRegisters.{IsHome, works_in, works_at, home_stays, lower_stays}
 use Rattle.codegen.proofs.expression_code_lemmas.WorkRegisters.{stays_spare, at_operand, cases_Option}
@@ -30,12 +31,12 @@ Holds z (InSlot o) t v = number_at t.bytes 4 (z.frame + o) ≡ Some v
 pub record Ready (z : Setting) (env : StraightState) (s : State) : Type 0 where
   pub held : Held z env s
   -- the values are within their kinds
-  pub fits : Fits (types_of z.code.profile z.declared) env.variables
+  pub fits : AreOfKinds (types_of z.code.profile z.declared) env.variables
   pub homes_there : (x home : ℕ) (d : FlatVariable) → slice_get z.declared x ≡ Some d
       → home_of z.allocation.homes x ≡ Some home → s.regs home ≡ slice_index (env.variables x) 0
   pub variables_there : (x : ℕ) (d : FlatVariable) (i : ℕ) → slice_get z.declared x ≡ Some d
       → home_of z.allocation.homes x ≡ None → i < numbers_in d.elements
-      → number_at s.bytes (bytes_of d) (z.frame + place_of z.declared x d i) ≡ Some (slice_index (env.variables x) i)
+      → number_at s.bytes (bytes_of d) (z.frame + place_of z.laid x d i) ≡ Some (slice_index (env.variables x) i)
   pub controls_there : (c : ℕ) → c < z.controls → is_unread z.allocation c ≡ false
       → Holds z (control_location (layout_of z) c) s (mask_of (env.controls c))
 
@@ -102,14 +103,22 @@ wrote_there z o v s t wrote below =
     ap (λ (b : ByteMap). number_at b 4 (z.frame + o)) wrote.written
     ∙ (number_at-with_number s.bytes 4 (z.frame + o) v ∙ ap Some cut)
 
-pub place_before : (z : Setting) (x : ℕ) (d : FlatVariable) (i : ℕ) → slice_get z.declared x ≡ Some d
-    → i < numbers_in d.elements → place_of z.declared x d i + bytes_of d ≤ result_offset z.declared
+-- an array is laid out as it is typed
+pub array_lies : (z : Setting) (x size : ℕ) (word : WordType) (mutable : Bool)
+    → slice_get z.declared x ≡ Some (array_as word mutable size)
+    → slice_get z.laid x ≡ Some (array_as word mutable size)
+array_lies z x size word mutable is =
+    let array = array_as word mutable size in
+    z.lies x array is (z.allocated.words x array size is refl)
+
+pub place_before : (z : Setting) (x : ℕ) (d : FlatVariable) (i : ℕ) → slice_get z.laid x ≡ Some d
+    → i < numbers_in d.elements → place_of z.laid x d i + bytes_of d ≤ result_offset z.laid
 place_before z x d i is below =
-    omega (arith, place_within z.declared x d i below, ends_before_result z.declared x d is)
+    omega (arith, place_within z.laid x d i below, ends_before_result z.laid x d is)
 
 -- so inside the frame
-pub place_ends : (z : Setting) (x : ℕ) (d : FlatVariable) (i : ℕ) → slice_get z.declared x ≡ Some d
-    → i < numbers_in d.elements → place_of z.declared x d i + bytes_of d ≤ z.size
+pub place_ends : (z : Setting) (x : ℕ) (d : FlatVariable) (i : ℕ) → slice_get z.laid x ≡ Some d
+    → i < numbers_in d.elements → place_of z.laid x d i + bytes_of d ≤ z.size
 place_ends z x d i is below = omega (arith, place_before z x d i is below, z.room)
 
 -- homes stay where no register is written but those of temporaries
@@ -132,20 +141,20 @@ variables_home z env s t ready homes x home d is at = homes home (z.allocated.al
 
 -- where a control value is: in its home, or in its slot
 pub at_control : (z : Setting) (c : ℕ) (P : Location → Type 0)
-    → ((home : ℕ) → home_of z.allocation.homes (length z.declared + c) ≡ Some home → P (InRegister home))
-    → (home_of z.allocation.homes (length z.declared + c) ≡ None → P (InSlot (control_offset z.declared c)))
+    → ((home : ℕ) → home_of z.allocation.homes (length z.laid + c) ≡ Some home → P (InRegister home))
+    → (home_of z.allocation.homes (length z.laid + c) ≡ None → P (InSlot (control_offset z.laid c)))
     → P (control_location (layout_of z) c)
 at_control z c P in_home in_slot =
-    elim (cases_Option (home_of z.allocation.homes (length z.declared + c))) [
+    elim (cases_Option (home_of z.allocation.homes (length z.laid + c))) [
       | inl found ↦ rw found.1 (in_home found.0 found.1)
       | inr at ↦ rw at (in_slot at)
     ]
 
 -- its mask stays there
 pub control_stays : (z : Setting) (c v : ℕ) (s t : State)
-    → ((home : ℕ) → home_of z.allocation.homes (length z.declared + c) ≡ Some home → t.regs home ≡ s.regs home)
-    → number_at t.bytes 4 (z.frame + control_offset z.declared c)
-    ≡ number_at s.bytes 4 (z.frame + control_offset z.declared c)
+    → ((home : ℕ) → home_of z.allocation.homes (length z.laid + c) ≡ Some home → t.regs home ≡ s.regs home)
+    → number_at t.bytes 4 (z.frame + control_offset z.laid c)
+    ≡ number_at s.bytes 4 (z.frame + control_offset z.laid c)
     → Holds z (control_location (layout_of z) c) s v
     → Holds z (control_location (layout_of z) c) t v
 control_stays z c v s t homes slot =
@@ -155,23 +164,23 @@ control_stays z c v s t homes slot =
 -- where no home is written
 pub controls_kept : (z : Setting) (env : StraightState) (s t : State) → Ready z env s → HomesKept z s t
     → (c : ℕ) → c < z.controls → is_unread z.allocation c ≡ false
-    → number_at t.bytes 4 (z.frame + control_offset z.declared c)
-    ≡ number_at s.bytes 4 (z.frame + control_offset z.declared c)
+    → number_at t.bytes 4 (z.frame + control_offset z.laid c)
+    ≡ number_at s.bytes 4 (z.frame + control_offset z.laid c)
     → Holds z (control_location (layout_of z) c) t (mask_of (env.controls c))
 controls_kept z env s t ready homes c among read slot =
     control_stays z c (mask_of (env.controls c)) s t
-    (λ home at. homes home (z.allocated.allowed (length z.declared + c) home at)) slot
+    (λ home at. homes home (z.allocated.allowed (length z.laid + c) home at)) slot
     (ready.controls_there c among read)
 
 -- the others stay where nothing before the result is written
-pub variables_kept : (z : Setting) (free : ℕ) (env : StraightState) (s t : State) → result_offset z.declared ≤ free
+pub variables_kept : (z : Setting) (free : ℕ) (env : StraightState) (s t : State) → result_offset z.laid ≤ free
     → Ready z env s → Kept z free s t
     → (x : ℕ) (d : FlatVariable) (i : ℕ) → slice_get z.declared x ≡ Some d → home_of z.allocation.homes x ≡ None
     → i < numbers_in d.elements
-    → number_at t.bytes (bytes_of d) (z.frame + place_of z.declared x d i) ≡ Some (slice_index (env.variables x) i)
+    → number_at t.bytes (bytes_of d) (z.frame + place_of z.laid x d i) ≡ Some (slice_index (env.variables x) i)
 variables_kept z free env s t above ready kept x d i is away below =
-    kept_number z free s t kept (bytes_of d) (place_of z.declared x d i)
-    (omega (arith, place_before z x d i is below, above)) ∙ ready.variables_there x d i is away below
+    kept_number z free s t kept (bytes_of d) (place_of z.laid x d i)
+    (omega (arith, place_before z x d i (z.lies x d is away) below, above)) ∙ ready.variables_there x d i is away below
 
 -- what is shown stays shown where nothing before the loops' words is
 pub ready_below : (z : Setting) (free : ℕ) → next_offset (layout_of z) 0 ≤ free
@@ -183,7 +192,7 @@ ready_below z free above env s t ready held kept homes = record {
   homes_there = variables_home z env s t ready homes;
   variables_there = variables_kept z free env s t (omega arith) ready kept;
   controls_there = λ c below read. controls_kept z env s t ready homes c below read
-      (kept_number z free s t kept 4 (control_offset z.declared c) (omega arith));
+      (kept_number z free s t kept 4 (control_offset z.laid c) (omega arith));
 }
 
 pub ready_after : (z : Setting) (env : StraightState) (s t : State) → Ready z env s → Held z env t
@@ -197,7 +206,7 @@ kind_fits kind v h = omega arith
 
 -- a well-typed expression's value is a word
 pub value_word : (profile : Profile) (declared : List FlatVariable) (e : TermTree) (word : WordType) (m : Values)
-    → Fits (types_of profile declared) m → TermHasType (types_of profile declared) e word → value_in m e < 2 ^ 32
+    → AreOfKinds (types_of profile declared) m → TermHasType (types_of profile declared) e word → value_in m e < 2 ^ 32
 value_word profile declared e word m fits has =
     kind_fits word.kind (value_in m e) (value_fits (types_of profile declared) m fits has)
 

@@ -157,7 +157,8 @@ home_allowed declared a allocated (convert kind e) home at =
 home_allowed declared a allocated e home at = absurd (none-some home at)
 
 -- Where an expression's value is.
-module _ (layout : TermLayout) (allocated : IsAllocation layout.declared layout.allocation) (place : ℕ) where
+module _ (layout : TermLayout) {declared : List FlatVariable} (allocated : IsAllocation declared layout.allocation)
+    (place : ℕ) where
   -- what is so of the temporary of a place and of each home is so of where any expression is
   pub at_operand : (P : Location → Type 0) → P (temporary layout.allocation.count layout.free place)
       → ((home : ℕ) → IsHome layout.allocation.count home → P (InRegister home))
@@ -166,7 +167,7 @@ module _ (layout : TermLayout) (allocated : IsAllocation layout.declared layout.
       elim (cases_Option (home_of_term layout.allocation e)) [
         | inl found ↦
             rw found.1 (at_home found.0
-            (home_allowed layout.declared layout.allocation allocated e found.0 found.1))
+            (home_allowed declared layout.allocation allocated e found.0 found.1))
         | inr at ↦ rw at there
       ]
 

@@ -1,23 +1,41 @@
 -- Where a program's words lie in the frame: the variables, of which the parameters are the first, then the result,
 -- the control values, two words for each loop that others are in, and the temporaries. All these offsets are
--- multiples of 4.
-use Rattle.std.specs.Prelude.{ℕ, ◌+◌, ◌-◌, ◌*◌, List, [], ◌∷◌, Option, None, Some, length, nat_lt, take}
-use Rattle.std.specs.Prelude.{if◌then◌else◌}
+-- multiples of 4. A variable that lives in a register takes no words, unless it is a parameter.
+use Rattle.std.specs.Prelude.{ℕ, ◌+◌, ◌-◌, ◌*◌, ◌||◌, Bool, List, [], ◌∷◌, Option, None, Some, is_none, length}
+use Rattle.std.specs.Prelude.{nat_lt, take, if◌then◌else◌}
 use Rattle.codegen.specs.expression_code.Allocation.{Allocation, home_of, at_home}
 use Rattle.codegen.specs.declared.expression_code.locations.Location.{Location}
 use Rattle.codegen.specs.declared.expression_code.locations.Location.TheVariants.{InSlot}
 use Rattle.codegen.specs.declared.image_fields.slot.Slot.{Slot}
 use Rattle.codegen.specs.Below.{declaration_of, declared_words, element_bytes, FlatVariable, Kind, Param, words_of}
 
--- what is laid out: variables, control values, and loops one in the other; and how registers are given out
+-- whether the word x has a slot: it has no home, or it is one of the first so many, the parameters
+abbrev pub has_slot : ℕ → List (Option ℕ) → ℕ → Bool
+has_slot given homes x = nat_lt x given || is_none (home_of homes x)
+
+-- a variable that takes no words, as an array of no elements
+abbrev pub without_words : FlatVariable → FlatVariable
+without_words d = record { word = d.word; mutable = d.mutable; elements = Some 0 }
+
+-- how variables are laid out, from the one of number x on, where so many first ones are parameters
+abbrev pub slotted_from : ℕ → List (Option ℕ) → ℕ → List FlatVariable → List FlatVariable
+slotted_from given homes x [] = []
+slotted_from given homes x (d ∷ ds) =
+    (if has_slot given homes x then d else without_words d) ∷ slotted_from given homes (x + 1) ds
+
+abbrev pub slotted : ℕ → List (Option ℕ) → List FlatVariable → List FlatVariable
+slotted given homes declared = slotted_from given homes 0 declared
+
+-- what is laid out: variables as they take words, control values, and loops one in the other; and how registers are
+-- given out
 pub record Frame : Type 0 where
   pub declared : List FlatVariable
   pub controls : ℕ
   pub depths : ℕ
   pub allocation : Allocation
 
--- the part of a layout that the code of expressions goes by: the variables, how registers are given out, and where the
--- slots of temporaries begin
+-- the part of a layout that the code of expressions goes by: the variables as they take words, how registers are given
+-- out, and where the slots of temporaries begin
 pub record TermLayout : Type 0 where
   pub declared : List FlatVariable
   pub allocation : Allocation

@@ -1,9 +1,11 @@
 // Where a program's words lie in the frame.
 
-ghost use Rattle.std.specs.Prelude.{◌≡◌, ◌≤◌, ◌<◌, ◌+◌, ◌*◌, length, map, slice_get, unwrap_or, IfOk};
+ghost use Rattle.std.specs.Prelude.{◌≡◌, ◌≤◌, ◌<◌, ◌+◌, ◌*◌, length, map, slice_get, unwrap_or, if◌then◌else◌};
+ghost use Rattle.std.specs.Prelude.{IfOk};
 ghost use Rattle.codegen.specs.expression_code.Layout.{variable_offset, variable_location, result_offset};
 ghost use Rattle.codegen.specs.expression_code.Layout.{control_offset, control_location, word_offset, next_offset};
 ghost use Rattle.codegen.specs.expression_code.Layout.{temporaries_offset, term_layout, offsets_from, slots_from};
+ghost use Rattle.codegen.specs.expression_code.Layout.{has_slot, slotted, without_words};
 ghost use Rattle.codegen.specs.expression_code.Allocation.{is_unread, slots_to, temporary, working_register};
 ghost use Rattle.codegen.specs.expression_code.Registers.{value_register};
 ghost use Rattle.codegen.specs.expression_code.TermCode.{kind_at, near_offset, near_element, is_word, keeps_words};
@@ -94,6 +96,13 @@ impl<'f> Layout<'f> {
             depths,
             allocation,
         }
+    }
+
+    /// The variables as they are laid out.
+    pub fn declared(&self) -> &[FlatVariable]
+        ensures { result.now ≡ self.now.declared }
+    {
+        self.declared
     }
 
     /// Where a variable lies.
@@ -352,6 +361,44 @@ fn words(variable: &FlatVariable) -> u32
             bytes.div_ceil(4) as u32
         }
     }
+}
+
+/// Whether a word has a slot: it has no home, or it is one of the first so many, the parameters.
+fn has_slot(given: usize, homes: &[Option<Reg>], number: usize) -> bool
+    ensures { result ≡ has_slot given homes.now number }
+{
+    number < given || homes.get(number).copied().unwrap_or(None).is_none()
+}
+
+/// A variable as it is laid out: one that has no slot takes no words, as an array of no elements.
+fn laid(variable: FlatVariable, has_slot: bool) -> FlatVariable
+    ensures { result ≡ (if has_slot then variable else without_words variable) }
+{
+    if has_slot {
+        variable
+    } else {
+        FlatVariable {
+            word: variable.word,
+            mutable: variable.mutable,
+            elements: Some(0),
+        }
+    }
+}
+
+/// The variables as they are laid out, where so many first ones are parameters.
+pub fn slotted(
+    alloc: Global,
+    given: usize,
+    homes: &[Option<Reg>],
+    declared: &[FlatVariable],
+) -> Result<Vec<FlatVariable>, AllocError>
+    ensures { IfOk result (λ laid. laid.items ≡ slotted given homes.now declared.now) }
+{
+    let mut all = Vec::with_capacity(alloc, declared.len())?;
+    for (number, variable) in declared.iter().enumerate() {
+        all.push(laid(*variable, has_slot(given, homes, number)))?;
+    }
+    Ok(all)
 }
 
 /// Where each variable lies, and what comes behind them.

@@ -1,49 +1,66 @@
-use Rattle.std.proofs.Common.{rules, ◌≡◌, ℕ, ◌≤◌, List, Some, length, refl, ap, sym, subst, ◌∙◌, arith}
+use Rattle.std.proofs.Common.{rules, ◌≡◌, ℕ, ◌≤◌, List, Option, Some, length, refl, ap, sym, subst, ◌∙◌, arith}
 use Rattle.codegen.proofs.Machine.{Allocation, image_of, IsFitting, depth_in_all, IsGenerated, frame_of}
 use Rattle.codegen.proofs.Machine.{Frame, Fields, Instr, most_words, program_code}
 use Rattle.codegen.proofs.BodyRuns.{is_generated}
-use Rattle.codegen.proofs.ImageLemmas.{room_frame, has_room, image_there}
+use Rattle.codegen.proofs.ImageLemmas.{room_frame, has_room, image_there, laid_words}
+use Rattle.codegen.proofs.Machine.{laid_out}
+use Rattle.codegen.specs.expression_code.Layout.{slotted}
 use Rattle.codegen.proofs.Language.{FlatVariable, StraightProgram, declared_words}
 use Rattle.codegen.proofs.generator.generate_with.Goals as goal
 
+-- the variables that are laid out are the program's
+is_laid : (a : Allocation) (p : StraightProgram) {homes : List (Option ℕ)} {laid declared : List FlatVariable}
+    → laid ≡ slotted (length p.parameters) homes p.declared → homes ≡ a.homes → declared ≡ laid
+    → declared ≡ laid_out a p
+is_laid a p made homes same =
+    same ∙ (made ∙ ap (λ (hs : List (Option ℕ)). slotted (length p.parameters) hs p.declared) homes)
+
 pub offsets-requires : goal.offsets-requires
 offsets-requires c =
-    let few = (has_room c.args.straight.now c.program_extent-extent.ensures.kept).declared in
-    omega (arith, ap declared_words c.declared-declared.ensures, few)
+    let p = c.args.straight.now in
+    let a = c.args.allocation in
+    let few = (has_room p c.program_extent-extent.ensures.kept).declared in
+    let is = is_laid a p c.in_ok-laid.ensures c.homes.ensures c.as_slice-declared.ensures.value in
+    omega (arith, ap declared_words is, laid_words a p, few)
 
 pub new-layout-requires-clause-room : goal.new-layout-requires-clause-room
 new-layout-requires-clause-room c =
     let p = c.args.straight.now in
-    let room = room_frame c.args.allocation p (has_room p c.program_extent-extent.ensures.kept) in
+    let a = c.args.allocation in
+    let room = room_frame a p (has_room p c.program_extent-extent.ensures.kept) in
     omega (
       arith,
-      ap declared_words c.declared-declared.ensures,
+      ap declared_words (is_laid a p c.in_ok-laid.ensures c.homes.ensures c.as_slice-declared.ensures.value),
       c.controls.ensures,
       c.program_extent-extent.ensures.depth,
       room,
     )
 
 -- the layout is the program's
-laid_out : (a : Allocation) (p : StraightProgram) {declared : List FlatVariable} {controls depths : ℕ} (layout : Frame)
+framed : (a : Allocation) (p : StraightProgram) {declared : List FlatVariable} {controls depths : ℕ} (layout : Frame)
     → layout ≡ record { declared = declared; controls = controls; depths = depths; allocation = a }
-    → declared ≡ p.declared → controls ≡ p.controls → depths ≡ depth_in_all p.body → IsFitting p a
+    → declared ≡ laid_out a p → controls ≡ p.controls → depths ≡ depth_in_all p.body → IsFitting p a
     → IsFitting p layout.allocation × (layout ≡ frame_of layout.allocation p)
-laid_out a p layout is one two three fits =
+framed a p layout is one two three fits =
     let laid : layout ≡ frame_of a p = is ∙ rw (one, two, three) in
     rw laid (fits, refl)
 
 pub code_within-requires : goal.code_within-requires
 code_within-requires c =
     let p = c.args.straight.now in
-    let laid = laid_out c.args.allocation p c.new-layout.result c.new-layout.ensures c.declared-declared.ensures
-    c.controls.ensures c.program_extent-extent.ensures.depth c.requires in
+    let a = c.args.allocation in
+    let laid = framed a p c.new-layout.result c.new-layout.ensures
+    (is_laid a p c.in_ok-laid.ensures c.homes.ensures c.as_slice-declared.ensures.value) c.controls.ensures
+    c.program_extent-extent.ensures.depth c.requires in
     record { room = has_room p c.program_extent-extent.ensures.kept; fitting = laid.0; frame = laid.1 }
 
 pub listed-requires : goal.listed-requires
 listed-requires c =
     let p = c.args.straight.now in
-    let laid = laid_out c.args.allocation p c.new-layout.result c.new-layout.ensures c.declared-declared.ensures
-    c.controls.ensures c.program_extent-extent.ensures.depth c.requires in
+    let a = c.args.allocation in
+    let laid = framed a p c.new-layout.result c.new-layout.ensures
+    (is_laid a p c.in_ok-laid.ensures c.homes.ensures c.as_slice-declared.ensures.value) c.controls.ensures
+    c.program_extent-extent.ensures.depth c.requires in
     record {
       room = has_room p c.program_extent-extent.ensures.kept;
       fitting = laid.0;
