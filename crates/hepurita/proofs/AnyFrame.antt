@@ -12,7 +12,7 @@ use Rattle.codegen.proofs.Machine.{HasRoom, variable_offset, Instr, word_of, Obs
 use Rattle.codegen.proofs.Machine.{MachineCode, Allocation, body_of, body_words, IsFitting}
 use Rattle.rv_code.specs.declared.instructions.Instr.TheVariants as instr
 use Rattle.codegen.proofs.Arguments.{arrays_are, returned_is}
-use Rattle.codegen.proofs.BodyRuns.{followed_in}
+use Rattle.codegen.proofs.BodyRuns.{followed_in, slot_params}
 use Rattle.codegen.proofs.SetRuns.{steps_of_result}
 use Rattle.codegen.specs.Below.{start as start_of}
 use Rattle.codegen.proofs.Standing.{words_alone, body_words_before, placed_alone, leads_among}
@@ -22,9 +22,14 @@ use Rattle.codegen.proofs.FreshRuns.{ProgramEnded, program_runs}
 use Rattle.codegen.specs.private.Fresh.{starts_fresh}
 use Rattle.std.proofs.lemmas.Bool.{and_parts, ltb-true}
 use Rattle.codegen.proofs.Slots.{Laid}
+use Rattle.codegen.proofs.Slotted.{slotted_length, slotted_there, slotted_was}
+use Rattle.codegen.proofs.ImageLemmas.{first_laid}
+use Rattle.codegen.proofs.Machine.{laid_out}
+use Rattle.codegen.proofs.Language.{numbers_in}
 use Rattle.rv_machine.specs.Machine as machine
 use Rattle.hepurita.specs.Below.{IsLoaded, with_arguments, zeros}
-use Rattle.hepurita.specs.Blank.{Blank, blank_from, blank_of, words_from}
+use Rattle.hepurita.specs.Blank.{Blank, blank_from, words_from}
+use Rattle.hepurita.specs.Needs.{Needs, needs_of}
 use Rattle.hepurita.specs.Begun.{FollowsAnywhere, IsBegun, IsFollowedFrom}
 use Rattle.hepurita.proofs.FrameValues.{frame_values, given_first, laid_any}
 use Rattle.hepurita.proofs.PutArguments.{with_arguments_agree}
@@ -33,6 +38,9 @@ use Rattle.optimisation.specs.set_first.Order.{program_sets_first}
 use Rattle.optimisation.specs.set_first.Starts.{AgreeOnParameters, outcome_from, path_from, started}
 use Rattle.optimisation.proofs.set_first_lemmas.Alike.{only_parameters}
 use Rattle.codegen.proofs.Machine.{control_offset}
+use Rattle.codegen.proofs.Language.{Param}
+use Rattle.optimisation.proofs.set_whole_lemmas.Arguments.{do_not_matter}
+use Rattle.optimisation.specs.set_whole.Whole.{set_whole_of}
 
 -- the state that the value is taken in
 abbrev last_state : StraightProgram → StraightState → StraightState
@@ -63,10 +71,13 @@ module _ (a : Allocation) (p : StraightProgram) (room : HasRoom p) (fitting : Is
     size = (image_of a p).frame_bytes;
     counts = p.iterations;
     declared = p.declared;
+    laid = laid_out a p;
     controls = p.controls;
     depths = depth_in_all p.body;
     allocation = a;
     allocated = fitting.allocated;
+    as_many = slotted_length (length p.parameters) a.homes 0 p.declared;
+    lies = λ x d is away. slotted_there (length p.parameters) a.homes p.declared x d is away;
     even = there.frame_aligned;
     ends = there.frame_ends;
     room = omega arith;
@@ -83,7 +94,12 @@ module _ (a : Allocation) (p : StraightProgram) (room : HasRoom p) (fitting : Is
   body_runs =
       cheaper (omega (arith, room.worked, fitting.few))
       (program_runs setting p.returned p.value room.typed.result (omega arith) p.body (starts_fresh p)
-      (λ y on. ltb-true y (length p.declared) (and_parts _ _ on).0) (λ y on. (and_parts _ _ on).1) fitting.within
+      (λ y on. omega (
+        arith,
+        ltb-true y (length p.declared) (and_parts _ _ on).0,
+        slotted_length (length p.parameters) a.homes 0 p.declared,
+      )) (λ y on. (and_parts _ _ on).1)
+      (omega (arith, fitting.within, slotted_length (length p.parameters) a.homes 0 p.declared))
       room.typed.body fitting.read (omega arith) (omega arith)
       (omega (arith, length-append {A = Instr}, short, room.nodes)))
 
@@ -99,14 +115,18 @@ module _ (a : Allocation) (p : StraightProgram) (room : HasRoom p) (fitting : Is
   outcome values s t done =
       let m = (last_state p (started values)).variables in
       ap₂ (λ r arrays. record { returned = r; arrays = arrays })
-      (returned_is frame p.declared (types_of p.profile p.declared) p.returned p.value m t.bytes
+      (returned_is frame (laid_out a p) (types_of p.profile p.declared) p.returned p.value m t.bytes
       room.typed.result done.left)
-      (arrays_are frame t.bytes m p.parameters p.declared 0 0 room.typed.parameters
-      (λ y d size is array.
+      (arrays_are frame t.bytes m p.parameters (laid_out a p) 0 0 (first_laid a p room) room.lengths
+      (λ y d size laid array some.
+      let many : 0 < numbers_in d.elements =
+      subst (λ (elements : Option ℕ). 0 < numbers_in elements) (sym array) some in
+      let is = slotted_was (length p.parameters) a.homes p.declared y d laid many in
       let e : 0 + y ≡ y = omega arith in (
-        ap (λ k. length (m k)) e ∙ (done.fits y d is).count,
+        ap (λ k. length (m k)) e ∙ (done.arrays_held y d size is array).count many,
         λ i below.
-            let f : frame + (0 + variable_offset p.declared y) + bytes_of d * i ≡ frame + place_of p.declared y d i =
+            let f : frame + (0 + variable_offset (laid_out a p) y) + bytes_of d * i
+            ≡ frame + place_of (laid_out a p) y d i =
             omega arith in
             ap (λ a. number_at t.bytes (bytes_of d) a) f
             ∙ (done.arrays_there y d size i is array below
@@ -159,47 +179,68 @@ module _ (a : Allocation) (p : StraightProgram) (room : HasRoom p) (fitting : Is
 
   abbrev some_blank : Blank
   some_blank =
-      Some (blank_from (length p.parameters) 0 p.declared ++ words_from (control_offset p.declared 0) p.controls)
+      Some (blank_from (length p.parameters) 0 (laid_out a p) ++ words_from (control_offset (laid_out a p) 0) p.controls)
+
+  -- what is needed where those words are zeros
+  abbrev needs_with : Blank → Needs
+  needs_with blank = record { blank = blank; spared = set_whole_of p }
+
+  -- what was put into the slots is within the parameters' types, and leads to the same as the arguments
+  module _ (blank : Blank) (args : List Arg) (s : machine.State)
+      (begun : IsBegun (image_of a p) (needs_with blank) frame args s) (within : AreWithin p.parameters args) where
+    put_within : AreWithin p.parameters begun.put
+    put_within = subst (λ (ps : List Param). AreWithin ps begun.put) (slot_params 0 p.parameters) begun.put_within
+
+    same : (outcome_of p args ≡ outcome_of p begun.put) × (path_of p args ≡ path_of p begun.put)
+    same = do_not_matter p args begun.put room.typed within put_within begun.put_agree
 
   -- where the words of variables with few values, and of control values, are zeros
-  followed_some : program_sets_first p ≡ true → IsFollowedFrom p (image_of a p) some_blank code start frame
+  followed_some : program_sets_first p ≡ true
+      → IsFollowedFrom p (image_of a p) (needs_with some_blank) code start frame
   followed_some sets = record {
     shown = shown_by;
     runs = λ args s at begun within fine.
-        let values = frame_values setting p.parameters args room.typed.parameters within begun.before begun.are_bytes
+        let put = begun.put in
+        let fits = put_within some_blank args s begun within in
+        let values = frame_values setting p.parameters put room.typed.parameters refl fits begun.before begun.are_bytes
         begun.blank_before s begun.base begun.frame_there in
-        let agree : AgreeOnParameters p values (start_of p args).variables = λ x less.
-        given_first setting p.parameters args room.typed.parameters within begun.before begun.are_bytes
+        let agree : AgreeOnParameters p values (start_of p put).variables = λ x less.
+        given_first setting p.parameters put room.typed.parameters refl fits begun.before begun.are_bytes
         begun.blank_before s begun.base begun.frame_there x less in
-        let law = only_parameters p values (start_of p args).variables sets agree in
+        let law = only_parameters p values (start_of p put).variables sets agree in
+        let alike = same some_blank args s begun within in
         runs_from values args s at begun.base
-        (laid_any setting p.parameters args room.typed.parameters within begun.before begun.are_bytes
-        begun.blank_before s begun.base begun.frame_there) law.0 law.1 fine;
+        (laid_any setting p.parameters put room.typed.parameters refl fits begun.before begun.are_bytes
+        begun.blank_before s begun.base begun.frame_there) (law.0 ∙ sym alike.0) (law.1 ∙ sym alike.1) fine;
   }
 
   -- where all words are zeros, the frame is as that of a loaded image
-  followed_none : IsFollowedFrom p (image_of a p) None code start frame
+  followed_none : IsFollowedFrom p (image_of a p) (needs_with None) code start frame
   followed_none =
       let followed = followed_in a p room fitting short code start frame there in
       record {
-        shown = followed.shown;
+        shown = λ path. followed.shown path;
         runs = λ args s at begun within fine.
-            followed.runs args s at (record {
+            let alike = same None args s begun within in
+            let run = followed.runs begun.put s at (record {
               base = begun.base;
               frame_there = λ o inside. begun.frame_there o inside
                   ∙ with_arguments_agree frame begun.before (zeros frame (image_of a p).frame_bytes)
-                  (image_of a p).slots args (frame + o)
+                  (image_of a p).slots begun.put (frame + o)
                   (begun.blank_before o inside
                   ∙ sym (zero_byte frame (image_of a p).frame_bytes (frame + o) (omega arith) (omega (arith, inside))));
-            }) within fine;
+            }) (put_within None args s begun within) (subst (AreFine p.iterations) alike.1 fine) in
+            subst (λ (path : Path). RunsBehind p (image_of a p) code start frame args s
+            (followed.shown (seen p.profile path))) (sym alike.1)
+            (record { run = run.run; outcome = run.outcome ∙ sym alike.0 });
       }
 
   followed_by : (b : Bool) → program_sets_first p ≡ b
-      → IsFollowedFrom p (image_of a p) (if b then some_blank else None) code start frame
+      → IsFollowedFrom p (image_of a p) (needs_with (if b then some_blank else None)) code start frame
   followed_by true sets = followed_some sets
   followed_by false sets = followed_none
 
 pub follows_anywhere : (a : Allocation) (p : StraightProgram) → HasRoom p → IsFitting p a
-    → length (program_code a p) ≤ most_words p.nodes → FollowsAnywhere p (image_of a p) (blank_of p)
+    → length (program_code a p) ≤ most_words p.nodes → FollowsAnywhere p (image_of a p) (needs_of (laid_out a p) p)
 follows_anywhere a p room fitting short code start frame there =
     followed_by a p room fitting short code start frame there (program_sets_first p) refl

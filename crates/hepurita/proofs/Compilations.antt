@@ -9,7 +9,7 @@ use Rattle.hepurita.specs.Exact.{image_for}
 use Rattle.hepurita.specs.declared.optimised.Optimisation.{Optimisation}
 use Rattle.hepurita.proofs.BaseLemmas.{bases_of}
 use Rattle.hepurita.specs.Begun.{FollowsAnywhere}
-use Rattle.hepurita.specs.Blank.{Blank}
+use Rattle.hepurita.specs.Needs.{Needs}
 use Rattle.hepurita.specs.Linked.{StartsAnywhere}
 use Rattle.hepurita.proofs.TheoremLemmas.{sources_compiled, sources_started}
 
@@ -31,11 +31,11 @@ module _ (optimisation : Optimisation) (profile : Profile) (source : List ℕ) (
         bases = bases_of profile program before export image judges is;
       }
 
-  pub begun : (straight : StraightProgram) (blank : Blank) → Judges profile source (accepts program before export)
+  pub begun : (straight : StraightProgram) (needs : Needs) → Judges profile source (accepts program before export)
       → IsRemoved (ranged (flattened profile before export)) straight → IsGenerated straight image
-      → FollowsAnywhere straight image blank → StartsAnywhere program export image blank
-  begun straight blank (readable reads (fine small in_range in_time)) removed generated follows =
-      sources_started profile source program before export straight image blank reads (fine small in_range in_time)
+      → FollowsAnywhere straight image needs → StartsAnywhere program export image needs
+  begun straight needs (readable reads (fine small in_range in_time)) removed generated follows =
+      sources_started profile source program before export straight image needs reads (fine small in_range in_time)
       removed generated follows
 
   pub spelled : IsCompilation optimisation profile source program before export image

@@ -10,7 +10,7 @@ use Rattle.inline.specs.Path.{Path, seen as seen_of}
 use Rattle.hepurita.proofs.Below.{Halts-determined}
 use Rattle.hepurita.specs.Compiled.{Means, WholeRun, RunsTo, TwoRuns, IsCompiled}
 use Rattle.hepurita.specs.Begun.{FollowsAnywhere, IsBegun}
-use Rattle.hepurita.specs.Blank.{Blank}
+use Rattle.hepurita.specs.Needs.{Needs}
 use Rattle.hepurita.specs.Linked.{IsLinked, StartsAnywhere}
 
 -- a procedure, the program's export, means what its body with numbered variables means
@@ -137,10 +137,10 @@ module _ (profile : Profile) (program : ProgramTree) (before : List ProcedureTre
       linked_by (IsLoaded image frame) code start frame followed.shown followed.runs
 
   -- from frames of any bytes
-  pub started : (blank : Blank) → FollowsAnywhere straight image blank → StartsAnywhere program p image blank
-  started blank follows code start frame at =
+  pub started : (needs : Needs) → FollowsAnywhere straight image needs → StartsAnywhere program p image needs
+  started needs follows code start frame at =
       let followed = follows code start frame at in
-      linked_by (IsBegun image blank frame) code start frame followed.shown followed.runs
+      linked_by (IsBegun image needs frame) code start frame followed.shown followed.runs
 
   -- the image is the procedure, compiled
   pub compiled : IsCompiled program before p image

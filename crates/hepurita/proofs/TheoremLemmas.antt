@@ -12,7 +12,7 @@ use Rattle.hepurita.specs.Compiled.{Means, IsCompiled}
 use Rattle.source_eval.proofs.WorkedOut.{worked-out}
 use Rattle.hepurita.specs.Built.{IsSmall, JudgesProgram, accepts}
 use Rattle.hepurita.specs.Begun.{FollowsAnywhere}
-use Rattle.hepurita.specs.Blank.{Blank}
+use Rattle.hepurita.specs.Needs.{Needs}
 use Rattle.hepurita.specs.Linked.{StartsAnywhere}
 use Rattle.hepurita.proofs.Compiler.{compiled, started}
 use Rattle.hepurita.proofs.GrammaticalExports.{HasGrammaticalExport, grammatical_export, same_work}
@@ -74,15 +74,15 @@ sources_compiled profile source program before export straight image reads judge
     (same_work profile program before export plain is.0) removed generated
 
 pub sources_started : (profile : Profile) (source : List ℕ) (program : ProgramTree) (before : List ProcedureTree)
-    (export : ProcedureTree) (straight : StraightProgram) (image : Fields) (blank : Blank)
+    (export : ProcedureTree) (straight : StraightProgram) (image : Fields) (needs : Needs)
     → Reads source (accepted program)
     → JudgesProgram profile program (accepts program before export)
     → IsRemoved (ranged (flattened profile before export)) straight → IsGenerated straight image
-    → FollowsAnywhere straight image blank → StartsAnywhere program export image blank
-sources_started profile source program before export straight image blank reads judged removed generated follows =
+    → FollowsAnywhere straight image needs → StartsAnywhere program export image needs
+sources_started profile source program before export straight image needs reads judged removed generated follows =
     let plain = grammatical_export source program reads in
     let is = of_accepted profile program program before export judged in
     let safe = accepted_is_safe (flattened profile before export)
     (flat_typed profile program before export plain is.0) is.1 in
     started profile program before export straight image (safe_means profile program before export plain is.0 safe)
-    (same_work profile program before export plain is.0) removed generated blank follows
+    (same_work profile program before export plain is.0) removed generated needs follows

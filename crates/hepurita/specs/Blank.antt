@@ -46,10 +46,10 @@ blank_from zero low (d ∷ ds) =
     (if has_few_values d.word.kind d.elements then words_from low (words_of d) else [])
     ++ blank_from zero (low + 4 * words_of d) ds
 
--- of a program that sets each variable before it reads it: those of such variables, and of the control values; of
--- another one all
-abbrev pub blank_of : StraightProgram → Blank
-blank_of p =
+-- of a program that sets each variable before it reads it: those of such variables, as they are laid out, and of the
+-- control values; of another one all
+abbrev pub blank_of : List FlatVariable → StraightProgram → Blank
+blank_of laid p =
     if program_sets_first p
-    then Some (blank_from (length p.parameters) 0 p.declared ++ words_from (control_offset p.declared 0) p.controls)
+    then Some (blank_from (length p.parameters) 0 laid ++ words_from (control_offset laid 0) p.controls)
     else None

@@ -6,7 +6,7 @@ use Rattle.hepurita.specs.Below.{Refusal, refused, Rule, size_violations, Spells
 use Rattle.hepurita.specs.source_work.SourceWork.{work_violations}
 use Rattle.hepurita.specs.Bases.{code_base, frame_base, most_images, code_distance, frame_distance}
 use Rattle.std.specs.Option.{option_map}
-use Rattle.hepurita.specs.Blank.{Blank}
+use Rattle.hepurita.specs.Needs.{Needs}
 use Rattle.hepurita.specs.Compiled.{IsCompiled}
 use Rattle.hepurita.specs.declared.compiling.Compiled.{Compiled}
 use Rattle.hepurita.specs.Exact.{image_for}
@@ -88,7 +88,3 @@ pub record IsBuilt (optimisation : Optimisation) (profile : Profile) (source byt
   pub compilation : IsCompilation optimisation profile source program before export image
   pub are_bytes : AreBytes bytes
   pub spelled : Spells bytes image
-
--- which words of the frame of what was compiled have to be zeros where its body begins
-abbrev pub blank_with : Compiled → Blank
-blank_with made = option_map (λ offsets. offsets.items) made.blank

@@ -4,7 +4,7 @@ use Rattle.std.specs.Prelude.{List, [], ◌∷◌, Option, None, Some, unwrap_or
 use Rattle.std.specs.Option.{option_map}
 use Rattle.hepurita.specs.Below.{Fields, fields_of, flattened, optimised_fields_of, ProcedureTree, Profile, ranged}
 use Rattle.hepurita.specs.Below.{simplified_of, straight_of, StraightProgram, unrolled_of}
-use Rattle.hepurita.specs.Blank.{Blank, blank_of}
+use Rattle.hepurita.specs.Needs.{Needs, optimised_needs, plain_needs}
 use Rattle.optimisation.specs.element_words.Exact.{split_of}
 use Rattle.hepurita.specs.declared.optimised.Optimisation.{Optimisation}
 use Rattle.hepurita.specs.declared.optimised.Optimisation.TheVariants.{Off, On}
@@ -49,20 +49,20 @@ image_for optimisation profile before export =
 
 -- and which words of its frame have to be zeros: those of the program that it is generated from
 
-abbrev pub if_there : Option Fields → Blank → Blank → Blank
+abbrev pub if_there : Option Fields → Needs → Needs → Needs
 if_there None one other = other
 if_there (Some image) one other = one
 
-abbrev pub first_blank : List StraightProgram → StraightProgram → Blank
-first_blank [] otherwise = blank_of otherwise
-first_blank (straight ∷ others) otherwise =
-    if_there (optimised_fields_of straight) (blank_of straight) (first_blank others otherwise)
+abbrev pub first_needs : List StraightProgram → StraightProgram → Needs
+first_needs [] otherwise = plain_needs otherwise
+first_needs (straight ∷ others) otherwise =
+    if_there (optimised_fields_of straight) (optimised_needs straight) (first_needs others otherwise)
 
-abbrev pub blank_for : Optimisation → StraightProgram → Blank
-blank_for Off straight = blank_of straight
-blank_for On straight =
-    first_blank (finished_of (after unrolled_of straight) ∷ finished_of (after simplified_of straight) ∷ []) straight
+abbrev pub needs_for : Optimisation → StraightProgram → Needs
+needs_for Off straight = plain_needs straight
+needs_for On straight =
+    first_needs (finished_of (after unrolled_of straight) ∷ finished_of (after simplified_of straight) ∷ []) straight
 
-unfoldable pub blank_words_for : Optimisation → Profile → List ProcedureTree → ProcedureTree → Blank
-blank_words_for optimisation profile before export =
-    blank_for optimisation (straight_of (ranged (flattened profile before export)))
+unfoldable pub frame_needs_for : Optimisation → Profile → List ProcedureTree → ProcedureTree → Needs
+frame_needs_for optimisation profile before export =
+    needs_for optimisation (straight_of (ranged (flattened profile before export)))

@@ -4,7 +4,8 @@
 --   tells.
 -- Meant: what a program means on arguments; Compiled: what is promised of a compiled image; Linked: of its body in
 --   other code; Uncut, CutOff: of runs that no recorder cuts short, and of runs that are cut off.
--- Blank: the words of a frame that have to be zeros where code begins; Begun: a body in a frame of any bytes.
+-- Blank: the words of a frame that have to be zeros where code begins; Needs: all that code needs of its frame there;
+--   Begun: a body in a frame of any bytes.
 -- Executed, Paired, Answers: what `execute` and `pair` answer; Text: how errors of a run are printed.
 -- Bases: the standard base addresses; Frames: where data is in a frame.
 -- grammar_laws: heads of nodes, for laws on the grammar; source_work: work as a sum over the source.
@@ -13,6 +14,7 @@ pub mod Frames
 pub mod Meant
 pub mod Linked
 pub mod Blank
+pub mod Needs
 pub mod Begun
 pub mod Compiled
 pub mod Executed

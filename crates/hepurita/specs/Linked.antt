@@ -2,7 +2,7 @@
 -- function: among whatever other code it does what the image does, and leaves what is not its own as it was.
 use Rattle.std.specs.Prelude.{◌≡◌, ℕ, List}
 use Rattle.hepurita.specs.Begun.{IsBegun}
-use Rattle.hepurita.specs.Blank.{Blank}
+use Rattle.hepurita.specs.Needs.{Needs}
 use Rattle.hepurita.specs.Below.{Agree, AgreeInPublic, AreWithin, Arg, BodyRun, MachineCode, Fields, IsPlaced}
 use Rattle.hepurita.specs.Below.{Observation, params_of, ProcedureTree, ProgramTree, Results, results_in, State}
 use Rattle.hepurita.specs.Meant.{Means}
@@ -32,7 +32,7 @@ pub record IsLinked (program : ProgramTree) (p : ProcedureTree) (image : Fields)
 
 -- from each state whose frame holds the arguments, and in which the words that have to be are zeros, whatever else the
 -- frame holds
-abbrev pub StartsAnywhere : ProgramTree → ProcedureTree → Fields → Blank → Type 0
-StartsAnywhere program p image blank =
+abbrev pub StartsAnywhere : ProgramTree → ProcedureTree → Fields → Needs → Type 0
+StartsAnywhere program p image needs =
     (code : MachineCode) (start frame : ℕ) → IsPlaced image code start frame
-    → IsLinked program p image (IsBegun image blank frame) code start frame
+    → IsLinked program p image (IsBegun image needs frame) code start frame

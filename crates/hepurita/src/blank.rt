@@ -78,19 +78,22 @@ fn push_variables(
 }
 
 /// Straight code is well typed, and within the limits on size.
-fn straight_code_is_kept(straight: &StraightCode<'_>)
+pub fn straight_code_is_kept(straight: &StraightCode<'_>)
     ensures { IsStraight straight.now }
 {
     straight.body();
 }
 
 /// The offsets of the words of a frame that have to be zeros where a program's code begins, or none where all have to
-/// be: those of variables with few values, and of the control values.
+/// be: those of variables with few values, as the frame lays them out, and of the control values.
 pub fn blank_words(
     alloc: Global,
     straight: &StraightCode<'_>,
+    laid: &[FlatVariable],
 ) -> Result<Option<Vec<u32>>, AllocError>
-    ensures blank { IfOk result (λ blank. option_map (λ offsets. offsets.items) blank ≡ blank_of straight.now) }
+    requires { 4 * declared_words laid.now ≤ 65536 }
+    ensures blank { IfOk result (λ blank.
+        option_map (λ offsets. offsets.items) blank ≡ blank_of laid.now straight.now) }
     ensures kept { IsStraight straight.now }
 {
     straight_code_is_kept(straight);
@@ -99,7 +102,7 @@ pub fn blank_words(
     }
     let mut offsets = Vec::new(alloc);
     let parameters = straight.parameters().len();
-    let end = push_variables(&mut offsets, parameters, straight.declared())?;
+    let end = push_variables(&mut offsets, parameters, laid)?;
     push_words(&mut offsets, end + WORD, straight.controls())?;
     Ok(Some(offsets))
 }

@@ -4,17 +4,17 @@ ghost use Rattle.std.specs.Prelude.{◌≡◌, ℕ, List, IfOk, IfErr};
 ghost use Rattle.hepurita.specs.Below.{fields_of, IsGenerated, IsImage, IsRemoved, IsWantOfMemory, ProcedureTree};
 ghost use Rattle.hepurita.specs.Below.{Profile, program_tree, straight_of, StraightProgram};
 ghost use Rattle.hepurita.specs.Begun.{FollowsAnywhere};
-ghost use Rattle.hepurita.specs.Blank.{blank_of};
-ghost use Rattle.hepurita.specs.Built.{IsCompilation, blank_with};
-ghost use Rattle.hepurita.specs.CodeFor.{IsCodeFor, blank_in};
-ghost use Rattle.hepurita.specs.Exact.{blank_for, blank_words_for, code_for};
+ghost use Rattle.hepurita.specs.Needs.{needs_as, plain_needs};
+ghost use Rattle.hepurita.specs.Built.{IsCompilation};
+ghost use Rattle.hepurita.specs.CodeFor.{IsCodeFor};
+ghost use Rattle.hepurita.specs.Exact.{needs_for, frame_needs_for, code_for};
 ghost use Rattle.hepurita.specs.Flattened.{IsFlattened};
 ghost use Rattle.hepurita.specs.Linked.{StartsAnywhere};
 ghost use Rattle.hepurita.specs.Told.{IsRefusalOf};
 
-use crate::blank::blank_words;
 use crate::flattening::{Flattened, flatten};
 use crate::generated::Generated;
+use crate::needs::{FrameNeeds, plain_needs};
 use crate::optimised::Optimisation;
 use crate::optimising::{rolled, unrolled};
 use branch_removal::{Straight, remove};
@@ -27,13 +27,13 @@ use std::alloc::Global;
 fn plain_code(alloc: Global, straight: &Straight<'_>) -> Result<Generated, Refusal>
     ensures generated { IfOk result (IsCodeFor straight.now) }
     ensures exact { IfOk result (λ made. made.code ≡ fields_of straight.now) }
-    ensures blank { IfOk result (λ made. blank_in made ≡ blank_of straight.now) }
+    ensures needs { IfOk result (λ made. needs_as made.needs ≡ plain_needs straight.now) }
     ensures allowed { IfOk result (λ made. IsImage made.code) }
     ensures memory { IfErr result (λ refusal. IsWantOfMemory refusal.rule refusal.place) }
 {
     let code = generate(alloc, straight)?;
-    let blank = blank_words(alloc, straight.code())?;
-    Ok(Generated { code, blank })
+    let needs = plain_needs(alloc, straight.code())?;
+    Ok(Generated { code, needs })
 }
 
 /// The first optimised code of a straight program that is within the limit on words, or else its plain code. Only
@@ -41,7 +41,7 @@ fn plain_code(alloc: Global, straight: &Straight<'_>) -> Result<Generated, Refus
 fn first_code(alloc: Global, straight: &Straight<'_>) -> Result<Generated, Refusal>
     ensures generated { IfOk result (IsCodeFor straight.now) }
     ensures exact { IfOk result (λ made. made.code ≡ code_for Optimisation.On straight.now) }
-    ensures blank { IfOk result (λ made. blank_in made ≡ blank_for Optimisation.On straight.now) }
+    ensures needs { IfOk result (λ made. needs_as made.needs ≡ needs_for Optimisation.On straight.now) }
     ensures allowed { IfOk result (λ made. IsImage made.code) }
     ensures memory { IfErr result (λ refusal. IsWantOfMemory refusal.rule refusal.place) }
 {
@@ -62,9 +62,9 @@ fn generated_for(
     optimisation: Optimisation,
 ) -> Result<Generated, Refusal>
     ensures generated { IfOk result (λ made. (straight : StraightProgram) × IsRemoved ranged.now straight
-        × IsGenerated straight made.code × FollowsAnywhere straight made.code (blank_in made)) }
+        × IsGenerated straight made.code × FollowsAnywhere straight made.code (needs_as made.needs)) }
     ensures exact { IfOk result (λ made. made.code ≡ code_for optimisation (straight_of ranged.now)) }
-    ensures blank { IfOk result (λ made. blank_in made ≡ blank_for optimisation (straight_of ranged.now)) }
+    ensures needs { IfOk result (λ made. needs_as made.needs ≡ needs_for optimisation (straight_of ranged.now)) }
     ensures allowed { IfOk result (λ made. IsImage made.code) }
     ensures memory { IfErr result (λ refusal. IsWantOfMemory refusal.rule refusal.place) }
 {
@@ -102,8 +102,8 @@ fn code_in(
         IsCompilation optimisation profile source (program_tree flattened.now.program) is.before is.export made.code) }
     ensures started { (profile : Profile) (source : List ℕ) (is : IsFlattened profile source flattened.now)
         → IfOk result (λ made.
-        StartsAnywhere (program_tree flattened.now.program) is.export made.code (blank_in made)
-        × (blank_in made ≡ blank_words_for optimisation profile is.before is.export)) }
+        StartsAnywhere (program_tree flattened.now.program) is.export made.code (needs_as made.needs)
+        × (needs_as made.needs ≡ frame_needs_for optimisation profile is.before is.export)) }
     ensures refused { (profile : Profile) (source : List ℕ) → IsFlattened profile source flattened.now
         → IfErr result (IsRefusalOf profile source) }
 {
@@ -116,8 +116,8 @@ fn code_in(
 pub struct Compiled {
     pub program: Program,
     pub code: Code,
-    /// The offsets of the words of its frame that have to be zeros where it begins; none where all have to be.
-    pub blank: Option<Vec<u32>>,
+    /// What the code needs of its frame where it begins.
+    pub needs: FrameNeeds,
 }
 
 /// A source that is accepted for an observer of this profile, compiled to plain or to optimised code, or the first
@@ -137,16 +137,16 @@ pub fn compile_with(
         × IsCompilation optimisation profile source.now (program_tree made.program) before export made.code) }
     ensures started { IfOk result (λ made. (before : List ProcedureTree) × (export : ProcedureTree)
         × IsCompilation optimisation profile source.now (program_tree made.program) before export made.code
-        × StartsAnywhere (program_tree made.program) export made.code (blank_with made)
-        × (blank_with made ≡ blank_words_for optimisation profile before export)) }
+        × StartsAnywhere (program_tree made.program) export made.code (needs_as made.needs)
+        × (needs_as made.needs ≡ frame_needs_for optimisation profile before export)) }
     ensures refused { IfErr result (IsRefusalOf profile source.now) }
 {
     let flattened = flatten(alloc, source, profile)?;
-    let Generated { code, blank } = code_in(alloc, &flattened, optimisation)?;
+    let Generated { code, needs } = code_in(alloc, &flattened, optimisation)?;
     let Flattened { program, .. } = flattened;
     Ok(Compiled {
         program,
         code,
-        blank,
+        needs,
     })
 }

@@ -17,6 +17,7 @@ pub mod grammar_laws;
 mod judging;
 mod laws;
 mod loading;
+mod needs;
 mod optimised;
 mod optimising;
 mod reading;
@@ -41,6 +42,7 @@ pub use laws::{
     images_do_what_sources_mean, readings_agree, sources_are_compiled,
 };
 pub use loading::{CODE_BASE, FRAME_BASE, code, frame, load, params, put_argument, put_arguments};
+pub use needs::FrameNeeds;
 pub use optimised::Optimisation;
 pub use reading::read_args;
 pub use results::{ResultSpace, outcome, result_space};

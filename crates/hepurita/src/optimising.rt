@@ -3,12 +3,12 @@
 ghost use Rattle.std.specs.Prelude.{◌≡◌, IfOk, IfErr, IfSome, unwrap_or};
 ghost use Rattle.std.specs.Option.{option_map};
 ghost use Rattle.hepurita.specs.Below.{IsImage, IsWantOfMemory, optimised_fields_of, simplified_of, unrolled_of};
-ghost use Rattle.hepurita.specs.Blank.{blank_of};
-ghost use Rattle.hepurita.specs.CodeFor.{IsCodeFor, blank_in};
+ghost use Rattle.hepurita.specs.Needs.{needs_as, optimised_needs};
+ghost use Rattle.hepurita.specs.CodeFor.{IsCodeFor};
 ghost use Rattle.hepurita.specs.Exact.{after, finished_of};
 
-use crate::blank::blank_words;
 use crate::generated::Generated;
+use crate::needs::optimised_needs;
 use branch_removal::{StraightCode, replaced_is_removed};
 use codegen::generate_optimised;
 use language::Refusal;
@@ -35,14 +35,14 @@ fn made_or_given<'a, 'f>(
 fn optimised_code(alloc: Global, straight: &StraightCode<'_>) -> Result<Option<Generated>, Refusal>
     ensures generated { IfOk result (λ made. IfSome made (IsCodeFor straight.now)) }
     ensures exact { IfOk result (λ made. option_map (λ made. made.code) made ≡ optimised_fields_of straight.now) }
-    ensures blank { IfOk result (λ made. IfSome made (λ made. blank_in made ≡ blank_of straight.now)) }
+    ensures needs { IfOk result (λ made. IfSome made (λ made. needs_as made.needs ≡ optimised_needs straight.now)) }
     ensures allowed { IfOk result (λ made. IfSome made (λ made. IsImage made.code)) }
     ensures memory { IfErr result (λ refusal. IsWantOfMemory refusal.rule refusal.place) }
 {
     match generate_optimised(alloc, straight)? {
         Some(code) => {
-            let blank = blank_words(alloc, straight)?;
-            Ok(Some(Generated { code, blank }))
+            let needs = optimised_needs(alloc, straight)?;
+            Ok(Some(Generated { code, needs }))
         }
         None => Ok(None),
     }
@@ -55,7 +55,8 @@ fn finished(alloc: Global, straight: &StraightCode<'_>) -> Result<Option<Generat
     ensures generated { IfOk result (λ made. IfSome made (IsCodeFor straight.now)) }
     ensures exact { IfOk result (λ made.
         option_map (λ made. made.code) made ≡ optimised_fields_of (finished_of straight.now)) }
-    ensures blank { IfOk result (λ made. IfSome made (λ made. blank_in made ≡ blank_of (finished_of straight.now))) }
+    ensures needs { IfOk result (λ made. IfSome made
+        (λ made. needs_as made.needs ≡ optimised_needs (finished_of straight.now))) }
     ensures allowed { IfOk result (λ made. IfSome made (λ made. IsImage made.code)) }
     ensures memory { IfErr result (λ refusal. IsWantOfMemory refusal.rule refusal.place) }
 {
@@ -81,8 +82,8 @@ pub fn unrolled(alloc: Global, straight: &StraightCode<'_>) -> Result<Option<Gen
     ensures generated { IfOk result (λ made. IfSome made (IsCodeFor straight.now)) }
     ensures exact { IfOk result (λ made.
         option_map (λ made. made.code) made ≡ optimised_fields_of (finished_of (after unrolled_of straight.now))) }
-    ensures blank { IfOk result (λ made. IfSome made
-        (λ made. blank_in made ≡ blank_of (finished_of (after unrolled_of straight.now)))) }
+    ensures needs { IfOk result (λ made. IfSome made
+        (λ made. needs_as made.needs ≡ optimised_needs (finished_of (after unrolled_of straight.now)))) }
     ensures allowed { IfOk result (λ made. IfSome made (λ made. IsImage made.code)) }
     ensures memory { IfErr result (λ refusal. IsWantOfMemory refusal.rule refusal.place) }
 {
@@ -97,8 +98,8 @@ pub fn rolled(alloc: Global, straight: &StraightCode<'_>) -> Result<Option<Gener
     ensures generated { IfOk result (λ made. IfSome made (IsCodeFor straight.now)) }
     ensures exact { IfOk result (λ made.
         option_map (λ made. made.code) made ≡ optimised_fields_of (finished_of (after simplified_of straight.now))) }
-    ensures blank { IfOk result (λ made. IfSome made
-        (λ made. blank_in made ≡ blank_of (finished_of (after simplified_of straight.now)))) }
+    ensures needs { IfOk result (λ made. IfSome made
+        (λ made. needs_as made.needs ≡ optimised_needs (finished_of (after simplified_of straight.now)))) }
     ensures allowed { IfOk result (λ made. IfSome made (λ made. IsImage made.code)) }
     ensures memory { IfErr result (λ refusal. IsWantOfMemory refusal.rule refusal.place) }
 {

@@ -1,8 +1,8 @@
 use Rattle.std.proofs.Common.{ap, ◌∙◌}
 use Rattle.std.proofs.lemmas.Result.{IfOk-weaker}
 use Rattle.hepurita.specs.Below.{program_tree, RangedProgram, straight_of}
-use Rattle.hepurita.specs.CodeFor.{blank_in}
-use Rattle.hepurita.specs.Exact.{blank_for, blank_words_for, code_for, image_for}
+use Rattle.hepurita.specs.Needs.{needs_as}
+use Rattle.hepurita.specs.Exact.{needs_for, frame_needs_for, code_for, image_for}
 use Rattle.hepurita.proofs.Compilations.{begun, compilation}
 use Rattle.hepurita.proofs.OneImage.{ok_both}
 use Rattle.hepurita.proofs.compiling.code_in.Goals as goal
@@ -21,7 +21,7 @@ returns-clause-compiled c = λ profile source is.
     (ok_both c.generated_for.result _ _ of.generated (ok_both c.generated_for.result _ _ of.exact of.allowed))
 
 pub returns-clause-started : goal.returns-clause-started
-unfolding blank_words_for
+unfolding frame_needs_for
 returns-clause-started c = λ profile source is.
     let counted = c.in_ok-ranged.ensures.accepted profile source is in
     let of = c.generated_for.ensures in
@@ -29,7 +29,7 @@ returns-clause-started c = λ profile source is.
     (λ made facts.
     let from = facts.0 in (
       begun c.args.optimisation profile source (program_tree c.args.flattened.now.program) is.before is.export made.code
-          from.0 (blank_in made) counted.1 (rw counted.0 at from.1) from.2 from.3,
-      facts.1 ∙ ap (λ (r : RangedProgram). blank_for c.args.optimisation (straight_of r)) counted.0,
+          from.0 (needs_as made.needs) counted.1 (rw counted.0 at from.1) from.2 from.3,
+      facts.1 ∙ ap (λ (r : RangedProgram). needs_for c.args.optimisation (straight_of r)) counted.0,
     ))
-    (ok_both c.generated_for.result _ _ of.generated of.blank)
+    (ok_both c.generated_for.result _ _ of.generated of.needs)

@@ -4,8 +4,8 @@ use Rattle.std.specs.Option.{option_map}
 use Rattle.std.proofs.lemmas.Option.{IfSome_then}
 use Rattle.std.proofs.lemmas.Result.{IfOk-weaker}
 use Rattle.hepurita.specs.Below.{optimised_fields_of, simplified_of, StraightProgram}
-use Rattle.hepurita.specs.Blank.{blank_of}
-use Rattle.hepurita.specs.CodeFor.{blank_in}
+use Rattle.hepurita.specs.Needs.{optimised_needs}
+use Rattle.hepurita.specs.Needs.{needs_as}
 use Rattle.hepurita.specs.Exact.{after}
 use Rattle.optimisation.specs.element_words.Exact.{split_of}
 use Rattle.hepurita.proofs.PassedOn.{after_pass, finished_shared, stands_on}
@@ -42,16 +42,16 @@ returns-in-Some-clause-exact c =
     (sym (finished_shared p _ simpler _ _ (sym c.in_ok-shared.ensures.exact ∙ c.in-Some.is)
     c.with_needed-fitted.ensures.exact)) c.optimised_code.ensures.exact
 
-pub returns-in-Some-clause-blank : goal.returns-in-Some-clause-blank
-returns-in-Some-clause-blank c =
+pub returns-in-Some-clause-needs : goal.returns-in-Some-clause-needs
+returns-in-Some-clause-needs c =
     let p = c.args.straight.now in
     let simpler : c.made_or_given-simpler.result.now ≡ after simplified_of (after split_of p) =
     after_pass simplified_of _ _ _ _ c.made_or_given-simpler.ensures c.in_ok-with_numbers.ensures.exact
     (after_pass split_of _ _ _ _ c.made_or_given-split.ensures c.in_ok-with_words.ensures.exact refl) in
     subst (λ (q : StraightProgram). IfOk c.optimised_code.result
-    (λ made. IfSome made (λ made. blank_in made ≡ blank_of q)))
+    (λ made. IfSome made (λ made. needs_as made.needs ≡ optimised_needs q)))
     (sym (finished_shared p _ simpler _ _ (sym c.in_ok-shared.ensures.exact ∙ c.in-Some.is)
-    c.with_needed-fitted.ensures.exact)) c.optimised_code.ensures.blank
+    c.with_needed-fitted.ensures.exact)) c.optimised_code.ensures.needs
 
 pub returns-clause-generated : goal.returns-clause-generated
 returns-clause-generated c =
