@@ -4,6 +4,7 @@ import re
 
 WORD = re.compile(r"^    \.word 0x([0-9a-f]{8})  # (.*)$")
 HEAD = re.compile(r"^# (\w+): made by factc function; (\d+) words, (\d+) bytes of stack, profile ([12])$")
+ARRAY = re.compile(r"^parameter (\d+): an array$")
 SIZES = {"bool": 1, "uint8": 1, "uint16": 2, "uint32": 4}
 
 
@@ -57,6 +58,12 @@ class Function:
         titles = [section.title for section in self.sections]
         return None if "the frame, zeroed downward" in titles else sum(title.startswith("the frame's word at ") for title in titles)
 
+    @property
+    def taken(self):
+        """The numbers of the arrays that it copies in."""
+        titles = [ARRAY.match(section.title) for section in self.sections]
+        return {int(title[1]) for title in titles if title}
+
     def words(self, sections=None):
         return [word for section in sections or self.sections for word in section.words]
 
@@ -96,11 +103,11 @@ def near(number):
     return number < 2_048
 
 
-def wrapper_steps(parameters, offsets, frame, result, kept, pointers=None, blank=None):
+def wrapper_steps(parameters, offsets, frame, result, kept, pointers=None, blank=None, taken=None):
     """The steps of the code around a body, by the sizes of what it moves: parameters are pairs of a form and a type, in which an
     array's type has a length behind it, offsets are those of their slots, and of the result's where there is one, and so many of
     the caller's registers are kept. Pointers are those of the arrays, by their numbers; those that are not given are multiples
-    of 4. So many words of the frame are zeroed one by one, or all of them in runs."""
+    of 4. So many words of the frame are zeroed one by one, or all of them in runs. Only these arrays are copied in, or all."""
     needed = max((number + 1 for number, (form, _, _) in enumerate(parameters[:8]) if form == "mut"), default=0)
     low, above = blocks(frame), blocks(4 * (kept + needed))
     steps = (1 if above else 0) + kept + needed + framed(low, blank)
@@ -112,7 +119,8 @@ def wrapper_steps(parameters, offsets, frame, result, kept, pointers=None, blank
         else:
             head, back = (1, load(low + above - 4 * needed + 4 * number)) if number < 8 else (stacked, stacked)
             aligned = (pointers or {}).get(number, 0) % 4 == 0
-            steps += head + address(offsets[number]) + (copied(kind, length, 3) if kind == "bool" else as_pointed(kind, length, aligned))
+            if taken is None or number in taken:
+                steps += head + address(offsets[number]) + (copied(kind, length, 3) if kind == "bool" else as_pointed(kind, length, aligned))
             steps += back + address(offsets[number]) + as_pointed(kind, length, aligned) if form == "mut" else 0
     steps += load(result) if result is not None else 1
     return steps + address(low) + 1 + kept + zeroed(low + above) + 15
@@ -125,11 +133,13 @@ def zeroed(room):
 
 
 def copied(kind, length, each):
-    """Fewer than 16 elements are copied by straight code, more by a loop over eight at a time with those that are left behind it."""
+    """Fewer than 16 elements are copied by straight code, more by a loop over eight words at a time, or over four smaller elements,
+    with those that are left behind it."""
     if length < 16:
         return each * length
-    rounds = length // 8
-    return constant(SIZES[kind] * 8 * rounds) + 1 + (8 * each + 3) * rounds + each * (length % 8)
+    size = 8 if kind == "uint32" else 4
+    rounds = length // size
+    return constant(SIZES[kind] * size * rounds) + 1 + (size * each + 3) * rounds + each * (length % size)
 
 
 def as_pointed(kind, length, aligned):

@@ -3,6 +3,7 @@
 
 use codegen::image_fields::{ImageFields, ResultSlot, Slot};
 use functions::function_code::{function_words, room_of};
+use hepurita::FrameNeeds;
 use language::{Form, Kind, Label, Param, Profile};
 use std::alloc::{AllocError, Global};
 use std::test::Fail;
@@ -52,7 +53,11 @@ const BODY: [u32; 9] = [
 #[test]
 fn has_these_words(rt: HostRuntime) -> Result<(), Fail> {
     let image = largest_image(rt.alloc())?;
-    let words = function_words(rt.alloc(), &image, None)?;
+    let needs = FrameNeeds {
+        blank: None,
+        spared: Vec::new(rt.alloc()),
+    };
+    let words = function_words(rt.alloc(), &image, &needs)?;
     assert_eq!(rt; room_of(&image), 65_552);
     assert_eq!(rt; words.as_slice(), WORDS.as_slice());
     Ok(())

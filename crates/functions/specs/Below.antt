@@ -15,6 +15,7 @@ pub use Rattle.language.specs.WantOfMemory.{IsWantOfMemory}
 pub use Rattle.language.specs.declared.refusal.Refusal.{Refusal}
 pub use Rattle.language.specs.Size.{element_bytes}
 pub use Rattle.language.specs.declared.signature.Kind.{Kind}
+pub use Rattle.language.specs.declared.signature.Kind.TheVariants.{Uint32}
 pub use Rattle.language.specs.declared.signature.Form.{Form}
 pub use Rattle.language.specs.declared.signature.Form.TheVariants.{FixedArray, MutableArray, SingleWord}
 pub use Rattle.codegen.specs.Anywhere.{body_words}
@@ -33,7 +34,7 @@ pub use Rattle.linked_calls.specs.FunctionCode.{all_fit, are_few, blank_code, fi
 pub use Rattle.linked_calls.specs.Written.{has_destination, is_written, writes, written_of}
 pub use Rattle.linked_calls.specs.FunctionCode.{clear_registers_code, copied_code, copied_in_code, copied_out_code}
 pub use Rattle.linked_calls.specs.FunctionCode.{array_code, by_alignment_code, by_words_code, elements_code}
-pub use Rattle.linked_calls.specs.FunctionCode.{goes_in_by_words, goes_out_by_words, passed_count}
+pub use Rattle.linked_calls.specs.FunctionCode.{goes_in_by_words, goes_out_by_words, passed_count, per_round}
 pub use Rattle.linked_calls.specs.FunctionCode.{copy_in_code, copy_out_code, down_code, element_meant_code}
 pub use Rattle.linked_calls.specs.FunctionCode.{frame_room, loads_code}
 pub use Rattle.linked_calls.specs.FunctionCode.{meant_code, next_code, places_code, rest_words, result_code, room_of}
@@ -41,6 +42,8 @@ pub use Rattle.linked_calls.specs.FunctionCode.{rounds_code, runs_code}
 pub use Rattle.linked_calls.specs.FunctionCode.{store_by, stores_code}
 pub use Rattle.linked_calls.specs.FunctionCode.{until_equal, up_code, wipe_code, word_code, zeros_code}
 unfoldable pub use Rattle.linked_calls.specs.FunctionCode.{function_words}
+pub use Rattle.linked_calls.specs.FunctionCode.{is_open, is_skipped}
+pub use Rattle.linked_calls.specs.Sections.{argument_section}
 pub use Rattle.linked_calls.specs.Sections.{argument_sections, array_section, array_sections, code_of, enter_sections}
 pub use Rattle.linked_calls.specs.Sections.{frame_sections, leave_sections, section_code}
 pub use Rattle.listing.specs.Code.{IsTextOf, of_instruction, of_no_instruction}

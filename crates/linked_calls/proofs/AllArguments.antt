@@ -1,9 +1,9 @@
 -- All arguments, taken one after another: each is what it was at the call, since only the frame is written, and of the
 -- registers of arguments only its own.
-use Rattle.std.specs.Prelude.{is_some, unwrap_or}
+use Rattle.std.specs.Prelude.{is_some, slice_get, unwrap_or}
 use Rattle.std.proofs.Common.{◌≡◌, ◌≢◌, ℕ, zero, suc, ◌+◌, ◌*◌, ◌<◌, ◌≤◌, List, [], ◌∷◌, length, map, Option, Some}
 use Rattle.std.proofs.Common.{inl, inr, refl, Bool, true, false, nat_lt, if◌then◌else◌, sym, ap, ◌∙◌, subst, arith}
-use Rattle.std.proofs.lemmas.Bool.{ltb-true}
+use Rattle.std.proofs.lemmas.Bool.{and_parts, false≢true, ltb-true}
 use Rattle.std.proofs.lemmas.List.{length-map}
 use Rattle.codegen.proofs.program_logic_lemmas.Counted.{no_code, Runs, Setting, then_runs, weaken_runs}
 use Rattle.linked_calls.proofs.Below.{AreBytes, AreData, Arg, argument_code, argument_of, argument_offset}
@@ -13,7 +13,7 @@ use Rattle.linked_calls.proofs.Below.{Data, element_bytes, elements_at, Fields, 
 use Rattle.linked_calls.proofs.Below.{is_some-with_number, IsBesides, IsOfCall, IsOnStack, IsReadable, LiesIn, meant}
 use Rattle.linked_calls.proofs.Below.{MutableArray, number_at, number_at_same, passed_in, place_before, place_behind}
 use Rattle.linked_calls.proofs.Below.{Pointed, ReadsAnArray, room_base, SingleWord, CallSite, Size, Slot, State}
-use Rattle.linked_calls.proofs.Below.{stacked_offset, with_argument, with_arguments}
+use Rattle.linked_calls.proofs.Below.{stacked_offset, with_argument, with_arguments, with_numbers}
 use Rattle.linked_calls.proofs.Below.{argument_steps, taken_steps, with_number_outside, WritesAnArray}
 use Rattle.language.specs.declared.values.Arg.TheVariants.{Word}
 use Rattle.linked_calls.specs.Calls.{ArePassed, IsPassed}
@@ -24,6 +24,8 @@ use Rattle.linked_calls.proofs.Bytes.{IsOutside, SameData, number_there, numbers
 use Rattle.linked_calls.proofs.ByteData.{number_stays, numbers_stay}
 use Rattle.linked_calls.proofs.Bytes.{is_some-with_numbers}
 use Rattle.linked_calls.proofs.Copies.{taken_runs as copies_run}
+use Rattle.linked_calls.proofs.MovedBytes.{meant_same, numbers_moved, one_moved}
+use Rattle.linked_calls.specs.FunctionCode.{is_open, is_skipped}
 use Rattle.linked_calls.proofs.Passed.{Passes, array_outside}
 use Rattle.linked_calls.proofs.SavedRegisters.{registers_from}
 use Rattle.linked_calls.proofs.SectionSteps.{arguments_steps}
@@ -108,14 +110,30 @@ module _ (image : Fields) (site : CallSite) where
   AreKnown i [] = Unit {0}
   AreKnown i (slot ∷ slots) = IsKnown i slot slot.param.form × AreKnown (i + 1) slots
 
-  -- What is taken: each argument as it is at a call.
+  -- What is taken: each argument as it is at a call, but that of a slot which is skipped: there stays what it holds.
   module _ (s : State) where
-    -- the bytes with an argument in its slot
-    abbrev pub taken : ByteMap → ℕ → Slot → Form → ByteMap
-    taken bytes i slot form = with_argument (room_base image site) bytes slot (argument_of site s i slot form)
+    -- what stands in a slot
+    abbrev pub held : Bool → ByteMap → ℕ → Slot → Form → Arg
+    held skipped bytes i slot SingleWord = argument_of site s i slot SingleWord
+    held skipped bytes i slot FixedArray = argument_of site s i slot FixedArray
+    held skipped bytes i slot MutableArray =
+        if skipped then Array (map (meant slot.param.kind) (elements_at slot bytes (room_base image site + slot.offset)))
+        else argument_of site s i slot MutableArray
 
-    abbrev pub all_taken : ByteMap → ℕ → List Slot → ByteMap
-    all_taken bytes i slots = with_arguments (room_base image site) bytes slots (arguments_from site s i slots)
+    -- the bytes with that in the slot
+    abbrev pub taken : Bool → ByteMap → ℕ → Slot → Form → ByteMap
+    taken skipped bytes i slot form = with_argument (room_base image site) bytes slot (held skipped bytes i slot form)
+
+    -- in all slots from the i-th on
+    abbrev pub all_held : List Bool → ByteMap → ℕ → List Slot → List Arg
+    all_held spared bytes i [] = []
+    all_held spared bytes i (slot ∷ slots) =
+        held (is_skipped spared i slot) bytes i slot slot.param.form
+        ∷ all_held spared (taken (is_skipped spared i slot) bytes i slot slot.param.form) (i + 1) slots
+
+    abbrev pub all_taken : List Bool → ByteMap → ℕ → List Slot → ByteMap
+    all_taken spared bytes i slots =
+        with_arguments (room_base image site) bytes slots (all_held spared bytes i slots)
 
     -- it lies in the frame
 
@@ -128,50 +146,74 @@ module _ (image : Fields) (site : CallSite) where
         ∙ numbers_count s.bytes (element_bytes slot.param.kind) (site.pointers i) slot.param.length in
         subst (λ k. slot.offset + element_bytes slot.param.kind * k ≤ frame_room image) (sym count) inside
 
-    fits : (i : ℕ) (slot : Slot) (form : Form) → IsKnown i slot form
-        → slot.offset + put_bytes slot (argument_of site s i slot form) ≤ frame_room image
-    fits i slot SingleWord known = known.inside
-    fits i slot FixedArray known = elements_fit i slot known.inside
-    fits i slot MutableArray known = elements_fit i slot known.known.inside
+    held_fits : (skipped : Bool) (bytes : ByteMap) (i : ℕ) (slot : Slot) → slot.offset + array_bytes slot ≤ frame_room image
+        → slot.offset + put_bytes slot (held skipped bytes i slot MutableArray) ≤ frame_room image
+    held_fits true bytes i slot inside =
+        let vs = elements_at slot bytes (room_base image site + slot.offset) in
+        let count = length-map vs (meant slot.param.kind)
+        ∙ numbers_count bytes (element_bytes slot.param.kind) (room_base image site + slot.offset) slot.param.length in
+        subst (λ k. slot.offset + element_bytes slot.param.kind * k ≤ frame_room image) (sym count) inside
+    held_fits false bytes i slot inside = elements_fit i slot inside
 
-    pub taken_outside : (bytes : ByteMap) (i : ℕ) (slot : Slot) (form : Form) (x : ℕ) → IsKnown i slot form
-        → IsOutside (room_base image site) (saved_at image site) x → taken bytes i slot form x ≡ bytes x
-    taken_outside bytes i slot form x known outside =
-        put_outside (room_base image site) bytes slot (argument_of site s i slot form) x (by outside)
+    fits : (skipped : Bool) (bytes : ByteMap) (i : ℕ) (slot : Slot) (form : Form) → IsKnown i slot form
+        → slot.offset + put_bytes slot (held skipped bytes i slot form) ≤ frame_room image
+    fits skipped bytes i slot SingleWord known = known.inside
+    fits skipped bytes i slot FixedArray known = elements_fit i slot known.inside
+    fits skipped bytes i slot MutableArray known = held_fits skipped bytes i slot known.known.inside
+
+    pub taken_outside : (skipped : Bool) (bytes : ByteMap) (i : ℕ) (slot : Slot) (form : Form) (x : ℕ) → IsKnown i slot form
+        → IsOutside (room_base image site) (saved_at image site) x → taken skipped bytes i slot form x ≡ bytes x
+    taken_outside skipped bytes i slot form x known outside =
+        put_outside (room_base image site) bytes slot (held skipped bytes i slot form) x (by outside)
       where
         by : IsOutside (room_base image site) (saved_at image site) x → IsOutside (room_base image site + slot.offset)
-            (room_base image site + slot.offset + put_bytes slot (argument_of site s i slot form)) x
+            (room_base image site + slot.offset + put_bytes slot (held skipped bytes i slot form)) x
         by (inl low) = inl (omega arith)
-        by (inr high) = let inside = fits i slot form known in inr (omega arith)
+        by (inr high) = let inside = fits skipped bytes i slot form known in inr (omega arith)
 
-    pub all_taken_outside : (bytes : ByteMap) (i : ℕ) (slots : List Slot) (x : ℕ) → AreKnown i slots
-        → IsOutside (room_base image site) (saved_at image site) x → all_taken bytes i slots x ≡ bytes x
-    all_taken_outside bytes i [] x known outside = refl
-    all_taken_outside bytes i (slot ∷ slots) x known outside =
-        all_taken_outside (taken bytes i slot slot.param.form) (i + 1) slots x known.1 outside
-        ∙ taken_outside bytes i slot slot.param.form x known.0 outside
+    pub all_taken_outside : (spared : List Bool) (bytes : ByteMap) (i : ℕ) (slots : List Slot) (x : ℕ) → AreKnown i slots
+        → IsOutside (room_base image site) (saved_at image site) x → all_taken spared bytes i slots x ≡ bytes x
+    all_taken_outside spared bytes i [] x known outside = refl
+    all_taken_outside spared bytes i (slot ∷ slots) x known outside =
+        let skipped = is_skipped spared i slot in
+        all_taken_outside spared (taken skipped bytes i slot slot.param.form) (i + 1) slots x known.1 outside
+        ∙ taken_outside skipped bytes i slot slot.param.form x known.0 outside
 
-    taken_data : (bytes : ByteMap) (i : ℕ) (slot : Slot) (form : Form) → IsKnown i slot form
-        → AreData (room_base image site) (saved_at image site) bytes → SameData bytes (taken bytes i slot form)
-    taken_data bytes i slot form known there =
-        let inside = fits i slot form known in
-        put_data (room_base image site) bytes slot (argument_of site s i slot form)
+    taken_data : (skipped : Bool) (bytes : ByteMap) (i : ℕ) (slot : Slot) (form : Form) → IsKnown i slot form
+        → AreData (room_base image site) (saved_at image site) bytes → SameData bytes (taken skipped bytes i slot form)
+    taken_data skipped bytes i slot form known there =
+        let inside = fits skipped bytes i slot form known in
+        put_data (room_base image site) bytes slot (held skipped bytes i slot form)
         (λ x low high. there x (omega arith) (omega arith))
 
-    pub all_taken_data : (bytes : ByteMap) (i : ℕ) (slots : List Slot) → AreKnown i slots
-        → AreData (room_base image site) (saved_at image site) bytes → SameData bytes (all_taken bytes i slots)
-    all_taken_data bytes i [] known there x = refl
-    all_taken_data bytes i (slot ∷ slots) known there x =
-        let same = taken_data bytes i slot slot.param.form known.0 there in
-        all_taken_data (taken bytes i slot slot.param.form) (i + 1) slots known.1
+    pub all_taken_data : (spared : List Bool) (bytes : ByteMap) (i : ℕ) (slots : List Slot) → AreKnown i slots
+        → AreData (room_base image site) (saved_at image site) bytes → SameData bytes (all_taken spared bytes i slots)
+    all_taken_data spared bytes i [] known there x = refl
+    all_taken_data spared bytes i (slot ∷ slots) known there x =
+        let skipped = is_skipped spared i slot in
+        let same = taken_data skipped bytes i slot slot.param.form known.0 there in
+        all_taken_data spared (taken skipped bytes i slot slot.param.form) (i + 1) slots known.1
         (λ y low high. same y ∙ there y low high) x
         ∙ same x
 
     -- data stays bytes
-    taken_stays : (bytes : ByteMap) (i : ℕ) (slot : Slot) (form : Form) → AreBytes bytes
-        → AreBytes (taken bytes i slot form)
-    taken_stays bytes i slot form are =
-        put_stays (room_base image site) bytes slot (argument_of site s i slot form) are
+    taken_stays : (skipped : Bool) (bytes : ByteMap) (i : ℕ) (slot : Slot) (form : Form) → AreBytes bytes
+        → AreBytes (taken skipped bytes i slot form)
+    taken_stays skipped bytes i slot form are =
+        put_stays (room_base image site) bytes slot (held skipped bytes i slot form) are
+
+    -- what a slot holds is put there without change
+    held_stays : (bytes : ByteMap) (i : ℕ) (slot : Slot) → is_open MutableArray slot.param.kind ≡ true → AreBytes bytes
+        → AreData (room_base image site + slot.offset) (room_base image site + slot.offset + array_bytes slot) bytes
+        → bytes ≡ taken true bytes i slot MutableArray
+    held_stays bytes i slot opens are there =
+        let n = element_bytes slot.param.kind in
+        let a = room_base image site + slot.offset in
+        let vs = elements_at slot bytes a in
+        one_moved bytes bytes bytes (with_numbers bytes n a vs) a a (array_bytes slot)
+        (record { inside = λ k few. refl; outside = λ x out. refl })
+        (numbers_moved bytes are bytes n a a slot.param.length there)
+        ∙ sym (meant_same slot.param.kind bytes a vs opens)
 
   -- Before and behind.
 
@@ -185,14 +227,14 @@ module _ (image : Fields) (site : CallSite) where
     pub passes : Passes image site call i d
     pub given : Given call
 
-  -- an argument is in its slot, as at each call of which it is
-  pub record TakesOne (i : ℕ) (slot : Slot) (form : Form) (d t : Data) : Type 0 where
-    pub bytes : (s : State) → Passes image site s i d → t.bytes ≡ taken s d.bytes i slot form
+  -- an argument is in its slot, as at each call of which it is, or what the slot held
+  pub record TakesOne (skipped : Bool) (i : ℕ) (slot : Slot) (form : Form) (d t : Data) : Type 0 where
+    pub bytes : (s : State) → Passes image site s i d → t.bytes ≡ taken s skipped d.bytes i slot form
     pub others : (q : ℕ) → IsNone copying_registers q → q ≢ argument_register i → t.regs q ≡ d.regs q
 
   -- all from the i-th on
-  pub record TakesAll (i : ℕ) (slots : List Slot) (d t : Data) : Type 0 where
-    pub bytes : (s : State) → Passes image site s i d → t.bytes ≡ all_taken s d.bytes i slots
+  pub record TakesAll (spared : List Bool) (i : ℕ) (slots : List Slot) (d t : Data) : Type 0 where
+    pub bytes : (s : State) → Passes image site s i d → t.bytes ≡ all_taken s spared d.bytes i slots
     pub others : (q : ℕ) → IsNone taking_registers q → t.regs q ≡ d.regs q
 
   -- x2 is the frame's base, data is bytes, room and arguments are data, and the arrays are ready
@@ -262,15 +304,15 @@ module _ (image : Fields) (site : CallSite) where
     stacked_allowed i few many = place_allowed (stacked_offset image i) (omega arith)
 
     -- the arguments behind one that is taken are as they were
-    passes_on : (i : ℕ) (slot : Slot) (form : Form) → IsKnown i slot form → (s : State) (d t : Data)
-        → Passes image site s i d → TakesOne i slot form d t → Passes image site s (i + 1) t
-    passes_on i slot form known s d t passes takes = record {
+    passes_on : (skipped : Bool) (i : ℕ) (slot : Slot) (form : Form) → IsKnown i slot form → (s : State) (d t : Data)
+        → Passes image site s i d → TakesOne skipped i slot form d t → Passes image site s (i + 1) t
+    passes_on skipped i slot form known s d t passes takes = record {
       raw = λ j from few. by j (nat_lt j 8) refl from few ∙ passes.raw j (omega arith) few;
       outside = λ x out. same x (outside_frame image site numbers x out) ∙ passes.outside x out;
     }
       where
         same : (x : ℕ) → IsOutside (room_base image site) (saved_at image site) x → t.bytes x ≡ d.bytes x
-        same x out = ap (λ (b : ByteMap). b x) (takes.bytes s passes) ∙ taken_outside s d.bytes i slot form x known out
+        same x out = ap (λ (b : ByteMap). b x) (takes.bytes s passes) ∙ taken_outside s skipped d.bytes i slot form x known out
 
         by : (j : ℕ) (b : Bool) → nat_lt j 8 ≡ b → i + 1 ≤ j → j < length image.slots
             → (if b then Some (t.regs (10 + j)) else number_at t.bytes 4 (room_base image site + stacked_offset image j))
@@ -301,7 +343,7 @@ module _ (image : Fields) (site : CallSite) where
         → Passes image site s i d
         → with_argument (room_base image site) d.bytes slot
         (Array (map (meant slot.param.kind) (elements_at slot d.bytes (site.pointers i))))
-        ≡ taken s d.bytes i slot FixedArray
+        ≡ taken s false d.bytes i slot FixedArray
     array_is i slot readable s d passes =
         ap (λ (vs : List ℕ). with_argument (room_base image site) d.bytes slot (Array (map (meant slot.param.kind) vs)))
         (numbers_same s.bytes d.bytes (element_bytes slot.param.kind) (site.pointers i) slot.param.length
@@ -309,10 +351,10 @@ module _ (image : Fields) (site : CallSite) where
 
     array_runs : (i : ℕ) (slot : Slot) → i < length image.slots → KnownArray i slot
         → Runs z (taken_steps image i slot (site.pointers i)) (argument_code image i slot FixedArray)
-        (TakingBegins i (λ s. IsPassed site s i slot FixedArray)) (TakesOne i slot FixedArray)
+        (TakingBegins i (λ s. IsPassed site s i slot FixedArray)) (TakesOne false i slot FixedArray)
     array_runs i slot few known =
         let at = room_base image site + slot.offset in
-        weaken_runs z {P' = TakingBegins i (λ s. IsPassed site s i slot FixedArray)} {R' = TakesOne i slot FixedArray}
+        weaken_runs z {P' = TakingBegins i (λ s. IsPassed site s i slot FixedArray)} {R' = TakesOne false i slot FixedArray}
         (copies_run image slot (spot_at i) known.can z (stacked_allowed i few)
         (λ a size lies. inr (known.reads a size lies))
         (λ a size lies. inl (on_stack at (array_bytes slot) (omega arith)
@@ -325,11 +367,11 @@ module _ (image : Fields) (site : CallSite) where
 
     argument_runs : (i : ℕ) (slot : Slot) (form : Form) → i < length image.slots → IsKnown i slot form
         → Runs z (argument_steps image site.pointers i slot form) (argument_code image i slot form)
-        (TakingBegins i (λ s. IsPassed site s i slot form)) (TakesOne i slot form)
+        (TakingBegins i (λ s. IsPassed site s i slot form)) (TakesOne false i slot form)
     argument_runs i slot SingleWord few known =
         let under = room in
         let ends = slot_within slot 4 known.inside in
-        weaken_runs z {P' = TakingBegins i (λ s. IsPassed site s i slot SingleWord)} {R' = TakesOne i slot SingleWord}
+        weaken_runs z {P' = TakingBegins i (λ s. IsPassed site s i slot SingleWord)} {R' = TakesOne false i slot SingleWord}
         (word_runs z image slot (room_base image site) i known.can (stacked_allowed i few)
         (inl ((omega arith, omega arith), omega arith)))
         (λ d begins. record {
@@ -346,7 +388,7 @@ module _ (image : Fields) (site : CallSite) where
     argument_runs i slot FixedArray few known = array_runs i slot few known
     argument_runs i slot MutableArray few known =
         weaken_runs z {P' = TakingBegins i (λ s. IsPassed site s i slot MutableArray)}
-        {R' = TakesOne i slot MutableArray} (array_runs i slot few known.known)
+        {R' = TakesOne false i slot MutableArray} (array_runs i slot few known.known)
         (λ d begins. record {
           stack = begins.stack;
           bytes = begins.bytes;
@@ -357,18 +399,43 @@ module _ (image : Fields) (site : CallSite) where
         })
         (λ d t begins takes. record { bytes = takes.bytes; others = takes.others })
 
+    -- of an array that is skipped there is no code
+    skipped_runs : (i : ℕ) (slot : Slot) (form : Form) → IsKnown i slot form → is_open form slot.param.kind ≡ true
+        → Runs z 0 [] (TakingBegins i (λ s. IsPassed site s i slot form)) (TakesOne true i slot form)
+    skipped_runs i slot SingleWord known opens = absurd (false≢true opens)
+    skipped_runs i slot FixedArray known opens = absurd (false≢true opens)
+    skipped_runs i slot MutableArray known opens =
+        let under = room in
+        let inside = known.known.inside in
+        no_code z (λ d begins. record {
+          bytes = λ s passes. held_stays s d.bytes i slot opens begins.bytes
+              (λ x low high. begins.there x (omega arith) (omega arith));
+          others = λ q none other. refl;
+        })
+
+    needed_runs : (skipped : Bool) (i : ℕ) (slot : Slot) (form : Form) → i < length image.slots → IsKnown i slot form
+        → (skipped ≡ true → is_open form slot.param.kind ≡ true)
+        → Runs z (if skipped then 0 else argument_steps image site.pointers i slot form)
+        (if skipped then [] else argument_code image i slot form)
+        (TakingBegins i (λ s. IsPassed site s i slot form)) (TakesOne skipped i slot form)
+    needed_runs true i slot form few known opens = skipped_runs i slot form known (opens refl)
+    needed_runs false i slot form few known opens = argument_runs i slot form few known
+
     -- all of them
-    pub arguments_runs : (i : ℕ) (slots : List Slot) → i + length slots ≡ length image.slots → AreKnown i slots
-        → Runs z (arguments_steps image site.pointers i slots) (arguments_code image i slots)
-        (TakingBegins i (λ s. ArePassed site s i slots)) (TakesAll i slots)
-    arguments_runs i [] count known =
+    pub arguments_runs : (spared : List Bool) (i : ℕ) (slots : List Slot) → i + length slots ≡ length image.slots
+        → AreKnown i slots
+        → Runs z (arguments_steps image site.pointers spared i slots) (arguments_code image spared i slots)
+        (TakingBegins i (λ s. ArePassed site s i slots)) (TakesAll spared i slots)
+    arguments_runs spared i [] count known =
         no_code z (λ d begins. record { bytes = λ s passes. refl; others = λ q none. refl })
-    arguments_runs i (slot ∷ slots) count known =
+    arguments_runs spared i (slot ∷ slots) count known =
         let form = slot.param.form in
+        let skipped = is_skipped spared i slot in
         let under = room in
         then_runs z
-        (weaken_runs z {P' = TakingBegins i (λ s. ArePassed site s i (slot ∷ slots))} {R' = TakesOne i slot form}
-        (argument_runs i slot form (omega arith) known.0)
+        (weaken_runs z {P' = TakingBegins i (λ s. ArePassed site s i (slot ∷ slots))} {R' = TakesOne skipped i slot form}
+        (needed_runs skipped i slot form (omega arith) known.0
+        (λ is. (and_parts (unwrap_or (slice_get spared i) false) (is_open form slot.param.kind) is).1))
         (λ d begins. record {
           stack = begins.stack;
           bytes = begins.bytes;
@@ -378,22 +445,22 @@ module _ (image : Fields) (site : CallSite) where
           given = begins.given.0;
         })
         (λ d t begins takes. takes))
-        (arguments_runs (i + 1) slots (omega arith) known.1)
+        (arguments_runs spared (i + 1) slots (omega arith) known.1)
         (λ d t begins takes.
         let s = begins.call in
         let made = takes.bytes s begins.passes in
-        let same = taken_data s d.bytes i slot form known.0 (λ x l h. begins.there x l (omega arith)) in
+        let same = taken_data s skipped d.bytes i slot form known.0 (λ x l h. begins.there x l (omega arith)) in
         record {
           stack = takes.others 2 (none_of copying_registers 2 refl) (base_other i) ∙ begins.stack;
-          bytes = subst AreBytes (sym made) (taken_stays s d.bytes i slot form begins.bytes);
+          bytes = subst AreBytes (sym made) (taken_stays s skipped d.bytes i slot form begins.bytes);
           there = λ x l h. ap (λ (b : ByteMap). is_some (b x)) made ∙ same x ∙ begins.there x l h;
           call = s;
-          passes = passes_on i slot form known.0 s d t begins.passes takes;
+          passes = passes_on skipped i slot form known.0 s d t begins.passes takes;
           given = begins.given.1;
         })
         (λ d t u begins takes more. record {
-          bytes = λ s passes. more.bytes s (passes_on i slot form known.0 s d t passes takes)
-              ∙ ap (λ (b : ByteMap). all_taken s b (i + 1) slots) (takes.bytes s passes);
+          bytes = λ s passes. more.bytes s (passes_on skipped i slot form known.0 s d t passes takes)
+              ∙ ap (λ (b : ByteMap). all_taken s spared b (i + 1) slots) (takes.bytes s passes);
           others = λ q none. more.others q none
               ∙ takes.others q (none.0, (none.1.0, (none.1.1.0, (none.1.1.1.0, tt)))) (none_taking i q none);
         })

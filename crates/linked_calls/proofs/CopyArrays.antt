@@ -63,7 +63,7 @@ pub word_even : (kind : Kind) (a : ℕ) → a % 4 ≡ 0 → a % element_bytes ki
 word_even Boolean a even = omega arith
 word_even kind a even = omega arith
 
-passed_few : (count : ℕ) → (passed_count count < 16) × (passed_count count ≤ count)
+passed_few : (count : ℕ) → (passed_count Uint32 count < 16) × (passed_count Uint32 count ≤ count)
 passed_few count = by (nat_lt count 16) refl
   where
     by : (b : Bool) → nat_lt count 16 ≡ b
@@ -218,7 +218,7 @@ module _ (inward : Bool) (z : Setting) (array : CopiedArray) (can : CanCopyArray
     left = k % per_word kind
 
     abbrev passed : ℕ
-    passed = passed_count word_count
+    passed = passed_count Uint32 word_count
 
     -- how far x5 and x6 go
     abbrev gone : ℕ

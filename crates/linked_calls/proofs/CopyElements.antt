@@ -1,9 +1,10 @@
 -- One element of an array, copied: inward, from where an argument points (x5) into its slot (x6), or back. What is done
 -- with it is one computation for all kinds and both ways.
 use Rattle.std.specs.Prelude.{is_some}
-use Rattle.std.proofs.Common.{◌≡◌, ℕ, ◌+◌, ◌*◌, ◌%◌, ◌<◌, ◌≤◌, ◌==◌, Bool, true, false, List, [], ◌∷◌, ◌++◌}
+use Rattle.std.proofs.Common.{◌≡◌, ℕ, ◌+◌, ◌*◌, ◌/◌, ◌%◌, ◌<◌, ◌≤◌, ◌==◌, Bool, true, false, List, [], ◌∷◌, ◌++◌}
 use Rattle.std.proofs.Common.{length, Option, refl, sym, ap, arith}
 use Rattle.std.proofs.lemmas.Bool.{lt-ltb}
+use Rattle.linked_calls.specs.FunctionCode.{per_round}
 use Rattle.linked_calls.proofs.Below.{after_all, are_straight, AreFit, AreMet, Boolean, copied_in_code}
 use Rattle.linked_calls.proofs.Below.{copied_out_code, Data, element_bytes, elements_code, Event, Instr, IsFit, Kind}
 use Rattle.linked_calls.proofs.Below.{LiesIn, meant, next_code, number_at, number_or_zero, sign_extended, Size, sum_of}
@@ -58,11 +59,39 @@ pub elements_fit : (kind : Kind) (i k : ℕ) → i < k
 elements_fit Boolean i k few = omega arith
 elements_fit kind i k few = omega arith
 
--- so many times eight, and once more
+-- so many rounds, and once more
 pub rounds_fit : (kind : Kind) (i k : ℕ) → i < k
-    → element_bytes kind * (8 * i) + 8 * element_bytes kind ≤ element_bytes kind * (8 * k)
+    → element_bytes kind * (per_round kind * i) + per_round kind * element_bytes kind
+    ≤ element_bytes kind * (per_round kind * k)
 rounds_fit Boolean i k few = omega arith
 rounds_fit kind i k few = omega arith
+
+-- a round copies some, and few
+pub round_some : (kind : Kind) → 0 < per_round kind * element_bytes kind
+round_some Boolean = omega arith
+round_some kind = omega arith
+
+pub round_few : (kind : Kind) → per_round kind ≤ 8
+round_few Boolean = omega arith
+round_few kind = omega arith
+
+-- rounds and what is left are all
+pub rounds_split : (kind : Kind) (k : ℕ) → per_round kind * (k / per_round kind) + k % per_round kind ≡ k
+rounds_split Boolean k = omega arith
+rounds_split kind k = omega arith
+
+-- and few are left
+pub left_few : (kind : Kind) (k : ℕ) → k % per_round kind < 8
+left_few Boolean k = omega arith
+left_few kind k = omega arith
+
+pub round_inside : (kind : Kind) (i k : ℕ) → i < k / per_round kind → per_round kind * i + per_round kind ≤ k
+round_inside Boolean i k few = omega arith
+round_inside kind i k few = omega arith
+
+pub rounds_some : (kind : Kind) (k : ℕ) → 16 ≤ k → 0 < k / per_round kind
+rounds_some Boolean k many = omega arith
+rounds_some kind k many = omega arith
 
 pub fewer_fit : (kind : Kind) (i k : ℕ) → i ≤ k → element_bytes kind * i ≤ element_bytes kind * k
 fewer_fit Boolean i k few = omega arith
@@ -90,16 +119,17 @@ element_plain false Boolean offset near = simp (lt-ltb offset 4096 near)
 element_plain true kind offset near = simp (lt-ltb offset 4096 near)
 element_plain false kind offset near = simp (lt-ltb offset 4096 near)
 
--- eight of them, and x5 and x6 moved
-abbrev pub eight_code : Bool → Kind → List Instr
-eight_code inward kind = elements_code (element_code inward kind) (element_bytes kind) 0 8 ++ next_code kind
+-- those of a round, and x5 and x6 moved
+abbrev pub round_code : Bool → Kind → List Instr
+round_code inward kind =
+    elements_code (element_code inward kind) (element_bytes kind) 0 (per_round kind) ++ next_code kind
 
-pub eight_length : (inward : Bool) (kind : Kind)
-    → (0 < length (eight_code inward kind)) × (length (eight_code inward kind) < 1024)
-eight_length true Boolean = (omega arith, omega arith)
-eight_length false Boolean = (omega arith, omega arith)
-eight_length true kind = (omega arith, omega arith)
-eight_length false kind = (omega arith, omega arith)
+pub round_length : (inward : Bool) (kind : Kind)
+    → (0 < length (round_code inward kind)) × (length (round_code inward kind) < 1024)
+round_length true Boolean = (omega arith, omega arith)
+round_length false Boolean = (omega arith, omega arith)
+round_length true kind = (omega arith, omega arith)
+round_length false kind = (omega arith, omega arith)
 
 pub element_fit : (Allows : Option Event → Type 0) (inward : Bool) (kind : Kind) (offset a b : ℕ)
     → IsFit Allows (element_bytes kind) (event.Load a (element_size kind)) a

@@ -6,7 +6,7 @@ use Rattle.codegen.proofs.expression_code_lemmas.TermLengths.{constant_length}
 use Rattle.linked_calls.proofs.Below.{Boolean, by_words_code, copied_code, CopiesAreShort}
 use Rattle.linked_calls.proofs.Below.{element_bytes, elements_code, Instr, Kind, per_word}
 use Rattle.linked_calls.proofs.Below.{rounds_code, Uint32}
-use Rattle.linked_calls.proofs.CopyElements.{element_code}
+use Rattle.linked_calls.proofs.CopyElements.{element_code, left_few, round_few}
 
 element_short : (inward : Bool) (kind : Kind) (offset : ℕ) → length (element_code inward kind offset) ≤ 3
 element_short true Boolean offset = omega arith
@@ -27,7 +27,14 @@ elements_short inward kind bytes offset (suc count) =
 
 rounds_short : (inward : Bool) (kind : Kind) (count : ℕ) → length (rounds_code (element_code inward kind) kind count) ≤ 51
 rounds_short inward kind count =
-    omega (arith, constant_length, elements_short inward kind, length-append {A = Instr})
+    omega (
+      arith,
+      constant_length,
+      elements_short inward kind,
+      length-append {A = Instr},
+      round_few kind,
+      left_few kind count,
+    )
 
 -- so many elements of any kind
 pub copied_short : (inward : Bool) (kind : Kind) (count : ℕ)

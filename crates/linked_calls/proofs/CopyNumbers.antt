@@ -1,5 +1,5 @@
 -- Numbers of one size, one after another, from where x5 points into the frame where x6 points, or back: few by
--- straight code, many by a loop over eight at a time up to x7. They may begin some bytes behind where both point.
+-- straight code, many by a loop over some at a time up to x7. They may begin some bytes behind where both point.
 use Rattle.std.specs.Prelude.{◌⊎◌, is_some, unwrap_or}
 use Rattle.std.proofs.Common.{◌≡◌, ◌≢◌, ℕ, zero, suc, ◌+◌, ◌-◌, ◌*◌, ◌/◌, ◌%◌, ◌^◌, ◌<◌, ◌≤◌, ◌==◌, ◌||◌, Bool, true}
 use Rattle.std.proofs.Common.{false, nat_lt, if◌then◌else◌, List, [], ◌∷◌, ◌++◌, length, map, inl, inr, refl, sym}
@@ -16,10 +16,12 @@ use Rattle.linked_calls.proofs.Below.{rounds_code, rounds_steps, sign_extended, 
 use Rattle.linked_calls.proofs.Below.{with_number, with_numbers, with_register, with_result}
 use Rattle.linked_calls.proofs.Bytes.{number_beside, number_there, numbers_count, is_some-with_numbers, numbers_more}
 use Rattle.linked_calls.proofs.Bytes.{numbers_then}
-use Rattle.linked_calls.proofs.CopyElements.{chosen, copied_value, eight_code, eight_length, element_code, element_even}
+use Rattle.linked_calls.proofs.CopyElements.{chosen, copied_value, round_code, round_length, element_code, element_even}
 use Rattle.linked_calls.proofs.CopyElements.{element_fit, element_lies, element_made, element_met, element_plain}
 use Rattle.linked_calls.proofs.CopyElements.{element_size, element_works, elements_fit, fewer_fit, near_elements}
-use Rattle.linked_calls.proofs.CopyElements.{rounds_fit, some_bytes, source, target}
+use Rattle.linked_calls.proofs.CopyElements.{left_few, round_few, round_inside, round_some, rounds_fit, rounds_some}
+use Rattle.linked_calls.proofs.CopyElements.{rounds_split, some_bytes, source, target}
+use Rattle.linked_calls.specs.FunctionCode.{per_round}
 use Rattle.linked_calls.proofs.Parts.{number_then, same_number}
 use Rattle.linked_calls.proofs.Pieces.{MayAt}
 use Rattle.rv_machine.specs.declared.observation.Event.TheVariants as event
@@ -378,14 +380,18 @@ module _ (inward : Bool) (z : Setting) (numbers : Numbers) (can : CanCopy inward
 
   -- The loop.
 
-  -- x5 and x6 go on by eight elements
-  next_runs : (base : ℕ) → base + 8 ≤ k
-      → Runs z 2 (next_code kind) (FromCopying base 8) (ToCopying base 8 (base + 8) 0)
+  -- how many elements a round copies
+  abbrev r : ℕ
+  r = per_round kind
+
+  -- x5 and x6 go on by as many
+  next_runs : (base : ℕ) → base + r ≤ k
+      → Runs z 2 (next_code kind) (FromCopying base r) (ToCopying base r (base + r) 0)
   next_runs base all =
-      let by = 8 * n in
-      let few = near_elements kind 8 (omega arith) in
+      let by = r * n in
+      let few = near_elements kind r (omega (arith, round_few kind)) in
       let small : by < 4096 = omega arith in
-      let same : base + 8 ≡ base + 8 + 0 = omega arith in
+      let same : base + r ≡ base + r + 0 = omega arith in
       let moved = λ (x at : ℕ) (is : x ≡ (at + n * base) % 2 ^ 32).
       ap (λ y. sum_of y (sign_extended 12 by)) is ∙ on_by at base in
       weaken_runs z
@@ -395,7 +401,7 @@ module _ (inward : Bool) (z : Setting) (numbers : Numbers) (can : CanCopy inward
       (simp (lt-ltb by 4096 small)) (λ regs. refl))
       (λ d given. given)
       (λ d t given made s held.
-      subst (Copying (base + 8) 0 s) (sym made)
+      subst (Copying (base + r) 0 s) (sym made)
       (record {
         begins = held.begins;
         source_is = both_on inward (d.regs 5) (d.regs 6) by ∙ moved (source inward d.regs) source_at held.source_is;
@@ -408,44 +414,53 @@ module _ (inward : Bool) (z : Setting) (numbers : Numbers) (can : CanCopy inward
         bytes = held.bytes ∙ ap (λ j. done j s.bytes) same;
       }))
     where
-      on_by : (at base : ℕ) → sum_of ((at + n * base) % 2 ^ 32) (sign_extended 12 (8 * n))
-          ≡ (at + n * (base + 8)) % 2 ^ 32
+      on_by : (at base : ℕ) → sum_of ((at + n * base) % 2 ^ 32) (sign_extended 12 (r * n))
+          ≡ (at + n * (base + r)) % 2 ^ 32
       on_by at base =
-          let few = near_elements kind 8 (omega arith) in
-          near_sum ((at + n * base) % 2 ^ 32) (8 * n) (omega arith) ∙ omega arith
+          let few = near_elements kind r (omega (arith, round_few kind)) in
+          near_sum ((at + n * base) % 2 ^ 32) (r * n) (omega arith) ∙ omega arith
 
   -- Many, which begin where x5 and x6 point.
 
   module _ (at_first : numbers.distance ≡ 0) where
     abbrev rounds : ℕ
-    rounds = k / 8
+    rounds = k / r
+
+    abbrev left : ℕ
+    left = k % r
+
+    all_rounds : r * rounds + left ≡ k
+    all_rounds = rounds_split kind k
 
     -- x7 is where the rounds end
     record BeginsRounds (s : Data) : Type 0 where
       begins : BeginsCopy inward numbers s
-      stop : s.regs 7 ≡ (numbers.pointer + n * (8 * rounds)) % 2 ^ 32
+      stop : s.regs 7 ≡ (numbers.pointer + n * (r * rounds)) % 2 ^ 32
 
     record Round (i : ℕ) (s d : Data) : Type 0 where
       begins : BeginsRounds s
-      held : Copying (8 * i) 0 s d
+      held : Copying (r * i) 0 s d
 
-    eight_runs : (i : ℕ) → i < rounds
-        → Runs z (length (elements_code element n 0 8) + 2) (eight_code inward kind)
+    round_runs : (i : ℕ) → i < rounds
+        → Runs z (length (elements_code element n 0 r) + 2) (round_code inward kind)
         (λ d. (s : Data) × Round i s d) (λ d t. (s : Data) → Round i s d → Round (suc i) s t)
-    eight_runs i few =
-        let e : 8 * i + 8 ≡ 8 * suc i = omega arith in
-        then_runs z {P = λ d. (s : Data) × Round i s d} {R = ToCopying (8 * i) 0 (8 * i) 8}
+    round_runs i few =
+        let inside = round_inside kind i k few in
+        let e : r * i + r ≡ r * suc i = omega arith in
+        let first : 0 + r ≡ r = omega arith in
+        then_runs z {P = λ d. (s : Data) × Round i s d} {R = ToCopying (r * i) 0 (r * i) r}
         {S = λ d t. (s : Data) → Round i s d → Round (suc i) s t}
-        (weaken_runs z (elements_run 8 (8 * i) 0 0 (omega arith) (omega arith) (omega arith))
-        (λ d given. (given.0, given.1.held)) (λ d t given done. done))
-        (next_runs (8 * i) (omega arith))
+        (weaken_runs z (elements_run r (r * i) 0 0 (omega arith) (omega (arith, round_few kind)) (omega (arith, inside)))
+        (λ d given. (given.0, given.1.held))
+        (λ d t given done s held. subst (λ m. Copying (r * i) m s t) first (done s held)))
+        (next_runs (r * i) inside)
         (λ d t given done. (given.0, done given.0 given.1.held))
         (λ d t u given done more s round. record {
           begins = round.begins;
           held = subst (λ b. Copying b 0 s u) e (more s (done s round.held));
         })
 
-    stop_is : (i : ℕ) (s d : Data) → Round i s d → d.regs 7 ≡ (numbers.pointer + n * (8 * rounds)) % 2 ^ 32
+    stop_is : (i : ℕ) (s d : Data) → Round i s d → d.regs 7 ≡ (numbers.pointer + n * (r * rounds)) % 2 ^ 32
     stop_is i s d round =
         round.held.others 7 (λ e. omega arith) (λ e. omega arith) (λ e. omega arith) ∙ round.begins.stop
 
@@ -453,27 +468,31 @@ module _ (inward : Bool) (z : Setting) (numbers : Numbers) (can : CanCopy inward
     goes_further i s d few round same =
         omega (
           arith,
-          pointer_is (8 * i) 0 s d round.held,
+          pointer_is (r * i) 0 s d round.held,
           stop_is i s d round,
           rounds_fit kind i rounds few,
-          fewer_fit kind (8 * rounds) k (omega arith),
-          some_bytes kind,
+          fewer_fit kind (r * rounds) k (omega (arith, all_rounds)),
+          round_some kind,
           can.pointer_ends,
         )
 
     loop_runs : 0 < rounds
-        → Runs z (rounds * suc (length (elements_code element n 0 8) + 2))
-        (until_equal 5 7 (eight_code inward kind)) BeginsRounds (λ s t. Copying (8 * rounds) 0 s t)
+        → Runs z (rounds * suc (length (elements_code element n 0 r) + 2))
+        (until_equal 5 7 (round_code inward kind)) BeginsRounds (λ s t. Copying (r * rounds) 0 s t)
     loop_runs some =
-        let size = eight_length inward kind in
-        loop z 5 7 (omega arith, omega arith) (eight_code inward kind) size.0 size.1 rounds Round eight_runs goes_further
-        (λ s d round. pointer_is (8 * rounds) 0 s d round.held ∙ sym (stop_is rounds s d round)) some
-        (λ s begins. record { begins = begins; held = begins_copying s begins.begins })
+        let size = round_length inward kind in
+        let none : 0 ≡ r * 0 = omega arith in
+        loop z 5 7 (omega arith, omega arith) (round_code inward kind) size.0 size.1 rounds Round round_runs goes_further
+        (λ s d round. pointer_is (r * rounds) 0 s d round.held ∙ sym (stop_is rounds s d round)) some
+        (λ s begins. record {
+          begins = begins;
+          held = subst (λ b. Copying b 0 s s) none (begins_copying s begins.begins);
+        })
         (λ s t begins round. round.held)
 
     -- with x7 at the end of the rounds
     abbrev bounded : Data → Data
-    bounded s = with_result 7 (sum_of (n * (8 * rounds)) (s.regs 5)) s
+    bounded s = with_result 7 (sum_of (n * (r * rounds)) (s.regs 5)) s
 
     rounds_begin : (s : Data) → BeginsCopy inward numbers s → BeginsRounds (bounded s)
     rounds_begin s begins = record {
@@ -484,34 +503,34 @@ module _ (inward : Bool) (z : Setting) (numbers : Numbers) (can : CanCopy inward
         from_there = begins.from_there;
         to_there = begins.to_there;
       };
-      stop = ap (λ x. sum_of (n * (8 * rounds)) x) begins.pointer ∙ omega arith;
+      stop = ap (λ x. sum_of (n * (r * rounds)) x) begins.pointer ∙ omega arith;
     }
 
     rounds_run : 16 ≤ k
         → Runs z (rounds_steps element kind k) (rounds_code element kind k) (BeginsCopy inward numbers)
-        (HasCopied inward numbers (k % 8))
+        (HasCopied inward numbers left)
     rounds_run many =
-        let number = constant_code 7 (n * (8 * rounds)) in
+        let number = constant_code 7 (n * (r * rounds)) in
         let stop = Register Add 7 7 5 in
-        let eight = until_equal 5 7 (eight_code inward kind) in
-        let rest = elements_code element n 0 (k % 8) in
-        let all : 8 * rounds + k % 8 ≡ k = omega arith in
-        let none : 0 + k % 8 ≡ k % 8 = omega arith in
-        let fits = fewer_fit kind (8 * rounds) k (omega arith) in
+        let loop_code = until_equal 5 7 (round_code inward kind) in
+        let rest = elements_code element n 0 left in
+        let all = all_rounds in
+        let none : 0 + left ≡ left = omega arith in
+        let fits = fewer_fit kind (r * rounds) k (omega (arith, all_rounds)) in
         let ends = can.place_ends in
-        as_code z (grouped number stop eight rest)
+        as_code z (grouped number stop loop_code rest)
         (in_steps z (counted (length number) _ _ _ (length-append number (stop ∷ [])))
-        (makes_then z {P = BeginsCopy inward numbers} {f = bounded} {S = HasCopied inward numbers (k % 8)}
-        (number_then z 7 (n * (8 * rounds)) (omega arith) (λ e. omega arith) (omega arith) Add 7 5 (omega arith)
+        (makes_then z {P = BeginsCopy inward numbers} {f = bounded} {S = HasCopied inward numbers left}
+        (number_then z 7 (n * (r * rounds)) (omega arith) (λ e. omega arith) (omega arith) Add 7 5 (omega arith)
         (omega arith))
-        (then_runs z {S = λ s t. Copying (8 * rounds) (k % 8) s t} (loop_runs (omega arith))
-        (elements_run (k % 8) (8 * rounds) 0 0 (omega arith) (omega arith) (omega arith))
+        (then_runs z {S = λ s t. Copying (r * rounds) left s t} (loop_runs (rounds_some kind k many))
+        (elements_run left (r * rounds) 0 0 (omega arith) (omega (arith, left_few kind k)) (omega (arith, all)))
         (λ s t begins held. (s, held))
-        (λ s t u begins held more. subst (λ m. Copying (8 * rounds) m s u) none (more s held)))
+        (λ s t u begins held more. subst (λ m. Copying (r * rounds) m s u) none (more s held)))
         rounds_begin
         (λ s u begins held.
-        all_copied (8 * rounds) (k % 8) all s (bounded s) u held refl
-        (λ q g h l m. held.others q g h m ∙ unwritten s.regs 7 (sum_of (n * (8 * rounds)) (s.regs 5)) q l))))
+        all_copied (r * rounds) left all s (bounded s) u held refl
+        (λ q g h l m. held.others q g h m ∙ unwritten s.regs 7 (sum_of (n * (r * rounds)) (s.regs 5)) q l))))
       where
         grouped : (a : List Instr) (x : Instr) (c d : List Instr) → (a ++ x ∷ []) ++ (c ++ d) ≡ a ++ x ∷ c ++ d
         grouped a x c d = simp append_assoc
@@ -520,12 +539,12 @@ module _ (inward : Bool) (z : Setting) (numbers : Numbers) (can : CanCopy inward
         counted x w e r more = omega arith
 
     pub copy_runs : Runs z (copied_steps element kind k) (copied_code element kind k) (BeginsCopy inward numbers)
-        (HasCopied inward numbers (passed_count k))
+        (HasCopied inward numbers (passed_count kind k))
     copy_runs = by (nat_lt k 16) refl
       where
         by : (b : Bool) → nat_lt k 16 ≡ b
             → Runs z (if b then length (elements_code element n 0 k) else rounds_steps element kind k)
             (if b then elements_code element n 0 k else rounds_code element kind k) (BeginsCopy inward numbers)
-            (HasCopied inward numbers (if b then k else k % 8))
+            (HasCopied inward numbers (if b then k else k % r))
         by true few = straight_runs_on 0 (sym at_first) (ltb-true k 16 few)
         by false many = rounds_run (ltb-false k 16 many)

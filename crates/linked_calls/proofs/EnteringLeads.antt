@@ -14,7 +14,8 @@ use Rattle.linked_calls.proofs.Below.{LeadsWithin, number_at, number_at_same, ro
 use Rattle.linked_calls.proofs.Below.{body_words, CallSite, kept_of, needed_from, needed_of, stacked_offset, State, unwritten}
 use Rattle.linked_calls.proofs.Below.{with_numbers, word_in}
 use Rattle.linked_calls.specs.Calls.{ArePassed}
-use Rattle.linked_calls.proofs.AllArguments.{AreKnown, TakesAll, TakingBegins, all_taken, all_taken_data}
+use Rattle.linked_calls.proofs.AllArguments.{AreKnown, TakesAll, TakingBegins, all_held, all_taken, all_taken_data}
+use Rattle.linked_calls.proofs.HeldArguments.{held_agree, held_within}
 use Rattle.linked_calls.proofs.AllArguments.{all_taken_outside, arguments_runs, call_setting}
 use Rattle.linked_calls.proofs.AllArguments.{taking_registers}
 use Rattle.linked_calls.proofs.Between.{AreSaved, EnteringLeads, IsEntered, IsOutsideRoom, body_at}
@@ -35,14 +36,15 @@ use Rattle.linked_calls.proofs.Standing.{enter_placed}
 use Rattle.linked_calls.proofs.BlankWords.{frame_readied, IsReadied}
 use Rattle.linked_calls.specs.FunctionCode.{frame_code}
 use Rattle.hepurita.specs.Begun.{IsBegun}
-use Rattle.hepurita.specs.Blank.{Blank, IsBlank}
+use Rattle.hepurita.specs.Blank.{IsBlank}
+use Rattle.hepurita.specs.Needs.{Needs}
 
 some_byte : (o : Option ℕ) → is_some o ≡ true → (byte : ℕ) × (o ≡ Some byte)
 some_byte (Some byte) there = (byte, refl)
 some_byte None there = cc
 
-module _ (image : Fields) (blank : Blank) (code : MachineCode) (site : CallSite) (is : IsImage image)
-    (is_site : IsSite image blank code site)
+module _ (image : Fields) (needs : Needs) (code : MachineCode) (site : CallSite) (is : IsImage image)
+    (is_site : IsSite image needs code site)
     (numbers : RoomNumbers image site) where
   abbrev z : Setting
   z = call_setting image code site
@@ -185,18 +187,18 @@ module _ (image : Fields) (blank : Blank) (code : MachineCode) (site : CallSite)
       (λ x low high. inl ((omega arith, omega arith), low))
       (λ d called. (omega (arith, called.stack), above_there d called))
 
-  frame_part : Runs z (steps_for room blank) (frame_code room blank) (HasFrame frame room)
-      (IsReadied blank image.frame_bytes frame room)
+  frame_part : Runs z (steps_for room needs.blank) (frame_code room needs.blank) (HasFrame frame room)
+      (IsReadied needs.blank image.frame_bytes frame room)
   frame_part =
       frame_readied z image.frame_bytes frame room numbers.even numbers.whole (omega arith)
-      (λ sp x low high above. inl ((omega arith, omega arith), above)) blank numbers.holds
+      (λ sp x low high above. inl ((omega arith, omega arith), above)) needs.blank numbers.holds
 
   -- x2 is the frame's base, its words that have to be are zeros, and the room above it holds what the entry has stored
   record IsFramed (d t : Data) : Type 0 where
     stack : t.regs 2 ≡ frame
     others : (q : ℕ) → q ≢ 2 → q ≢ 5 → t.regs q ≡ d.regs q
     bytes : AreBytes t.bytes
-    blank_words : IsBlank blank image.frame_bytes frame t.bytes
+    blank_words : IsBlank needs.blank image.frame_bytes frame t.bytes
     there : AreData frame above t.bytes
     outside : (x : ℕ) → IsOutside frame above x → t.bytes x ≡ stored d x
 
@@ -204,7 +206,7 @@ module _ (image : Fields) (blank : Blank) (code : MachineCode) (site : CallSite)
   frame_begins d called =
       record { stack = refl; there = λ x low high. stored_data d called x ∙ called.there x low (omega arith) }
 
-  framed : (d u : Data) → Called d → IsReadied blank image.frame_bytes frame room (entering d) u → IsFramed d u
+  framed : (d u : Data) → Called d → IsReadied needs.blank image.frame_bytes frame room (entering d) u → IsFramed d u
   framed d u called readied = record {
     stack = readied.stack;
     others = λ q two five. readied.others q two five ∙ unwritten d.regs 2 above q two;
@@ -214,7 +216,7 @@ module _ (image : Fields) (blank : Blank) (code : MachineCode) (site : CallSite)
     outside = readied.outside;
   }
 
-  framed_part : Runs z (entry_steps image site.pointers + steps_for room blank) (entry_code image ++ frame_code room blank)
+  framed_part : Runs z (entry_steps image site.pointers + steps_for room needs.blank) (entry_code image ++ frame_code room needs.blank)
       Called IsFramed
   framed_part = makes_then z {f = entering} entry_part frame_part frame_begins framed
 
@@ -253,16 +255,16 @@ module _ (image : Fields) (blank : Blank) (code : MachineCode) (site : CallSite)
   }
 
   abbrev Takes : Data → Data → Type 0
-  Takes = TakesAll image site 0 image.slots
+  Takes = TakesAll image site needs.spared 0 image.slots
 
   module _ (d t u : Data) (called : Called d) (frames : IsFramed d t) (takes : Takes t u) where
-    made : u.bytes ≡ all_taken image site (at_call d) t.bytes 0 image.slots
+    made : u.bytes ≡ all_taken image site (at_call d) needs.spared t.bytes 0 image.slots
     made = takes.bytes (at_call d) (framed_passed d t called frames)
 
     taken_outside : (x : ℕ) → IsOutside frame above x → u.bytes x ≡ stored d x
     taken_outside x outside =
         ap (λ (b : ByteMap). b x) made
-        ∙ all_taken_outside image site (at_call d) t.bytes 0 image.slots x known outside
+        ∙ all_taken_outside image site (at_call d) needs.spared t.bytes 0 image.slots x known outside
         ∙ frames.outside x outside
 
     taken_passed : StandAsPassed image site (at_call d) u.bytes
@@ -275,7 +277,7 @@ module _ (image : Fields) (blank : Blank) (code : MachineCode) (site : CallSite)
         same_beside (2 ∷ taking_registers) u.regs d.regs
         (λ q none. takes.others q none.1 ∙ frames.others q none.0 none.1.0) rs ok
 
-    taken_begun : IsBegun image blank frame (arguments_of image site (at_call d)) (at (body_at image blank site) u)
+    taken_begun : IsBegun image needs frame (arguments_of image site (at_call d)) (at (body_at image needs site) u)
     taken_begun = record {
       base = (same_beside taking_registers u.regs t.regs takes.others (2 ∷ []) refl).0 ∙ frames.stack;
       before = t.bytes;
@@ -283,16 +285,19 @@ module _ (image : Fields) (blank : Blank) (code : MachineCode) (site : CallSite)
           let there = some_byte (t.bytes (frame + o)) (frames.there (frame + o) (omega arith) (omega arith)) in
           (there.0, there.1, frames.bytes (frame + o) there.0 there.1);
       blank_before = frames.blank_words;
+      put = all_held image site (at_call d) needs.spared t.bytes 0 image.slots;
+      put_within = held_within image site (at_call d) needs.spared t.bytes 0 image.slots;
+      put_agree = held_agree image site (at_call d) needs.spared t.bytes;
       frame_there = λ o inside. ap (λ (b : ByteMap). b (frame + o)) made;
     }
 
     room_there : AreData frame site.stack u.bytes
     room_there x low high =
         ap (λ (b : ByteMap). is_some (b x)) made
-        ∙ all_taken_data image site (at_call d) t.bytes 0 image.slots known (λ y from to. frames.there y from to) x
+        ∙ all_taken_data image site (at_call d) needs.spared t.bytes 0 image.slots known (λ y from to. frames.there y from to) x
         ∙ framed_there d t called frames x low (omega arith)
 
-    is_entered : IsEntered image blank site (at_call d) (at (body_at image blank site) u)
+    is_entered : IsEntered image needs site (at_call d) (at (body_at image needs site) u)
     is_entered = record {
       at_body = refl;
       begun = taken_begun;
@@ -306,12 +311,12 @@ module _ (image : Fields) (blank : Blank) (code : MachineCode) (site : CallSite)
       there = room_there;
     }
 
-  enter_part : Runs z (entry_steps image site.pointers + steps_for room blank + arguments_steps image site.pointers 0 image.slots)
-      (enter_code image blank) Called
-      (λ d t. IsEntered image blank site (at_call d) (at (body_at image blank site) t))
+  enter_part : Runs z (entry_steps image site.pointers + steps_for room needs.blank + arguments_steps image site.pointers needs.spared 0 image.slots)
+      (enter_code image needs) Called
+      (λ d t. IsEntered image needs site (at_call d) (at (body_at image needs site) t))
   enter_part =
-      then_runs z {S = λ d t. IsEntered image blank site (at_call d) (at (body_at image blank site) t)} framed_part
-      (arguments_runs image site code numbers 0 image.slots (omega arith) known)
+      then_runs z {S = λ d t. IsEntered image needs site (at_call d) (at (body_at image needs site) t)} framed_part
+      (arguments_runs image site code numbers needs.spared 0 image.slots (omega arith) known)
       taking_begins is_entered
 
 -- The state at the call, as the part has it.
@@ -321,23 +326,23 @@ at_own : (site : CallSite) (image : Fields) (s : State) → IsCalled image site 
 at_own site image s called = ap (λ p. at p (record { regs = s.regs; bytes = s.bytes })) (sym called.at_entry)
 
 pub enters : EnteringLeads
-enters image blank code site is is_site =
+enters image needs code site is is_site =
     let z = call_setting image code site in
-    let part = does z site.entry (enter_code image blank) (enter_placed image code site is_site)
-    (in_steps z (sym (enter_steps_are image site.pointers blank))
-    (enter_part image blank code site is is_site (room_numbers image code site is_site))) in
+    let part = does z site.entry (enter_code image needs) (enter_placed image code site is_site)
+    (in_steps z (sym (enter_steps_are image site.pointers needs))
+    (enter_part image needs code site is is_site (room_numbers image code site is_site))) in
     record {
       shown = part.shown;
       runs = λ s called.
           let d : Data = record { regs = s.regs; bytes = s.bytes } in
           let own = at_own site image s called in
           let run = part.runs d (subst (λ (x : State). IsCalled image site x) (sym own) called) in
-          let end = at (body_at image blank site) run.end in
+          let end = at (body_at image needs site) run.end in
           record {
             end = end;
-            leads = subst (λ (x : State). LeadsWithin code (IsOfCall image site) (enter_steps image blank site.pointers) x
+            leads = subst (λ (x : State). LeadsWithin code (IsOfCall image site) (enter_steps image needs site.pointers) x
                 part.shown end)
                 own run.leads;
-            entered = subst (λ (x : State). IsEntered image blank site x end) own run.done;
+            entered = subst (λ (x : State). IsEntered image needs site x end) own run.done;
           };
     }

@@ -1,6 +1,6 @@
 -- The code behind the body, all of it: the result, the arrays, the caller's registers, the room wiped, and the last
 -- instruction, which goes back.
-use Rattle.hepurita.specs.Blank.{Blank}
+use Rattle.hepurita.specs.Needs.{Needs}
 use Rattle.std.specs.Prelude.{unwrap_or, is_some, IfSome}
 use Rattle.std.specs.Option.{option_map}
 use Rattle.std.proofs.Common.{◌≡◌, ℕ, suc, ◌+◌, ◌-◌, ◌*◌, ◌<◌, ◌≤◌, ◌==◌, List, [], ◌∷◌, ◌++◌, length, Option}
@@ -41,18 +41,18 @@ front image =
     result_code image.returned ++ results_code image 0 image.slots ++ restore_code
     image ++ wipe_code (room_of image) ++ clear_registers_code scratch_registers
 
-last_place : (image : Fields) (blank : Blank) (site : CallSite)
-    → leave_at image blank site + 4 * length (front image) ≡ site.entry + 4 * (length (function_words image blank) - 1)
-last_place image blank site =
-    let count = function_length image blank in
+last_place : (image : Fields) (needs : Needs) (site : CallSite)
+    → leave_at image needs site + 4 * length (front image) ≡ site.entry + 4 * (length (function_words image needs) - 1)
+last_place image needs site =
+    let count = function_length image needs in
     let last = length-append (front image) (JumpRegister 0 1 0 ∷ []) in
     omega arith
 
 grouped : (x r w c : List Instr) → x ++ (r ++ w ++ c) ≡ x ++ r ++ w ++ c
 grouped x r w c = simp append_assoc
 
-module _ (image : Fields) {blank : Blank} (code : MachineCode) (site : CallSite) (is : IsImage image)
-    (at_site : IsSite image blank code site)
+module _ (image : Fields) {needs : Needs} (code : MachineCode) (site : CallSite) (is : IsImage image)
+    (at_site : IsSite image needs code site)
     (numbers : RoomNumbers image site) where
   abbrev z : Setting
   z = call_setting image code site
@@ -130,12 +130,12 @@ module _ (image : Fields) {blank : Blank} (code : MachineCode) (site : CallSite)
   -- All but the last instruction.
 
   abbrev last_at : ℕ
-  last_at = leave_at image blank site + 4 * length (front image)
+  last_at = leave_at image needs site + 4 * length (front image)
 
   -- for whatever the caller had in its registers
   abbrev LeavesAll : Data → Data → Type 0
   LeavesAll s t =
-      (regs : ℕ → ℕ) → CanLeave image blank site regs (at (leave_at image blank site) s)
+      (regs : ℕ → ℕ) → CanLeave image needs site regs (at (leave_at image needs site) s)
       → IsLeft image site regs s.bytes (results_in base image s.bytes) (at last_at t)
 
   abbrev front_steps : ℕ
@@ -191,7 +191,7 @@ module _ (image : Fields) {blank : Blank} (code : MachineCode) (site : CallSite)
 
   last_stands : IsAt code last_at (JumpRegister 0 1 0)
   last_stands =
-      let last = Placed-right code (leave_at image blank site) (front image) (JumpRegister 0 1 0 ∷ [])
+      let last = Placed-right code (leave_at image needs site) (front image) (JumpRegister 0 1 0 ∷ [])
       (leave_placed image code site at_site) in
       record { aligned = last.0; word = last.2; in_range = (omega arith, omega arith, omega arith) }
 
@@ -200,10 +200,10 @@ module _ (image : Fields) {blank : Blank} (code : MachineCode) (site : CallSite)
       let all = leave_steps_are image site.pointers in
       omega arith
 
-  leaves_here : Leaves image blank code site
+  leaves_here : Leaves image needs code site
   leaves_here =
-      let one = does z (leave_at image blank site) (front image)
-      (Placed-left code (leave_at image blank site) (front image) (JumpRegister 0 1 0 ∷ [])
+      let one = does z (leave_at image needs site) (front image)
+      (Placed-left code (leave_at image needs site) (front image) (JumpRegister 0 1 0 ∷ [])
       (leave_placed image code site at_site)) front_runs in
       record {
         shown = one.shown;
@@ -215,8 +215,8 @@ module _ (image : Fields) {blank : Blank} (code : MachineCode) (site : CallSite)
               there = can.there;
               ready = can.ready;
             }) in
-            let there : at (leave_at image blank site) d ≡ s = ap (λ p. at p d) (sym can.at_leave) in
-            let left = a.done regs (subst (λ (x : State). CanLeave image blank site regs x) (sym there) can) in
+            let there : at (leave_at image needs site) d ≡ s = ap (λ p. at p d) (sym can.at_leave) in
+            let left = a.done regs (subst (λ (x : State). CanLeave image needs site regs x) (sym there) can) in
             let last = at last_at a.end in
             record {
               step_count = front_steps;
@@ -224,7 +224,7 @@ module _ (image : Fields) {blank : Blank} (code : MachineCode) (site : CallSite)
               end = last;
               leads = subst (λ (x : State). LeadsWithin code (IsOfCall image site) front_steps x one.shown last) there
                   a.leads;
-              at_last = last_place image blank site;
+              at_last = last_place image needs site;
               left = left;
               goes_back = λ even. goes_back code last (regs 1) last_stands
                   (All-head (λ r. a.end.regs r ≡ regs r) 1 (drop 1 kept_registers) left.kept) (can.words 1) even;
@@ -232,4 +232,4 @@ module _ (image : Fields) {blank : Blank} (code : MachineCode) (site : CallSite)
       }
 
 pub leaves : LeavesEverywhere
-leaves image blank code site is at_site = leaves_here image code site is at_site (room_numbers image code site at_site)
+leaves image needs code site is at_site = leaves_here image code site is at_site (room_numbers image code site at_site)

@@ -23,6 +23,7 @@ pub mod Staying
 pub mod SavedRegisters
 pub mod SectionSteps
 pub mod AllArguments
+pub mod HeldArguments
 pub mod KnownArguments
 pub mod Entering
 pub mod Passed

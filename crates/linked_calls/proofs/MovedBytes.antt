@@ -11,7 +11,9 @@ use Rattle.linked_calls.proofs.Below.{AreBytes, Boolean, ByteMap, element_bytes,
 use Rattle.linked_calls.proofs.Below.{numbers_at, Uint16, Uint32, Uint8, with_number, with_number_outside, with_numbers}
 use Rattle.linked_calls.proofs.Bytes.{AreData, IsOutside, number_there, with_number_cut}
 use Rattle.linked_calls.proofs.CopyElements.{copied_value}
-use Rattle.linked_calls.specs.Below.{number_at}
+use Rattle.linked_calls.specs.Below.{MutableArray, number_at}
+use Rattle.linked_calls.specs.FunctionCode.{is_open}
+use Rattle.linked_calls.specs.Meant.{meant}
 use Rattle.rv_machine.specs.Bytes.{joined}
 
 -- so many bytes of a source stand from an address on, and else what a target holds
@@ -170,3 +172,11 @@ pub words_same : (inward : Bool) (bytes : ByteMap) (at : ℕ) (vs : List ℕ)
     → with_numbers bytes 4 at (map (copied_value inward Uint32) vs) ≡ with_numbers bytes 4 at vs
 words_same true bytes at vs = cut_numbers bytes 4 at vs
 words_same false bytes at vs = ap (λ (ws : List ℕ). with_numbers bytes 4 at ws) (map-id vs)
+
+-- nor is what numbers mean that are no bools
+pub meant_same : (kind : Kind) (bytes : ByteMap) (at : ℕ) (vs : List ℕ) → is_open MutableArray kind ≡ true
+    → with_numbers bytes (element_bytes kind) at (map (meant kind) vs) ≡ with_numbers bytes (element_bytes kind) at vs
+meant_same Boolean bytes at vs opens = absurd (false≢true opens)
+meant_same Uint8 bytes at vs opens = cut_numbers bytes 1 at vs
+meant_same Uint16 bytes at vs opens = cut_numbers bytes 2 at vs
+meant_same Uint32 bytes at vs opens = cut_numbers bytes 4 at vs

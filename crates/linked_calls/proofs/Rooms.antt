@@ -1,5 +1,5 @@
 -- The room of a call: where its frame, the saved registers and the arguments lie in it, in numbers.
-use Rattle.hepurita.specs.Blank.{Blank}
+use Rattle.hepurita.specs.Needs.{Needs}
 use Rattle.std.proofs.Common.{◌≡◌, ℕ, ◌+◌, ◌-◌, ◌*◌, ◌%◌, ◌^◌, ◌<◌, ◌≤◌, Bool, true, false, List, []}
 use Rattle.std.proofs.Common.{◌∷◌, length, inl, inr, refl, ap, arith, nat_lt, if◌then◌else◌}
 use Rattle.std.proofs.Math.Nat.{max-le}
@@ -55,7 +55,7 @@ needed_own i n fits few =
     let own : (if nat_lt i 8 then i + 1 else 0) ≡ i + 1 = ap (λ b. if b then i + 1 else 0) (lt-ltb i 8 few) in
     omega (arith, own, fits)
 
-pub room_numbers : (image : Fields) {blank : Blank} (code : MachineCode) (site : CallSite) → IsSite image blank code site
+pub room_numbers : (image : Fields) {needs : Needs} (code : MachineCode) (site : CallSite) → IsSite image needs code site
     → RoomNumbers image site
 room_numbers image code site is =
     let few : length (kept_of image) ≤ 12 = written_few (body_words image.words) saved_registers in

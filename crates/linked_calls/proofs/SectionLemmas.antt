@@ -1,5 +1,6 @@
 -- The sections' code, one after another, is the code before the body and that behind it.
 use Rattle.hepurita.specs.Blank.{Blank}
+use Rattle.hepurita.specs.Needs.{Needs}
 use Rattle.std.proofs.Common.{◌≡◌, ℕ, ◌+◌, ◌==◌, Bool, true, false, List, [], ◌∷◌, ◌++◌, map, refl, ap, ◌∙◌}
 use Rattle.std.proofs.Common.{ap₂, if◌then◌else◌, Some, None}
 use Rattle.std.proofs.lemmas.List.{append_assoc, append-nil}
@@ -7,9 +8,9 @@ use Rattle.linked_calls.proofs.Below.{argument_sections, arguments_code, array_s
 use Rattle.linked_calls.proofs.Below.{body_words, CallersStack, ClearedFrame, ClearedRegisters, code_of}
 use Rattle.linked_calls.proofs.Below.{constant_code, copy_out_code, down_code, enter_code, enter_sections, Fields, Form}
 use Rattle.linked_calls.specs.FunctionCode.{are_few, blank_code, blanks_code, frame_code, lowered_code, partly_code}
-use Rattle.linked_calls.specs.FunctionCode.{zeroed_code}
-use Rattle.linked_calls.specs.Sections.{partly_sections, zeroed_sections}
-use Rattle.linked_calls.specs.declared.section.Section.TheVariants.{BlankWord, LoweredStack}
+use Rattle.linked_calls.specs.FunctionCode.{argument_code, is_skipped, zeroed_code}
+use Rattle.linked_calls.specs.Sections.{argument_section, partly_sections, zeroed_sections}
+use Rattle.linked_calls.specs.declared.section.Section.TheVariants.{ArgumentIn, BlankWord, LoweredStack}
 use Rattle.linked_calls.proofs.Below.{frame_room, frame_sections, FrameBase, FrameTop, function_words, Instr}
 use Rattle.linked_calls.proofs.Below.{leave_code, leave_sections, MutableArray, Register, RestoredRegisters}
 use Rattle.linked_calls.proofs.Below.{results_code, Return, runs_code, Section, Slot, stack_register, Sub}
@@ -59,17 +60,28 @@ frame_code_of : (image : Fields) (blank : Blank)
 frame_code_of image None = zeroed_code_of image (frame_room image == 0)
 frame_code_of image (Some offsets) = frame_code_by image offsets (are_few (frame_room image) offsets)
 
-arguments_code_of : (image : Fields) (i : ℕ) (slots : List Slot)
-    → code_of image (argument_sections i slots) ≡ arguments_code image i slots
-arguments_code_of image i [] = refl
-arguments_code_of image i (slot ∷ slots) = rw (arguments_code_of image (i + 1) slots)
+needed_code_of : (image : Fields) (i : ℕ) (slot : Slot) (skipped : Bool)
+    → code_of image (if skipped then [] else ArgumentIn i slot ∷ [])
+    ≡ (if skipped then [] else argument_code image i slot slot.param.form)
+needed_code_of image i slot true = refl
+needed_code_of image i slot false = append-nil (argument_code image i slot slot.param.form)
 
-pub enter_code_of : (image : Fields) (blank : Blank) → code_of image (enter_sections image blank) ≡ enter_code image blank
-enter_code_of image blank =
+arguments_code_of : (image : Fields) (spared : List Bool) (i : ℕ) (slots : List Slot)
+    → code_of image (argument_sections spared i slots) ≡ arguments_code image spared i slots
+arguments_code_of image spared i [] = refl
+arguments_code_of image spared i (slot ∷ slots) =
+    code_of_both image (argument_section spared i slot) (argument_sections spared (i + 1) slots)
+    ∙ ap₂ (λ (one other : List Instr). one ++ other)
+    (needed_code_of image i slot (is_skipped spared i slot))
+    (arguments_code_of image spared (i + 1) slots)
+
+pub enter_code_of : (image : Fields) (needs : Needs) → code_of image (enter_sections image needs) ≡ enter_code image needs
+enter_code_of image needs =
     rw (
-      code_of_both image (frame_sections (frame_room image) blank) (argument_sections 0 image.slots),
-      frame_code_of image blank,
-      arguments_code_of image 0 image.slots,
+      code_of_both image (frame_sections (frame_room image) needs.blank)
+          (argument_sections needs.spared 0 image.slots),
+      frame_code_of image needs.blank,
+      arguments_code_of image needs.spared 0 image.slots,
     )
     (simp append_assoc)
 
@@ -107,11 +119,11 @@ leave_code_of image =
 
 -- The function.
 
-pub words_of_sections : (image : Fields) (blank : Blank)
-    → map word_of (code_of image (enter_sections image blank)) ++ body_words image.words
+pub words_of_sections : (image : Fields) (needs : Needs)
+    → map word_of (code_of image (enter_sections image needs)) ++ body_words image.words
     ++ map word_of (code_of image (leave_sections image))
-    ≡ function_words image blank
+    ≡ function_words image needs
 unfolding function_words
-words_of_sections image blank =
+words_of_sections image needs =
     ap₂ (λ (before after : List Instr). map word_of before ++ body_words image.words ++ map word_of after)
-    (enter_code_of image blank) (leave_code_of image)
+    (enter_code_of image needs) (leave_code_of image)

@@ -13,10 +13,11 @@ use Rattle.linked_calls.specs.declared.section.Section.TheVariants.{RoomAboveFra
 use Rattle.linked_calls.proofs.Below.{above_frame, kept_of, needed_of}
 use Rattle.linked_calls.proofs.Between.{enter_steps, leave_steps}
 use Rattle.linked_calls.proofs.Parts.{loads_length, stores_length}
-use Rattle.linked_calls.specs.FunctionCode.{are_few, blanks_code, lowered_code, partly_code}
-use Rattle.linked_calls.specs.Sections.{partly_sections, zeroed_sections}
+use Rattle.linked_calls.specs.FunctionCode.{are_few, blanks_code, is_skipped, lowered_code, partly_code}
+use Rattle.linked_calls.specs.Sections.{argument_section, partly_sections, zeroed_sections}
 use Rattle.linked_calls.specs.declared.section.Section.TheVariants.{BlankWord, LoweredStack}
 use Rattle.hepurita.specs.Blank.{Blank}
+use Rattle.hepurita.specs.Needs.{Needs}
 
 -- of a frame in which the words that have to be are zeroed
 abbrev pub steps_for : ℕ → Blank → ℕ
@@ -31,10 +32,15 @@ module _ (image : Fields) (pointers : ℕ → ℕ) where
   abbrev room : ℕ
   room = frame_room image
 
+  -- of an argument that has to stand in its slot
+  abbrev pub needed_steps : List Bool → ℕ → Slot → ℕ
+  needed_steps spared i slot =
+      if is_skipped spared i slot then 0 else argument_steps image pointers i slot slot.param.form
+
   -- of all arguments from the i-th on
-  abbrev pub arguments_steps : ℕ → List Slot → ℕ
-  arguments_steps i [] = 0
-  arguments_steps i (slot ∷ slots) = argument_steps image pointers i slot slot.param.form + arguments_steps (i + 1) slots
+  abbrev pub arguments_steps : List Bool → ℕ → List Slot → ℕ
+  arguments_steps spared i [] = 0
+  arguments_steps spared i (slot ∷ slots) = needed_steps spared i slot + arguments_steps spared (i + 1) slots
 
   -- of an array that is handed back
   abbrev pub output_steps : ℕ → Slot → Form → ℕ
@@ -83,30 +89,43 @@ module _ (image : Fields) (pointers : ℕ → ℕ) where
   frame_steps_are None = zeroed_steps_by (room == 0)
   frame_steps_are (Some offsets) = frame_steps_by offsets (are_few room offsets)
 
-  arguments_steps_are : (i : ℕ) (slots : List Slot) → steps_of (argument_sections i slots) ≡ arguments_steps i slots
-  arguments_steps_are i [] = refl
-  arguments_steps_are i (slot ∷ slots) =
-      sum_by-cons (section_steps image pointers) (ArgumentIn i slot) (argument_sections (i + 1) slots)
-      ∙ ap (λ n. argument_steps image pointers i slot slot.param.form + n) (arguments_steps_are (i + 1) slots)
+  needed_steps_are : (i : ℕ) (slot : Slot) (skipped : Bool)
+      → steps_of (if skipped then [] else ArgumentIn i slot ∷ [])
+      ≡ (if skipped then 0 else argument_steps image pointers i slot slot.param.form)
+  needed_steps_are i slot true = refl
+  needed_steps_are i slot false =
+      let one : argument_steps image pointers i slot slot.param.form + 0
+      ≡ argument_steps image pointers i slot slot.param.form = omega arith in
+      sum_by-cons (section_steps image pointers) (ArgumentIn i slot) [] ∙ one
+
+  arguments_steps_are : (spared : List Bool) (i : ℕ) (slots : List Slot)
+      → steps_of (argument_sections spared i slots) ≡ arguments_steps spared i slots
+  arguments_steps_are spared i [] = refl
+  arguments_steps_are spared i (slot ∷ slots) =
+      sum_by-append (section_steps image pointers) (argument_section spared i slot)
+      (argument_sections spared (i + 1) slots)
+      ∙ ap₂ (λ m n. m + n) (needed_steps_are i slot (is_skipped spared i slot))
+      (arguments_steps_are spared (i + 1) slots)
 
   -- x2 moved, and one for each register that is stored
   abbrev pub entry_steps : ℕ
   entry_steps = length (above_code (above_frame image)) + (length (kept_of image) + length (needed_of image))
 
   -- the entry's, and then the frame's and the arguments'
-  pub enter_steps_are : (blank : Blank)
-      → enter_steps image blank pointers ≡ entry_steps + steps_for room blank + arguments_steps 0 image.slots
-  enter_steps_are blank =
+  pub enter_steps_are : (needs : Needs)
+      → enter_steps image needs pointers
+      ≡ entry_steps + steps_for room needs.blank + arguments_steps needs.spared 0 image.slots
+  enter_steps_are needs =
       let entry = RoomAboveFrame ∷ SavedRegisters ∷ ArgumentRegisters ∷ [] in
-      let framed = frame_sections room blank in
-      let arguments = argument_sections 0 image.slots in
+      let framed = frame_sections room needs.blank in
+      let arguments = argument_sections needs.spared 0 image.slots in
       let kept = stores_length 2 0 (kept_of image) in
       let passed = stores_length 2 (first_argument image) (needed_of image) in
       let counted : steps_of entry ≡ entry_steps = omega arith in
       sum-map (section_steps image pointers) (entry ++ framed ++ arguments)
       ∙ sum_by-append (section_steps image pointers) (entry ++ framed) arguments
       ∙ ap₂ (λ a b. a + b) (sum_by-append (section_steps image pointers) entry framed
-      ∙ ap₂ (λ a b. a + b) counted (frame_steps_are blank)) (arguments_steps_are 0 image.slots)
+      ∙ ap₂ (λ a b. a + b) counted (frame_steps_are needs.blank)) (arguments_steps_are needs.spared 0 image.slots)
 
   -- Behind it.
 

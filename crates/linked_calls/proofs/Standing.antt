@@ -1,6 +1,6 @@
 -- Where the parts of a function's words stand in code: the instructions before the body, the body, and those behind
 -- it.
-use Rattle.hepurita.specs.Blank.{Blank}
+use Rattle.hepurita.specs.Needs.{Needs}
 use Rattle.std.proofs.Common.{◌≡◌, ℕ, suc, ◌+◌, ◌*◌, List, [], ◌∷◌, ◌++◌, length, map, refl, ap, ap₂, ◌∙◌, subst}
 use Rattle.std.proofs.Common.{arith, length-append}
 use Rattle.std.proofs.lemmas.List.{length-map}
@@ -26,50 +26,50 @@ stand_then code p (x ∷ xs) ys h =
 
 -- The function.
 
-abbrev enter_words : Fields → Blank → List ℕ
-enter_words image blank = map word_of (enter_code image blank)
+abbrev enter_words : Fields → Needs → List ℕ
+enter_words image needs = map word_of (enter_code image needs)
 
 abbrev leave_words : Fields → List ℕ
 leave_words image = map word_of (leave_code image)
 
-words_are : (image : Fields) (blank : Blank)
-    → function_words image blank ≡ enter_words image blank ++ body_words image.words ++ leave_words image
+words_are : (image : Fields) (needs : Needs)
+    → function_words image needs ≡ enter_words image needs ++ body_words image.words ++ leave_words image
 unfolding function_words
-words_are image blank = refl
+words_are image needs = refl
 
 -- how many words it has
-pub function_length : (image : Fields) (blank : Blank) → length (function_words image blank)
-    ≡ length (enter_code image blank) + length (body_words image.words) + length (leave_code image)
-function_length image blank =
-    ap length (words_are image blank)
-    ∙ length-append (enter_words image blank ++ body_words image.words) (leave_words image)
-    ∙ ap₂ (λ a b. a + b) (length-append (enter_words image blank) (body_words image.words)
-    ∙ ap (λ a. a + length (body_words image.words)) (length-map (enter_code image blank) word_of))
+pub function_length : (image : Fields) (needs : Needs) → length (function_words image needs)
+    ≡ length (enter_code image needs) + length (body_words image.words) + length (leave_code image)
+function_length image needs =
+    ap length (words_are image needs)
+    ∙ length-append (enter_words image needs ++ body_words image.words) (leave_words image)
+    ∙ ap₂ (λ a b. a + b) (length-append (enter_words image needs) (body_words image.words)
+    ∙ ap (λ a. a + length (body_words image.words)) (length-map (enter_code image needs) word_of))
     (length-map (leave_code image) word_of)
 
-module _ (image : Fields) {blank : Blank} (code : MachineCode) (site : CallSite) (is : IsSite image blank code site) where
-  all_stand : Stand code site.entry (enter_words image blank ++ body_words image.words ++ leave_words image)
-  all_stand = subst (λ words. Stand code site.entry words) (words_are image blank) is.words
+module _ (image : Fields) {needs : Needs} (code : MachineCode) (site : CallSite) (is : IsSite image needs code site) where
+  all_stand : Stand code site.entry (enter_words image needs ++ body_words image.words ++ leave_words image)
+  all_stand = subst (λ words. Stand code site.entry words) (words_are image needs) is.words
 
-  entered_stands : Stand code site.entry (enter_words image blank ++ body_words image.words)
-  entered_stands = stand_first code site.entry (enter_words image blank ++ body_words image.words)
+  entered_stands : Stand code site.entry (enter_words image needs ++ body_words image.words)
+  entered_stands = stand_first code site.entry (enter_words image needs ++ body_words image.words)
       (leave_words image) all_stand
 
-  pub enter_placed : Placed code site.entry (enter_code image blank)
-  enter_placed = placed code site.entry (enter_code image blank)
-      (stand_first code site.entry (enter_words image blank) (body_words image.words) entered_stands)
+  pub enter_placed : Placed code site.entry (enter_code image needs)
+  enter_placed = placed code site.entry (enter_code image needs)
+      (stand_first code site.entry (enter_words image needs) (body_words image.words) entered_stands)
 
-  pub body_stands : Stand code (body_at image blank site) (body_words image.words)
+  pub body_stands : Stand code (body_at image needs site) (body_words image.words)
   body_stands =
-      subst (λ n. Stand code (site.entry + 4 * n) (body_words image.words)) (length-map (enter_code image blank) word_of)
-      (stand_then code site.entry (enter_words image blank) (body_words image.words) entered_stands)
+      subst (λ n. Stand code (site.entry + 4 * n) (body_words image.words)) (length-map (enter_code image needs) word_of)
+      (stand_then code site.entry (enter_words image needs) (body_words image.words) entered_stands)
 
-  pub leave_placed : Placed code (leave_at image blank site) (leave_code image)
+  pub leave_placed : Placed code (leave_at image needs site) (leave_code image)
   leave_placed =
       let words = body_words image.words in
-      let a = length-append (enter_words image blank) words in
-      let b = length-map (enter_code image blank) word_of in
-      let e : site.entry + 4 * length (enter_words image blank ++ words) ≡ leave_at image blank site = omega arith in
-      placed code (leave_at image blank site) (leave_code image)
+      let a = length-append (enter_words image needs) words in
+      let b = length-map (enter_code image needs) word_of in
+      let e : site.entry + 4 * length (enter_words image needs ++ words) ≡ leave_at image needs site = omega arith in
+      placed code (leave_at image needs site) (leave_code image)
       (subst (λ q. Stand code q (leave_words image)) e
-      (stand_then code site.entry (enter_words image blank ++ words) (leave_words image) all_stand))
+      (stand_then code site.entry (enter_words image needs ++ words) (leave_words image) all_stand))

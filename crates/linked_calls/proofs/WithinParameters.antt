@@ -18,7 +18,7 @@ meant_within : (kind : Kind) (raw : ℕ) → meant kind raw ≤ greatest_of kind
 meant_within Boolean raw = truth_small (not (raw == 0))
 meant_within kind raw = omega arith
 
-all_meant : (kind : Kind) (raws : List ℕ) → All (λ word. word ≤ greatest_of kind) (map (meant kind) raws)
+pub all_meant : (kind : Kind) (raws : List ℕ) → All (λ word. word ≤ greatest_of kind) (map (meant kind) raws)
 all_meant kind raws = All-map (λ word. word ≤ greatest_of kind) (meant kind) raws
     (λ k d below. meant_within kind (slice_index_or raws k d))
 
@@ -26,12 +26,12 @@ module _ (site : CallSite) (s : State) where
   abbrev elements : ℕ → Slot → List ℕ
   elements i slot = numbers_at s.bytes (element_bytes slot.param.kind) (site.pointers i) slot.param.length
 
-  values_within : (i : ℕ) (slot : Slot) (form : Form)
+  pub values_within : (i : ℕ) (slot : Slot) (form : Form)
       → All (λ word. word ≤ greatest_of slot.param.kind) (words_of (argument_of site s i slot form))
   values_within i slot SingleWord = all_meant slot.param.kind (raw_argument site s i ∷ [])
   values_within i slot form = all_meant slot.param.kind (elements i slot)
 
-  shape_within : (i : ℕ) (slot : Slot) (form : Form)
+  pub shape_within : (i : ℕ) (slot : Slot) (form : Form)
       → HasShape form slot.param.length (argument_of site s i slot form)
   shape_within i slot SingleWord = tt
   shape_within i slot form =

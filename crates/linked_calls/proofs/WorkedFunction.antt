@@ -1,6 +1,7 @@
 -- The function that adds one to its argument, as it is worked out by hand: 29 words, and 25 steps around the 4 of its
 -- body.
-use Rattle.std.proofs.Common.{◌≡◌, ℕ, [], ◌∷◌, length, Some, refl}
+use Rattle.std.proofs.Common.{◌≡◌, ℕ, false, [], ◌∷◌, length, Some, refl}
+use Rattle.hepurita.specs.Needs.{Needs}
 use Rattle.linked_calls.proofs.Below.{around_steps, Fields, function_words, P1, room_of, Secret, SingleWord, Uint32}
 
 abbrev add_one : Fields
@@ -13,12 +14,16 @@ add_one = record {
   words = 0x12283 ∷ 0x100313 ∷ 0x6282b3 ∷ 0x512223 ∷ 0x73 ∷ [];
 }
 
+-- no word of its frame has to be 0, and its argument stands in its slot
+abbrev needs : Needs
+needs = record { blank = Some []; spared = false ∷ [] }
+
 room : room_of add_one ≡ 16
 room = refl
 
-words : length (function_words add_one (Some [])) ≡ 29
+words : length (function_words add_one needs) ≡ 29
 unfolding function_words
 words = refl
 
-steps : (pointers : ℕ → ℕ) → around_steps add_one (Some []) pointers ≡ 25
+steps : (pointers : ℕ → ℕ) → around_steps add_one needs pointers ≡ 25
 steps pointers = refl

@@ -5,7 +5,7 @@ use Rattle.language.specs.arguments.Agreement.{Agree}
 use Rattle.language.specs.arguments.PublicResults.{AgreeInPublic}
 use Rattle.linked_calls.specs.Below.{Arg, MachineCode, Fields, goes_on, IsImage, LeadsWithin, moved_to, Observation}
 use Rattle.linked_calls.specs.Below.{observed, params_of, Results, State, Step}
-use Rattle.hepurita.specs.Blank.{Blank}
+use Rattle.hepurita.specs.Needs.{Needs}
 use Rattle.hepurita.specs.Compiled.{IsCompiled}
 use Rattle.hepurita.specs.Linked.{StartsAnywhere}
 use Rattle.hepurita.specs.Meant.{Means}
@@ -16,7 +16,7 @@ use Rattle.linked_calls.specs.FunctionCode.{function_words}
 use Rattle.linked_calls.specs.Sections.{around_steps}
 
 -- a call from this state: all its steps but the last, which jumps back, and that one. What it shows is this list
-pub record CallReturns (program : ProgramTree) (image : Fields) (blank : Blank) (code : MachineCode)
+pub record CallReturns (program : ProgramTree) (image : Fields) (needs : Needs) (code : MachineCode)
     (site : CallSite) (s : State) (list : List Observation) : Type 0 where
   pub results : Results
   pub means : Means program (arguments_of image site s) results
@@ -27,20 +27,20 @@ pub record CallReturns (program : ProgramTree) (image : Fields) (blank : Blank) 
   -- those of the body: ECALL would be one step more
   pub body_steps : ℕ
   pub within_steps : body_steps < image.max_steps
-  pub counted : suc step_count ≡ around_steps image blank site.pointers + body_steps
-  pub at_last : end.pc ≡ site.entry + 4 * (length (function_words image blank) - 1)
+  pub counted : suc step_count ≡ around_steps image needs site.pointers + body_steps
+  pub at_last : end.pc ≡ site.entry + 4 * (length (function_words image needs) - 1)
   pub left : IsLeft image site s.regs s.bytes results end
   -- a caller of code without compressed instructions stands at a multiple of 4
   pub goes_back : s.regs 1 % 4 ≡ 0 → Step code end (goes_on (observed end None) (moved_to end (s.regs 1)))
 
 -- the function of an image can be called from where it stands
-pub record IsCallable (program : ProgramTree) (p : ProcedureTree) (image : Fields) (blank : Blank)
+pub record IsCallable (program : ProgramTree) (p : ProcedureTree) (image : Fields) (needs : Needs)
     (code : MachineCode) (site : CallSite) : Type 0 where
   -- one list for each list of arguments, whatever the rest of the state
   pub shown : List Arg → List Observation
   -- results: from every state in which it is called, whatever words it is given
   pub runs : (s : State) → IsCalled image site s
-      → CallReturns program image blank code site s (shown (arguments_of image site s))
+      → CallReturns program image needs code site s (shown (arguments_of image site s))
   -- equal leakage: on arguments that agree it is one list
   pub equal_leakage : (args args' : List Arg) → Agree (params_of image) args args' → shown args ≡ shown args'
   -- and what is left is one result and one list of `mut` arrays, where these are public
@@ -52,10 +52,10 @@ pub record IsCallable (program : ProgramTree) (p : ProcedureTree) (image : Field
 -- which on the body may start in whatever the stack holds
 abbrev pub CallsAreLinked : Type 0
 CallsAreLinked =
-    (program : ProgramTree) (before : List ProcedureTree) (p : ProcedureTree) (image : Fields) (blank : Blank)
+    (program : ProgramTree) (before : List ProcedureTree) (p : ProcedureTree) (image : Fields) (needs : Needs)
     → IsCompiled program before p image
-    → StartsAnywhere program p image blank
+    → StartsAnywhere program p image needs
     → IsImage image
     → (code : MachineCode) (site : CallSite)
-    → IsSite image blank code site
-    → IsCallable program p image blank code site
+    → IsSite image needs code site
+    → IsCallable program p image needs code site

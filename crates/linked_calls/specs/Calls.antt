@@ -1,7 +1,7 @@
 -- What a caller has to set up for a call of a function, by the standard calling convention: RISC-V ABIs
 -- Specification, sections "Integer Register Convention" and "Integer Calling Convention" (ilp32). The numbers of the
 -- registers and the distances are written out here, since what they are is promised to C.
-use Rattle.hepurita.specs.Blank.{Blank}
+use Rattle.hepurita.specs.Needs.{Needs}
 use Rattle.std.specs.Prelude.{◌≡◌, ◌⊎◌, ℕ, ◌+◌, ◌-◌, ◌*◌, ◌%◌, ◌^◌, ◌<◌, ◌≤◌, nat_lt, List, [], ◌∷◌, length, map}
 use Rattle.std.specs.Prelude.{if◌then◌else◌}
 use Rattle.linked_calls.specs.Below.{Arg, Array, MachineCode, element_bytes, Fields, FixedArray, Form, MutableArray}
@@ -56,9 +56,9 @@ LieWell image site i (slot ∷ slots) = LiesWell image site i slot slot.param.fo
 -- the function's words stand in the code, which the image's observer observes; the stack has room, and the arrays lie
 -- well.
 -- Two `mut` arrays may be one
-pub record IsSite (image : Fields) (blank : Blank) (code : MachineCode) (site : CallSite) : Type 0 where
+pub record IsSite (image : Fields) (needs : Needs) (code : MachineCode) (site : CallSite) : Type 0 where
   pub observed : code.profile ≡ image.profile
-  pub words : Stand code site.entry (function_words image blank)
+  pub words : Stand code site.entry (function_words image needs)
   pub stack_aligned : site.stack % 16 ≡ 0
   pub room : room_of image ≤ site.stack
   pub stack_ends : arguments_end image site < 2 ^ 32

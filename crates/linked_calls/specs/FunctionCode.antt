@@ -8,7 +8,7 @@
 -- An array of elements that are smaller than a word is copied by words where its pointer is a multiple of 4, which is
 -- tested when the function runs: pointers are public.
 use Rattle.std.specs.Prelude.{ℕ, ◌+◌, ◌-◌, ◌*◌, ◌/◌, ◌%◌, ◌^◌, ◌==◌, List, [], ◌∷◌, ◌++◌, length, map}
-use Rattle.std.specs.Prelude.{max, replicate, take}
+use Rattle.std.specs.Prelude.{max, replicate, slice_get, take, unwrap_or}
 use Rattle.std.specs.Prelude.{Bool, true, false, ◌&&◌, nat_le, nat_lt, Option, Some, None, if◌then◌else◌}
 use Rattle.std.proofs.Common.{zero, suc}
 use Rattle.linked_calls.specs.Below.{Add, Addi, Andi, Beq, Bne, body_words, Boolean, Branch, constant_code, cut_code}
@@ -16,6 +16,7 @@ use Rattle.linked_calls.specs.Below.{element_bytes, Fields, FixedArray, Form, Im
 use Rattle.linked_calls.specs.Below.{JumpRegister, Kind, load_by, load_code, MutableArray, over, Register, ResultSlot}
 use Rattle.linked_calls.specs.Below.{SingleWord, Slot, store_code, Sub, Uint16, Uint32, Uint8, word_of}
 use Rattle.hepurita.specs.Blank.{Blank}
+use Rattle.hepurita.specs.Needs.{Needs}
 use Rattle.linked_calls.specs.Convention.{link_register, stack_register, saved_registers, argument_registers}
 use Rattle.linked_calls.specs.Convention.{result_register, scratch_registers, whole_blocks}
 use Rattle.linked_calls.specs.Written.{written_of}
@@ -209,9 +210,17 @@ pointer_out_code image i = load_code 5 (argument_offset image i)
 abbrev pub places_code : List Instr → Slot → List Instr
 places_code pointer slot = pointer ++ address_code 6 slot.offset
 
--- eight elements more are done
+-- how many elements a round of a loop copies: eight words, or four elements that are smaller, which mostly go so only
+-- where their pointer is no multiple of 4
+abbrev pub per_round : Kind → ℕ
+per_round Boolean = 4
+per_round Uint8 = 4
+per_round Uint16 = 4
+per_round Uint32 = 8
+
+-- as many elements more are done
 abbrev pub next_code : Kind → List Instr
-next_code kind = added 5 (8 * element_bytes kind) ∷ added 6 (8 * element_bytes kind) ∷ []
+next_code kind = added 5 (per_round kind * element_bytes kind) ∷ added 6 (per_round kind * element_bytes kind) ∷ []
 
 -- a bool element as 0 or 1; numbers have their width
 abbrev pub element_meant_code : Kind → List Instr
@@ -241,12 +250,13 @@ abbrev pub elements_code : (ℕ → List Instr) → ℕ → ℕ → ℕ → List
 elements_code code bytes offset zero = []
 elements_code code bytes offset (suc count) = code offset ++ elements_code code bytes (offset + bytes) count
 
--- eight of them by each round of a loop, up to x7, and those that are left behind it
+-- some of them by each round of a loop, up to x7, and those that are left behind it
 abbrev pub rounds_code : (ℕ → List Instr) → Kind → ℕ → List Instr
 rounds_code code kind count =
     let bytes = element_bytes kind in
-    constant_code 7 (bytes * (8 * (count / 8))) ++ Register Add 7 7 5
-    ∷ until_equal 5 7 (elements_code code bytes 0 8 ++ next_code kind) ++ elements_code code bytes 0 (count % 8)
+    let round = per_round kind in
+    constant_code 7 (bytes * (round * (count / round))) ++ Register Add 7 7 5
+    ∷ until_equal 5 7 (elements_code code bytes 0 round ++ next_code kind) ++ elements_code code bytes 0 (count % round)
 
 -- so many elements: by straight code if they are few
 abbrev pub copied_code : (ℕ → List Instr) → Kind → ℕ → List Instr
@@ -254,8 +264,8 @@ copied_code code kind count =
     if nat_lt count 16 then elements_code code (element_bytes kind) 0 count else rounds_code code kind count
 
 -- how many of them lie behind where x5 and x6 are then
-abbrev pub passed_count : ℕ → ℕ
-passed_count count = if nat_lt count 16 then count else count % 8
+abbrev pub passed_count : Kind → ℕ → ℕ
+passed_count kind count = if nat_lt count 16 then count else count % per_round kind
 
 -- how many elements a word has
 abbrev pub per_word : Kind → ℕ
@@ -266,7 +276,7 @@ abbrev pub by_words_code : (Kind → ℕ → List Instr) → Kind → ℕ → Li
 by_words_code code kind count =
     let words = count / per_word kind in
     copied_code (code Uint32) Uint32 words
-    ++ elements_code (code kind) (element_bytes kind) (4 * passed_count words) (count % per_word kind)
+    ++ elements_code (code kind) (element_bytes kind) (4 * passed_count Uint32 words) (count % per_word kind)
 
 -- one code where the pointer in x5 is no multiple of 4, and another where it is
 abbrev pub by_alignment_code : List Instr → List Instr → List Instr
@@ -305,15 +315,33 @@ argument_code image i slot SingleWord = word_code image i slot
 argument_code image i slot FixedArray = copy_in_code image i slot
 argument_code image i slot MutableArray = copy_in_code image i slot
 
--- all arguments from the i-th on
-abbrev pub arguments_code : Fields → ℕ → List Slot → List Instr
-arguments_code image i [] = []
-arguments_code image i (slot ∷ slots) = argument_code image i slot slot.param.form
-    ++ arguments_code image (i + 1) slots
+-- any numbers of the kind may stand in the slot of an array of numbers that may be changed
+abbrev pub is_open : Form → Kind → Bool
+is_open SingleWord kind = false
+is_open FixedArray kind = false
+is_open MutableArray Boolean = false
+is_open MutableArray Uint8 = true
+is_open MutableArray Uint16 = true
+is_open MutableArray Uint32 = true
 
-abbrev pub enter_code : Fields → Blank → List Instr
-enter_code image blank =
-    entry_code image ++ frame_code (frame_room image) blank ++ arguments_code image 0 image.slots
+-- such an array is not copied in where the body sets it whole before it reads it
+abbrev pub is_skipped : List Bool → ℕ → Slot → Bool
+is_skipped spared i slot = unwrap_or (slice_get spared i) false && is_open slot.param.form slot.param.kind
+
+-- an argument into its slot, where it has to stand there
+abbrev pub needed_code : Fields → List Bool → ℕ → Slot → List Instr
+needed_code image spared i slot =
+    if is_skipped spared i slot then [] else argument_code image i slot slot.param.form
+
+-- all arguments from the i-th on
+abbrev pub arguments_code : Fields → List Bool → ℕ → List Slot → List Instr
+arguments_code image spared i [] = []
+arguments_code image spared i (slot ∷ slots) =
+    needed_code image spared i slot ++ arguments_code image spared (i + 1) slots
+
+abbrev pub enter_code : Fields → Needs → List Instr
+enter_code image needs =
+    entry_code image ++ frame_code (frame_room image) needs.blank ++ arguments_code image needs.spared 0 image.slots
 
 -- The way back.
 
@@ -355,6 +383,6 @@ leave_code image =
 
 -- The function.
 
-unfoldable pub function_words : Fields → Blank → List ℕ
-function_words image blank =
-    map word_of (enter_code image blank) ++ body_words image.words ++ map word_of (leave_code image)
+unfoldable pub function_words : Fields → Needs → List ℕ
+function_words image needs =
+    map word_of (enter_code image needs) ++ body_words image.words ++ map word_of (leave_code image)

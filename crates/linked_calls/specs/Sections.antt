@@ -9,10 +9,12 @@ use Rattle.linked_calls.specs.Convention.{link_register, stack_register}
 use Rattle.linked_calls.specs.Convention.{scratch_registers}
 use Rattle.linked_calls.specs.FunctionCode.{above_frame, frame_room, room_of, stores_code, loads_code, runs_code}
 use Rattle.hepurita.specs.Blank.{Blank}
+use Rattle.hepurita.specs.Needs.{Needs}
 use Rattle.linked_calls.specs.FunctionCode.{above_code, added, address_code, are_few, argument_code, blank_code}
 use Rattle.linked_calls.specs.FunctionCode.{copied_in_code, first_argument, lowered_code}
 use Rattle.linked_calls.specs.FunctionCode.{copied_out_code, down_code, elements_code, goes_in_by_words}
-use Rattle.linked_calls.specs.FunctionCode.{goes_out_by_words, kept_of, needed_of, passed_count, per_word}
+use Rattle.linked_calls.specs.FunctionCode.{goes_out_by_words, is_skipped, kept_of, needed_of, passed_count}
+use Rattle.linked_calls.specs.FunctionCode.{per_round, per_word}
 use Rattle.linked_calls.specs.FunctionCode.{places_code, pointer_in_code, pointer_out_code, result_code, copy_out_code}
 use Rattle.linked_calls.specs.FunctionCode.{clear_registers_code, rest_words, wipe_code}
 use Rattle.linked_calls.specs.declared.section.Section.{Section}
@@ -35,16 +37,21 @@ frame_sections room None = zeroed_sections room
 frame_sections room (Some offsets) =
     if are_few room offsets then partly_sections room offsets else zeroed_sections room
 
+-- that of an argument that has to stand in its slot
+abbrev pub argument_section : List Bool → ℕ → Slot → List Section
+argument_section spared i slot = if is_skipped spared i slot then [] else ArgumentIn i slot ∷ []
+
 -- those of all arguments from the i-th on
-abbrev pub argument_sections : ℕ → List Slot → List Section
-argument_sections i [] = []
-argument_sections i (slot ∷ slots) = ArgumentIn i slot ∷ argument_sections (i + 1) slots
+abbrev pub argument_sections : List Bool → ℕ → List Slot → List Section
+argument_sections spared i [] = []
+argument_sections spared i (slot ∷ slots) =
+    argument_section spared i slot ++ argument_sections spared (i + 1) slots
 
 -- before the body
-abbrev pub enter_sections : Fields → Blank → List Section
-enter_sections image blank =
-    RoomAboveFrame ∷ SavedRegisters ∷ ArgumentRegisters ∷ frame_sections (frame_room image) blank
-    ++ argument_sections 0 image.slots
+abbrev pub enter_sections : Fields → Needs → List Section
+enter_sections image needs =
+    RoomAboveFrame ∷ SavedRegisters ∷ ArgumentRegisters ∷ frame_sections (frame_room image) needs.blank
+    ++ argument_sections needs.spared 0 image.slots
 
 -- only an array that may be changed goes back
 abbrev pub array_section : ℕ → Slot → Form → List Section
@@ -84,8 +91,8 @@ section_code image Return = JumpRegister 0 link_register 0 ∷ []
 abbrev pub code_of : Fields → List Section → List Instr
 code_of image sections = flat_map (section_code image) sections
 
--- Steps. A loop makes its steps once for each run of 16 words, or for each eight elements. Of an array that is copied
--- as its pointer is, they hang on whether that is a multiple of 4: `pointers` is where each argument points.
+-- Steps. A loop makes its steps once for each run of 16 words, or for each round of elements. Of an array that is
+-- copied as its pointer is, they hang on whether that is a multiple of 4: `pointers` is where each argument points.
 
 -- so many instructions, and one that moves x2
 abbrev pub rest_steps : ℕ → ℕ
@@ -95,13 +102,14 @@ rest_steps count = if count == 0 then 0 else count + 1
 abbrev pub runs_steps : ℕ → ℕ
 runs_steps room = rest_steps (rest_words room) + 18 * (room / 64)
 
--- eight elements, x5 and x6 moved and the branch in each round, and the elements that are left
+-- the elements, x5 and x6 moved and the branch in each round, and the elements that are left
 abbrev pub rounds_steps : (ℕ → List Instr) → Kind → ℕ → ℕ
 rounds_steps code kind count =
     let bytes = element_bytes kind in
-    length (constant_code 7 (bytes * (8 * (count / 8)))) + 1
-    + (length (elements_code code bytes 0 8) + 3) * (count / 8)
-    + length (elements_code code bytes 0 (count % 8))
+    let round = per_round kind in
+    length (constant_code 7 (bytes * (round * (count / round)))) + 1
+    + (length (elements_code code bytes 0 round) + 3) * (count / round)
+    + length (elements_code code bytes 0 (count % round))
 
 abbrev pub copied_steps : (ℕ → List Instr) → Kind → ℕ → ℕ
 copied_steps code kind count =
@@ -111,7 +119,7 @@ abbrev pub by_words_steps : (Kind → ℕ → List Instr) → Kind → ℕ → �
 by_words_steps code kind count =
     let words = count / per_word kind in
     copied_steps (code Uint32) Uint32 words
-    + length (elements_code (code kind) (element_bytes kind) (4 * passed_count words) (count % per_word kind))
+    + length (elements_code (code kind) (element_bytes kind) (4 * passed_count Uint32 words) (count % per_word kind))
 
 -- the test, and the words; or the elements, and the jump over the words
 abbrev pub by_alignment_steps : (Kind → ℕ → List Instr) → Kind → ℕ → ℕ → ℕ
@@ -146,6 +154,6 @@ section_steps image pointers WipedRoom = runs_steps (room_of image)
 section_steps image pointers section = length (section_code image section)
 
 -- of all that stands around the body
-abbrev pub around_steps : Fields → Blank → (ℕ → ℕ) → ℕ
-around_steps image blank pointers =
-    sum (map (section_steps image pointers) (enter_sections image blank ++ leave_sections image))
+abbrev pub around_steps : Fields → Needs → (ℕ → ℕ) → ℕ
+around_steps image needs pointers =
+    sum (map (section_steps image pointers) (enter_sections image needs ++ leave_sections image))

@@ -2,7 +2,7 @@
 
 ghost use Rattle.std.specs.Prelude.{◌≡◌, ◌++◌, map};
 ghost use Rattle.linked_calls.specs.Below.{body_words, Fields, word_of};
-ghost use Rattle.hepurita.specs.Blank.{Blank};
+ghost use Rattle.hepurita.specs.Needs.{Needs};
 ghost use Rattle.linked_calls.specs.Callable.{CallsAreLinked};
 ghost use Rattle.linked_calls.specs.Cleared.{RegistersAreCleared};
 ghost use Rattle.linked_calls.specs.Copies.{ArrayIsTaken, ArrayIsHandedBack, CopiesAreShort};
@@ -24,11 +24,11 @@ pub fn calls_are_linked()
 
 /// The words of the sections' instructions, with the body's between them, are those of the function.
 pub fn sections_are_the_function()
-    ensures { (image : Fields) (blank : Blank)
-        → map word_of (code_of image (enter_sections image blank))
+    ensures { (image : Fields) (needs : Needs)
+        → map word_of (code_of image (enter_sections image needs))
         ++ body_words image.words
         ++ map word_of (code_of image (leave_sections image))
-        ≡ function_words image blank }
+        ≡ function_words image needs }
 {}
 
 /// The code that zeroes a frame whole before the body makes an exact number of steps, stores in the frame alone, never

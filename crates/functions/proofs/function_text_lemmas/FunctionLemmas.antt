@@ -1,4 +1,4 @@
--- The export of an accepted text, and the function that is made of it.
+-- The export of an accepted source, and the function that is made of it.
 use Rattle.std.proofs.Common.{◌≡◌, ℕ, List, [], map, true, false, Some, sym, ap, subst, inl, ◌∙◌}
 use Rattle.std.proofs.lemmas.Option.{same_Some}
 use Rattle.functions.specs.Below.{accepts, exported, Fields, fine, IsCompilation, Judges, Optimisation, Place}
@@ -9,21 +9,21 @@ use Rattle.functions.specs.function_text.Names.{is_taken_name}
 use Rattle.functions.specs.declared.function_text.fault.FunctionFault.{FunctionFault}
 use Rattle.functions.specs.declared.function_text.fault.FunctionFault.TheVariants.{Text, Name}
 use Rattle.functions.specs.function_text.private.OfExport.{IsOfExport, NameIsTaken}
-use Rattle.hepurita.specs.Blank.{Blank}
-use Rattle.hepurita.specs.Exact.{blank_words_for}
+use Rattle.hepurita.specs.Needs.{Needs}
+use Rattle.hepurita.specs.Exact.{frame_needs_for}
 use Rattle.hepurita.specs.Linked.{StartsAnywhere}
 
-module _ (optimisation : Optimisation) (profile : Profile) (text : List ℕ) (program : ProgramTree)
+module _ (optimisation : Optimisation) (profile : Profile) (source : List ℕ) (program : ProgramTree)
     (before : List ProcedureTree) (export : ProcedureTree) where
-  -- the program that a text is accepted as has the export that it is accepted with
-  pub has_export : Judges profile text (accepts program before export)
+  -- the program that a source is accepted as has the export that it is accepted with
+  pub has_export : Judges profile source (accepts program before export)
       → exported [] program.procedures ≡ Some (before, export)
   has_export (readable reads (fine small in_range in_time)) = small.well_formed.is_export
 
-  module _ (image : Fields) (blank : Blank)
-      (is : IsCompilation optimisation profile text program before export image)
-      (starts : StartsAnywhere program export image blank)
-      (blank_is : blank ≡ blank_words_for optimisation profile before export)
+  module _ (image : Fields) (needs : Needs)
+      (is : IsCompilation optimisation profile source program before export image)
+      (starts : StartsAnywhere program export image needs)
+      (needs_is : needs ≡ frame_needs_for optimisation profile before export)
       (before' : List ProcedureTree) (found : ProcedureTree)
       (at : exported [] program.procedures ≡ Some (before', found)) where
     -- so it is the one that is found
@@ -32,7 +32,7 @@ module _ (optimisation : Optimisation) (profile : Profile) (text : List ℕ) (pr
         (same_Some (before, export) (before', found) (sym (has_export is.judged) ∙ at))
 
     -- its name is taken
-    taken : (place : Place) → NameIsTaken found place → HasTakenName profile text place
+    taken : (place : Place) → NameIsTaken found place → HasTakenName profile source place
     taken place of = record {
       program = program;
       before = before;
@@ -43,16 +43,16 @@ module _ (optimisation : Optimisation) (profile : Profile) (text : List ℕ) (pr
     }
 
     -- its name is free
-    pub made : (parts : FunctionParts) → IsOfExport found image blank parts → IsFunctionOf optimisation profile text parts
+    pub made : (parts : FunctionParts) → IsOfExport found image needs parts → IsFunctionOf optimisation profile source parts
     made parts of = record {
       program = program;
       before = before;
       export = export;
-      compilation = subst (IsCompilation optimisation profile text program before export) (sym of.image) is;
+      compilation = subst (IsCompilation optimisation profile source program before export) (sym of.image) is;
       started =
-          subst (λ (i : Fields). StartsAnywhere program export i parts.blank) (sym of.image)
-          (subst (StartsAnywhere program export image) (sym of.blank_words) starts);
-      blank = of.blank_words ∙ blank_is;
+          subst (λ (i : Fields). StartsAnywhere program export i parts.needs) (sym of.image)
+          (subst (StartsAnywhere program export image) (sym of.needs_are) starts);
+      needs = of.needs_are ∙ needs_is;
       name = of.name ∙ ap (λ (p : ProcedureTree). p.name) (sym same);
       free = subst (λ (p : ProcedureTree). is_taken_name p.name ≡ false) (sym same) of.free;
       parameters = of.parameters
@@ -61,6 +61,6 @@ module _ (optimisation : Optimisation) (profile : Profile) (text : List ℕ) (pr
 
     -- out of memory, or a name that is taken
     pub fault_of : (fault : FunctionFault Refusal) → IsUnlessMemory fault (NameIsTaken found)
-        → IsFaultOf profile text fault
+        → IsFaultOf profile source fault
     fault_of (Text refusal) of = inl of
     fault_of (Name place) of = taken place of

@@ -1,4 +1,4 @@
--- The image of a text's function is the one that the text is compiled to, so it is called as that one is. And the room
+-- The image of a source's function is the one that the source is compiled to, so it is called as that one is. And the room
 -- of a call is as large as its header says.
 use Rattle.std.proofs.Common.{◌++◌, refl, ◌∙◌}
 use Rattle.std.proofs.lemmas.List.{append_assoc}
@@ -7,12 +7,12 @@ use Rattle.functions.specs.function_text.Linked.{FunctionsAreLinked, HeadersStat
 use Rattle.functions.specs.Below.{CallsAreLinked, room_of}
 
 pub functions_are_linked : CallsAreLinked → FunctionsAreLinked
-functions_are_linked calls optimisation profile text parts of code site is =
-    calls of.program of.before of.export parts.image parts.blank of.compilation.compiled of.started
+functions_are_linked calls optimisation profile source parts of code site is =
+    calls of.program of.before of.export parts.image parts.needs of.compilation.compiled of.started
     of.compilation.allowed code site is
 
 pub headers_state_stacks : HeadersStateStacks
-headers_state_stacks optimisation profile text assembler header texts =
+headers_state_stacks optimisation profile source assembler header texts =
     let f = texts.parts in
     record {
       bytes = room_of f.image;

@@ -9,28 +9,28 @@ use Rattle.functions.specs.function_text.Functions.{Named, FunctionParts, IsFunc
 use Rattle.functions.specs.function_text.HeaderText.{header_text}
 use Rattle.functions.specs.function_text.Texts.{AreTextsOf}
 use Rattle.functions.proofs.function_text_lemmas.Below.{one_export, one_image}
-use Rattle.hepurita.specs.Blank.{Blank}
-use Rattle.hepurita.specs.Exact.{blank_words_for}
+use Rattle.hepurita.specs.Needs.{Needs}
+use Rattle.hepurita.specs.Exact.{frame_needs_for}
 use Rattle.syntax.specs.Reading.{OneAnswer}
 
-same_parts : (name name' : List ℕ) (parameters parameters' : List Named) (image image' : Fields) (blank blank' : Blank)
-    → name ≡ name' → parameters ≡ parameters' → image ≡ image' → blank ≡ blank'
-    → ◌≡◌ {A = FunctionParts} (record { name = name; parameters = parameters; image = image; blank = blank })
-    (record { name = name'; parameters = parameters'; image = image'; blank = blank' })
-same_parts name name' parameters parameters' image image' blank blank' names params images blanks = cc
+same_parts : (name name' : List ℕ) (parameters parameters' : List Named) (image image' : Fields) (needs needs' : Needs)
+    → name ≡ name' → parameters ≡ parameters' → image ≡ image' → needs ≡ needs'
+    → ◌≡◌ {A = FunctionParts} (record { name = name; parameters = parameters; image = image; needs = needs })
+    (record { name = name'; parameters = parameters'; image = image'; needs = needs' })
+same_parts name name' parameters parameters' image image' needs needs' names params images all_needs = cc
 
-pub one_function : OneAnswer → (optimisation : Optimisation) (profile : Profile) (text : List ℕ)
+pub one_function : OneAnswer → (optimisation : Optimisation) (profile : Profile) (source : List ℕ)
     (one other : FunctionParts)
-    → IsFunctionOf optimisation profile text one → IsFunctionOf optimisation profile text other → one ≡ other
-one_function answer optimisation profile text one other a b =
-    let same = one_export profile answer text a.program b.program a.before b.before a.export b.export
+    → IsFunctionOf optimisation profile source one → IsFunctionOf optimisation profile source other → one ≡ other
+one_function answer optimisation profile source one other a b =
+    let same = one_export profile answer source a.program b.program a.before b.before a.export b.export
     a.compilation.judged b.compilation.judged in
-    same_parts one.name other.name one.parameters other.parameters one.image other.image one.blank other.blank
+    same_parts one.name other.name one.parameters other.parameters one.image other.image one.needs other.needs
     (a.name ∙ ap (λ (p : ProcedureTree). p.name) same.2 ∙ sym b.name)
     (a.parameters ∙ ap (λ (p : ProcedureTree). map (written_parameter p.name) p.parameters) same.2 ∙ sym b.parameters)
-    (one_image answer optimisation profile text a.program b.program a.before b.before a.export b.export one.image
+    (one_image answer optimisation profile source a.program b.program a.before b.before a.export b.export one.image
     other.image a.compilation b.compilation)
-    (a.blank ∙ ap₂ (blank_words_for optimisation profile) same.1 same.2 ∙ sym b.blank)
+    (a.needs ∙ ap₂ (frame_needs_for optimisation profile) same.1 same.2 ∙ sym b.needs)
 
 -- Texts.
 
@@ -58,11 +58,11 @@ module _ (differ : (i j : Instr) → IsInstr i → IsInstr j → word_of i ≡ w
       ∙ sym b.whole
 
   pub one_pair : OneAnswer
-      → (optimisation : Optimisation) (profile : Profile) (text assembler header assembler' header' : List ℕ)
-      → AreTextsOf optimisation profile text assembler header
-      → AreTextsOf optimisation profile text assembler' header' → (assembler ≡ assembler') × (header ≡ header')
-  one_pair answer optimisation profile text assembler header assembler' header' a b =
-      let same = one_function answer optimisation profile text a.parts b.parts a.function b.function in (
+      → (optimisation : Optimisation) (profile : Profile) (source assembler header assembler' header' : List ℕ)
+      → AreTextsOf optimisation profile source assembler header
+      → AreTextsOf optimisation profile source assembler' header' → (assembler ≡ assembler') × (header ≡ header')
+  one_pair answer optimisation profile source assembler header assembler' header' a b =
+      let same = one_function answer optimisation profile source a.parts b.parts a.function b.function in (
         one_text b.parts assembler assembler'
             (subst (λ (f : FunctionParts). IsAssemblerText f assembler) same a.assembled)
             b.assembled,

@@ -112,7 +112,7 @@ profile_text P2 = codes "2"
 -- how large the function is, and for which observer
 abbrev pub sizes_text : FunctionParts → List ℕ
 sizes_text f =
-    decimal (length (function_words f.image f.blank)) ++ codes " words, " ++ decimal (room_of f.image)
+    decimal (length (function_words f.image f.needs)) ++ codes " words, " ++ decimal (room_of f.image)
     ++ codes " bytes of stack, profile " ++ profile_text f.image.profile
 
 abbrev pub first_line : FunctionParts → List ℕ
@@ -140,7 +140,7 @@ tail_lines f = codes "    .cfi_endproc\n    .size " ++ f.name ++ codes ", . - " 
 
 -- the sections before the body
 abbrev pub entry_lines : FunctionParts → List ℕ
-entry_lines f = sections_lines f.image (enter_sections f.image f.blank)
+entry_lines f = sections_lines f.image (enter_sections f.image f.needs)
 
 pub record IsAssemblerText (f : FunctionParts) (text : List ℕ) : Type 0 where
   pub body : List ℕ

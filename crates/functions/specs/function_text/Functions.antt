@@ -1,4 +1,4 @@
--- The function of a text, or why there is none.
+-- The function of a source, or why there is none.
 use Rattle.std.specs.Prelude.{◌≡◌, ℕ, true, false, List, map}
 use Rattle.std.specs.String.{string_bytes}
 use Rattle.functions.specs.function_text.Names.{is_taken_name, written_name}
@@ -8,10 +8,9 @@ use Rattle.functions.specs.declared.function_text.function.Function.{Function}
 use Rattle.functions.specs.declared.function_text.function.NamedParam.{NamedParam}
 use Rattle.functions.specs.Below.{accepts, Fields, IsCompilation, IsWantOfMemory, Judges, Optimisation, param_of}
 use Rattle.functions.specs.Below.{ParameterTree, Place, ProcedureTree, Profile, ProgramTree, Refusal}
-use Rattle.std.specs.Option.{option_map}
-use Rattle.hepurita.specs.Blank.{Blank}
-use Rattle.hepurita.specs.Exact.{blank_words_for}
+use Rattle.hepurita.specs.Exact.{frame_needs_for}
 use Rattle.hepurita.specs.Linked.{StartsAnywhere}
+use Rattle.hepurita.specs.Needs.{Needs, needs_as}
 use Rattle.hepurita.specs.Told.{IsRefusalOf}
 use Rattle.language.specs.declared.signature.Param.{Param}
 
@@ -25,49 +24,47 @@ pub record FunctionParts : Type 0 where
   pub name : List ℕ
   pub parameters : List Named
   pub image : Fields
-  -- and the words of its frame that have to be zeros where the body begins
-  pub blank : Blank
+  -- and what the body needs of its frame where it begins
+  pub needs : Needs
 
 abbrev pub named : NamedParam → Named
 named p = record { name = string_bytes p.name; param = p.param }
 
-abbrev pub blank_of : Function → Blank
-blank_of f = option_map (λ offsets. offsets.items) f.blank
-
 abbrev pub parts_of : Function → FunctionParts
-parts_of f = record { name = f.name; parameters = map named f.parameters.items; image = f.image; blank = blank_of f }
+parts_of f =
+    record { name = f.name; parameters = map named f.parameters.items; image = f.image; needs = needs_as f.needs }
 
 -- a parameter of the source, in a function of this name
 abbrev pub written_parameter : List ℕ → ParameterTree → Named
 written_parameter function p = record { name = written_name function p.name; param = param_of p }
 
--- the function of a text that is accepted for an observer: the code of its plain or its optimised image, under the
+-- the function of a source that is accepted for an observer: the code of its plain or its optimised image, under the
 -- names of its export
-pub record IsFunctionOf (optimisation : Optimisation) (profile : Profile) (text : List ℕ) (parts : FunctionParts) :
+pub record IsFunctionOf (optimisation : Optimisation) (profile : Profile) (source : List ℕ) (parts : FunctionParts) :
     Type 0 where
   pub program : ProgramTree
   pub before : List ProcedureTree
   pub export : ProcedureTree
-  pub compilation : IsCompilation optimisation profile text program before export parts.image
-  pub started : StartsAnywhere program export parts.image parts.blank
-  pub blank : parts.blank ≡ blank_words_for optimisation profile before export
+  pub compilation : IsCompilation optimisation profile source program before export parts.image
+  pub started : StartsAnywhere program export parts.image parts.needs
+  pub needs : parts.needs ≡ frame_needs_for optimisation profile before export
   pub name : parts.name ≡ export.name
   pub free : is_taken_name export.name ≡ false
   pub parameters : parts.parameters ≡ map (written_parameter export.name) export.parameters
 
--- the text is accepted, and its export, which stands at this place, has a name that is taken
-pub record HasTakenName (profile : Profile) (text : List ℕ) (place : Place) : Type 0 where
+-- the source is accepted, and its export, which stands at this place, has a name that is taken
+pub record HasTakenName (profile : Profile) (source : List ℕ) (place : Place) : Type 0 where
   pub program : ProgramTree
   pub before : List ProcedureTree
   pub export : ProcedureTree
-  pub judged : Judges profile text (accepts program before export)
+  pub judged : Judges profile source (accepts program before export)
   pub taken : is_taken_name export.name ≡ true
   pub stands : place ≡ export.place
 
--- the text's refusal, or the export's name
+-- the source's refusal, or the export's name
 abbrev pub IsFaultOf : Profile → List ℕ → FunctionFault Refusal → Type 0
-IsFaultOf profile text (Text refusal) = IsRefusalOf profile text refusal
-IsFaultOf profile text (Name place) = HasTakenName profile text place
+IsFaultOf profile source (Text refusal) = IsRefusalOf profile source refusal
+IsFaultOf profile source (Name place) = HasTakenName profile source place
 
 -- out of memory, or a place of which this holds
 abbrev pub IsUnlessMemory : FunctionFault Refusal → (Place → Type 0) → Type 0

@@ -1,13 +1,13 @@
--- Both texts of the function of a text.
+-- Both texts of the function of a source.
 use Rattle.std.specs.Prelude.{◌≡◌, ℕ, List}
 use Rattle.functions.specs.function_text.AssemblerText.{IsAssemblerText}
 use Rattle.functions.specs.function_text.Functions.{FunctionParts, IsFunctionOf}
 use Rattle.functions.specs.function_text.HeaderText.{header_text}
 use Rattle.functions.specs.Below.{Optimisation, Profile}
 
-pub record AreTextsOf (optimisation : Optimisation) (profile : Profile) (text assembler header : List ℕ) :
+pub record AreTextsOf (optimisation : Optimisation) (profile : Profile) (source assembler header : List ℕ) :
     Type 0 where
   pub parts : FunctionParts
-  pub function : IsFunctionOf optimisation profile text parts
+  pub function : IsFunctionOf optimisation profile source parts
   pub assembled : IsAssemblerText parts assembler
   pub declared : header ≡ header_text parts

@@ -3,11 +3,11 @@
 
 ghost use Rattle.std.specs.Prelude.{◌≡◌, ◌≤◌, ◌<◌, ◌++◌, length, OnOk};
 ghost use Rattle.functions.specs.Below.{array_code, by_alignment_code, by_words_code, copy_in_code, copy_out_code};
-ghost use Rattle.functions.specs.Below.{MutableArray, passed_count, pointer_in_code, pointer_out_code};
+ghost use Rattle.functions.specs.Below.{MutableArray, passed_count, pointer_in_code, pointer_out_code, Uint32};
 ghost use Rattle.functions.specs.function_code.private.Ways.{element_code, goes_by_words};
 ghost use Rattle.functions.specs.function_code.Above.{IsAbove};
 
-use crate::function_code::copying::{MANY, ROUND, Way, copied, elements};
+use crate::function_code::copying::{MANY, Way, copied, elements, left};
 use crate::function_code::pieces::address;
 use crate::function_code::registers;
 use crate::function_code::room::{IN_REGISTERS, argument_offset, stacked_offset};
@@ -74,10 +74,14 @@ fn goes_by_words(way: Way, kind: Kind) -> bool
 
 /// How many of so many words lie behind where x5 and x6 are when all are copied.
 fn passed_count(count: u32) -> u32
-    ensures passed { result ≡ passed_count count }
+    ensures passed { result ≡ passed_count Uint32 count }
     ensures few { result < 16 }
 {
-    if count < MANY { count } else { count % ROUND }
+    if count < MANY {
+        count
+    } else {
+        left(Kind::Uint32, count)
+    }
 }
 
 /// So many elements word by word, and those that are no whole word.

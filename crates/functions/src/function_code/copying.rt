@@ -1,8 +1,8 @@
-// Elements between the caller's memory and the frame: few by straight code, many by a loop over eight at a time.
+// Elements between the caller's memory and the frame: few by straight code, many by a loop over some at a time.
 
-ghost use Rattle.std.specs.Prelude.{◌≡◌, ◌≤◌, ◌<◌, ◌+◌, ◌*◌, ◌++◌, OnOk, IfOk};
+ghost use Rattle.std.specs.Prelude.{◌≡◌, ◌≤◌, ◌<◌, ◌+◌, ◌*◌, ◌/◌, ◌%◌, ◌++◌, OnOk, IfOk};
 ghost use Rattle.functions.specs.Below.{copied_code, element_bytes, element_meant_code, elements_code, load_by};
-ghost use Rattle.functions.specs.Below.{next_code, rounds_code, store_by};
+ghost use Rattle.functions.specs.Below.{next_code, per_round, rounds_code, store_by};
 ghost use Rattle.functions.specs.function_code.private.Ways.{element_code};
 
 use crate::function_code::pieces::{added, store_by, until_equal};
@@ -11,8 +11,11 @@ use language::Kind;
 use rv_code::{Immediate12, Instr, Reg, RegisterOperation};
 use std::alloc::{AllocError, Global};
 
-/// The elements that one round of the loop copies.
-pub const ROUND: u32 = 8;
+/// The words that one round of the loop copies.
+const WORDS: u32 = 8;
+
+/// The elements that it copies where they are smaller.
+const SMALLER: u32 = 4;
 
 /// From how many elements on they are copied by a loop.
 pub const MANY: u32 = 16;
@@ -26,11 +29,43 @@ pub enum Way {
     Out,
 }
 
-/// Eight elements more are done.
+/// How many elements one round of the loop copies.
+fn per_round(kind: Kind) -> u32
+    ensures { result ≡ per_round kind }
+{
+    match kind {
+        Kind::Uint32 => WORDS,
+        Kind::Boolean | Kind::Uint8 | Kind::Uint16 => SMALLER,
+    }
+}
+
+/// How many of so many elements whole rounds copy.
+fn in_rounds(kind: Kind, count: u32) -> u32
+    ensures rounds { result ≡ per_round kind * (count / per_round kind) }
+    ensures within { result ≤ count }
+{
+    match kind {
+        Kind::Uint32 => WORDS * (count / WORDS),
+        Kind::Boolean | Kind::Uint8 | Kind::Uint16 => SMALLER * (count / SMALLER),
+    }
+}
+
+/// How many are left behind the rounds.
+pub fn left(kind: Kind, count: u32) -> u32
+    ensures left { result ≡ count % per_round kind }
+    ensures few { result < 8 }
+{
+    match kind {
+        Kind::Uint32 => count % WORDS,
+        Kind::Boolean | Kind::Uint8 | Kind::Uint16 => count % SMALLER,
+    }
+}
+
+/// As many elements more are done.
 fn next(code: &mut Vec<Instr>, kind: Kind) -> Result<(), AllocError>
     ensures { OnOk result (code.new.items ≡ code.old.items ++ next_code kind) }
 {
-    let bytes = ROUND * u32::from(kind.element_bytes());
+    let bytes = per_round(kind) * u32::from(kind.element_bytes());
     code.push(added(Reg::X5, bytes))?;
     code.push(added(Reg::X6, bytes))?;
     Ok(())
@@ -92,7 +127,7 @@ pub fn elements(
     Ok(())
 }
 
-/// Eight elements a round, up to x7, and those that are left.
+/// Some elements a round, up to x7, and those that are left.
 fn rounds(
     alloc: Global,
     code: &mut Vec<Instr>,
@@ -104,13 +139,13 @@ fn rounds(
     ensures { OnOk result (code.new.items ≡ code.old.items ++ rounds_code (element_code way kind) kind count) }
 {
     let bytes = u32::from(kind.element_bytes());
-    constant(code, Reg::X7, bytes * (ROUND * (count / ROUND)))?;
+    constant(code, Reg::X7, bytes * in_rounds(kind, count))?;
     code.push(Instr::Register(RegisterOperation::Add, Reg::X7, Reg::X7, Reg::X5))?;
     let mut round = Vec::new(alloc);
-    elements(&mut round, way, kind, 0, ROUND)?;
+    elements(&mut round, way, kind, 0, per_round(kind))?;
     next(&mut round, kind)?;
     until_equal(code, Reg::X5, Reg::X7, round.as_slice())?;
-    elements(code, way, kind, 0, count % ROUND)
+    elements(code, way, kind, 0, left(kind, count))
 }
 
 /// So many elements.

@@ -6,6 +6,8 @@ ghost use Rattle.functions.specs.Below.{argument_sections, array_section, array_
 ghost use Rattle.functions.specs.Below.{first_argument, frame_sections, kept_of, leave_sections, loads_code, needed_of};
 ghost use Rattle.functions.specs.Below.{section_code, stores_code};
 ghost use Rattle.functions.specs.function_code.Above.{IsAbove};
+ghost use Rattle.functions.specs.Below.{argument_section, is_open, is_skipped};
+ghost use Rattle.hepurita.specs.Needs.{needs_as};
 ghost use Rattle.linked_calls.specs.declared.section.Section.TheVariants.{BlankWord, ClearedFrame, FrameBase};
 ghost use Rattle.linked_calls.specs.declared.section.Section.TheVariants.{LoweredStack};
 
@@ -18,19 +20,57 @@ use crate::function_code::registers;
 use crate::function_code::room::{first_argument, frame_room, needed_count, room_of};
 use crate::function_code::zeroing::{cleared_frame, wiped_room};
 use codegen::image_fields::{ImageFields, Slot};
-use language::Form;
+use hepurita::FrameNeeds;
+use language::{Form, Kind, Param};
 use linked_calls::Section;
 use rv_code::{Instr, Reg};
 use std::alloc::{AllocError, Global};
 
-/// Puts the sections of arguments at the end.
-fn push_arguments(sections: &mut Vec<Section>, slots: &[Slot]) -> Result<(), AllocError>
+/// Whether any numbers of its kind may stand in the slot of a parameter: of an array of numbers that may be changed.
+fn is_open(param: Param) -> bool
+    ensures { result ≡ is_open param.form param.kind }
+{
+    match (param.form, param.kind) {
+        (Form::SingleWord | Form::FixedArray, _) | (Form::MutableArray, Kind::Boolean) => false,
+        (Form::MutableArray, Kind::Uint8 | Kind::Uint16 | Kind::Uint32) => true,
+    }
+}
+
+/// Whether an argument is not copied in.
+fn is_skipped(spared: &[bool], index: u16, slot: Slot) -> bool
+    ensures { result ≡ is_skipped spared.now index slot }
+{
+    spared.get(index as usize).copied().unwrap_or(false) && is_open(slot.param)
+}
+
+/// Puts the section of an argument at the end, where it has to stand in its slot.
+fn push_argument(
+    sections: &mut Vec<Section>,
+    spared: &[bool],
+    index: u16,
+    slot: Slot,
+) -> Result<(), AllocError>
+    ensures { OnOk result (sections.new.items ≡ sections.old.items ++ argument_section spared.now index slot) }
+{
+    if is_skipped(spared, index, slot) {
+        return Ok(());
+    }
+    sections.push(Section::ArgumentIn(index, slot))?;
+    Ok(())
+}
+
+/// Puts those of arguments at the end.
+fn push_arguments(
+    sections: &mut Vec<Section>,
+    spared: &[bool],
+    slots: &[Slot],
+) -> Result<(), AllocError>
     requires { length slots.now ≤ 8192 }
-    ensures { OnOk result (sections.new.items ≡ sections.old.items ++ argument_sections 0 slots.now) }
+    ensures { OnOk result (sections.new.items ≡ sections.old.items ++ argument_sections spared.now 0 slots.now) }
 {
     let mut index = 0;
     for slot in slots {
-        sections.push(Section::ArgumentIn(index, *slot))?;
+        push_argument(sections, spared, index, *slot)?;
         index += 1;
     }
     Ok(())
@@ -104,17 +144,16 @@ fn push_frame(
 pub fn enter_sections(
     alloc: Global,
     image: &ImageFields,
-    blank: Option<&[u32]>,
+    needs: &FrameNeeds,
 ) -> Result<Vec<Section>, AllocError>
-    ensures { IfOk result (λ sections. sections.items
-        ≡ enter_sections image.now (option_map (λ offsets. offsets.now) blank.entry)) }
+    ensures { IfOk result (λ sections. sections.items ≡ enter_sections image.now (needs_as needs.now)) }
 {
     let mut sections = Vec::new(alloc);
     sections.push(Section::RoomAboveFrame)?;
     sections.push(Section::SavedRegisters)?;
     sections.push(Section::ArgumentRegisters)?;
-    push_frame(&mut sections, frame_room(image), blank)?;
-    push_arguments(&mut sections, image.slots())?;
+    push_frame(&mut sections, frame_room(image), needs.blank_words())?;
+    push_arguments(&mut sections, needs.spared.as_slice(), image.slots())?;
     Ok(sections)
 }
 

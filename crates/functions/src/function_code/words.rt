@@ -1,13 +1,14 @@
 // The words of a function.
 
 ghost use Rattle.std.specs.Prelude.{◌≡◌, ◌++◌, ◌^◌, ◌<◌, map, All, OnOk, IfOk};
-ghost use Rattle.std.specs.Option.{option_map};
 ghost use Rattle.functions.specs.Below.{body_words, code_of, function_words, word_of};
 ghost use Rattle.functions.specs.function_code.Above.{IsAbove};
+ghost use Rattle.hepurita.specs.Needs.{needs_as};
 
 use crate::function_code::room::above_frame;
 use crate::function_code::sections::{enter_sections, leave_sections, section_code};
 use codegen::image_fields::ImageFields;
+use hepurita::FrameNeeds;
 use linked_calls::{Section, sections_are_the_function};
 use rv_code::{Instr, encode};
 use std::alloc::{AllocError, Global};
@@ -50,17 +51,16 @@ pub fn body(image: &ImageFields) -> &[u32]
     }
 }
 
-/// The words of the function of an image, of whose frame the words at these offsets have to be zeros where the body
-/// begins, or all words where none are given. They are refused only when out of memory.
+/// The words of the function of an image, whose body needs this of its frame. They are refused only when out of memory.
 pub fn function_words(
     alloc: Global,
     image: &ImageFields,
-    blank: Option<&[u32]>,
+    needs: &FrameNeeds,
 ) -> Result<Vec<u32>, AllocError>
     ensures { IfOk result (λ words.
-        words.items ≡ function_words image.now (option_map (λ offsets. offsets.now) blank.entry)) }
+        words.items ≡ function_words image.now (needs_as needs.now)) }
 {
-    let enter = enter_sections(alloc, image, blank)?;
+    let enter = enter_sections(alloc, image, needs)?;
     let leave = leave_sections(alloc, image)?;
     let above = above_frame(image);
     let mut words = Vec::new(alloc);

@@ -97,7 +97,7 @@ fn body_lines(alloc: Global, words: &[u32]) -> Result<String, AllocError>
 fn push_sizes(alloc: Global, text: &mut String, function: &Function) -> Result<(), AllocError>
     ensures { OnOk result (string_bytes text.new ≡ string_bytes text.old ++ sizes_text (parts_of function.now)) }
 {
-    let words = function_words(alloc, &function.image, function.blank_words())?;
+    let words = function_words(alloc, &function.image, &function.needs)?;
     push_number(text, words.len() as u64)?;
     text.push_str(" words, ")?;
     push_number(text, u64::from(room_of(&function.image)))?;
@@ -167,7 +167,7 @@ fn push_entry(alloc: Global, text: &mut String, function: &Function) -> Result<(
     ensures { OnOk result (string_bytes text.new
         ≡ string_bytes text.old ++ entry_lines (parts_of function.now)) }
 {
-    let sections = enter_sections(alloc, &function.image, function.blank_words())?;
+    let sections = enter_sections(alloc, &function.image, &function.needs)?;
     let above = above_frame(&function.image);
     push_sections(alloc, text, &function.image, above, sections.as_slice())
 }

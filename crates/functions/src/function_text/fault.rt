@@ -1,4 +1,4 @@
-// Why a text has no function for C, and how that is printed.
+// Why a source has no function for C, and how that is printed.
 
 ghost use Rattle.std.specs.Prelude.{◌≡◌};
 ghost use Rattle.functions.specs.declared.function_text.fault.FunctionFault.TheVariants.{Text};
@@ -9,12 +9,12 @@ use std::alloc::AllocError;
 use std::error::Error;
 use std::fmt;
 
-/// Why a text has no function for C.
+/// Why a source has no function for C.
 #[derive(Clone, Copy, Debug)]
 pub enum FunctionFault<R = Refusal> {
-    /// The text is refused, or a growth was.
+    /// The source is refused, or a growth was.
     Text(R),
-    /// The text is accepted, and the name of its export, which stands here, cannot be that of a function for C.
+    /// The source is accepted, and the name of its export, which stands here, cannot be that of a function for C.
     Name(Place),
 }
 

@@ -1,20 +1,20 @@
-// The function of a text.
+// The function of a source.
 
 ghost use Rattle.std.specs.Prelude.{◌≡◌, false, List, [], Some, map, IfOk, IfErr};
-ghost use Rattle.std.specs.Option.{option_map};
-ghost use Rattle.functions.specs.function_text.Functions.{blank_of, IsFunctionOf, IsFaultOf, IsUnlessMemory, named};
+ghost use Rattle.functions.specs.function_text.Functions.{IsFunctionOf, IsFaultOf, IsUnlessMemory, named};
 ghost use Rattle.functions.specs.function_text.Functions.{parts_of};
 ghost use Rattle.functions.specs.function_text.Functions.{written_parameter};
 ghost use Rattle.functions.specs.function_text.Names.{is_taken_name};
 ghost use Rattle.functions.specs.function_text.private.OfExport.{IsOfExport, NameIsTaken};
 ghost use Rattle.functions.specs.Below.{exported, IsWantOfMemory, parameter_tree, procedure_tree, ProcedureTree};
 ghost use Rattle.functions.specs.Below.{program_tree};
+ghost use Rattle.hepurita.specs.Needs.{needs_as};
 
 use crate::function_text::fault::FunctionFault;
 use crate::function_text::naming::{Macros, is_taken_name, macros_of, written_name};
 use codegen::Code;
 use codegen::image_fields::ImageFields;
-use hepurita::{Compiled, Optimisation, compile_with};
+use hepurita::{Compiled, FrameNeeds, Optimisation, compile_with};
 use language::{Name, Param, Parameter, Procedure, Profile, Program, Refusal};
 use std::alloc::{AllocError, Global};
 
@@ -25,26 +25,14 @@ pub struct NamedParam {
     pub param: Param,
 }
 
-/// A function for C: the code of the image of an accepted text, under the names of its export.
+/// A function for C: the code of the image of an accepted source, under the names of its export.
 #[derive(Drop)]
 pub struct Function {
     pub name: Name,
     pub parameters: Vec<NamedParam>,
     pub image: ImageFields,
-    /// The offsets of the words of its frame that have to be zeros where the body begins; none where all have to be.
-    pub blank: Option<Vec<u32>>,
-}
-
-impl Function {
-    /// Those offsets.
-    pub fn blank_words(&self) -> Option<&[u32]>
-        ensures { option_map (λ offsets. offsets.now) result ≡ blank_of self.now }
-    {
-        match &self.blank {
-            Some(offsets) => Some(offsets.as_slice()),
-            None => None,
-        }
-    }
+    /// What the body needs of its frame where it begins.
+    pub needs: FrameNeeds,
 }
 
 /// Parameters under the names that are written for them.
@@ -85,11 +73,11 @@ fn named_function(
     alloc: Global,
     export: &Procedure,
     code: Code,
-    blank: Option<Vec<u32>>,
+    needs: FrameNeeds,
 ) -> Result<Function, Refusal>
     requires { is_taken_name export.now.name ≡ false }
     ensures made { IfOk result (λ function.
-        IsOfExport (procedure_tree export.now) code (option_map (λ offsets. offsets.items) blank) (parts_of function)) }
+        IsOfExport (procedure_tree export.now) code (needs_as needs) (parts_of function)) }
     ensures memory { IfErr result (λ refusal. IsWantOfMemory refusal.rule refusal.place) }
 {
     let text = export.name.as_str();
@@ -100,7 +88,7 @@ fn named_function(
         name,
         parameters,
         image: code.into_fields(),
-        blank,
+        needs,
     })
 }
 
@@ -109,35 +97,35 @@ fn of_export(
     alloc: Global,
     export: &Procedure,
     code: Code,
-    blank: Option<Vec<u32>>,
+    needs: FrameNeeds,
 ) -> Result<Function, FunctionFault<Refusal>>
     ensures made { IfOk result (λ function.
-        IsOfExport (procedure_tree export.now) code (option_map (λ offsets. offsets.items) blank) (parts_of function)) }
+        IsOfExport (procedure_tree export.now) code (needs_as needs) (parts_of function)) }
     ensures fault { IfErr result (λ fault. IsUnlessMemory fault (NameIsTaken (procedure_tree export.now))) }
 {
     if is_taken_name(export.name.as_str()) {
         return Err(FunctionFault::Name(export.place));
     }
-    Ok(named_function(alloc, export, code, blank)?)
+    Ok(named_function(alloc, export, code, needs)?)
 }
 
-/// The function of a text that is accepted for an observer of this profile, with plain or optimised code. A text that
-/// is not is refused as by `compile_with`, before its names are looked at; then an export's name that C, C++ or an
+/// The function of a source that is accepted for an observer of this profile, with plain or optimised code. A source
+/// that is not is refused as by `compile_with`, before its names are looked at; then an export's name that C, C++ or an
 /// assembler cannot take.
 pub fn function_of(
     alloc: Global,
-    text: &str,
+    source: &str,
     profile: Profile,
     optimisation: Optimisation,
 ) -> Result<Function, FunctionFault<Refusal>>
-    ensures made { IfOk result (λ function. IsFunctionOf optimisation profile text.now (parts_of function)) }
-    ensures fault { IfErr result (IsFaultOf profile text.now) }
+    ensures made { IfOk result (λ function. IsFunctionOf optimisation profile source.now (parts_of function)) }
+    ensures fault { IfErr result (IsFaultOf profile source.now) }
 {
-    let compiled = compile_with(alloc, text, profile, optimisation)?;
+    let compiled = compile_with(alloc, source, profile, optimisation)?;
     let Compiled {
         program,
         code,
-        blank,
+        needs,
     } = compiled;
-    of_export(alloc, export_of(&program), code, blank)
+    of_export(alloc, export_of(&program), code, needs)
 }

@@ -1,4 +1,4 @@
-// What two answers for one text are to each other, and what a call of its function does.
+// What two answers for one source are to each other, and what a call of its function does.
 
 ghost use Rattle.std.specs.Prelude.{ℕ, ◌≡◌, List};
 ghost use Rattle.functions.specs.function_text.Functions.{FunctionParts, IsFunctionOf};
@@ -10,23 +10,23 @@ use linked_calls::calls_are_linked;
 use rv_code::laws::words_differ;
 use syntax::one_answer_for_a_source;
 
-/// A text has one plain and one optimised function for an observer: two of a kind are one in their names, parameters
+/// A source has one plain and one optimised function for an observer: two of a kind are one in their names, parameters
 /// and image, so in their words; and the texts of two are one.
 pub fn functions_agree()
-    ensures parts { (optimisation : Optimisation) (profile : Profile) (text : List ℕ) (one other : FunctionParts)
-        → IsFunctionOf optimisation profile text one → IsFunctionOf optimisation profile text other → one ≡ other }
+    ensures parts { (optimisation : Optimisation) (profile : Profile) (source : List ℕ) (one other : FunctionParts)
+        → IsFunctionOf optimisation profile source one → IsFunctionOf optimisation profile source other → one ≡ other }
     ensures texts { (optimisation : Optimisation) (profile : Profile)
-        (text assembler header assembler' header' : List ℕ)
-        → AreTextsOf optimisation profile text assembler header
-        → AreTextsOf optimisation profile text assembler' header'
+        (source assembler header assembler' header' : List ℕ)
+        → AreTextsOf optimisation profile source assembler header
+        → AreTextsOf optimisation profile source assembler' header'
         → (assembler ≡ assembler') × (header ≡ header') }
 {
     words_differ();
     one_answer_for_a_source();
 }
 
-/// The function of a text, plain or optimised, can be called from wherever its words stand in code, as C calls
-/// functions: what it leaves is what the text's program means on the arguments, and what it shows an observer is one
+/// The function of a source, plain or optimised, can be called from wherever its words stand in code, as C calls
+/// functions: what it leaves is what the source's program means on the arguments, and what it shows an observer is one
 /// list for arguments that agree where they are public. The number that its header defines as the macro of its stack is
 /// exactly the room of a call below the caller's stack pointer.
 pub fn functions_are_linked()

@@ -1,4 +1,4 @@
-// Both texts of the function of a text.
+// Both texts of the function of a source.
 
 ghost use Rattle.std.specs.Prelude.{IfOk, IfErr};
 ghost use Rattle.std.specs.String.{string_bytes};
@@ -22,19 +22,19 @@ pub struct Texts {
     pub header: String,
 }
 
-/// Both texts of the function of a text, for an observer of this profile, with plain or optimised code. A text that is
-/// not accepted is refused as by `compile_with`, then an export's name that C, C++ or an assembler cannot take.
+/// Both texts of the function of a source, for an observer of this profile, with plain or optimised code. A source that
+/// is not accepted is refused as by `compile_with`, then an export's name that C, C++ or an assembler cannot take.
 pub fn texts_of(
     alloc: Global,
-    text: &str,
+    source: &str,
     profile: Profile,
     optimisation: Optimisation,
 ) -> Result<Texts, FunctionFault<Refusal>>
     ensures made { IfOk result (λ texts.
-        AreTextsOf optimisation profile text.now (string_bytes texts.assembler) (string_bytes texts.header)) }
-    ensures fault { IfErr result (IsFaultOf profile text.now) }
+        AreTextsOf optimisation profile source.now (string_bytes texts.assembler) (string_bytes texts.header)) }
+    ensures fault { IfErr result (IsFaultOf profile source.now) }
 {
-    let function = function_of(alloc, text, profile, optimisation)?;
+    let function = function_of(alloc, source, profile, optimisation)?;
     let assembler = assembler_text(alloc, &function)?;
     let header = header_text(alloc, &function)?;
     Ok(Texts { assembler, header })

@@ -6,14 +6,14 @@ use Rattle.functions.proofs.function_text.function.function_of.Goals as goal
 pub export_of-requires : goal.export_of-requires
 export_of-requires c =
     let is = c.in_ok-compiled.ensures.started in
-    (is.0, is.1, has_export c.args.optimisation c.args.profile c.args.text.now _ is.0 is.1 is.2.judged)
+    (is.0, is.1, has_export c.args.optimisation c.args.profile c.args.source.now _ is.0 is.1 is.2.judged)
 
 pub returns-clause-made : goal.returns-clause-made
 returns-clause-made c =
     let is = c.in_ok-compiled.ensures.started in
     let at = c.export_of.ensures in
     IfOk-weaker c.of_export.result _ _
-    (λ f of. made c.args.optimisation c.args.profile c.args.text.now _ is.0 is.1 _ _ is.2 is.3 is.4 at.0 _
+    (λ f of. made c.args.optimisation c.args.profile c.args.source.now _ is.0 is.1 _ _ is.2 is.3 is.4 at.0 _
     at.1 (parts_of f) of)
     c.of_export.ensures.made
 
@@ -22,5 +22,5 @@ returns-clause-fault c =
     let is = c.in_ok-compiled.ensures.started in
     let at = c.export_of.ensures in
     IfErr-weaker c.of_export.result _ _
-    (fault_of c.args.optimisation c.args.profile c.args.text.now _ is.0 is.1 _ _ is.2 is.3 is.4 at.0 _ at.1)
+    (fault_of c.args.optimisation c.args.profile c.args.source.now _ is.0 is.1 _ _ is.2 is.3 is.4 at.0 _ at.1)
     c.of_export.ensures.fault

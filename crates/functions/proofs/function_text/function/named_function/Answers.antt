@@ -9,7 +9,7 @@ returns-clause-made c =
     let given = c.as_slice.result.now in
     record {
       image = c.into_fields.ensures;
-      blank_words = refl;
+      needs_are = refl;
       name = c.in_ok-name.ensures ∙ c.as_str-text.ensures;
       free = c.requires;
       parameters =
