@@ -1,4 +1,4 @@
-# aes256_encrypt: made by factc function; 1979 words, 1824 bytes of stack, profile 1
+# aes256_encrypt: made by factc function; 1955 words, 1824 bytes of stack, profile 1
     .option push
     .option norvc
     .option norelax
@@ -27,7 +27,7 @@ aes256_encrypt:
     .word 0x00050293  # addi x5, x10, 0
     .word 0x00010313  # addi x6, x2, 0
     .word 0x0032fe13  # andi x28, x5, 3
-    .word 0x040e0e63  # beq x28, x0, 92
+    .word 0x020e0e63  # beq x28, x0, 60
     .word 0x02000393  # addi x7, x0, 32
     .word 0x005383b3  # add x7, x7, x5
     .word 0x0002ce03  # lbu x28, 0(x5)
@@ -38,17 +38,9 @@ aes256_encrypt:
     .word 0x01c30123  # sb x28, 2(x6)
     .word 0x0032ce03  # lbu x28, 3(x5)
     .word 0x01c301a3  # sb x28, 3(x6)
-    .word 0x0042ce03  # lbu x28, 4(x5)
-    .word 0x01c30223  # sb x28, 4(x6)
-    .word 0x0052ce03  # lbu x28, 5(x5)
-    .word 0x01c302a3  # sb x28, 5(x6)
-    .word 0x0062ce03  # lbu x28, 6(x5)
-    .word 0x01c30323  # sb x28, 6(x6)
-    .word 0x0072ce03  # lbu x28, 7(x5)
-    .word 0x01c303a3  # sb x28, 7(x6)
-    .word 0x00828293  # addi x5, x5, 8
-    .word 0x00830313  # addi x6, x6, 8
-    .word 0xfa729ce3  # bne x5, x7, -72
+    .word 0x00428293  # addi x5, x5, 4
+    .word 0x00430313  # addi x6, x6, 4
+    .word 0xfc729ce3  # bne x5, x7, -40
     .word 0x0440006f  # jal x0, 68
     .word 0x0002ae03  # lw x28, 0(x5)
     .word 0x01c32023  # sw x28, 0(x6)
@@ -70,7 +62,7 @@ aes256_encrypt:
     .word 0x00058293  # addi x5, x11, 0
     .word 0x02010313  # addi x6, x2, 32
     .word 0x0032fe13  # andi x28, x5, 3
-    .word 0x040e0e63  # beq x28, x0, 92
+    .word 0x020e0e63  # beq x28, x0, 60
     .word 0x01000393  # addi x7, x0, 16
     .word 0x005383b3  # add x7, x7, x5
     .word 0x0002ce03  # lbu x28, 0(x5)
@@ -81,17 +73,9 @@ aes256_encrypt:
     .word 0x01c30123  # sb x28, 2(x6)
     .word 0x0032ce03  # lbu x28, 3(x5)
     .word 0x01c301a3  # sb x28, 3(x6)
-    .word 0x0042ce03  # lbu x28, 4(x5)
-    .word 0x01c30223  # sb x28, 4(x6)
-    .word 0x0052ce03  # lbu x28, 5(x5)
-    .word 0x01c302a3  # sb x28, 5(x6)
-    .word 0x0062ce03  # lbu x28, 6(x5)
-    .word 0x01c30323  # sb x28, 6(x6)
-    .word 0x0072ce03  # lbu x28, 7(x5)
-    .word 0x01c303a3  # sb x28, 7(x6)
-    .word 0x00828293  # addi x5, x5, 8
-    .word 0x00830313  # addi x6, x6, 8
-    .word 0xfa729ce3  # bne x5, x7, -72
+    .word 0x00428293  # addi x5, x5, 4
+    .word 0x00430313  # addi x6, x6, 4
+    .word 0xfc729ce3  # bne x5, x7, -40
     .word 0x0240006f  # jal x0, 36
     .word 0x0002ae03  # lw x28, 0(x5)
     .word 0x01c32023  # sw x28, 0(x6)
@@ -1924,7 +1908,7 @@ aes256_encrypt:
     .word 0x71c12283  # lw x5, 1820(x2)
     .word 0x02010313  # addi x6, x2, 32
     .word 0x0032fe13  # andi x28, x5, 3
-    .word 0x040e0e63  # beq x28, x0, 92
+    .word 0x020e0e63  # beq x28, x0, 60
     .word 0x01000393  # addi x7, x0, 16
     .word 0x005383b3  # add x7, x7, x5
     .word 0x00034e03  # lbu x28, 0(x6)
@@ -1935,17 +1919,9 @@ aes256_encrypt:
     .word 0x01c28123  # sb x28, 2(x5)
     .word 0x00334e03  # lbu x28, 3(x6)
     .word 0x01c281a3  # sb x28, 3(x5)
-    .word 0x00434e03  # lbu x28, 4(x6)
-    .word 0x01c28223  # sb x28, 4(x5)
-    .word 0x00534e03  # lbu x28, 5(x6)
-    .word 0x01c282a3  # sb x28, 5(x5)
-    .word 0x00634e03  # lbu x28, 6(x6)
-    .word 0x01c28323  # sb x28, 6(x5)
-    .word 0x00734e03  # lbu x28, 7(x6)
-    .word 0x01c283a3  # sb x28, 7(x5)
-    .word 0x00828293  # addi x5, x5, 8
-    .word 0x00830313  # addi x6, x6, 8
-    .word 0xfa729ce3  # bne x5, x7, -72
+    .word 0x00428293  # addi x5, x5, 4
+    .word 0x00430313  # addi x6, x6, 4
+    .word 0xfc729ce3  # bne x5, x7, -40
     .word 0x0240006f  # jal x0, 36
     .word 0x00032e03  # lw x28, 0(x6)
     .word 0x01c2a023  # sw x28, 0(x5)

@@ -1,4 +1,4 @@
-# divide_32: made by factc function; 139 words, 80 bytes of stack, profile 1
+# divide_32: made by factc function; 133 words, 80 bytes of stack, profile 1
     .option push
     .option norvc
     .option norelax
@@ -30,13 +30,6 @@ divide_32:
     .word 0x00a12023  # sw x10, 0(x2)
     # parameter 1: a word
     .word 0x00b12223  # sw x11, 4(x2)
-    # parameter 2: an array
-    .word 0x00060293  # addi x5, x12, 0
-    .word 0x00810313  # addi x6, x2, 8
-    .word 0x0002ae03  # lw x28, 0(x5)
-    .word 0x01c32023  # sw x28, 0(x6)
-    .word 0x0042ae03  # lw x28, 4(x5)
-    .word 0x01c32223  # sw x28, 4(x6)
     # the body
     .word 0x00000293  # addi x5, x0, 0
     .word 0x00512823  # sw x5, 16(x2)

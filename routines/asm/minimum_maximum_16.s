@@ -1,4 +1,4 @@
-# minimum_maximum_16: made by factc function; 169 words, 112 bytes of stack, profile 1
+# minimum_maximum_16: made by factc function; 163 words, 112 bytes of stack, profile 1
     .option push
     .option norvc
     .option norelax
@@ -45,13 +45,6 @@ minimum_maximum_16:
     .word 0x02028293  # addi x5, x5, 32
     .word 0x02030313  # addi x6, x6, 32
     .word 0xfa729ce3  # bne x5, x7, -72
-    # parameter 1: an array
-    .word 0x00058293  # addi x5, x11, 0
-    .word 0x04010313  # addi x6, x2, 64
-    .word 0x0002ae03  # lw x28, 0(x5)
-    .word 0x01c32023  # sw x28, 0(x6)
-    .word 0x0042ae03  # lw x28, 4(x5)
-    .word 0x01c32223  # sw x28, 4(x6)
     # the body
     .word 0x00000293  # addi x5, x0, 0
     .word 0x00000313  # addi x6, x0, 0

@@ -1,4 +1,4 @@
-# mlkem_inverse_ntt: made by factc function; 682 words, 1136 bytes of stack, profile 1
+# mlkem_inverse_ntt: made by factc function; 666 words, 1136 bytes of stack, profile 1
     .option push
     .option norvc
     .option norelax
@@ -26,7 +26,7 @@ mlkem_inverse_ntt:
     .word 0x00050293  # addi x5, x10, 0
     .word 0x00010313  # addi x6, x2, 0
     .word 0x0032fe13  # andi x28, x5, 3
-    .word 0x040e0e63  # beq x28, x0, 92
+    .word 0x020e0e63  # beq x28, x0, 60
     .word 0x20000393  # addi x7, x0, 512
     .word 0x005383b3  # add x7, x7, x5
     .word 0x0002de03  # lhu x28, 0(x5)
@@ -37,17 +37,9 @@ mlkem_inverse_ntt:
     .word 0x01c31223  # sh x28, 4(x6)
     .word 0x0062de03  # lhu x28, 6(x5)
     .word 0x01c31323  # sh x28, 6(x6)
-    .word 0x0082de03  # lhu x28, 8(x5)
-    .word 0x01c31423  # sh x28, 8(x6)
-    .word 0x00a2de03  # lhu x28, 10(x5)
-    .word 0x01c31523  # sh x28, 10(x6)
-    .word 0x00c2de03  # lhu x28, 12(x5)
-    .word 0x01c31623  # sh x28, 12(x6)
-    .word 0x00e2de03  # lhu x28, 14(x5)
-    .word 0x01c31723  # sh x28, 14(x6)
-    .word 0x01028293  # addi x5, x5, 16
-    .word 0x01030313  # addi x6, x6, 16
-    .word 0xfa729ce3  # bne x5, x7, -72
+    .word 0x00828293  # addi x5, x5, 8
+    .word 0x00830313  # addi x6, x6, 8
+    .word 0xfc729ce3  # bne x5, x7, -40
     .word 0x0580006f  # jal x0, 88
     .word 0x20000393  # addi x7, x0, 512
     .word 0x005383b3  # add x7, x7, x5
@@ -609,7 +601,7 @@ mlkem_inverse_ntt:
     .word 0x46c12283  # lw x5, 1132(x2)
     .word 0x00010313  # addi x6, x2, 0
     .word 0x0032fe13  # andi x28, x5, 3
-    .word 0x040e0e63  # beq x28, x0, 92
+    .word 0x020e0e63  # beq x28, x0, 60
     .word 0x20000393  # addi x7, x0, 512
     .word 0x005383b3  # add x7, x7, x5
     .word 0x00035e03  # lhu x28, 0(x6)
@@ -620,17 +612,9 @@ mlkem_inverse_ntt:
     .word 0x01c29223  # sh x28, 4(x5)
     .word 0x00635e03  # lhu x28, 6(x6)
     .word 0x01c29323  # sh x28, 6(x5)
-    .word 0x00835e03  # lhu x28, 8(x6)
-    .word 0x01c29423  # sh x28, 8(x5)
-    .word 0x00a35e03  # lhu x28, 10(x6)
-    .word 0x01c29523  # sh x28, 10(x5)
-    .word 0x00c35e03  # lhu x28, 12(x6)
-    .word 0x01c29623  # sh x28, 12(x5)
-    .word 0x00e35e03  # lhu x28, 14(x6)
-    .word 0x01c29723  # sh x28, 14(x5)
-    .word 0x01028293  # addi x5, x5, 16
-    .word 0x01030313  # addi x6, x6, 16
-    .word 0xfa729ce3  # bne x5, x7, -72
+    .word 0x00828293  # addi x5, x5, 8
+    .word 0x00830313  # addi x6, x6, 8
+    .word 0xfc729ce3  # bne x5, x7, -40
     .word 0x0580006f  # jal x0, 88
     .word 0x20000393  # addi x7, x0, 512
     .word 0x005383b3  # add x7, x7, x5

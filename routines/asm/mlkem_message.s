@@ -1,4 +1,4 @@
-# mlkem_message: made by factc function; 214 words, 576 bytes of stack, profile 1
+# mlkem_message: made by factc function; 151 words, 576 bytes of stack, profile 1
     .option push
     .option norvc
     .option norelax
@@ -25,7 +25,7 @@ mlkem_message:
     .word 0x00050293  # addi x5, x10, 0
     .word 0x00010313  # addi x6, x2, 0
     .word 0x0032fe13  # andi x28, x5, 3
-    .word 0x040e0e63  # beq x28, x0, 92
+    .word 0x020e0e63  # beq x28, x0, 60
     .word 0x02000393  # addi x7, x0, 32
     .word 0x005383b3  # add x7, x7, x5
     .word 0x0002ce03  # lbu x28, 0(x5)
@@ -36,17 +36,9 @@ mlkem_message:
     .word 0x01c30123  # sb x28, 2(x6)
     .word 0x0032ce03  # lbu x28, 3(x5)
     .word 0x01c301a3  # sb x28, 3(x6)
-    .word 0x0042ce03  # lbu x28, 4(x5)
-    .word 0x01c30223  # sb x28, 4(x6)
-    .word 0x0052ce03  # lbu x28, 5(x5)
-    .word 0x01c302a3  # sb x28, 5(x6)
-    .word 0x0062ce03  # lbu x28, 6(x5)
-    .word 0x01c30323  # sb x28, 6(x6)
-    .word 0x0072ce03  # lbu x28, 7(x5)
-    .word 0x01c303a3  # sb x28, 7(x6)
-    .word 0x00828293  # addi x5, x5, 8
-    .word 0x00830313  # addi x6, x6, 8
-    .word 0xfa729ce3  # bne x5, x7, -72
+    .word 0x00428293  # addi x5, x5, 4
+    .word 0x00430313  # addi x6, x6, 4
+    .word 0xfc729ce3  # bne x5, x7, -40
     .word 0x0440006f  # jal x0, 68
     .word 0x0002ae03  # lw x28, 0(x5)
     .word 0x01c32023  # sw x28, 0(x6)
@@ -64,54 +56,6 @@ mlkem_message:
     .word 0x01c32c23  # sw x28, 24(x6)
     .word 0x01c2ae03  # lw x28, 28(x5)
     .word 0x01c32e23  # sw x28, 28(x6)
-    # parameter 1: an array
-    .word 0x00058293  # addi x5, x11, 0
-    .word 0x02010313  # addi x6, x2, 32
-    .word 0x0032fe13  # andi x28, x5, 3
-    .word 0x040e0e63  # beq x28, x0, 92
-    .word 0x20000393  # addi x7, x0, 512
-    .word 0x005383b3  # add x7, x7, x5
-    .word 0x0002de03  # lhu x28, 0(x5)
-    .word 0x01c31023  # sh x28, 0(x6)
-    .word 0x0022de03  # lhu x28, 2(x5)
-    .word 0x01c31123  # sh x28, 2(x6)
-    .word 0x0042de03  # lhu x28, 4(x5)
-    .word 0x01c31223  # sh x28, 4(x6)
-    .word 0x0062de03  # lhu x28, 6(x5)
-    .word 0x01c31323  # sh x28, 6(x6)
-    .word 0x0082de03  # lhu x28, 8(x5)
-    .word 0x01c31423  # sh x28, 8(x6)
-    .word 0x00a2de03  # lhu x28, 10(x5)
-    .word 0x01c31523  # sh x28, 10(x6)
-    .word 0x00c2de03  # lhu x28, 12(x5)
-    .word 0x01c31623  # sh x28, 12(x6)
-    .word 0x00e2de03  # lhu x28, 14(x5)
-    .word 0x01c31723  # sh x28, 14(x6)
-    .word 0x01028293  # addi x5, x5, 16
-    .word 0x01030313  # addi x6, x6, 16
-    .word 0xfa729ce3  # bne x5, x7, -72
-    .word 0x0580006f  # jal x0, 88
-    .word 0x20000393  # addi x7, x0, 512
-    .word 0x005383b3  # add x7, x7, x5
-    .word 0x0002ae03  # lw x28, 0(x5)
-    .word 0x01c32023  # sw x28, 0(x6)
-    .word 0x0042ae03  # lw x28, 4(x5)
-    .word 0x01c32223  # sw x28, 4(x6)
-    .word 0x0082ae03  # lw x28, 8(x5)
-    .word 0x01c32423  # sw x28, 8(x6)
-    .word 0x00c2ae03  # lw x28, 12(x5)
-    .word 0x01c32623  # sw x28, 12(x6)
-    .word 0x0102ae03  # lw x28, 16(x5)
-    .word 0x01c32823  # sw x28, 16(x6)
-    .word 0x0142ae03  # lw x28, 20(x5)
-    .word 0x01c32a23  # sw x28, 20(x6)
-    .word 0x0182ae03  # lw x28, 24(x5)
-    .word 0x01c32c23  # sw x28, 24(x6)
-    .word 0x01c2ae03  # lw x28, 28(x5)
-    .word 0x01c32e23  # sw x28, 28(x6)
-    .word 0x02028293  # addi x5, x5, 32
-    .word 0x02030313  # addi x6, x6, 32
-    .word 0xfa729ce3  # bne x5, x7, -72
     # the body
     .word 0x00000293  # addi x5, x0, 0
     .word 0x22512423  # sw x5, 552(x2)
@@ -155,7 +99,7 @@ mlkem_message:
     .word 0x23c12283  # lw x5, 572(x2)
     .word 0x02010313  # addi x6, x2, 32
     .word 0x0032fe13  # andi x28, x5, 3
-    .word 0x040e0e63  # beq x28, x0, 92
+    .word 0x020e0e63  # beq x28, x0, 60
     .word 0x20000393  # addi x7, x0, 512
     .word 0x005383b3  # add x7, x7, x5
     .word 0x00035e03  # lhu x28, 0(x6)
@@ -166,17 +110,9 @@ mlkem_message:
     .word 0x01c29223  # sh x28, 4(x5)
     .word 0x00635e03  # lhu x28, 6(x6)
     .word 0x01c29323  # sh x28, 6(x5)
-    .word 0x00835e03  # lhu x28, 8(x6)
-    .word 0x01c29423  # sh x28, 8(x5)
-    .word 0x00a35e03  # lhu x28, 10(x6)
-    .word 0x01c29523  # sh x28, 10(x5)
-    .word 0x00c35e03  # lhu x28, 12(x6)
-    .word 0x01c29623  # sh x28, 12(x5)
-    .word 0x00e35e03  # lhu x28, 14(x6)
-    .word 0x01c29723  # sh x28, 14(x5)
-    .word 0x01028293  # addi x5, x5, 16
-    .word 0x01030313  # addi x6, x6, 16
-    .word 0xfa729ce3  # bne x5, x7, -72
+    .word 0x00828293  # addi x5, x5, 8
+    .word 0x00830313  # addi x6, x6, 8
+    .word 0xfc729ce3  # bne x5, x7, -40
     .word 0x0580006f  # jal x0, 88
     .word 0x20000393  # addi x7, x0, 512
     .word 0x005383b3  # add x7, x7, x5

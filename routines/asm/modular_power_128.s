@@ -1,4 +1,4 @@
-# modular_power_128: made by factc function; 1102 words, 832 bytes of stack, profile 1
+# modular_power_128: made by factc function; 1084 words, 832 bytes of stack, profile 1
     .option push
     .option norvc
     .option norelax
@@ -74,25 +74,6 @@ modular_power_128:
     # parameter 2: an array
     .word 0x00060293  # addi x5, x12, 0
     .word 0x04010313  # addi x6, x2, 64
-    .word 0x0002ae03  # lw x28, 0(x5)
-    .word 0x01c32023  # sw x28, 0(x6)
-    .word 0x0042ae03  # lw x28, 4(x5)
-    .word 0x01c32223  # sw x28, 4(x6)
-    .word 0x0082ae03  # lw x28, 8(x5)
-    .word 0x01c32423  # sw x28, 8(x6)
-    .word 0x00c2ae03  # lw x28, 12(x5)
-    .word 0x01c32623  # sw x28, 12(x6)
-    .word 0x0102ae03  # lw x28, 16(x5)
-    .word 0x01c32823  # sw x28, 16(x6)
-    .word 0x0142ae03  # lw x28, 20(x5)
-    .word 0x01c32a23  # sw x28, 20(x6)
-    .word 0x0182ae03  # lw x28, 24(x5)
-    .word 0x01c32c23  # sw x28, 24(x6)
-    .word 0x01c2ae03  # lw x28, 28(x5)
-    .word 0x01c32e23  # sw x28, 28(x6)
-    # parameter 3: an array
-    .word 0x00068293  # addi x5, x13, 0
-    .word 0x06010313  # addi x6, x2, 96
     .word 0x0002ae03  # lw x28, 0(x5)
     .word 0x01c32023  # sw x28, 0(x6)
     .word 0x0042ae03  # lw x28, 4(x5)

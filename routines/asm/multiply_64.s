@@ -1,4 +1,4 @@
-# multiply_64: made by factc function; 116 words, 64 bytes of stack, profile 1
+# multiply_64: made by factc function; 110 words, 64 bytes of stack, profile 1
     .option push
     .option norvc
     .option norelax
@@ -26,13 +26,6 @@ multiply_64:
     .word 0x00a12023  # sw x10, 0(x2)
     # parameter 1: a word
     .word 0x00b12223  # sw x11, 4(x2)
-    # parameter 2: an array
-    .word 0x00060293  # addi x5, x12, 0
-    .word 0x00810313  # addi x6, x2, 8
-    .word 0x0002ae03  # lw x28, 0(x5)
-    .word 0x01c32023  # sw x28, 0(x6)
-    .word 0x0042ae03  # lw x28, 4(x5)
-    .word 0x01c32223  # sw x28, 4(x6)
     # the body
     .word 0x00012283  # lw x5, 0(x2)
     .word 0x00010337  # lui x6, 0x00010

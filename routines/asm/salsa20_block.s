@@ -1,4 +1,4 @@
-# salsa20_block: made by factc function; 1053 words, 416 bytes of stack, profile 1
+# salsa20_block: made by factc function; 990 words, 416 bytes of stack, profile 1
     .option push
     .option norvc
     .option norelax
@@ -27,7 +27,7 @@ salsa20_block:
     .word 0x00050293  # addi x5, x10, 0
     .word 0x00010313  # addi x6, x2, 0
     .word 0x0032fe13  # andi x28, x5, 3
-    .word 0x040e0e63  # beq x28, x0, 92
+    .word 0x020e0e63  # beq x28, x0, 60
     .word 0x02000393  # addi x7, x0, 32
     .word 0x005383b3  # add x7, x7, x5
     .word 0x0002ce03  # lbu x28, 0(x5)
@@ -38,17 +38,9 @@ salsa20_block:
     .word 0x01c30123  # sb x28, 2(x6)
     .word 0x0032ce03  # lbu x28, 3(x5)
     .word 0x01c301a3  # sb x28, 3(x6)
-    .word 0x0042ce03  # lbu x28, 4(x5)
-    .word 0x01c30223  # sb x28, 4(x6)
-    .word 0x0052ce03  # lbu x28, 5(x5)
-    .word 0x01c302a3  # sb x28, 5(x6)
-    .word 0x0062ce03  # lbu x28, 6(x5)
-    .word 0x01c30323  # sb x28, 6(x6)
-    .word 0x0072ce03  # lbu x28, 7(x5)
-    .word 0x01c303a3  # sb x28, 7(x6)
-    .word 0x00828293  # addi x5, x5, 8
-    .word 0x00830313  # addi x6, x6, 8
-    .word 0xfa729ce3  # bne x5, x7, -72
+    .word 0x00428293  # addi x5, x5, 4
+    .word 0x00430313  # addi x6, x6, 4
+    .word 0xfc729ce3  # bne x5, x7, -40
     .word 0x0440006f  # jal x0, 68
     .word 0x0002ae03  # lw x28, 0(x5)
     .word 0x01c32023  # sw x28, 0(x6)
@@ -99,54 +91,6 @@ salsa20_block:
     .word 0x01c32023  # sw x28, 0(x6)
     .word 0x0042ae03  # lw x28, 4(x5)
     .word 0x01c32223  # sw x28, 4(x6)
-    # parameter 3: an array
-    .word 0x00068293  # addi x5, x13, 0
-    .word 0x03010313  # addi x6, x2, 48
-    .word 0x0032fe13  # andi x28, x5, 3
-    .word 0x040e0e63  # beq x28, x0, 92
-    .word 0x04000393  # addi x7, x0, 64
-    .word 0x005383b3  # add x7, x7, x5
-    .word 0x0002ce03  # lbu x28, 0(x5)
-    .word 0x01c30023  # sb x28, 0(x6)
-    .word 0x0012ce03  # lbu x28, 1(x5)
-    .word 0x01c300a3  # sb x28, 1(x6)
-    .word 0x0022ce03  # lbu x28, 2(x5)
-    .word 0x01c30123  # sb x28, 2(x6)
-    .word 0x0032ce03  # lbu x28, 3(x5)
-    .word 0x01c301a3  # sb x28, 3(x6)
-    .word 0x0042ce03  # lbu x28, 4(x5)
-    .word 0x01c30223  # sb x28, 4(x6)
-    .word 0x0052ce03  # lbu x28, 5(x5)
-    .word 0x01c302a3  # sb x28, 5(x6)
-    .word 0x0062ce03  # lbu x28, 6(x5)
-    .word 0x01c30323  # sb x28, 6(x6)
-    .word 0x0072ce03  # lbu x28, 7(x5)
-    .word 0x01c303a3  # sb x28, 7(x6)
-    .word 0x00828293  # addi x5, x5, 8
-    .word 0x00830313  # addi x6, x6, 8
-    .word 0xfa729ce3  # bne x5, x7, -72
-    .word 0x0580006f  # jal x0, 88
-    .word 0x04000393  # addi x7, x0, 64
-    .word 0x005383b3  # add x7, x7, x5
-    .word 0x0002ae03  # lw x28, 0(x5)
-    .word 0x01c32023  # sw x28, 0(x6)
-    .word 0x0042ae03  # lw x28, 4(x5)
-    .word 0x01c32223  # sw x28, 4(x6)
-    .word 0x0082ae03  # lw x28, 8(x5)
-    .word 0x01c32423  # sw x28, 8(x6)
-    .word 0x00c2ae03  # lw x28, 12(x5)
-    .word 0x01c32623  # sw x28, 12(x6)
-    .word 0x0102ae03  # lw x28, 16(x5)
-    .word 0x01c32823  # sw x28, 16(x6)
-    .word 0x0142ae03  # lw x28, 20(x5)
-    .word 0x01c32a23  # sw x28, 20(x6)
-    .word 0x0182ae03  # lw x28, 24(x5)
-    .word 0x01c32c23  # sw x28, 24(x6)
-    .word 0x01c2ae03  # lw x28, 28(x5)
-    .word 0x01c32e23  # sw x28, 28(x6)
-    .word 0x02028293  # addi x5, x5, 32
-    .word 0x02030313  # addi x6, x6, 32
-    .word 0xfa729ce3  # bne x5, x7, -72
     # the body
     .word 0x00000293  # addi x5, x0, 0
     .word 0x06512823  # sw x5, 112(x2)
@@ -987,7 +931,7 @@ salsa20_block:
     .word 0x19c12283  # lw x5, 412(x2)
     .word 0x03010313  # addi x6, x2, 48
     .word 0x0032fe13  # andi x28, x5, 3
-    .word 0x040e0e63  # beq x28, x0, 92
+    .word 0x020e0e63  # beq x28, x0, 60
     .word 0x04000393  # addi x7, x0, 64
     .word 0x005383b3  # add x7, x7, x5
     .word 0x00034e03  # lbu x28, 0(x6)
@@ -998,17 +942,9 @@ salsa20_block:
     .word 0x01c28123  # sb x28, 2(x5)
     .word 0x00334e03  # lbu x28, 3(x6)
     .word 0x01c281a3  # sb x28, 3(x5)
-    .word 0x00434e03  # lbu x28, 4(x6)
-    .word 0x01c28223  # sb x28, 4(x5)
-    .word 0x00534e03  # lbu x28, 5(x6)
-    .word 0x01c282a3  # sb x28, 5(x5)
-    .word 0x00634e03  # lbu x28, 6(x6)
-    .word 0x01c28323  # sb x28, 6(x5)
-    .word 0x00734e03  # lbu x28, 7(x6)
-    .word 0x01c283a3  # sb x28, 7(x5)
-    .word 0x00828293  # addi x5, x5, 8
-    .word 0x00830313  # addi x6, x6, 8
-    .word 0xfa729ce3  # bne x5, x7, -72
+    .word 0x00428293  # addi x5, x5, 4
+    .word 0x00430313  # addi x6, x6, 4
+    .word 0xfc729ce3  # bne x5, x7, -40
     .word 0x0580006f  # jal x0, 88
     .word 0x04000393  # addi x7, x0, 64
     .word 0x005383b3  # add x7, x7, x5

@@ -1,4 +1,4 @@
-# sha1_block: made by factc function; 983 words, 480 bytes of stack, profile 1
+# sha1_block: made by factc function; 975 words, 480 bytes of stack, profile 1
     .option push
     .option norvc
     .option norelax
@@ -39,7 +39,7 @@ sha1_block:
     .word 0x00058293  # addi x5, x11, 0
     .word 0x01410313  # addi x6, x2, 20
     .word 0x0032fe13  # andi x28, x5, 3
-    .word 0x040e0e63  # beq x28, x0, 92
+    .word 0x020e0e63  # beq x28, x0, 60
     .word 0x04000393  # addi x7, x0, 64
     .word 0x005383b3  # add x7, x7, x5
     .word 0x0002ce03  # lbu x28, 0(x5)
@@ -50,17 +50,9 @@ sha1_block:
     .word 0x01c30123  # sb x28, 2(x6)
     .word 0x0032ce03  # lbu x28, 3(x5)
     .word 0x01c301a3  # sb x28, 3(x6)
-    .word 0x0042ce03  # lbu x28, 4(x5)
-    .word 0x01c30223  # sb x28, 4(x6)
-    .word 0x0052ce03  # lbu x28, 5(x5)
-    .word 0x01c302a3  # sb x28, 5(x6)
-    .word 0x0062ce03  # lbu x28, 6(x5)
-    .word 0x01c30323  # sb x28, 6(x6)
-    .word 0x0072ce03  # lbu x28, 7(x5)
-    .word 0x01c303a3  # sb x28, 7(x6)
-    .word 0x00828293  # addi x5, x5, 8
-    .word 0x00830313  # addi x6, x6, 8
-    .word 0xfa729ce3  # bne x5, x7, -72
+    .word 0x00428293  # addi x5, x5, 4
+    .word 0x00430313  # addi x6, x6, 4
+    .word 0xfc729ce3  # bne x5, x7, -40
     .word 0x0580006f  # jal x0, 88
     .word 0x04000393  # addi x7, x0, 64
     .word 0x005383b3  # add x7, x7, x5

@@ -1,4 +1,4 @@
-# siphash24: made by factc function; 775 words, 272 bytes of stack, profile 1
+# siphash24: made by factc function; 726 words, 272 bytes of stack, profile 1
     .option push
     .option norvc
     .option norelax
@@ -27,7 +27,7 @@ siphash24:
     .word 0x00050293  # addi x5, x10, 0
     .word 0x00010313  # addi x6, x2, 0
     .word 0x0032fe13  # andi x28, x5, 3
-    .word 0x040e0e63  # beq x28, x0, 92
+    .word 0x020e0e63  # beq x28, x0, 60
     .word 0x01000393  # addi x7, x0, 16
     .word 0x005383b3  # add x7, x7, x5
     .word 0x0002ce03  # lbu x28, 0(x5)
@@ -38,17 +38,9 @@ siphash24:
     .word 0x01c30123  # sb x28, 2(x6)
     .word 0x0032ce03  # lbu x28, 3(x5)
     .word 0x01c301a3  # sb x28, 3(x6)
-    .word 0x0042ce03  # lbu x28, 4(x5)
-    .word 0x01c30223  # sb x28, 4(x6)
-    .word 0x0052ce03  # lbu x28, 5(x5)
-    .word 0x01c302a3  # sb x28, 5(x6)
-    .word 0x0062ce03  # lbu x28, 6(x5)
-    .word 0x01c30323  # sb x28, 6(x6)
-    .word 0x0072ce03  # lbu x28, 7(x5)
-    .word 0x01c303a3  # sb x28, 7(x6)
-    .word 0x00828293  # addi x5, x5, 8
-    .word 0x00830313  # addi x6, x6, 8
-    .word 0xfa729ce3  # bne x5, x7, -72
+    .word 0x00428293  # addi x5, x5, 4
+    .word 0x00430313  # addi x6, x6, 4
+    .word 0xfc729ce3  # bne x5, x7, -40
     .word 0x0240006f  # jal x0, 36
     .word 0x0002ae03  # lw x28, 0(x5)
     .word 0x01c32023  # sw x28, 0(x6)
@@ -62,8 +54,8 @@ siphash24:
     .word 0x00058293  # addi x5, x11, 0
     .word 0x01010313  # addi x6, x2, 16
     .word 0x0032fe13  # andi x28, x5, 3
-    .word 0x080e0a63  # beq x28, x0, 148
-    .word 0x03800393  # addi x7, x0, 56
+    .word 0x040e0a63  # beq x28, x0, 84
+    .word 0x03c00393  # addi x7, x0, 60
     .word 0x005383b3  # add x7, x7, x5
     .word 0x0002ce03  # lbu x28, 0(x5)
     .word 0x01c30023  # sb x28, 0(x6)
@@ -73,31 +65,15 @@ siphash24:
     .word 0x01c30123  # sb x28, 2(x6)
     .word 0x0032ce03  # lbu x28, 3(x5)
     .word 0x01c301a3  # sb x28, 3(x6)
-    .word 0x0042ce03  # lbu x28, 4(x5)
-    .word 0x01c30223  # sb x28, 4(x6)
-    .word 0x0052ce03  # lbu x28, 5(x5)
-    .word 0x01c302a3  # sb x28, 5(x6)
-    .word 0x0062ce03  # lbu x28, 6(x5)
-    .word 0x01c30323  # sb x28, 6(x6)
-    .word 0x0072ce03  # lbu x28, 7(x5)
-    .word 0x01c303a3  # sb x28, 7(x6)
-    .word 0x00828293  # addi x5, x5, 8
-    .word 0x00830313  # addi x6, x6, 8
-    .word 0xfa729ce3  # bne x5, x7, -72
+    .word 0x00428293  # addi x5, x5, 4
+    .word 0x00430313  # addi x6, x6, 4
+    .word 0xfc729ce3  # bne x5, x7, -40
     .word 0x0002ce03  # lbu x28, 0(x5)
     .word 0x01c30023  # sb x28, 0(x6)
     .word 0x0012ce03  # lbu x28, 1(x5)
     .word 0x01c300a3  # sb x28, 1(x6)
     .word 0x0022ce03  # lbu x28, 2(x5)
     .word 0x01c30123  # sb x28, 2(x6)
-    .word 0x0032ce03  # lbu x28, 3(x5)
-    .word 0x01c301a3  # sb x28, 3(x6)
-    .word 0x0042ce03  # lbu x28, 4(x5)
-    .word 0x01c30223  # sb x28, 4(x6)
-    .word 0x0052ce03  # lbu x28, 5(x5)
-    .word 0x01c302a3  # sb x28, 5(x6)
-    .word 0x0062ce03  # lbu x28, 6(x5)
-    .word 0x01c30323  # sb x28, 6(x6)
     .word 0x0940006f  # jal x0, 148
     .word 0x0002ae03  # lw x28, 0(x5)
     .word 0x01c32023  # sw x28, 0(x6)
@@ -137,32 +113,6 @@ siphash24:
     .word 0x03c30f23  # sb x28, 62(x6)
     # parameter 2: a word
     .word 0x04c12823  # sw x12, 80(x2)
-    # parameter 3: an array
-    .word 0x00068293  # addi x5, x13, 0
-    .word 0x05410313  # addi x6, x2, 84
-    .word 0x0032fe13  # andi x28, x5, 3
-    .word 0x040e0463  # beq x28, x0, 72
-    .word 0x0002ce03  # lbu x28, 0(x5)
-    .word 0x01c30023  # sb x28, 0(x6)
-    .word 0x0012ce03  # lbu x28, 1(x5)
-    .word 0x01c300a3  # sb x28, 1(x6)
-    .word 0x0022ce03  # lbu x28, 2(x5)
-    .word 0x01c30123  # sb x28, 2(x6)
-    .word 0x0032ce03  # lbu x28, 3(x5)
-    .word 0x01c301a3  # sb x28, 3(x6)
-    .word 0x0042ce03  # lbu x28, 4(x5)
-    .word 0x01c30223  # sb x28, 4(x6)
-    .word 0x0052ce03  # lbu x28, 5(x5)
-    .word 0x01c302a3  # sb x28, 5(x6)
-    .word 0x0062ce03  # lbu x28, 6(x5)
-    .word 0x01c30323  # sb x28, 6(x6)
-    .word 0x0072ce03  # lbu x28, 7(x5)
-    .word 0x01c303a3  # sb x28, 7(x6)
-    .word 0x0140006f  # jal x0, 20
-    .word 0x0002ae03  # lw x28, 0(x5)
-    .word 0x01c32023  # sw x28, 0(x6)
-    .word 0x0042ae03  # lw x28, 4(x5)
-    .word 0x01c32223  # sw x28, 4(x6)
     # the body
     .word 0x00000293  # addi x5, x0, 0
     .word 0x04512e23  # sw x5, 92(x2)

@@ -1,4 +1,4 @@
-# swap_32: made by factc function; 268 words, 112 bytes of stack, profile 1
+# swap_32: made by factc function; 236 words, 112 bytes of stack, profile 1
     .option push
     .option norvc
     .option norelax
@@ -29,7 +29,7 @@ swap_32:
     .word 0x00058293  # addi x5, x11, 0
     .word 0x00410313  # addi x6, x2, 4
     .word 0x0032fe13  # andi x28, x5, 3
-    .word 0x040e0e63  # beq x28, x0, 92
+    .word 0x020e0e63  # beq x28, x0, 60
     .word 0x02000393  # addi x7, x0, 32
     .word 0x005383b3  # add x7, x7, x5
     .word 0x0002ce03  # lbu x28, 0(x5)
@@ -40,17 +40,9 @@ swap_32:
     .word 0x01c30123  # sb x28, 2(x6)
     .word 0x0032ce03  # lbu x28, 3(x5)
     .word 0x01c301a3  # sb x28, 3(x6)
-    .word 0x0042ce03  # lbu x28, 4(x5)
-    .word 0x01c30223  # sb x28, 4(x6)
-    .word 0x0052ce03  # lbu x28, 5(x5)
-    .word 0x01c302a3  # sb x28, 5(x6)
-    .word 0x0062ce03  # lbu x28, 6(x5)
-    .word 0x01c30323  # sb x28, 6(x6)
-    .word 0x0072ce03  # lbu x28, 7(x5)
-    .word 0x01c303a3  # sb x28, 7(x6)
-    .word 0x00828293  # addi x5, x5, 8
-    .word 0x00830313  # addi x6, x6, 8
-    .word 0xfa729ce3  # bne x5, x7, -72
+    .word 0x00428293  # addi x5, x5, 4
+    .word 0x00430313  # addi x6, x6, 4
+    .word 0xfc729ce3  # bne x5, x7, -40
     .word 0x0440006f  # jal x0, 68
     .word 0x0002ae03  # lw x28, 0(x5)
     .word 0x01c32023  # sw x28, 0(x6)
@@ -72,7 +64,7 @@ swap_32:
     .word 0x00060293  # addi x5, x12, 0
     .word 0x02410313  # addi x6, x2, 36
     .word 0x0032fe13  # andi x28, x5, 3
-    .word 0x040e0e63  # beq x28, x0, 92
+    .word 0x020e0e63  # beq x28, x0, 60
     .word 0x02000393  # addi x7, x0, 32
     .word 0x005383b3  # add x7, x7, x5
     .word 0x0002ce03  # lbu x28, 0(x5)
@@ -83,17 +75,9 @@ swap_32:
     .word 0x01c30123  # sb x28, 2(x6)
     .word 0x0032ce03  # lbu x28, 3(x5)
     .word 0x01c301a3  # sb x28, 3(x6)
-    .word 0x0042ce03  # lbu x28, 4(x5)
-    .word 0x01c30223  # sb x28, 4(x6)
-    .word 0x0052ce03  # lbu x28, 5(x5)
-    .word 0x01c302a3  # sb x28, 5(x6)
-    .word 0x0062ce03  # lbu x28, 6(x5)
-    .word 0x01c30323  # sb x28, 6(x6)
-    .word 0x0072ce03  # lbu x28, 7(x5)
-    .word 0x01c303a3  # sb x28, 7(x6)
-    .word 0x00828293  # addi x5, x5, 8
-    .word 0x00830313  # addi x6, x6, 8
-    .word 0xfa729ce3  # bne x5, x7, -72
+    .word 0x00428293  # addi x5, x5, 4
+    .word 0x00430313  # addi x6, x6, 4
+    .word 0xfc729ce3  # bne x5, x7, -40
     .word 0x0440006f  # jal x0, 68
     .word 0x0002ae03  # lw x28, 0(x5)
     .word 0x01c32023  # sw x28, 0(x6)
@@ -161,7 +145,7 @@ swap_32:
     .word 0x06812283  # lw x5, 104(x2)
     .word 0x00410313  # addi x6, x2, 4
     .word 0x0032fe13  # andi x28, x5, 3
-    .word 0x040e0e63  # beq x28, x0, 92
+    .word 0x020e0e63  # beq x28, x0, 60
     .word 0x02000393  # addi x7, x0, 32
     .word 0x005383b3  # add x7, x7, x5
     .word 0x00034e03  # lbu x28, 0(x6)
@@ -172,17 +156,9 @@ swap_32:
     .word 0x01c28123  # sb x28, 2(x5)
     .word 0x00334e03  # lbu x28, 3(x6)
     .word 0x01c281a3  # sb x28, 3(x5)
-    .word 0x00434e03  # lbu x28, 4(x6)
-    .word 0x01c28223  # sb x28, 4(x5)
-    .word 0x00534e03  # lbu x28, 5(x6)
-    .word 0x01c282a3  # sb x28, 5(x5)
-    .word 0x00634e03  # lbu x28, 6(x6)
-    .word 0x01c28323  # sb x28, 6(x5)
-    .word 0x00734e03  # lbu x28, 7(x6)
-    .word 0x01c283a3  # sb x28, 7(x5)
-    .word 0x00828293  # addi x5, x5, 8
-    .word 0x00830313  # addi x6, x6, 8
-    .word 0xfa729ce3  # bne x5, x7, -72
+    .word 0x00428293  # addi x5, x5, 4
+    .word 0x00430313  # addi x6, x6, 4
+    .word 0xfc729ce3  # bne x5, x7, -40
     .word 0x0440006f  # jal x0, 68
     .word 0x00032e03  # lw x28, 0(x6)
     .word 0x01c2a023  # sw x28, 0(x5)
@@ -204,7 +180,7 @@ swap_32:
     .word 0x06c12283  # lw x5, 108(x2)
     .word 0x02410313  # addi x6, x2, 36
     .word 0x0032fe13  # andi x28, x5, 3
-    .word 0x040e0e63  # beq x28, x0, 92
+    .word 0x020e0e63  # beq x28, x0, 60
     .word 0x02000393  # addi x7, x0, 32
     .word 0x005383b3  # add x7, x7, x5
     .word 0x00034e03  # lbu x28, 0(x6)
@@ -215,17 +191,9 @@ swap_32:
     .word 0x01c28123  # sb x28, 2(x5)
     .word 0x00334e03  # lbu x28, 3(x6)
     .word 0x01c281a3  # sb x28, 3(x5)
-    .word 0x00434e03  # lbu x28, 4(x6)
-    .word 0x01c28223  # sb x28, 4(x5)
-    .word 0x00534e03  # lbu x28, 5(x6)
-    .word 0x01c282a3  # sb x28, 5(x5)
-    .word 0x00634e03  # lbu x28, 6(x6)
-    .word 0x01c28323  # sb x28, 6(x5)
-    .word 0x00734e03  # lbu x28, 7(x6)
-    .word 0x01c283a3  # sb x28, 7(x5)
-    .word 0x00828293  # addi x5, x5, 8
-    .word 0x00830313  # addi x6, x6, 8
-    .word 0xfa729ce3  # bne x5, x7, -72
+    .word 0x00428293  # addi x5, x5, 4
+    .word 0x00430313  # addi x6, x6, 4
+    .word 0xfc729ce3  # bne x5, x7, -40
     .word 0x0440006f  # jal x0, 68
     .word 0x00032e03  # lw x28, 0(x6)
     .word 0x01c2a023  # sw x28, 0(x5)
