@@ -47,7 +47,7 @@ unfoldable pub image_for : Optimisation → Profile → List ProcedureTree → P
 image_for optimisation profile before export =
     code_for optimisation (straight_of (ranged (flattened profile before export)))
 
--- and which words of its frame have to be zeros: those of the program that it is generated from
+-- and what it needs of its frame: what the program does that it is generated from
 
 abbrev pub if_there : Option Fields → Needs → Needs → Needs
 if_there None one other = other

@@ -30,8 +30,7 @@ pub record IsLinked (program : ProgramTree) (p : ProcedureTree) (image : Fields)
       → Means program args results → Means program args' results'
       → AgreeInPublic (params_of image) p.result results results'
 
--- from each state whose frame holds the arguments, and in which the words that have to be are zeros, whatever else the
--- frame holds
+-- from each state whose frame is as the code needs it, whatever else the frame holds
 abbrev pub StartsAnywhere : ProgramTree → ProcedureTree → Fields → Needs → Type 0
 StartsAnywhere program p image needs =
     (code : MachineCode) (start frame : ℕ) → IsPlaced image code start frame
