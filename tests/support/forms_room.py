@@ -78,6 +78,8 @@ RECURSIONS = [
     ("optimisation/src/element_words/statements.rt", "splitting", "the statements of straight code, each of which is followed once"),
     ("optimisation/src/live_words/gathering.rt", "gathering", "a flag a variable, for each level of nesting"),
     ("optimisation/src/live_words/statements.rt", "sharing", "the statements of straight code, and a flag a variable for each level"),
+    ("optimisation/src/number_words/statements.rt", "wording", "the statements of straight code, each of which is followed once"),
+    ("optimisation/src/number_words/uses.rt", "counts", "the numbers that are counted, 256 at most"),
     ("optimisation/src/set_first.rt", "order", "a flag a variable, for each level of nesting"),
     ("optimisation/src/set_whole/watch.rt", "watching", "a flag an element and a counter a loop around, for each level of nesting"),
     ("source_eval/src/statements.rt", "statement", "what the open bodies declare, 64 at most, and the lists that a statement has"),

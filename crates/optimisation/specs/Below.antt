@@ -12,7 +12,7 @@ pub use Rattle.language.specs.Operators.{truth_of, swapped_of, width_of}
 pub use Rattle.language.specs.Types.{bits_of, same_kind, same_label}
 pub use Rattle.language.specs.Typing.{is_mutable}
 pub use Rattle.language.specs.WantOfMemory.{IsWantOfMemory}
-pub use Rattle.language.specs.WellTyped.{arithmetic, division, logic, Makes, multiplication, shift, Takes}
+pub use Rattle.language.specs.WellTyped.{arithmetic, division, labelled, logic, Makes, multiplication, shift, Takes}
 pub use Rattle.language.specs.arguments.Within.{AreWithin}
 pub use Rattle.language.specs.declared.operators.BinaryOperator.{BinaryOperator}
 pub use Rattle.language.specs.declared.operators.BinaryOperator.TheVariants.{Add, BitAnd, BitOr, BitXor, LogicalAnd}
@@ -24,6 +24,8 @@ pub use Rattle.language.specs.declared.operators.PrefixOperator.{PrefixOperator}
 pub use Rattle.language.specs.declared.operators.PrefixOperator.TheVariants.{Complement, Negate, Not}
 pub use Rattle.language.specs.declared.signature.Kind.{Kind}
 pub use Rattle.language.specs.declared.signature.Kind.TheVariants.{Boolean, Uint32}
+pub use Rattle.language.specs.declared.signature.Label.{Label}
+pub use Rattle.language.specs.declared.signature.Label.TheVariants.{Public}
 pub use Rattle.language.specs.declared.signature.Param.{Param}
 pub use Rattle.language.specs.declared.typing.WordType.{WordType}
 pub use Rattle.language.specs.declared.values.Arg.{Arg}
@@ -54,3 +56,4 @@ pub use Rattle.branch_removal.specs.StraightMeaning.{path_at, path_of, start, St
 pub use Rattle.branch_removal.specs.StraightMeaning.{with_element, with_variable}
 pub use Rattle.branch_removal.specs.StraightTyping.{AreTyped, IsFilled, IsElementSet, IsSet, IsTyped, IsTypedStraight}
 pub use Rattle.branch_removal.specs.StraightTyping.{types_but}
+pub use Rattle.branch_removal.specs.Uses.{weight_inside}

@@ -10,6 +10,7 @@ pub mod constants;
 pub mod element_words;
 pub mod live_words;
 pub mod needed_variables;
+pub mod number_words;
 mod same_words;
 pub mod set_first;
 pub mod set_whole;

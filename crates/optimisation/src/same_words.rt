@@ -1,21 +1,9 @@
 // Which variables are words of one type.
 
 ghost use Rattle.std.specs.Prelude.{◌≡◌, slice_get};
-ghost use Rattle.optimisation.specs.Below.{same_label};
 ghost use Rattle.optimisation.specs.private.SameWords.{are_alike, is_word, same_words};
 
 use inline::FlatVariable;
-use language::Label;
-
-/// Whether these are one label.
-fn is_same_label(one: Label, other: Label) -> bool
-    ensures { result ≡ same_label one other }
-{
-    match one {
-        Label::Public => matches!(other, Label::Public),
-        Label::Secret => matches!(other, Label::Secret),
-    }
-}
 
 /// Whether a variable with so many elements, where it is an array, is a word.
 fn is_word(elements: Option<u32>) -> bool
@@ -35,7 +23,7 @@ fn same_words(one: FlatVariable, other: FlatVariable) -> bool
     is_word(one.elements)
         && is_word(other.elements)
         && one.word.kind.is_same(other.word.kind)
-        && is_same_label(one.word.label, other.word.label)
+        && one.word.label.is_same(other.word.label)
 }
 
 /// Whether there are two variables, and they are words of one type.

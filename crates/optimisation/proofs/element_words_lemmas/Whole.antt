@@ -1,15 +1,15 @@
 -- The program with words may stand in the place of the program.
 use Rattle.std.proofs.Common.{◌≡◌, ℕ, zero, suc, ◌+◌, ◌<◌, ◌≤◌, true, false, List, [], ◌∷◌}
-use Rattle.std.proofs.Common.{◌++◌, drop, length, replicate, Option, None, Some, option_map, slice_get}
+use Rattle.std.proofs.Common.{◌++◌, length, replicate, Option, None, Some, option_map, slice_get}
 use Rattle.std.proofs.Common.{get_or, slice_index, refl, sym, ap, ap₂, ◌∙◌, arith, take as first_of}
 use Rattle.std.specs.Prelude.{nat_lt}
 use Rattle.std.proofs.lemmas.Bool.{cond_both}
 use Rattle.std.proofs.lemmas.List.{length-map, length-replicate, length-take}
 use Rattle.std.proofs.lemmas.Option.{none-some, same_Some, slice_get-get_or, slice_get_within}
 use Rattle.language.proofs.arguments_lemmas.FaultLemmas.{length-AreWithin}
-use Rattle.optimisation.specs.Below.{AreWithin, Arg, array_of, arrays_from, counter_type, declaration_of, end_of}
-use Rattle.optimisation.specs.Below.{FlatVariable, given, IsReplaced, IsStraight, numbers_in, outcome_of, Param, start}
-use Rattle.optimisation.specs.Below.{StraightBlock, StraightProgram, TermTree, Values, with_variables, word_as}
+use Rattle.optimisation.specs.Below.{AreWithin, Arg, counter_type, declaration_of, end_of}
+use Rattle.optimisation.specs.Below.{FlatVariable, given, IsReplaced, IsStraight, numbers_in, outcome_of, start}
+use Rattle.optimisation.specs.Below.{StraightBlock, StraightProgram, TermTree, with_variables, word_as}
 use Rattle.optimisation.specs.declared.element_words.parts.SplitArray.{SplitArray}
 use Rattle.optimisation.specs.element_words.Limits.{most_variable_words}
 use Rattle.optimisation.specs.element_words.private.Narrowing.{narrowed_by_all}
@@ -26,6 +26,7 @@ use Rattle.optimisation.proofs.element_words_lemmas.Held.{zeros_at}
 use Rattle.optimisation.proofs.element_words_lemmas.Runs.{InStep, all_follow}
 use Rattle.optimisation.proofs.over_lemmas.Values.{both, IsResultAlike}
 use Rattle.optimisation.proofs.over_lemmas.Beside.{AreBeside, RunsBeside}
+use Rattle.optimisation.proofs.over_lemmas.Starts.{given_front, same_arrays}
 use Rattle.optimisation.proofs.over_lemmas.Whole.{is_replaced}
 
 -- What the variables hold at first.
@@ -39,21 +40,6 @@ given_behind (e ∷ declared) [] zero d few is =
 given_behind (e ∷ declared) (arg ∷ args) zero d few is = absurd (omega arith)
 given_behind (e ∷ declared) [] (suc x) d few is = given_behind declared [] x d (omega arith) is
 given_behind (e ∷ declared) (arg ∷ args) (suc x) d few is = given_behind declared args x d (omega arith) is
-
-given_front : (declared more : List FlatVariable) (args : List Arg) (y : ℕ) (d : FlatVariable)
-    → slice_get declared y ≡ Some d → given (declared ++ more) args y ≡ given declared args y
-given_front [] more args y d there = absurd (none-some d there)
-given_front (e ∷ declared) more [] zero d there = refl
-given_front (e ∷ declared) more (arg ∷ args) zero d there = refl
-given_front (e ∷ declared) more args (suc y) d there = given_front declared more (drop 1 args) y d there
-
--- the arrays of parameters that hold the same
-same_arrays : (x : ℕ) (params : List Param) (m k : Values)
-    → ((y : ℕ) → x ≤ y → y < x + length params → k y ≡ m y) → arrays_from x params k ≡ arrays_from x params m
-same_arrays x [] m k same = refl
-same_arrays x (p ∷ params) m k same =
-    ap₂ (λ (a b : List (List ℕ)). a ++ b) (ap (array_of p.form) (same x (omega arith) (omega arith)))
-    (same_arrays (x + 1) params m k (λ y from to. same y (omega arith) (omega arith)))
 
 module _ (p : StraightProgram) (is_straight : IsStraight p) (parts : Parts)
     (is_splitting : IsSplitting p.declared (p.declared ++ all_words parts) parts)

@@ -1,0 +1,4 @@
+pub mod Held
+pub mod Values
+pub mod Runs
+pub mod Whole
