@@ -10,7 +10,7 @@ TOP = os.path.dirname(os.path.dirname(os.path.dirname(os.path.abspath(__file__))
 DEFAULT = os.path.join(TOP, "crates", "factc", "out", "factc")
 
 # The codes of a source: what tests call the image of each, and the flags of `build` and `function` that ask for it.
-CODES = (("image", []), ("optimised", ["-O"]))
+CODES = (("image", []), ("optimised", ["-O"]), ("small", ["-Os"]))
 
 
 class Cases:

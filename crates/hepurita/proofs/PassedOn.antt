@@ -3,10 +3,9 @@
 use Rattle.std.proofs.Common.{◌≡◌, Option, None, Some, IfSome, ap, option_map, subst, sym, ◌∙◌}
 use Rattle.std.specs.Prelude.{unwrap_or}
 use Rattle.hepurita.specs.Below.{IsRemoved, RangedProgram, simplified_of, StraightProgram}
-use Rattle.hepurita.specs.Exact.{after, finished_of, fitted_where_shared}
+use Rattle.hepurita.specs.Exact.{after, finished_of, fitted_where_shared, fitted_with_words}
 use Rattle.optimisation.specs.element_words.Exact.{split_of}
 use Rattle.optimisation.specs.live_words.Exact.{shared_of}
-use Rattle.optimisation.specs.needed_variables.Exact.{fitted_of}
 use Rattle.branch_removal.specs.Replaced.{IsReplaced}
 
 pub stands_on : (ranged : RangedProgram) (made : Option StraightProgram) (given result : StraightProgram)
@@ -25,8 +24,18 @@ after_pass pass made given before result is from same =
 
 -- the end of the passes, where words share variables
 module _ (straight simpler : StraightProgram) (is : simpler ≡ after simplified_of (after split_of straight)) where
-  pub finished_shared : (shared fitted : StraightProgram) → shared_of simpler ≡ Some shared
-      → fitted ≡ fitted_of shared → finished_of straight ≡ fitted
-  finished_shared shared fitted found fits =
+  pub finished_shared : (shared : StraightProgram) → shared_of simpler ≡ Some shared
+      → finished_of straight ≡ fitted_with_words shared
+  finished_shared shared found =
       ap (after fitted_where_shared) (sym is)
-      ∙ (ap (λ (o : Option StraightProgram). unwrap_or (option_map fitted_of o) simpler) found ∙ sym fits)
+      ∙ ap (λ (o : Option StraightProgram). unwrap_or (option_map fitted_with_words o) simpler) found
+
+-- a pass that made code
+pub after_made : (pass : StraightProgram → Option StraightProgram) (given made : StraightProgram)
+    → pass given ≡ Some made → after pass given ≡ made
+after_made pass given made is = ap (λ (o : Option StraightProgram). unwrap_or o given) is
+
+-- and one that made none
+pub after_none : (pass : StraightProgram → Option StraightProgram) (given : StraightProgram)
+    → pass given ≡ None → after pass given ≡ given
+after_none pass given is = ap (λ (o : Option StraightProgram). unwrap_or o given) is

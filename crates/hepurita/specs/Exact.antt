@@ -7,9 +7,10 @@ use Rattle.hepurita.specs.Below.{simplified_of, straight_of, StraightProgram, un
 use Rattle.hepurita.specs.Needs.{Needs, optimised_needs, plain_needs}
 use Rattle.optimisation.specs.element_words.Exact.{split_of}
 use Rattle.hepurita.specs.declared.optimised.Optimisation.{Optimisation}
-use Rattle.hepurita.specs.declared.optimised.Optimisation.TheVariants.{Off, On}
+use Rattle.hepurita.specs.declared.optimised.Optimisation.TheVariants.{Off, On, Small}
 use Rattle.optimisation.specs.live_words.Exact.{shared_of}
 use Rattle.optimisation.specs.needed_variables.Exact.{fitted_of}
+use Rattle.optimisation.specs.number_words.Exact.{numbers_as_words}
 
 -- the first image of those that are there, and else another
 abbrev pub first_of : List (Option Fields) → Fields → Fields
@@ -21,27 +22,32 @@ first_of (Some image ∷ images) otherwise = image
 abbrev pub after : (StraightProgram → Option StraightProgram) → StraightProgram → StraightProgram
 after pass straight = unwrap_or (pass straight) straight
 
--- where words share variables, the code has only the variables that it needs
+-- numbers that are used much are words, and the code has only the variables that it needs
+abbrev pub fitted_with_words : StraightProgram → StraightProgram
+fitted_with_words straight = fitted_of (after numbers_as_words straight)
+
 abbrev pub fitted_where_shared : StraightProgram → Option StraightProgram
-fitted_where_shared straight = option_map fitted_of (shared_of straight)
+fitted_where_shared straight = option_map fitted_with_words (shared_of straight)
 
 -- what the passes make of straight code whose loops are as they stay: its short arrays are words, what is known then is
--- a number, words share variables, and variables that nothing names have no room
+-- a number, words share variables, numbers that are used much are words, and variables that nothing names have no room
 abbrev pub finished_of : StraightProgram → StraightProgram
 finished_of straight = after fitted_where_shared (after simplified_of (after split_of straight))
 
--- the images that are tried for straight code where optimised code is asked for: with its loops unrolled, and else with
--- its loops. Each is there where it is within the limit on words
-abbrev pub optimised_for : StraightProgram → List (Option Fields)
-optimised_for straight =
-    optimised_fields_of (finished_of (after unrolled_of straight))
-    ∷ optimised_fields_of (finished_of (after simplified_of straight)) ∷ []
+-- the images that are tried for straight code where optimised code is asked for. Each is there where it is within the
+-- limit on words: for small code one with its loops, and else one with its loops unrolled first
+abbrev pub small_for : StraightProgram → List (Option Fields)
+small_for straight = optimised_fields_of (finished_of (after simplified_of straight)) ∷ []
 
--- the image for straight code, which is the plain one where no optimised one is there: only from here on do the two
--- codes differ
+abbrev pub optimised_for : StraightProgram → List (Option Fields)
+optimised_for straight = optimised_fields_of (finished_of (after unrolled_of straight)) ∷ small_for straight
+
+-- the image for straight code, which is the plain one where no optimised one is there: only from here on do the codes
+-- differ
 abbrev pub code_for : Optimisation → StraightProgram → Fields
 code_for Off straight = fields_of straight
 code_for On straight = first_of (optimised_for straight) (fields_of straight)
+code_for Small straight = first_of (small_for straight) (fields_of straight)
 
 unfoldable pub image_for : Optimisation → Profile → List ProcedureTree → ProcedureTree → Fields
 image_for optimisation profile before export =
@@ -62,6 +68,7 @@ abbrev pub needs_for : Optimisation → StraightProgram → Needs
 needs_for Off straight = plain_needs straight
 needs_for On straight =
     first_needs (finished_of (after unrolled_of straight) ∷ finished_of (after simplified_of straight) ∷ []) straight
+needs_for Small straight = first_needs (finished_of (after simplified_of straight) ∷ []) straight
 
 unfoldable pub frame_needs_for : Optimisation → Profile → List ProcedureTree → ProcedureTree → Needs
 frame_needs_for optimisation profile before export =

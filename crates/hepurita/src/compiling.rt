@@ -36,9 +36,24 @@ fn plain_code(alloc: Global, straight: &Straight<'_>) -> Result<Generated, Refus
     Ok(Generated { code, needs })
 }
 
-/// The first optimised code of a straight program that is within the limit on words, or else its plain code. Only
-/// memory refuses it.
-fn first_code(alloc: Global, straight: &Straight<'_>) -> Result<Generated, Refusal>
+/// The optimised code of a straight program with its loops, where that is within the limit on words, or else its plain
+/// code. Only memory refuses it.
+fn small_code(alloc: Global, straight: &Straight<'_>) -> Result<Generated, Refusal>
+    ensures generated { IfOk result (IsCodeFor straight.now) }
+    ensures exact { IfOk result (λ made. made.code ≡ code_for Optimisation.Small straight.now) }
+    ensures needs { IfOk result (λ made. needs_as made.needs ≡ needs_for Optimisation.Small straight.now) }
+    ensures allowed { IfOk result (λ made. IsImage made.code) }
+    ensures memory { IfErr result (λ refusal. IsWantOfMemory refusal.rule refusal.place) }
+{
+    if let Some(code) = rolled(alloc, straight.code())? {
+        return Ok(code);
+    }
+    plain_code(alloc, straight)
+}
+
+/// The optimised code of a straight program with its loops unrolled, where that is within the limit on words, or else
+/// its small code. Only memory refuses it.
+fn fast_code(alloc: Global, straight: &Straight<'_>) -> Result<Generated, Refusal>
     ensures generated { IfOk result (IsCodeFor straight.now) }
     ensures exact { IfOk result (λ made. made.code ≡ code_for Optimisation.On straight.now) }
     ensures needs { IfOk result (λ made. needs_as made.needs ≡ needs_for Optimisation.On straight.now) }
@@ -48,10 +63,7 @@ fn first_code(alloc: Global, straight: &Straight<'_>) -> Result<Generated, Refus
     if let Some(code) = unrolled(alloc, straight.code())? {
         return Ok(code);
     }
-    if let Some(code) = rolled(alloc, straight.code())? {
-        return Ok(code);
-    }
-    plain_code(alloc, straight)
+    small_code(alloc, straight)
 }
 
 /// The code of a body with what is counted for it, plain or optimised, and what its frame has to be. Only memory
@@ -71,7 +83,8 @@ fn generated_for(
     let straight = remove(alloc, ranged)?;
     match optimisation {
         Optimisation::Off => plain_code(alloc, &straight),
-        Optimisation::On => first_code(alloc, &straight),
+        Optimisation::On => fast_code(alloc, &straight),
+        Optimisation::Small => small_code(alloc, &straight),
     }
 }
 

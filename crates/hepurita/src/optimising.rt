@@ -5,7 +5,8 @@ ghost use Rattle.std.specs.Option.{option_map};
 ghost use Rattle.hepurita.specs.Below.{IsImage, IsWantOfMemory, optimised_fields_of, simplified_of, unrolled_of};
 ghost use Rattle.hepurita.specs.Needs.{needs_as, optimised_needs};
 ghost use Rattle.hepurita.specs.CodeFor.{IsCodeFor};
-ghost use Rattle.hepurita.specs.Exact.{after, finished_of};
+ghost use Rattle.hepurita.specs.Exact.{after, finished_of, fitted_with_words};
+ghost use Rattle.optimisation.specs.needed_variables.Exact.{fitted_of};
 
 use crate::generated::Generated;
 use crate::needs::optimised_needs;
@@ -16,6 +17,7 @@ use optimisation::constants::{simplify, unroll};
 use optimisation::element_words::ElementWords;
 use optimisation::live_words::share_words;
 use optimisation::needed_variables::{needed_variables, with_needed};
+use optimisation::number_words::NumberWords;
 use std::alloc::Global;
 
 /// What a pass made, or else the code that it was given.
@@ -48,9 +50,48 @@ fn optimised_code(alloc: Global, straight: &StraightCode<'_>) -> Result<Option<G
     }
 }
 
+/// The optimised code of a program in which a variable that nothing names has no room, where it is within the limit on
+/// words. Only memory refuses it.
+fn fitted_code(alloc: Global, straight: StraightCode<'_>) -> Result<Option<Generated>, Refusal>
+    ensures generated { IfOk result (λ made. IfSome made (IsCodeFor straight.entry)) }
+    ensures exact { IfOk result (λ made.
+        option_map (λ made. made.code) made ≡ optimised_fields_of (fitted_of straight.entry)) }
+    ensures needs { IfOk result (λ made. IfSome made
+        (λ made. needs_as made.needs ≡ optimised_needs (fitted_of straight.entry))) }
+    ensures allowed { IfOk result (λ made. IfSome made (λ made. IsImage made.code)) }
+    ensures memory { IfErr result (λ refusal. IsWantOfMemory refusal.rule refusal.place) }
+{
+    let needed = needed_variables(alloc, &straight)?;
+    let fitted = with_needed(straight, needed.as_slice());
+    replaced_is_removed();
+    optimised_code(alloc, &fitted)
+}
+
+/// The same, where numbers that are used much are words.
+fn fitted_with_words(
+    alloc: Global,
+    straight: StraightCode<'_>,
+) -> Result<Option<Generated>, Refusal>
+    ensures generated { IfOk result (λ made. IfSome made (IsCodeFor straight.entry)) }
+    ensures exact { IfOk result (λ made.
+        option_map (λ made. made.code) made ≡ optimised_fields_of (fitted_with_words straight.entry)) }
+    ensures needs { IfOk result (λ made. IfSome made
+        (λ made. needs_as made.needs ≡ optimised_needs (fitted_with_words straight.entry))) }
+    ensures allowed { IfOk result (λ made. IfSome made (λ made. IsImage made.code)) }
+    ensures memory { IfErr result (λ refusal. IsWantOfMemory refusal.rule refusal.place) }
+{
+    let numbers = NumberWords::of(alloc, &straight)?;
+    let with_words = numbers.apply(alloc, &straight)?;
+    replaced_is_removed();
+    match with_words {
+        Some(worded) => fitted_code(alloc, worded),
+        None => fitted_code(alloc, straight),
+    }
+}
+
 /// The optimised code of a program whose loops are as they stay, where it is within the limit on words: short arrays
-/// become words, what is known then is a number, words share variables, and a variable that nothing names has no room.
-/// Only memory refuses it.
+/// become words, what is known then is a number, words share variables, numbers that are used much become words, and a
+/// variable that nothing names has no room. Only memory refuses it.
 fn finished(alloc: Global, straight: &StraightCode<'_>) -> Result<Option<Generated>, Refusal>
     ensures generated { IfOk result (λ made. IfSome made (IsCodeFor straight.now)) }
     ensures exact { IfOk result (λ made.
@@ -67,11 +108,7 @@ fn finished(alloc: Global, straight: &StraightCode<'_>) -> Result<Option<Generat
     let simpler = made_or_given(&with_numbers, split);
     replaced_is_removed();
     match share_words(alloc, simpler)? {
-        Some(shared) => {
-            let needed = needed_variables(alloc, &shared)?;
-            let fitted = with_needed(shared, needed.as_slice());
-            optimised_code(alloc, &fitted)
-        }
+        Some(shared) => fitted_with_words(alloc, shared),
         None => optimised_code(alloc, simpler),
     }
 }

@@ -203,13 +203,18 @@ pub(super) fn profile_of(matches: &ArgMatches<'_>) -> Profile
     }
 }
 
-/// Optimised code where it is asked for, else plain code.
+/// Small code where it is asked for, else optimised code where that is, and else plain code.
 fn optimisation_of(matches: &ArgMatches<'_>) -> Optimisation
-    ensures plain { one_text (found_of matches.now) (codes "optimise") ≡ None → result ≡ Optimisation.Off }
-    ensures optimised { one_text (found_of matches.now) (codes "optimise") ≡ Some (codes "true")
-        → result ≡ Optimisation.On }
+    ensures plain { one_text (found_of matches.now) (codes "small") ≡ None
+        → one_text (found_of matches.now) (codes "optimise") ≡ None → result ≡ Optimisation.Off }
+    ensures optimised { one_text (found_of matches.now) (codes "small") ≡ None
+        → one_text (found_of matches.now) (codes "optimise") ≡ Some (codes "true") → result ≡ Optimisation.On }
+    ensures small { one_text (found_of matches.now) (codes "small") ≡ Some (codes "true")
+        → result ≡ Optimisation.Small }
 {
-    if matches.get_flag("optimise") {
+    if matches.get_flag("small") {
+        Optimisation::Small
+    } else if matches.get_flag("optimise") {
         Optimisation::On
     } else {
         Optimisation::Off

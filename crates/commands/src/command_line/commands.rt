@@ -16,6 +16,8 @@ pub(crate) enum CommandWord {
     Profile,
     /// Whether optimised code is asked for.
     Optimisation,
+    /// Whether it is to be small.
+    SmallCode,
     /// A flag that is given or not.
     Flag(&'static str, &'static str),
     /// All further words: arguments of a run.
@@ -79,6 +81,7 @@ pub(crate) static COMMANDS: [CommandRow; 15] = [
             ),
             CommandWord::Profile,
             CommandWord::Optimisation,
+            CommandWord::SmallCode,
             CommandWord::Flag("explain", EXPLAIN),
         ],
     },
@@ -100,6 +103,7 @@ pub(crate) static COMMANDS: [CommandRow; 15] = [
             ),
             CommandWord::Profile,
             CommandWord::Optimisation,
+            CommandWord::SmallCode,
             CommandWord::Flag("explain", EXPLAIN),
         ],
     },

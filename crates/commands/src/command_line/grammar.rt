@@ -53,6 +53,7 @@ fn argument<'a>(alloc: Global, word: &CommandWord) -> Arg<'a> {
         CommandWord::Texts(name, value, help) => texts(alloc, name, value, help),
         CommandWord::Profile => profile(alloc),
         CommandWord::Optimisation => optimisation(alloc),
+        CommandWord::SmallCode => small_code(alloc),
         CommandWord::Flag(name, help) => flag(alloc, name, help),
         CommandWord::Arguments(help) => arguments(alloc, help),
         CommandWord::Operands(help) => operands(alloc, help),
@@ -131,6 +132,16 @@ fn optimisation<'a>(alloc: Global) -> Arg<'a> {
         "Makes optimised code: fewer steps in most routines, the same guarantees",
     )
     .short('O')
+}
+
+/// Whether optimised code is to be small.
+fn small_code<'a>(alloc: Global) -> Arg<'a> {
+    flag(
+        alloc,
+        "small",
+        "Makes optimised code in which loops stay loops: less code than -O makes, mostly more steps; -Os is the same",
+    )
+    .short('s')
 }
 
 /// A flag that is given or not.

@@ -15,21 +15,19 @@ use Rattle.hepurita.proofs.optimising.finished.Goals as goal
 pub returns-in-Some-clause-generated : goal.returns-in-Some-clause-generated
 returns-in-Some-clause-generated c =
     let law = c.replaced_is_removed.ensures in
-    IfOk-weaker c.optimised_code.result _ _
+    IfOk-weaker c.fitted_with_words.result _ _
     (λ made there.
     IfSome_then made there (λ code is. record {
       source = is.source;
       stands = λ ranged removed.
           is.stands ranged (law ranged _ _
-          (law ranged _ _
           (stands_on ranged _ _ _ (law ranged) c.in_ok-with_numbers.ensures.replaced c.made_or_given-simpler.ensures
           (stands_on ranged _ _ _ (law ranged) c.in_ok-with_words.ensures.replaced c.made_or_given-split.ensures
-          removed)) (rw c.in-Some.is at c.in_ok-shared.ensures.replaced))
-          c.with_needed-fitted.ensures.replaced);
+          removed)) (rw c.in-Some.is at c.in_ok-shared.ensures.replaced));
       generated = is.generated;
       follows = is.follows;
     }))
-    c.optimised_code.ensures.generated
+    c.fitted_with_words.ensures.generated
 
 pub returns-in-Some-clause-exact : goal.returns-in-Some-clause-exact
 returns-in-Some-clause-exact c =
@@ -37,10 +35,10 @@ returns-in-Some-clause-exact c =
     let simpler : c.made_or_given-simpler.result.now ≡ after simplified_of (after split_of p) =
     after_pass simplified_of _ _ _ _ c.made_or_given-simpler.ensures c.in_ok-with_numbers.ensures.exact
     (after_pass split_of _ _ _ _ c.made_or_given-split.ensures c.in_ok-with_words.ensures.exact refl) in
-    subst (λ (q : StraightProgram). IfOk c.optimised_code.result
+    subst (λ (q : StraightProgram). IfOk c.fitted_with_words.result
     (λ made. option_map (λ made. made.code) made ≡ optimised_fields_of q))
-    (sym (finished_shared p _ simpler _ _ (sym c.in_ok-shared.ensures.exact ∙ c.in-Some.is)
-    c.with_needed-fitted.ensures.exact)) c.optimised_code.ensures.exact
+    (sym (finished_shared p _ simpler _ (sym c.in_ok-shared.ensures.exact ∙ c.in-Some.is)))
+    c.fitted_with_words.ensures.exact
 
 pub returns-in-Some-clause-needs : goal.returns-in-Some-clause-needs
 returns-in-Some-clause-needs c =
@@ -48,15 +46,15 @@ returns-in-Some-clause-needs c =
     let simpler : c.made_or_given-simpler.result.now ≡ after simplified_of (after split_of p) =
     after_pass simplified_of _ _ _ _ c.made_or_given-simpler.ensures c.in_ok-with_numbers.ensures.exact
     (after_pass split_of _ _ _ _ c.made_or_given-split.ensures c.in_ok-with_words.ensures.exact refl) in
-    subst (λ (q : StraightProgram). IfOk c.optimised_code.result
+    subst (λ (q : StraightProgram). IfOk c.fitted_with_words.result
     (λ made. IfSome made (λ made. needs_as made.needs ≡ optimised_needs q)))
-    (sym (finished_shared p _ simpler _ _ (sym c.in_ok-shared.ensures.exact ∙ c.in-Some.is)
-    c.with_needed-fitted.ensures.exact)) c.optimised_code.ensures.needs
+    (sym (finished_shared p _ simpler _ (sym c.in_ok-shared.ensures.exact ∙ c.in-Some.is)))
+    c.fitted_with_words.ensures.needs
 
 pub returns-clause-generated : goal.returns-clause-generated
 returns-clause-generated c =
     let law = c.replaced_is_removed.ensures in
-    IfOk-weaker c.optimised_code-in-None.result _ _
+    IfOk-weaker c.optimised_code.result _ _
     (λ made there.
     IfSome_then made there (λ code is. record {
       source = is.source;
@@ -68,4 +66,4 @@ returns-clause-generated c =
       generated = is.generated;
       follows = is.follows;
     }))
-    c.optimised_code-in-None.ensures.generated
+    c.optimised_code.ensures.generated
