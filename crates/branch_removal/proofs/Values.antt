@@ -13,7 +13,7 @@ use Rattle.branch_removal.specs.Below.{of_variable, operated, operation_of, P1, 
 use Rattle.branch_removal.specs.Below.{path_of_result, Place, prefix_value, Profile, Public, Secret, seen, TermSuits}
 use Rattle.branch_removal.specs.Below.{TermTree, Types, value_in, Values, width_of, WordType}
 use Rattle.language.specs.declared.operators.BinaryOperator.TheVariants.{Multiply}
-use Rattle.language.specs.declared.operators.BinaryOperator.TheVariants.{Divide, Remainder}
+use Rattle.language.specs.declared.operators.BinaryOperator.TheVariants.{Divide, HighProduct, Remainder}
 use Rattle.language.specs.declared.operation.Operation.{Operation}
 use Rattle.intervals.proofs.LooseTypes.{joined_public}
 use Rattle.branch_removal.proofs.SeenLemmas.{both_seen}
@@ -30,6 +30,9 @@ same_marks : (profile : Profile) (place : Place) (operator : BinaryOperator) {on
     → seen profile (marks_of place operator a b) ≡ seen profile (marks_of place operator c d)
 same_marks P1 place Multiply makes a b c d left right = refl
 same_marks P2 place Multiply (multiplication numeric public_factors) a b c d left right =
+    ap₂ (λ u v. multiplied u v ∷ []) (left refl) (right refl)
+same_marks P1 place HighProduct makes a b c d left right = refl
+same_marks P2 place HighProduct (multiplication numeric public_factors) a b c d left right =
     ap₂ (λ u v. multiplied u v ∷ []) (left refl) (right refl)
 same_marks profile place Divide (divides_public numeric) a b c d left right =
     ap₂ (λ u v. divided place u v ∷ []) (left refl) (right refl)

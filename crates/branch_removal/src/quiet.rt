@@ -13,7 +13,10 @@ fn is_marked(operator: BinaryOperator) -> bool
 {
     matches!(
         operator,
-        BinaryOperator::Multiply | BinaryOperator::Divide | BinaryOperator::Remainder
+        BinaryOperator::Multiply
+            | BinaryOperator::Divide
+            | BinaryOperator::Remainder
+            | BinaryOperator::HighProduct
     )
 }
 

@@ -15,7 +15,7 @@ pub use Rattle.rv_code.specs.declared.operations.ImmediateOperation.{ImmediateOp
 pub use Rattle.rv_code.specs.declared.operations.ImmediateOperation.TheVariants.{Addi, Andi, Ori, Sltiu, Xori}
 pub use Rattle.rv_code.specs.declared.operations.LoadOperation.{LoadOperation}
 pub use Rattle.rv_code.specs.declared.operations.LoadOperation.TheVariants.{Lbu, Lhu, Lw}
-pub use Rattle.rv_code.specs.declared.operations.MultiplyOperation.TheVariants.{Mul}
+pub use Rattle.rv_code.specs.declared.operations.MultiplyOperation.TheVariants.{Mul, Mulhu}
 pub use Rattle.rv_code.specs.declared.operations.RegisterOperation.TheVariants.{Add, And, Or, Sll, Sltu, Srl, Sub, Xor}
 pub use Rattle.rv_code.specs.declared.operations.ShiftOperation.{ShiftOperation}
 pub use Rattle.rv_code.specs.declared.operations.ShiftOperation.TheVariants.{Slli, Srli}
@@ -41,7 +41,8 @@ pub use Rattle.language.specs.arguments.Within.{AreWithin}
 pub use Rattle.language.specs.declared.operators.BinaryOperator.{BinaryOperator}
 pub use Rattle.language.specs.declared.operators.BinaryOperator.TheVariants.{BitAnd, BitOr, BitXor, LogicalAnd, Divide}
 pub use Rattle.language.specs.declared.operators.BinaryOperator.TheVariants.{LogicalOr, Equal, Greater, GreaterOrEqual}
-pub use Rattle.language.specs.declared.operators.BinaryOperator.TheVariants.{Less, LessOrEqual, Multiply, Remainder}
+pub use Rattle.language.specs.declared.operators.BinaryOperator.TheVariants.{HighProduct, Less, LessOrEqual, Multiply}
+pub use Rattle.language.specs.declared.operators.BinaryOperator.TheVariants.{Remainder}
 pub use Rattle.language.specs.declared.operators.BinaryOperator.TheVariants.{ShiftLeft, ShiftRight, Subtract, Unequal}
 pub use Rattle.language.specs.declared.signature.Form.{Form}
 pub use Rattle.language.specs.declared.signature.Form.TheVariants.{FixedArray, MutableArray, SingleWord}

@@ -129,7 +129,6 @@ pub use Rattle.syntax.specs.Beginning.{a_phrase, a_token, AreByCases, Begins, Be
 pub use Rattle.syntax.specs.Beginning.{in_phrase, no_part, no_token, past_phrase, Whole, WholeParts}
 pub use Rattle.syntax.specs.Cases.{all, any_amount, any_conversion, any_label, any_length, any_number, any_prefix}
 pub use Rattle.syntax.specs.Cases.{any_word, Case, IsOne, of_kind, one, CasePart, Phrase, procedures, Single}
-pub use Rattle.syntax.specs.Cases.{the_operator}
 pub use Rattle.syntax.specs.Grammar.{a_program, ParsesArguments, ParsesArrayType, ParsesBlock, ParsesBodyEnd}
 pub use Rattle.syntax.specs.Grammar.{ParsesCall, ParsesConditional, ParsesExported, ParsesExprAt, ParsesFirstValues}
 pub use Rattle.syntax.specs.Grammar.{IsBeginning, IsProgram, ParsesMoreExprs, ParsesMoreParameters, ParsesMutable}

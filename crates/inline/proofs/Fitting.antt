@@ -1,17 +1,19 @@
 -- A well-typed expression's value is within its kind.
-use Rattle.std.proofs.Common.{ℕ, ◌<◌, ◌==◌, ◌&&◌, ◌||◌, Bool, true, false, not, nat_lt, nat_le, if◌then◌else◌, List}
+use Rattle.std.proofs.Common.{ℕ, ◌*◌, ◌^◌, ◌<◌, ◌==◌, ◌&&◌, ◌||◌, Bool, true, false, not, nat_lt, nat_le}
+use Rattle.std.proofs.Common.{if◌then◌else◌, List}
 use Rattle.std.proofs.Common.{length, All, slice_index, ⊎_elim, arith}
-use Rattle.std.proofs.lemmas.Nat.{or_lt, xor_lt}
+use Rattle.std.proofs.lemmas.Nat.{div_below, mul-lt, or_lt, pow_pos, xor_lt}
 use Rattle.std.specs.Int.Bits.{and_lt}
 use Rattle.std.proofs.Math.Nat.{div-le_self, mod-le}
 use Rattle.std.proofs.lemmas.Bool.{cases_lt}
 use Rattle.std.proofs.lemmas.List.{get_or_past}
 use Rattle.inline.specs.Below.{arithmetic, BinaryOperator, Boolean, complemented, division, equality, IsNumberKind}
-use Rattle.inline.specs.Below.{Kind, logic, Makes, multiplication, operated, operation_of, order, prefix_value}
+use Rattle.inline.specs.Below.{high_product, Kind, logic, Makes, multiplication, operated, operation_of, order}
+use Rattle.inline.specs.Below.{prefix_value}
 use Rattle.inline.specs.Below.{PrefixOperator, Profile, quotient, remainder, shift, Takes, truth_of, Width, width_of}
 use Rattle.inline.specs.Below.{word_of, WordType, wrapped}
-use Rattle.word.specs.declared.width.Width.TheVariants.{W8}
-use Rattle.word.specs.Widths.{IsWord}
+use Rattle.word.specs.declared.width.Width.TheVariants.{W8, W16, W32}
+use Rattle.word.specs.Widths.{bits, IsWord}
 use Rattle.inline.specs.Fitting.{IsWithinKind, Fits}
 use Rattle.inline.specs.Flat.{TermTree, word_as, array_as}
 use Rattle.inline.specs.FlatMeaning.{Values, value_in}
@@ -21,6 +23,7 @@ use Rattle.language.specs.declared.operators.BinaryOperator.TheVariants.{Logical
 use Rattle.language.specs.declared.operators.BinaryOperator.TheVariants.{LessOrEqual, Greater, GreaterOrEqual, BitOr}
 use Rattle.language.specs.declared.operators.BinaryOperator.TheVariants.{BitXor, BitAnd, ShiftLeft, ShiftRight, Add}
 use Rattle.language.specs.declared.operators.BinaryOperator.TheVariants.{Subtract, Multiply, Divide, Remainder}
+use Rattle.language.specs.declared.operators.BinaryOperator.TheVariants.{HighProduct}
 use Rattle.language.specs.declared.operators.PrefixOperator.TheVariants.{Not, Complement, Negate}
 
 -- Words.
@@ -55,6 +58,15 @@ quotient_fits w a b low = omega (arith, div-le_self a b)
 
 remainder_fits : (w : Width) (a b : ℕ) → IsWord w a → IsWord w (remainder a b)
 remainder_fits w a b low = omega (arith, mod-le a b)
+
+word_below : (w : Width) (a : ℕ) → IsWord w a → a < 2 ^ 32
+word_below W8 a low = omega (arith, low)
+word_below W16 a low = omega (arith, low)
+word_below W32 a low = low
+
+high_product_fits : (w : Width) (a b : ℕ) → IsWord w a → IsWord w b → IsWord w (high_product a b)
+high_product_fits w a b low high =
+    div_below (a * b) (2 ^ 32) (2 ^ bits w) (pow_pos 32) (mul-lt a b (2 ^ bits w) (2 ^ 32) low (word_below w b high))
 
 -- Operators.
 
@@ -92,6 +104,9 @@ operated_fits Divide a b (division {kind = k} numeric) low high =
     number_fits k _ numeric (quotient_fits (width_of k) a b (fits_number k a numeric low))
 operated_fits Remainder a b (division {kind = k} numeric) low high =
     number_fits k _ numeric (remainder_fits (width_of k) a b (fits_number k a numeric low))
+operated_fits HighProduct a b (multiplication {kind = k} numeric may) low high =
+    number_fits k _ numeric
+    (high_product_fits (width_of k) a b (fits_number k a numeric low) (fits_number k b numeric high))
 
 -- an element is within the kind, or 0 where there is none
 pub element_fits : (kind : Kind) (numbers : List ℕ) (i : ℕ) → All (IsWithinKind kind) numbers

@@ -20,7 +20,8 @@ pub use Rattle.language.specs.Meaning.{of_expr, operand_faults, return_faults, R
 pub use Rattle.language.specs.Meaning.{right_faults, Rights, Runs, RunsAll, statements_fault, stops, target_faults}
 pub use Rattle.language.specs.Meaning.{this_faults, iteration_faults, Iterations, with_element, with_some}
 pub use Rattle.language.specs.Meaning.{word_arguments, word_given, word_held, words_left}
-pub use Rattle.language.specs.Operators.{divides, multiplies, operated, operation_of, prefix_value, truth_of, width_of}
+pub use Rattle.language.specs.Operators.{divides, high_product, multiplies, operated, operation_of, prefix_value}
+pub use Rattle.language.specs.Operators.{truth_of, width_of}
 pub use Rattle.language.specs.Results.{Results}
 pub use Rattle.language.specs.Shares.{counted, counted_share, excess, larger, largest, most_counted, statement_shares}
 pub use Rattle.language.specs.Size.{array_words, block_bodies, block_nodes, block_words, bodies_cost, bodies_of}

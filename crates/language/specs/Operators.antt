@@ -1,5 +1,6 @@
 -- The operators of the language: what each takes and gives, and what it makes of words.
-use Rattle.std.specs.Prelude.{ℕ, ◌==◌, ◌&&◌, ◌||◌, Bool, true, false, not, nat_lt, nat_le, bit_and, bit_or, bit_xor}
+use Rattle.std.specs.Prelude.{ℕ, ◌*◌, ◌/◌, ◌^◌, ◌==◌, ◌&&◌, ◌||◌, Bool, true, false, not, nat_lt, nat_le, bit_and}
+use Rattle.std.specs.Prelude.{bit_or, bit_xor}
 use Rattle.std.specs.Prelude.{Option, None, Some}
 use Rattle.word.specs.Operators.{sum, difference, product, quotient, remainder, negated, complemented, shifted_left}
 use Rattle.word.specs.Operators.{shifted_right, word_of}
@@ -12,7 +13,7 @@ use Rattle.language.specs.declared.operators.BinaryOperator.TheVariants.{Logical
 use Rattle.language.specs.declared.operators.BinaryOperator.TheVariants.{LessOrEqual}
 use Rattle.language.specs.declared.operators.BinaryOperator.TheVariants.{Greater, GreaterOrEqual, BitOr, BitXor, BitAnd}
 use Rattle.language.specs.declared.operators.BinaryOperator.TheVariants.{ShiftLeft, ShiftRight, Add, Subtract, Multiply}
-use Rattle.language.specs.declared.operators.BinaryOperator.TheVariants.{Divide, Remainder}
+use Rattle.language.specs.declared.operators.BinaryOperator.TheVariants.{Divide, Remainder, HighProduct}
 use Rattle.language.specs.declared.operators.PrefixOperator.{PrefixOperator}
 use Rattle.language.specs.declared.operators.PrefixOperator.TheVariants.{Not, Complement, Negate}
 use Rattle.language.specs.declared.operation.Operation.{Operation}
@@ -49,6 +50,11 @@ operation_of Subtract = Arithmetic
 operation_of Multiply = Multiplication
 operation_of Divide = Division
 operation_of Remainder = Division
+operation_of HighProduct = Multiplication
+
+-- the upper word of the product of two words
+abbrev pub high_product : ℕ → ℕ → ℕ
+high_product a b = a * b / 2 ^ 32
 
 -- the value between two operands, the left of this width
 abbrev pub operated : BinaryOperator → Width → ℕ → ℕ → ℕ
@@ -70,6 +76,7 @@ operated Subtract w a b = difference w a b
 operated Multiply w a b = product w a b
 operated Divide w a b = quotient a b
 operated Remainder w a b = remainder a b
+operated HighProduct w a b = high_product a b
 
 -- a quotient and a remainder by 0 have no meaning
 abbrev pub divides : BinaryOperator → Bool
@@ -104,6 +111,7 @@ swapped_of _ = None
 -- a product
 abbrev pub multiplies : BinaryOperator → Bool
 multiplies Multiply = true
+multiplies HighProduct = true
 multiplies _ = false
 
 abbrev pub prefix_value : PrefixOperator → Width → ℕ → ℕ

@@ -1,7 +1,7 @@
 // The operators: what each makes of words, and which of them stand for one another.
 
 ghost use Rattle.std.specs.Prelude.{◌≡◌};
-ghost use Rattle.language.specs.Operators.{truth_of};
+ghost use Rattle.language.specs.Operators.{high_product, truth_of};
 
 use crate::{Kind, Operation};
 use word::Width;
@@ -51,6 +51,9 @@ pub enum BinaryOperator {
     Multiply,
     Divide,
     Remainder,
+    /// The upper word of the product of two words. No sign stands for it: better code has it where a source makes the
+    /// same of halves.
+    HighProduct,
 }
 
 /// Whether a bool is true.
@@ -58,6 +61,13 @@ pub fn is_true(value: u32) -> bool
     ensures { result ≡ truth_of value }
 {
     value != 0
+}
+
+/// The upper word of the product of two words.
+fn high_product(a: u32, b: u32) -> u32
+    ensures { result ≡ high_product a b }
+{
+    ((u64::from(a) * u64::from(b)) >> 32) as u32
 }
 
 impl PrefixOperator {
@@ -103,6 +113,7 @@ impl BinaryOperator {
             BinaryOperator::Multiply => Operation::Multiplication,
             BinaryOperator::Divide => Operation::Division,
             BinaryOperator::Remainder => Operation::Division,
+            BinaryOperator::HighProduct => Operation::Multiplication,
         }
     }
 
@@ -144,6 +155,7 @@ impl BinaryOperator {
             BinaryOperator::Multiply => word::multiply(width, a, b),
             BinaryOperator::Divide => word::divide(a, b),
             BinaryOperator::Remainder => word::remainder(a, b),
+            BinaryOperator::HighProduct => high_product(a, b),
         }
     }
 

@@ -25,7 +25,6 @@ pub data Single : Type 0 where
   any_word : Single
   any_conversion : Single
   any_prefix : Single
-  the_operator : BinaryOperator → Single
 
 -- the token is that
 abbrev pub IsOne : Single → Lexeme → Type 0
@@ -37,7 +36,6 @@ IsOne any_label t = (label : Label) × (label_of t.kind ≡ Some label)
 IsOne any_word t = (kind : Kind) × (word_of t.kind ≡ Some kind)
 IsOne any_conversion t = (kind : Kind) × (conversion_of t.kind ≡ Some kind)
 IsOne any_prefix t = (operator : PrefixOperator) × (prefix_of t.kind ≡ Some operator)
-IsOne (the_operator operator) t = operator_of t.kind ≡ Some operator
 
 -- the phrases that are made by cases
 pub data Phrase : Type 0 where
@@ -95,8 +93,9 @@ pub data Case : Phrase → List CasePart → Type 0 where
   a_prefix : {level : ℕ} → Case (expr level) (one any_prefix ∷ all (expr prefix_level) ∷ [])
   a_rotation : {level : ℕ} → level ≤ rotation_level
       → Case (expr level) (all (expr rotation_level) ∷ sign RotateLeft ∷ one any_amount ∷ [])
-  a_binary : {level : ℕ} {operator : BinaryOperator} → level ≤ level_of operator
-      → Case (expr level) (all (expr (left_level_of operator)) ∷ one (the_operator operator)
+  a_binary : {level : ℕ} {kind : TokenKind} {operator : BinaryOperator} → operator_of kind ≡ Some operator
+      → level ≤ level_of operator
+      → Case (expr level) (all (expr (left_level_of operator)) ∷ one (of_kind kind)
       ∷ all (expr (level_of operator + 1)) ∷ [])
   -- what stands after an expression of a list, with the token that ends the list
   no_more : {end : TokenKind} → Case (more_exprs end) (one (of_kind end) ∷ [])

@@ -29,7 +29,7 @@ use Rattle.language.specs.declared.operators.BinaryOperator.TheVariants.{LessOrE
 use Rattle.language.specs.declared.operators.BinaryOperator.TheVariants.{Greater, GreaterOrEqual, BitOr, BitXor, BitAnd}
 use Rattle.language.specs.declared.operators.BinaryOperator.TheVariants.{ShiftLeft as ShiftedLeft}
 use Rattle.language.specs.declared.operators.BinaryOperator.TheVariants.{ShiftRight as ShiftedRight, Add, Subtract}
-use Rattle.language.specs.declared.operators.BinaryOperator.TheVariants.{Multiply, Divide, Remainder}
+use Rattle.language.specs.declared.operators.BinaryOperator.TheVariants.{Multiply, Divide, Remainder, HighProduct}
 use Rattle.language.specs.declared.operators.PrefixOperator.TheVariants.{Not, Complement, Negate}
 use Rattle.syntax.specs.Lexeme.{Lexeme}
 
@@ -70,7 +70,8 @@ operator_of (token.Sign Slash) = Some Divide
 operator_of (token.Sign Percent) = Some Remainder
 operator_of _ = None
 
--- how strongly an operator binds, from 1 to 9; signs before an operand bind at 10
+-- how strongly an operator binds, from 1 to 9; signs before an operand bind at 10. One operator has no sign: it would
+-- bind as other products do.
 abbrev pub level_of : BinaryOperator → ℕ
 level_of LogicalOr = 1
 level_of LogicalAnd = 2
@@ -90,6 +91,7 @@ level_of Subtract = 8
 level_of Multiply = 9
 level_of Divide = 9
 level_of Remainder = 9
+level_of HighProduct = 9
 
 -- a rotation binds as the shifts do
 abbrev pub rotation_level : ℕ

@@ -26,7 +26,8 @@ use Rattle.codegen.specs.declared.expression_code.numbers.Finish.TheVariants.{Al
 use Rattle.codegen.specs.declared.expression_code.numbers.NumberStep.TheVariants.{WithImmediate}
 use Rattle.codegen.specs.expression_code.NumberRows.{above_zero, low_bits, masked, shifted}
 use Rattle.codegen.specs.Below.{Addi, Andi, BitAnd, BitOr, BitXor, Equal, Greater, GreaterOrEqual, ImmediateOperation}
-use Rattle.codegen.specs.Below.{Less, LessOrEqual, Multiply, negated, number, Ori, ShiftLeft, ShiftOperation}
+use Rattle.codegen.specs.Below.{HighProduct, Less, LessOrEqual, Multiply, negated, number, Ori, ShiftLeft}
+use Rattle.codegen.specs.Below.{ShiftOperation}
 use Rattle.codegen.specs.Below.{ShiftRight, Slli, Sltiu, Srli, Subtract, truth, Unequal, W32, W8, Xori}
 use Rattle.language.specs.declared.operators.BinaryOperator.TheVariants.{Add}
 
@@ -186,11 +187,13 @@ module _ (place : Place) (a b : ℕ) where
   pub row_quiet : (operator : BinaryOperator) (n : ℕ) (row : NumberRow) → number_row operator n ≡ Some row
       → marks_of place operator a b ≡ []
   row_quiet Multiply n row is = absurd (none-some row is)
+  row_quiet HighProduct n row is = absurd (none-some row is)
   row_quiet operator n row is = cc
 
   pub swapped_quiet : (operator p : BinaryOperator) → swapped_of operator ≡ Some p
       → marks_of place operator a b ≡ []
   swapped_quiet Multiply p is = absurd (none-some p is)
+  swapped_quiet HighProduct p is = absurd (none-some p is)
   swapped_quiet operator p is = cc
 
 -- what is made of an outcome

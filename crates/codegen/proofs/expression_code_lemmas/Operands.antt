@@ -10,7 +10,8 @@ use Rattle.codegen.proofs.expression_code_lemmas.Below.{number_or_zero, only_com
 use Rattle.codegen.proofs.expression_code_lemmas.Below.{Place, quiet, register_left, register_of, registers_after}
 use Rattle.codegen.proofs.expression_code_lemmas.Below.{row_of, slot_of, slots_to, State, StraightState, temporary}
 use Rattle.codegen.proofs.expression_code_lemmas.Below.{TermTree, weaken, Width, with_number, working_register}
-use Rattle.codegen.specs.Below.{byte_count, Divide, Divu, Makes, Mul, Multiply, operation_of, Remainder, Remu}
+use Rattle.codegen.specs.Below.{byte_count, Divide, Divu, HighProduct, Makes, Mul, Mulhu, Multiply, operation_of}
+use Rattle.codegen.specs.Below.{Remainder, Remu}
 use Rattle.codegen.specs.Below.{store_size, StoreOperation, Sw}
 use Rattle.rv_code.specs.declared.instructions.Instr.TheVariants as instr
 use Rattle.codegen.proofs.expression_code_lemmas.Events.{Moves, multiplying, dividing}
@@ -199,6 +200,10 @@ module _ (z : Setting) (works : ℕ → Bool) (none_low : (q : ℕ) → q < 5 �
           (cut_code d width) (cut_plain pair works wd wt width)
           (multiplying z pair.one first second a b Mul)
           (λ env regs left right is. product_made pair width regs (a env) (b env) is))
+      operator_runs HighProduct =
+          cheaper (omega arith)
+          (shown (λ env. multiply_value Mulhu (a env) (b env)) (λ env. multiply_value Mulhu (a env) (b env))
+          [] refl (multiplying z pair.one first second a b Mulhu) (λ env regs left right is. is))
       operator_runs operator = plainly operator refl
 
       -- and that of the operator whose code is emitted in its place

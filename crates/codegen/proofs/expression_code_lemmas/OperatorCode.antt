@@ -14,7 +14,8 @@ use Rattle.codegen.proofs.expression_code_lemmas.Below.{register_left, register_
 use Rattle.codegen.proofs.expression_code_lemmas.Below.{row_of, shift_value, sign_extended, RowStep, swapped, Width}
 use Rattle.codegen.proofs.expression_code_lemmas.Below.{with_register, word_of}
 use Rattle.rv_code.specs.declared.instructions.Instr.TheVariants as instr
-use Rattle.codegen.specs.Below.{Addi, Andi, LogicalAnd, Divide, LogicalOr, Mul, Multiply, Remainder, ShiftLeft}
+use Rattle.codegen.specs.Below.{Addi, Andi, LogicalAnd, Divide, HighProduct, LogicalOr, Mul, Multiply, Remainder}
+use Rattle.codegen.specs.Below.{ShiftLeft}
 use Rattle.codegen.specs.Below.{ShiftRight, Slli, Srli, Subtract, W16, W32, W8}
 use Rattle.rv_code.specs.declared.operations.RegisterOperation.TheVariants as register
 use Rattle.language.specs.declared.operators.BinaryOperator.TheVariants.{Add}
@@ -273,6 +274,7 @@ module _ {d t : ℕ} (pair : ArePair d t) where
       pub operator_plain : {l : ℕ} → IsFree l → (operator : BinaryOperator) (w : Width)
           → is_plain (row_of operator).step ≡ true → only_computes works (operator_code d t l r operator w) ≡ true
       operator_plain first Multiply w plain = absurd (false≢true plain)
+      operator_plain first HighProduct w plain = absurd (false≢true plain)
       operator_plain first Divide w plain = absurd (false≢true plain)
       operator_plain first Remainder w plain = absurd (false≢true plain)
       operator_plain first operator w plain = simp (wd, wt, d32, t32, q32 first, q32 source, cut_plain w)
@@ -319,6 +321,7 @@ module _ {d t : ℕ} (pair : ArePair d t) where
           cut_composed w _ ∙ simp (dd, d0, q0 first, q0 source) (cut_whole w (regs l + (2 ^ 32 - regs r % 2 ^ 32))
           ∙ cut_difference w (regs l) (regs r) right)
       operator_made apart Multiply w plain regs left right = absurd (false≢true plain)
+      operator_made apart HighProduct w plain regs left right = absurd (false≢true plain)
       operator_made apart Divide w plain regs left right = absurd (false≢true plain)
       operator_made apart Remainder w plain regs left right = absurd (false≢true plain)
       operator_made apart operator w plain regs left right =

@@ -17,12 +17,14 @@ use Rattle.codegen.specs.expression_code.Registers.{zero_register, frame_registe
 use Rattle.codegen.specs.expression_code.Registers.{second_spare, third_spare}
 use Rattle.codegen.specs.Below.{Add, Addi, And, Andi, binary, BinaryOperator, bits, Boolean, convert, Divu, element}
 use Rattle.codegen.specs.Below.{element_bytes, FlatVariable, Immediate, Instr, Kind, Lbu, Lhu, Load, LoadOperation, Lui}
-use Rattle.codegen.specs.Below.{Lw, Mul, number, Or, prefix, Register, Remu, rotate, select, Shift, Sll, Slli, Sltiu}
+use Rattle.codegen.specs.Below.{Lw, Mul, Mulhu, number, Or, prefix, Register, Remu, rotate, select, Shift, Sll, Slli}
+use Rattle.codegen.specs.Below.{Sltiu}
 use Rattle.codegen.specs.Below.{Sltu, Srl, Srli, Store, Sub, Sw, TermTree, truth, Uint16, Uint32, Uint8, Upper}
 use Rattle.codegen.specs.Below.{variable, W16, W32, W8, Width, width_of, Xor}
 use Rattle.rv_code.specs.declared.instructions.Instr.TheVariants.{Multiply, Divide}
 use Rattle.rv_code.specs.declared.operations.RegisterOperation.{RegisterOperation}
 use Rattle.rv_code.specs.declared.operations.DivideOperation.{DivideOperation}
+use Rattle.rv_code.specs.declared.operations.MultiplyOperation.{MultiplyOperation}
 use Rattle.language.specs.declared.operators.BinaryOperator.TheVariants as operators
 use Rattle.language.specs.declared.operators.PrefixOperator.{PrefixOperator}
 use Rattle.language.specs.declared.operators.PrefixOperator.TheVariants as prefixes
@@ -124,20 +126,20 @@ negation_code d r = Register Sub d zero_register r ∷ []
 
 -- Each operator between two operands is a row: a step between them, and what is made of its outcome.
 
--- into d: of both, of both swapped, of what they are as truths, the lower half of their product, or their
--- quotient or remainder
+-- into d: of both, of both swapped, of what they are as truths, half of their product, or their quotient or
+-- remainder
 pub data RowStep : Type 0 where
   between : (operation : RegisterOperation) → RowStep
   swapped : (operation : RegisterOperation) → RowStep
   of_truths : (operation : RegisterOperation) → RowStep
-  product : RowStep
+  product : (operation : MultiplyOperation) → RowStep
   division : (operation : DivideOperation) → RowStep
 
 abbrev pub step_code : ℕ → ℕ → ℕ → ℕ → RowStep → List Instr
 step_code d t l r (between operation) = Register operation d l r ∷ []
 step_code d t l r (swapped operation) = Register operation d r l ∷ []
 step_code d t l r (of_truths operation) = both_truths_code d t l r ++ Register operation d d t ∷ []
-step_code d t l r product = Multiply Mul d l r ∷ []
+step_code d t l r (product operation) = Multiply operation d l r ∷ []
 step_code d t l r (division operation) = Divide operation d l r ∷ []
 
 -- nothing, whether it is 0, whether it is not, or its cut
@@ -169,9 +171,10 @@ row_of operators.ShiftLeft = record { finish = Narrowed; step = between Sll }
 row_of operators.ShiftRight = record { finish = Narrowed; step = between Srl }
 row_of operators.Add = record { finish = Narrowed; step = between Add }
 row_of operators.Subtract = record { finish = Narrowed; step = between Sub }
-row_of operators.Multiply = record { finish = Narrowed; step = product }
+row_of operators.Multiply = record { finish = Narrowed; step = product Mul }
 row_of operators.Divide = record { finish = Alone; step = division Divu }
 row_of operators.Remainder = record { finish = Alone; step = division Remu }
+row_of operators.HighProduct = record { finish = Alone; step = product Mulhu }
 
 -- an operator between two operands, where t may be written as well
 abbrev pub operator_code : ℕ → ℕ → ℕ → ℕ → BinaryOperator → Width → List Instr

@@ -47,11 +47,12 @@ impl OperandRegisters {
         Instr::Register(operation, self.target, self.right, self.left)
     }
 
-    /// The lower half of the product of both operands.
-    fn product(&self) -> Instr
-        ensures { result ∷ [] ≡ step_code self.now.target self.now.scratch self.now.left self.now.right terms.product }
+    /// A half of the product of both operands.
+    fn product(&self, operation: MultiplyOperation) -> Instr
+        ensures { result ∷ [] ≡ step_code self.now.target self.now.scratch self.now.left self.now.right
+            (terms.product operation) }
     {
-        Instr::Multiply(MultiplyOperation::Mul, self.target, self.left, self.right)
+        Instr::Multiply(operation, self.target, self.left, self.right)
     }
 
     /// The quotient or the remainder of the first operand by the second.
@@ -245,9 +246,12 @@ pub fn operator(
         BinaryOperator::ShiftRight => narrowed(code, o.target, width, o.between(Operation::Srl)),
         BinaryOperator::Add => narrowed(code, o.target, width, o.between(Operation::Add)),
         BinaryOperator::Subtract => narrowed(code, o.target, width, o.between(Operation::Sub)),
-        BinaryOperator::Multiply => narrowed(code, o.target, width, o.product()),
+        BinaryOperator::Multiply => {
+            narrowed(code, o.target, width, o.product(MultiplyOperation::Mul))
+        }
         BinaryOperator::Divide => append(code, o.division(DivideOperation::Divu)),
         BinaryOperator::Remainder => append(code, o.division(DivideOperation::Remu)),
+        BinaryOperator::HighProduct => append(code, o.product(MultiplyOperation::Mulhu)),
     }
 }
 

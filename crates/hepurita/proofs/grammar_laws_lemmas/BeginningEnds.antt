@@ -8,11 +8,9 @@ use Rattle.syntax.specs.declared.token.Sign.{Sign}
 use Rattle.syntax.specs.declared.token.Sign.TheVariants as sign
 use Rattle.hepurita.specs.Below.{a_phrase, a_token, all, any_amount, any_conversion, any_label, any_length}
 use Rattle.hepurita.specs.Below.{any_number, any_prefix, any_word, Begins, BeginsParts, by_case, Case, in_case}
-use Rattle.hepurita.specs.Below.{in_phrase, IsOne, Lexeme, no_part, no_token, of_kind, one, operator_of, origin}
-use Rattle.hepurita.specs.Below.{CasePart, past_phrase, Phrase, Single, the_operator, TokenKind, Whole, WholeParts}
+use Rattle.hepurita.specs.Below.{in_phrase, IsOne, Lexeme, no_part, no_token, of_kind, one, origin}
+use Rattle.hepurita.specs.Below.{CasePart, past_phrase, Phrase, Single, TokenKind, Whole, WholeParts}
 use Rattle.syntax.specs.declared.token.TokenKind.TheVariants as token
-use Rattle.language.specs.declared.operators.BinaryOperator.{BinaryOperator}
-use Rattle.language.specs.declared.operators.BinaryOperator.TheVariants as operator
 use Rattle.language.specs.declared.operators.PrefixOperator.TheVariants as prefix
 use Rattle.syntax.specs.Beginning.{past_token}
 use Rattle.syntax.specs.Cases as cases
@@ -30,27 +28,6 @@ mark s = of (token.Sign s)
 abbrev zero' : Lexeme
 zero' = of (token.Number 0 None)
 
--- a sign of each operator
-spelled : (o : BinaryOperator) → (s : Sign) × (operator_of (token.Sign s) ≡ Some o)
-spelled operator.LogicalOr = (sign.OrElse, refl)
-spelled operator.LogicalAnd = (sign.AndAlso, refl)
-spelled operator.Equal = (sign.Equals, refl)
-spelled operator.Unequal = (sign.Differs, refl)
-spelled operator.Less = (sign.Below, refl)
-spelled operator.LessOrEqual = (sign.AtMost, refl)
-spelled operator.Greater = (sign.Above, refl)
-spelled operator.GreaterOrEqual = (sign.AtLeast, refl)
-spelled operator.BitOr = (sign.Bar, refl)
-spelled operator.BitXor = (sign.Caret, refl)
-spelled operator.BitAnd = (sign.Ampersand, refl)
-spelled operator.ShiftLeft = (sign.ShiftLeft, refl)
-spelled operator.ShiftRight = (sign.ShiftRight, refl)
-spelled operator.Add = (sign.Plus, refl)
-spelled operator.Subtract = (sign.Minus, refl)
-spelled operator.Multiply = (sign.Star, refl)
-spelled operator.Divide = (sign.Slash, refl)
-spelled operator.Remainder = (sign.Percent, refl)
-
 -- a token that is as wanted
 some_token : (single : Single) → (t : Lexeme) × IsOne single t
 some_token (of_kind kind) = (of kind, refl)
@@ -61,7 +38,6 @@ some_token any_label = (key keyword.Public, (label.Public, refl))
 some_token any_word = (key keyword.Bool, (kind.Boolean, refl))
 some_token any_conversion = (key keyword.Uint8, (kind.Uint8, refl))
 some_token any_prefix = (mark sign.Bang, (prefix.Not, refl))
-some_token (the_operator o) = let w = spelled o in (mark w.0, w.1)
 
 -- with these tokens behind some, they are whole parts
 abbrev Ends : List CasePart → List Lexeme → Type 0

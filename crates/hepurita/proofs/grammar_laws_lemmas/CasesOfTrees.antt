@@ -1,5 +1,5 @@
 -- What the grammar gives a tree is made by its cases, and the tree's heads are tokens of the source.
-use Rattle.std.proofs.Common.{ℕ, ◌+◌, ◌≤◌, Bool, List, [], ◌∷◌, Option, arith}
+use Rattle.std.proofs.Common.{ℕ, ◌+◌, ◌≤◌, Bool, List, [], ◌∷◌, Option, refl, arith}
 use Rattle.hepurita.specs.Below.{a_phrase, a_token, all, ParsesArguments, ParsesArrayType, ParsesBlock, BlockTree}
 use Rattle.hepurita.specs.Below.{ParsesBodyEnd, by_case, ParsesCall, CallTree, Case, ParsesConditional, ParsesExported}
 use Rattle.hepurita.specs.Below.{ParsesExprAt, ExprTree, ParsesFirstValues, IsOne, IsProgram, Kind, Lexeme}
@@ -78,7 +78,7 @@ expr (grammar.a_prefix is in_operand) = by cases.a_prefix ((_, is) ▸ expr in_o
 expr (grammar.a_rotation is at in_operand is_amount) =
     by (cases.a_rotation at) (expr in_operand ▹ is ▸ (_, is_amount) ▸ done) (λ w. omega arith)
 expr (grammar.a_binary is at in_left in_right) =
-    by (cases.a_binary at) (expr in_left ▹ is ▸ expr in_right ▹ done) (λ w. omega arith)
+    by (cases.a_binary is at) (expr in_left ▹ refl ▸ expr in_right ▹ done) (λ w. omega arith)
 
 more_exprs : {end : TokenKind} {tokens rest : List Lexeme} {trees : List ExprTree}
     → ParsesMoreExprs end tokens trees rest

@@ -1,9 +1,10 @@
 -- What the cases of the grammar make has a tree.
-use Rattle.std.proofs.Common.{◌≡◌, ℕ, Bool, List, [], ◌∷◌, Option}
+use Rattle.std.proofs.Common.{◌≡◌, ℕ, Bool, List, [], ◌∷◌, Option, ap, ◌∙◌}
 use Rattle.hepurita.specs.Below.{a_phrase, a_token, all, ParsesArguments, ParsesArrayType, ParsesBlock, BlockTree}
 use Rattle.hepurita.specs.Below.{ParsesBodyEnd, by_case, ParsesCall, CallTree, Case, ParsesConditional, ParsesExported}
 use Rattle.hepurita.specs.Below.{ParsesExprAt, ExprTree, ParsesFirstValues, IsOne, Kind, Lexeme, ParsesMoreExprs}
-use Rattle.hepurita.specs.Below.{ParsesMoreParameters, ParsesMutable, no_part, one, ParsesOtherwise, ParsesParameter}
+use Rattle.hepurita.specs.Below.{ParsesMoreParameters, ParsesMutable, no_part, one, operator_of, ParsesOtherwise}
+use Rattle.hepurita.specs.Below.{ParsesParameter}
 use Rattle.hepurita.specs.Below.{ParsesParameters, ParameterTree, CasePart, Phrase, Place, ParsesProcedure}
 use Rattle.hepurita.specs.Below.{ParsesProcedures, ProcedureTree, ParsesResultType, ReturnTree, ParsesRightSide}
 use Rattle.hepurita.specs.Below.{RightTree, Single, ParsesSomeExprs, ParsesStatement, ParsesStatements, StatementTree}
@@ -62,7 +63,8 @@ case_tree cases.a_select (is ▸ opens ▸ (_, in_a) ▹ is_comma ▸ (_, in_b) 
 case_tree cases.a_prefix ((_, is) ▸ (_, in_operand) ▹ done) = (_, grammar.a_prefix is in_operand)
 case_tree (cases.a_rotation at) ((_, in_operand) ▹ is ▸ (_, is_amount) ▸ done) =
     (_, grammar.a_rotation is at in_operand is_amount)
-case_tree (cases.a_binary at) ((_, in_left) ▹ is ▸ (_, in_right) ▹ done) = (_, grammar.a_binary is at in_left in_right)
+case_tree (cases.a_binary is at) ((_, in_left) ▹ same ▸ (_, in_right) ▹ done) =
+    (_, grammar.a_binary (ap operator_of same ∙ is) at in_left in_right)
 case_tree cases.no_more (is ▸ done) = (_, grammar.no_more is)
 case_tree cases.one_more (is ▸ (_, in_tree) ▹ (_, in_trees) ▹ done) = (_, grammar.one_more is in_tree in_trees)
 case_tree cases.some_exprs ((_, in_tree) ▹ (_, in_trees) ▹ done) = (_, grammar.some_exprs in_tree in_trees)

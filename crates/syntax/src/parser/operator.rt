@@ -142,7 +142,10 @@ pub fn level_of(operator: BinaryOperator) -> u8
         BinaryOperator::BitAnd => 6,
         BinaryOperator::ShiftLeft | BinaryOperator::ShiftRight => 7,
         BinaryOperator::Add | BinaryOperator::Subtract => 8,
-        BinaryOperator::Multiply | BinaryOperator::Divide | BinaryOperator::Remainder => 9,
+        BinaryOperator::Multiply
+        | BinaryOperator::Divide
+        | BinaryOperator::Remainder
+        | BinaryOperator::HighProduct => 9,
     }
 }
 
