@@ -2,8 +2,8 @@
 // lie in registers. It may stand in the place of the code that it is made of: the outcome is the same, and what is
 // public stays public. Stands on `inline` and `branch_removal`.
 //
-// `ElementWords::of` chooses arrays that are no parameters, have at most 64 elements and are used only at constant
-// indices within the array, in order, as long as there is room for their words, 256 at most; `ElementWords::apply`
+// `ElementWords::of` chooses arrays that are no parameters, have at most 256 elements and are used only at constant
+// indices within the array, in order, as long as there is room for their words, 512 at most; `ElementWords::apply`
 // makes the code.
 
 mod narrowing;
@@ -13,3 +13,4 @@ mod statements;
 mod terms;
 
 pub use plan::ElementWords;
+pub(crate) use plan::MOST_VARIABLE_WORDS;

@@ -11,7 +11,8 @@ use Rattle.optimisation.specs.Below.{FlatVariable, IsReplaced, IsStraight, outco
 use Rattle.optimisation.specs.Below.{start, StraightBlock}
 use Rattle.optimisation.specs.Below.{StraightProgram, StraightState, TermTree, types_of, with_variables, word_as}
 use Rattle.optimisation.specs.declared.number_words.words.NumberWord.{NumberWord}
-use Rattle.optimisation.specs.number_words.private.Plan.{chosen, most_variables, most_words, NumberPlan, plan_of}
+use Rattle.optimisation.specs.element_words.Limits.{most_variable_words}
+use Rattle.optimisation.specs.number_words.private.Plan.{chosen, most_words, NumberPlan, plan_of}
 use Rattle.optimisation.specs.number_words.private.Plan.{variable_of, worded_by, worded_program}
 use Rattle.optimisation.specs.number_words.private.Uses.{uses_of}
 use Rattle.optimisation.specs.number_words.private.Wording.{settings, worded, worded_all}
@@ -106,7 +107,7 @@ module _ (p : StraightProgram) (is_straight : IsStraight p) (words : List Number
 pub replaced : (p : StraightProgram) → IsStraight p → IsStraight (worded_program p) → IsReplaced p (worded_program p)
 replaced p is_straight =
     let all = chosen (length p.declared) (uses_of p) in
-    cond_both (nat_lt most_variables (length p.declared)) [] all
+    cond_both (nat_lt most_variable_words (length p.declared)) [] all
     (λ words. IsStraight (with_words words p) → IsReplaced p (with_words words p))
     (λ many. replaced_by p is_straight [] tt)
     (λ few. replaced_by p is_straight all (chosen_numbered (length p.declared) most_words (uses_of p)))

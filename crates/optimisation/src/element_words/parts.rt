@@ -10,7 +10,7 @@ use language::WordType;
 use std::alloc::{AllocError, Global};
 
 /// How many elements an array that becomes words has at most.
-pub const MOST_ELEMENTS_SPLIT: u32 = 64;
+pub const MOST_ELEMENTS_SPLIT: u32 = 256;
 
 /// An array that becomes words: the number of the first, how many there are, and their type.
 #[derive(Clone, Copy)]

@@ -17,10 +17,10 @@ use std::alloc::{AllocError, Global};
 use std::marker::Model;
 
 /// How many words arrays become, in all.
-const MOST_NEW_WORDS: u16 = 256;
+const MOST_NEW_WORDS: u16 = 512;
 
 /// How many words the variables may take, in all.
-const MOST_VARIABLE_WORDS: usize = 10192;
+pub const MOST_VARIABLE_WORDS: usize = 10192;
 
 /// How many words there is room for beside these variables.
 fn room_beside(declared: &[FlatVariable]) -> u16

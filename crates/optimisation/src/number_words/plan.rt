@@ -5,6 +5,7 @@ ghost use Rattle.optimisation.specs.Below.{IsReplaced, IsWantOfMemory};
 ghost use Rattle.optimisation.specs.number_words.Exact.{numbers_as_words, number_words_of};
 ghost use Rattle.optimisation.specs.number_words.private.Plan.{is_worth, variable_of, chosen, words_in};
 
+use crate::element_words::MOST_VARIABLE_WORDS;
 use crate::number_words::statements::{push_all, settings};
 use crate::number_words::terms::worded_where_any;
 use crate::number_words::uses::{NumberUse, number_uses};
@@ -20,9 +21,6 @@ const MOST_WORDS: usize = 64;
 
 /// How much a number is used that becomes one.
 const LEAST_WEIGHT: u64 = 4;
-
-/// How many variables there may be beside them.
-const MOST_VARIABLES: usize = 10192;
 
 /// Whether a number is used so much that it becomes a word.
 fn is_worth(each: NumberUse) -> bool
@@ -68,7 +66,7 @@ fn words_in(alloc: Global, straight: &StraightCode<'_>) -> Result<Vec<NumberWord
     ensures { IfOk result (λ words. words.items ≡ words_in straight.now) }
 {
     let first = straight.declared().len();
-    if MOST_VARIABLES < first {
+    if MOST_VARIABLE_WORDS < first {
         return Ok(Vec::new(alloc));
     }
     let uses = number_uses(alloc, straight)?;

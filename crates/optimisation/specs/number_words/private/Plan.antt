@@ -5,6 +5,7 @@ use Rattle.std.specs.Option.{option_map}
 use Rattle.optimisation.specs.Below.{chain, FlatVariable, labelled, Public, StraightProgram, with_variables, word_as}
 use Rattle.optimisation.specs.declared.number_words.uses.NumberUse.{NumberUse}
 use Rattle.optimisation.specs.declared.number_words.words.NumberWord.{NumberWord}
+use Rattle.optimisation.specs.element_words.Limits.{most_variable_words}
 use Rattle.optimisation.specs.number_words.private.Uses.{uses_of}
 use Rattle.optimisation.specs.number_words.private.Wording.{settings, worded, worded_all}
 
@@ -13,10 +14,6 @@ most_words = 64
 
 abbrev pub least_weight : ℕ
 least_weight = 4
-
--- variables beside them
-abbrev pub most_variables : ℕ
-most_variables = 10192
 
 -- what becomes of numbers, and all variables, the words behind the others
 pub record NumberPlan : Type 0 where
@@ -42,7 +39,7 @@ chosen first uses = chosen_from first most_words uses
 
 -- the words of a program's numbers: none where there are many variables
 abbrev pub words_in : StraightProgram → List NumberWord
-words_in p = if nat_lt most_variables (length p.declared) then [] else chosen (length p.declared) (uses_of p)
+words_in p = if nat_lt most_variable_words (length p.declared) then [] else chosen (length p.declared) (uses_of p)
 
 abbrev pub plan_of : StraightProgram → NumberPlan
 plan_of p = record { declared = p.declared ++ map variable_of (words_in p); words = words_in p }
