@@ -1,7 +1,6 @@
 // Powers of two, by which a product, a quotient or a remainder is a shift or a mask.
 
 ghost use Rattle.std.specs.Prelude.{◌≡◌};
-ghost use Rattle.optimisation.specs.Below.{multiplies};
 ghost use Rattle.optimisation.specs.constants.private.Powers as powers;
 
 use crate::constants::known::Constant;

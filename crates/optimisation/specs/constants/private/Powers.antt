@@ -3,7 +3,7 @@
 use Rattle.std.specs.Prelude.{ℕ, ◌-◌, ◌^◌, ◌==◌, ◌&&◌, nat_lt, Option, None, Some, if◌then◌else◌}
 use Rattle.std.specs.Int.Count.{count_trailing_zeros}
 use Rattle.std.specs.Option.{option_and_then}
-use Rattle.optimisation.specs.Below.{BinaryOperator, BitAnd, Divide, multiplies, Multiply, Remainder, ShiftLeft}
+use Rattle.optimisation.specs.Below.{BinaryOperator, BitAnd, Divide, Multiply, Remainder, ShiftLeft}
 use Rattle.optimisation.specs.Below.{ShiftRight, Uint32}
 use Rattle.optimisation.specs.declared.constants.known.Constant.{Constant}
 use Rattle.optimisation.specs.declared.constants.powers.OperatorStep.{OperatorStep}
@@ -27,4 +27,5 @@ step_of operator (Some power) = option_and_then (step_by operator power) (expone
 
 -- by the left operand: only a product is the same with its operands swapped
 abbrev pub swapped_step : BinaryOperator → Option Constant → Option OperatorStep
-swapped_step operator left = if multiplies operator then step_of operator left else None
+swapped_step Multiply left = step_of Multiply left
+swapped_step _ left = None
