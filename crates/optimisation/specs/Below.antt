@@ -17,7 +17,8 @@ pub use Rattle.language.specs.arguments.Within.{AreWithin}
 pub use Rattle.language.specs.declared.operators.BinaryOperator.{BinaryOperator}
 pub use Rattle.language.specs.declared.operators.BinaryOperator.TheVariants.{Add, BitAnd, BitOr, BitXor, LogicalAnd}
 pub use Rattle.language.specs.declared.operators.BinaryOperator.TheVariants.{Divide, LogicalOr, Equal, Greater}
-pub use Rattle.language.specs.declared.operators.BinaryOperator.TheVariants.{GreaterOrEqual, Less, LessOrEqual}
+pub use Rattle.language.specs.declared.operators.BinaryOperator.TheVariants.{GreaterOrEqual, HighProduct, Less}
+pub use Rattle.language.specs.declared.operators.BinaryOperator.TheVariants.{LessOrEqual}
 pub use Rattle.language.specs.declared.operators.BinaryOperator.TheVariants.{Multiply, Remainder, ShiftLeft, ShiftRight}
 pub use Rattle.language.specs.declared.operators.BinaryOperator.TheVariants.{Subtract, Unequal}
 pub use Rattle.language.specs.declared.operators.PrefixOperator.{PrefixOperator}

@@ -11,8 +11,8 @@
 // (`specs/constants/private/Choice.antt`); the proof holds for any choice.
 
 mod choice;
-mod copy_propagation;
-mod fields;
+pub(crate) mod copy_propagation;
+pub(crate) mod fields;
 mod known;
 pub(crate) mod operators;
 mod powers;

@@ -28,7 +28,7 @@ pub negated_fits : (operator : PrefixOperator) (kind : Kind) (v : ℕ) → Takes
 negated_fits Not kind v takes fits = subst (λ k. IsWithinKind k v) takes fits
 negated_fits operator kind v takes fits = tt
 
-within_32 : (k : Kind) (v : ℕ) → IsWithinKind k v → v < 2 ^ 32
+pub within_32 : (k : Kind) (v : ℕ) → IsWithinKind k v → v < 2 ^ 32
 within_32 Boolean v fits = omega arith
 within_32 kind v fits = omega arith
 

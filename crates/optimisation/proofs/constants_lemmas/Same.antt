@@ -28,7 +28,7 @@ use Rattle.optimisation.proofs.over_lemmas.Beside.{branch_path, loop_path}
 
 module _ (most : List ℕ) where
   -- two loops whose iterations do the same, of numbers below a limit
-  iterations_alike : {S : Type 0} (P : S → Type 0) (f g : ℕ → S → S) (p q : ℕ → S → Path) (limit : ℕ)
+  pub iterations_alike : {S : Type 0} (P : S → Type 0) (f g : ℕ → S → S) (p q : ℕ → S → Path) (limit : ℕ)
       → ((i : ℕ) (s : S) → i < limit → P s → (f i s ≡ g i s) × IsNoWorse most (q i s) (p i s) × P (g i s))
       → (n i : ℕ) (s : S) → i + n ≤ limit → P s
       → (iterations n i f s ≡ iterations n i g s) × IsNoWorse most (path_of_iterations n i g q s)

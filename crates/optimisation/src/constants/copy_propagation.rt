@@ -23,7 +23,7 @@ fn may_be_read_as(declared: &[FlatVariable], variable: u32, source: u32) -> bool
 }
 
 /// What an expression is, where it is a variable.
-fn variable_of(term: &Term) -> Option<u32>
+pub fn variable_of(term: &Term) -> Option<u32>
     ensures { result ≡ variable_of (term_tree term.now) }
 {
     match term {

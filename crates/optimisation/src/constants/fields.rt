@@ -62,14 +62,14 @@ fn field_of(mask: Option<Constant>, amount: Option<Constant>) -> Option<BitField
 }
 
 /// Whether an operator is `&`.
-fn is_bit_and(operator: BinaryOperator) -> bool
+pub fn is_bit_and(operator: BinaryOperator) -> bool
     ensures { result ≡ fields.is_bit_and operator }
 {
     matches!(operator, BinaryOperator::BitAnd)
 }
 
 /// Whether an operator is `>>`.
-fn is_shift_right(operator: BinaryOperator) -> bool
+pub fn is_shift_right(operator: BinaryOperator) -> bool
     ensures { result ≡ fields.is_shift_right operator }
 {
     matches!(operator, BinaryOperator::ShiftRight)

@@ -1,0 +1,4 @@
+pub mod Products
+pub mod ShapeValues
+pub mod Same
+pub mod Whole
