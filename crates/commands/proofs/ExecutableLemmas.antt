@@ -13,9 +13,9 @@ use Rattle.certified_runs.specs.Known.{KnownState}
 use Rattle.elf.specs.Reading.{IsUnlessMemory, reading}
 use Rattle.elf.specs.declared.fault.ElfFault.TheVariants.{File, Memory}
 use Rattle.elf.specs.declared.fault.ElfRule.TheVariants.{Ranges}
-use Rattle.elf_reports.specs.Certified.{certificate_at, certified, refused}
+use Rattle.elf_runs.specs.Certified.{certificate_at, certified, refused}
 use Rattle.elf_reports.specs.Encodings.{encoding_by}
-use Rattle.elf_reports.specs.Loading.{addresses_of, alignment_by, code_among, code_by}
+use Rattle.elf_runs.specs.Loading.{addresses_of, alignment_by, code_among, code_by}
 use Rattle.elf_reports.specs.declared.encodings.Encoding.TheVariants.{Halfword, Word}
 use Rattle.elf_runs.specs.Code.{halfwords_from, PlacedCode, program_code, words_from}
 use Rattle.rv_code.proofs.ExpansionLaws.{begins_no_word}
@@ -24,7 +24,7 @@ use Rattle.rv_machine.specs.Paged.{lies_in}
 use Rattle.rv_machine.specs.declared.memory.Size.{Size}
 use Rattle.rv_programs.specs.Code as standing
 use Rattle.rv_programs.specs.Code.{halfword_at, ProgramCode, StandsIn}
-use Rattle.elf_reports.specs.declared.certifying.FunctionCertificate.TheVariants.{MayDiffer, Same}
+use Rattle.elf_runs.specs.declared.certifying.FunctionCertificate.TheVariants.{MayDiffer, Same}
 use Rattle.rv_machine.specs.declared.observation.Observation.{Observation}
 use Rattle.commands.specs.Below.{AskedRun, AskedWords, CertifiedFunction, ElfFault, Executable, FunctionCertificate, machine_program}
 use Rattle.commands.specs.Below.{Encoding, encoding_at, encoding_in, first_unmet, Instr, IsLineOfEncoding}

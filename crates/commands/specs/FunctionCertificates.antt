@@ -5,13 +5,13 @@ use Rattle.commands.specs.Below.{AskedRun, AskedWords, AsksFor, CertifiedFunctio
 use Rattle.commands.specs.Below.{FunctionCertificate, FunctionStop, IsLineOfEncoding, LeadThere, machine_program}
 use Rattle.commands.specs.Below.{place_line}
 use Rattle.commands.specs.Below.{RunOptions, state_at_start}
-use Rattle.elf_reports.specs.Certified.{stop_name}
+use Rattle.elf_runs.specs.Certified.{stop_name}
 use Rattle.commands.specs.Certificates.{shifts_seen}
 use Rattle.commands.specs.Contents.{Contents}
 use Rattle.commands.specs.Executables.{HoldsExecutable}
 use Rattle.commands.specs.Stops.{function_stop_status}
 use Rattle.commands.specs.declared.command_line.options.FunctionOptions.{FunctionOptions}
-use Rattle.elf_reports.specs.declared.certifying.FunctionCertificate.TheVariants.{MayDiffer, Same}
+use Rattle.elf_runs.specs.declared.certifying.FunctionCertificate.TheVariants.{MayDiffer, Same}
 
 -- how the run is to be made, as the options say
 abbrev pub run_options : FunctionOptions → RunOptions

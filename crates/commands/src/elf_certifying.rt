@@ -19,11 +19,10 @@ use crate::fault::Fault;
 use crate::files::Files;
 use crate::function_words::{asked_of, fault_of_start};
 use elf::{Program, read};
-use elf_reports::{
-    AskedWords, FunctionCertificate, FunctionStop, RunOptions, calls_to, certify_function,
-    certify_function_telling, push_place,
+use elf_reports::{AskedWords, certify_function_telling, push_place};
+use elf_runs::{
+    Asked, FunctionCertificate, FunctionStop, RunOptions, StartFault, calls_to, certify_function,
 };
-use elf_runs::{Asked, StartFault};
 use std::alloc::{AllocError, Global};
 use streams::Sink;
 

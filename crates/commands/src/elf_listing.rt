@@ -15,7 +15,8 @@ use crate::function_words::{asked_of, fault_of_start};
 use crate::performing::STANDARD_OUTPUT;
 use certified_runs::Shifts;
 use elf::read;
-use elf_reports::{AskedWords, FunctionLeakFault, FunctionStop, RunOptions, leak_function};
+use elf_reports::{AskedWords, FunctionLeakFault, leak_function};
+use elf_runs::{FunctionStop, RunOptions};
 use std::alloc::Global;
 use streams::Sink;
 

@@ -17,8 +17,8 @@ use crate::fault::Fault;
 use crate::files::Files;
 use crate::function_words::{asked_of, fault_of_start};
 use elf::{Program, read};
-use elf_reports::{AskedWords, RunOptions, Witness, find_witness, push_place};
-use elf_runs::{Asked, Setting, StartFault};
+use elf_reports::{AskedWords, push_place};
+use elf_runs::{Asked, RunOptions, Setting, StartFault, Witness, find_witness};
 use std::alloc::{AllocError, Global};
 
 /// Two runs of a function of an executable, on secrets of which an observer sees different things, as lines, if one of

@@ -1,17 +1,4 @@
 -- What these proofs take from the proofs of the crates below, in one place.
-pub use Rattle.rv_machine.proofs.Face.{count-few, entries_of-append, entry_count-append, goes_own, IsOwn}
-pub use Rattle.rv_machine.proofs.Face.{one-ends, other-ends, stops_own}
-pub use Rattle.rv_machine.proofs.Shown.{after_common}
-pub use Rattle.rv_programs.proofs.Endings.{ending_own}
-pub use Rattle.rv_programs.proofs.Guards.{code_step}
-pub use Rattle.rv_programs.proofs.RunLaws.{goes_on-determined, goes_on≢stops, Halts-determined, run_of_state}
-pub use Rattle.rv_programs.proofs.RunLaws.{Runs-determined, Runs-more, Runs-stop, step_stops}
-pub use Rattle.rv_programs.proofs.Standing.{stands_aligned, stands_in_code}
-pub use Rattle.certified_runs.proofs.Amounts.{shifts_agree, some_amounts}
-pub use Rattle.certified_runs.proofs.Covering.{itself}
-pub use Rattle.certified_runs.proofs.FirstEntry.{entries_in_common}
-pub use Rattle.certified_runs.proofs.OneEnd.{KnownStep-determined, one_end}
-pub use Rattle.certified_runs.proofs.Runs.{every_run, stops_there}
-pub use Rattle.elf_runs.proofs.Answering.{segments_below}
-pub use Rattle.elf_runs.proofs.Meeting.{held_before, met_behind, split}
+pub use Rattle.elf_runs.proofs.Ends.{answered, refused_so}
+pub use Rattle.elf_runs.proofs.Segments.{found_there, passed_by}
 pub use Rattle.listing.proofs.Pieces.{cut_before_line, cut_in_line, with_line}

@@ -1,11 +1,8 @@
 -- The lines of a function's run, and then the line of how it stops, are its listing.
 use Rattle.std.proofs.Common.{◌≡◌, ℕ, List, ◌++◌, refl, ap}
-use Rattle.elf_reports.specs.Below.{AreLines, Asked, Executable, GainsPart, State, Stop, Writes, WritesPart}
-use Rattle.elf_reports.specs.Certified.{function_stop}
+use Rattle.elf_reports.specs.Below.{AreLines, Asked, Executable, function_stop, FunctionStop, GainsPart}
+use Rattle.elf_reports.specs.Below.{machine_program, RunOptions, State, state_at_start, Stop, Writes, WritesPart}
 use Rattle.elf_reports.specs.Leaked.{end_line, IsFunctionLeak}
-use Rattle.elf_reports.specs.Loading.{machine_program, state_at_start}
-use Rattle.elf_reports.specs.declared.options.RunOptions.{RunOptions}
-use Rattle.elf_reports.specs.declared.stops.FunctionStop.{FunctionStop}
 use Rattle.elf_reports.proofs.Below.{cut_before_line, cut_in_line, with_line}
 
 module _ (program : Executable) (asked : Asked) (options : RunOptions) where

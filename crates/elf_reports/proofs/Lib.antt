@@ -1,15 +1,3 @@
 pub mod Below
-pub mod Segments
-pub mod Ranges
-pub mod Beginning
-pub mod Calling
-pub mod Ends
-pub mod Outside
-pub mod Promises
 pub mod Spelling
-pub mod InStep
-pub mod Trying
-pub mod Tries
-pub mod MoreSet
-pub mod Found
 pub mod EndLines

@@ -2,8 +2,8 @@
 use Rattle.std.specs.Prelude.{◌++◌, IfErr, if◌then◌else◌}
 use Rattle.std.specs.Option.{option_or}
 use Rattle.std.specs.Result.{IsErrAnd}
-use Rattle.std.proofs.Common.{◌≡◌, ◌<◌, ◌+◌, ◌∙◌, [], ◌∷◌, ℕ, List, ap, Bool, drop, Err, false, get_or, length, Ok, Option}
-use Rattle.std.proofs.Common.{refl, Result, Some, true}
+use Rattle.std.proofs.Common.{◌≡◌, ◌<◌, ◌+◌, ◌∙◌, [], ◌∷◌, ℕ, List, ap, Bool, drop, Err, false, get_or, length, Ok}
+use Rattle.std.proofs.Common.{Option, refl, Result, Some, true}
 use Rattle.std.specs.Borrow.{Bor}
 use Rattle.std.proofs.lemmas.List.{drop_more}
 use Rattle.elf_reports.specs.Asking.{texts}

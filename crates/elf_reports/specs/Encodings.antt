@@ -3,8 +3,7 @@
 use Rattle.std.specs.Prelude.{ℕ, ◌+◌, ◌*◌, ◌%◌, ◌^◌, ◌==◌, Option, None, Some, if◌then◌else◌}
 use Rattle.std.specs.Option.{option_map}
 use Rattle.rv_programs.specs.Code.{halfwords, words}
-use Rattle.elf_reports.specs.Below.{Executable, halfword_at, P1, ProgramCode, word_at}
-use Rattle.elf_reports.specs.Loading.{code_for}
+use Rattle.elf_reports.specs.Below.{code_for, Executable, halfword_at, P1, ProgramCode, word_at}
 use Rattle.elf_reports.specs.declared.encodings.Encoding.{Encoding}
 use Rattle.elf_reports.specs.declared.encodings.Encoding.TheVariants.{Halfword, Word}
 

@@ -1,14 +1,10 @@
 -- What is answered where the run of a function is to be listed, and which bytes are its listing.
 use Rattle.std.specs.Prelude.{◌≡◌, ℕ, List, ◌++◌, codes, None, Result, Ok, Err}
-use Rattle.elf_reports.specs.Below.{Asked, Executable, first_unmet, IsTold, lines_of, needs, Observation, StartFault}
-use Rattle.elf_reports.specs.Below.{State, Stop}
-use Rattle.elf_reports.specs.Certified.{function_stop, stop_name}
-use Rattle.elf_reports.specs.Loading.{state_at_start}
-use Rattle.elf_reports.specs.Promised.{RunsUncut}
+use Rattle.elf_reports.specs.Below.{Asked, Executable, first_unmet, function_stop, FunctionStop, IsTold, lines_of}
+use Rattle.elf_reports.specs.Below.{needs, Observation, RunOptions, RunsUncut, StartFault, State, state_at_start, Stop}
+use Rattle.elf_reports.specs.Below.{stop_name}
 use Rattle.elf_reports.specs.declared.leaking.FunctionLeakFault.{FunctionLeakFault}
 use Rattle.elf_reports.specs.declared.leaking.FunctionLeakFault.TheVariants.{Start, Write}
-use Rattle.elf_reports.specs.declared.options.RunOptions.{RunOptions}
-use Rattle.elf_reports.specs.declared.stops.FunctionStop.{FunctionStop}
 
 -- the line of how a function's run stops
 abbrev pub end_line : FunctionStop → List ℕ

@@ -3,8 +3,8 @@
 ghost use Rattle.std.specs.Prelude.{◌≡◌, None, Some, map, IfOk, IfErr};
 ghost use Rattle.std.specs.Option.{option_map};
 ghost use Rattle.elf_reports.specs.Asking.{argument_in, argument_spelled, arguments_spelled, asked_argument};
-ghost use Rattle.elf_reports.specs.Asking.{asked_setting, AsksFor, begins_with_digit, place_in};
-ghost use Rattle.elf_reports.specs.Asking.{setting_in, setting_spelled, settings_spelled, spelling, texts};
+ghost use Rattle.elf_reports.specs.Asking.{asked_setting, AsksFor, begins_with_digit, place_in, setting_in};
+ghost use Rattle.elf_reports.specs.Asking.{setting_spelled, settings_spelled, spelling, texts};
 ghost use Rattle.elf_reports.specs.Below.{first_unmet, IsTold};
 ghost use Rattle.elf_runs.specs.declared.fault.StartFault.TheVariants.{Memory};
 

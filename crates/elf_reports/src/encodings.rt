@@ -1,9 +1,9 @@
 // What begins at an address of a program's code.
 
 ghost use Rattle.std.specs.Prelude.{◌≡◌, ◌≤◌, Bool, map, IfOk};
-ghost use Rattle.elf_reports.specs.Below.{halfword_at, halfwords_from, lies_in, P1, placed, word_at};
+ghost use Rattle.elf_reports.specs.Below.{addresses_of, alignment_by, code_among, code_by, halfword_at, halfwords_from};
+ghost use Rattle.elf_reports.specs.Below.{lies_in, P1, placed, word_at};
 ghost use Rattle.elf_reports.specs.Encodings.{encoding_at, encoding_in};
-ghost use Rattle.elf_reports.specs.Loading.{addresses_of, alignment_by, code_among, code_by};
 
 use elf::Program;
 use elf_runs::{Code, PlacedHalfwords, PlacedWords, program_code};

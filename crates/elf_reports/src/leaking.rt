@@ -1,16 +1,12 @@
 // What an observer sees of a function's run, written to a sink.
 
 ghost use Rattle.std.specs.Prelude.{◌≡◌, ◌≢◌, ◌++◌, Err, IsTrue, IfErr, IfOk, IsErrOf, OnErr, OnOk};
-ghost use Rattle.elf_reports.specs.Below.{GainsPart, one_more, Writes, WritesPart};
+ghost use Rattle.elf_reports.specs.Below.{FunctionStop, GainsPart, one_more, Writes, WritesPart};
 ghost use Rattle.elf_reports.specs.Leaked.{end_line, IsFunctionLeak, LeaksFunction};
 ghost use Rattle.elf_reports.specs.declared.leaking.FunctionLeakFault.TheVariants.{Start, Write};
-ghost use Rattle.elf_reports.specs.declared.stops.FunctionStop.{FunctionStop};
 
-use crate::loading::load_function;
-use crate::options::RunOptions;
-use crate::stops::FunctionStop;
 use elf::Program;
-use elf_runs::{Asked, StartFault};
+use elf_runs::{Asked, FunctionStop, RunOptions, StartFault, load_function};
 use listing::{stop_line, write_steps};
 use std::alloc::Global;
 use streams::{Sink, SinkFault, put_all};

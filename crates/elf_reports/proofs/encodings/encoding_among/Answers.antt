@@ -1,8 +1,7 @@
 use Rattle.std.proofs.Common.{◌∙◌, ap, sym}
-use Rattle.elf_reports.specs.Below.{P1, ProgramCode}
+use Rattle.elf_reports.specs.Below.{alignment_by, P1, ProgramCode}
 use Rattle.elf_reports.specs.Encodings.{encoding_in}
-use Rattle.elf_reports.specs.Loading.{alignment_by}
-use Rattle.elf_reports.proofs.Segments.{found_there, passed_by}
+use Rattle.elf_reports.proofs.Below.{found_there, passed_by}
 use Rattle.elf_reports.proofs.encodings.encoding_among.Goals as goal
 
 pub returns-then-has_code : goal.returns-then-has_code

@@ -1,6 +1,5 @@
 use Rattle.std.proofs.Common.{◌≡◌, Bool, drop, map}
-use Rattle.elf_reports.specs.Below.{P1, placed}
-use Rattle.elf_reports.specs.Loading.{alignment_by, code_among}
+use Rattle.elf_reports.specs.Below.{alignment_by, code_among, P1, placed}
 use Rattle.elf_reports.proofs.encodings.encoding_among.Given as goal
 
 -- what is left has the same code there as all

@@ -1,8 +1,7 @@
 -- The lines of the run, and then that of how it stops.
 use Rattle.std.proofs.Common.{◌≡◌, ap, ◌∙◌}
 use Rattle.std.proofs.lemmas.Result.{err_from_is_err_and}
-use Rattle.elf_reports.specs.Below.{KnownState, paged_bytes, state_of}
-use Rattle.elf_reports.specs.Certified.{function_stop}
+use Rattle.elf_reports.specs.Below.{function_stop, KnownState, paged_bytes, state_of}
 use Rattle.elf_reports.specs.Leaked.{cut_off, ran, refused}
 use Rattle.elf_reports.proofs.EndLines.{end_cut, end_written, lines_cut}
 use Rattle.elf_reports.proofs.leaking.leak_function.Goals as goal

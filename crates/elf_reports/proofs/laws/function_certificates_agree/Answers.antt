@@ -1,5 +1,0 @@
-use Rattle.elf_reports.proofs.Promises.{one_answer}
-use Rattle.elf_reports.proofs.laws.function_certificates_agree.Goals as goal
-
-pub returns : goal.returns
-returns c = one_answer

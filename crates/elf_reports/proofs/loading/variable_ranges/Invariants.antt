@@ -1,8 +1,0 @@
-use Rattle.std.proofs.Common.{◌≡◌, ℕ, map, take}
-use Rattle.elf_reports.specs.Below.{lies_within, range_of}
-use Rattle.elf_reports.specs.Loading.{may_be_stored_to}
-use Rattle.elf_reports.proofs.loading.variable_ranges.Given as goal
-
-abbrev pub invariant-each : goal.invariant-each
-invariant-each l =
-    (a : ℕ) → lies_within l.variable.items a ≡ may_be_stored_to (map range_of (take l.range-index l.ranges)) a
