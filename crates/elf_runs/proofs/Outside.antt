@@ -1,5 +1,5 @@
 -- At the address that a function returns to no code stands.
-use Rattle.std.proofs.Common.{◌≡◌, ◌≤◌, ◌+◌, ◌*◌, ◌++◌, [], ◌∷◌, ℕ, List, ap, arith, Bool, drop, false, length}
+use Rattle.std.proofs.Common.{◌≡◌, ◌≤◌, ◌+◌, ◌*◌, ◌++◌, [], ◌∷◌, ℕ, List, arith, Bool, drop, false, length}
 use Rattle.std.proofs.Common.{length-drop, None, refl, subst, sym, true, ◌%◌}
 use Rattle.std.specs.Prelude.{◌&&◌}
 use Rattle.std.specs.List.{list_all}
@@ -9,7 +9,7 @@ use Rattle.elf_runs.specs.Below.{AreApart, Executable, HasNoCode, lies_in, Loade
 use Rattle.elf_runs.specs.Below.{Size}
 use Rattle.elf_runs.specs.declared.asked.Asked.{Asked}
 use Rattle.elf_runs.specs.Needs.{ends_by, first_unmet, needs}
-use Rattle.elf_runs.specs.Code.{code_in, code_of, halfword_code, halfwords_of, PlacedCode, to_multiple, word_code}
+use Rattle.elf_runs.specs.Code.{code_in, code_of, halfword_code, halfwords_of, to_multiple, word_code}
 use Rattle.elf_runs.specs.Code.{words_of}
 use Rattle.elf_runs.specs.Arguments.{return_address, stack_begin}
 use Rattle.elf_runs.specs.Loading.{addresses_of, alignment_by, code_among, code_for}

@@ -1,14 +1,14 @@
 -- The code of segments, one after another.
-use Rattle.std.proofs.Common.{◌≡◌, ◌<◌, ◌+◌, ◌*◌, ◌++◌, ◌∙◌, [], ◌∷◌, ℕ, List, ap, arith, drop, false, get_or, inl, inr}
-use Rattle.std.proofs.Common.{length, map, None, Option, refl, Some, sym, true, Bool}
+use Rattle.std.proofs.Common.{◌≡◌, ◌<◌, ◌+◌, ◌++◌, ◌∙◌, [], ◌∷◌, ℕ, List, ap, arith, drop, false, get_or, inl, inr}
+use Rattle.std.proofs.Common.{length, map, refl, sym, true}
 use Rattle.std.specs.Prelude.{if◌then◌else◌}
 use Rattle.std.proofs.lemmas.Bool.{cases_lt, le-leb, lt-leb, le-ltb}
 use Rattle.std.proofs.lemmas.List.{drop_more}
-use Rattle.elf_runs.specs.Below.{AddressRange, code_in, CodeSegment, lies_in, loaded_code, P1, Profile, ProgramCode}
+use Rattle.elf_runs.specs.Below.{AddressRange, code_in, CodeSegment, lies_in, loaded_code, Profile, ProgramCode}
 use Rattle.elf_runs.specs.Below.{Size}
 use Rattle.elf_runs.specs.declared.loaded_code.Code.{Code}
 use Rattle.elf_runs.specs.Code.{placed, PlacedCode}
-use Rattle.elf_runs.specs.Loading.{addresses_of, alignment_by, code_among, code_by}
+use Rattle.elf_runs.specs.Loading.{addresses_of, code_among, code_by}
 
 pub code_in-more : (other : ProgramCode) (segments : List CodeSegment) (segment : CodeSegment) (p : ℕ)
     → code_in other (segments ++ segment ∷ []) p

@@ -1,5 +1,5 @@
 -- Try after try.
-use Rattle.std.proofs.Common.{◌≡◌, ◌<◌, ◌+◌, ◌-◌, ◌∙◌, ℕ, suc, List, [], ◌∷◌, map, Bool, true, false, Option, None}
+use Rattle.std.proofs.Common.{◌≡◌, ◌<◌, ◌+◌, ◌-◌, ◌∙◌, ℕ, suc, List, [], ◌∷◌, map, true, false, Option, None}
 use Rattle.std.proofs.Common.{Some, ap, arith, refl, sym}
 use Rattle.std.specs.Prelude.{IfSome, is_some}
 use Rattle.rand_core.specs.Stream.{Stream}
@@ -8,7 +8,7 @@ use Rattle.elf_runs.specs.Below.{Executable, Observation}
 use Rattle.elf_runs.specs.declared.asked.Setting.{Setting}
 use Rattle.elf_runs.specs.Compared.{Compares}
 use Rattle.elf_runs.specs.Drawn.{first_secrets, other_secrets, tries_from, Try}
-use Rattle.elf_runs.specs.Witnessed.{Finds, FindsNothing, FoundFirst, IsWitness, set_bytes, SetsBesides, ShowsSame}
+use Rattle.elf_runs.specs.Witnessed.{Finds, FindsNothing, IsWitness, set_bytes, SetsBesides, ShowsSame}
 use Rattle.elf_runs.specs.declared.comparing.Comparison.{Comparison}
 use Rattle.elf_runs.specs.declared.comparing.Comparison.TheVariants.{Differ, Same}
 use Rattle.elf_runs.specs.declared.comparing.Reached.{Reached}
