@@ -23,10 +23,10 @@ from rattle_sources import calls_one, closing, functions, owners_for
 # Loops that count, in which memory grows: file, function, and what bounds it.
 LOOPS = [
     ("elf/src/reading.rt", "segments_of", "the program headers, all of which lie in the file, as is checked before"),
-    ("elf_reports/src/calls.rt", "calls_behind_entries", "64 calls at most, which have room from the beginning"),
-    ("elf_reports/src/loading.rt", "marks_of", "the ranges that it is given"),
-    ("elf_reports/src/loading.rt", "memory_of", "the ranges that it is given"),
-    ("elf_reports/src/witnessing.rt", "find_witness", "nothing is kept from try to try"),
+    ("elf_runs/src/calls.rt", "calls_behind_entries", "64 calls at most, which have room from the beginning"),
+    ("elf_runs/src/loading.rt", "marks_of", "the ranges that it is given"),
+    ("elf_runs/src/loading.rt", "memory_of", "the ranges that it is given"),
+    ("elf_runs/src/witnessing.rt", "find_witness", "nothing is kept from try to try"),
     ("elf_runs/src/code.rt", "halfwords_of", "the bytes that a file has of a segment: a halfword for every two"),
     ("elf_runs/src/code.rt", "words_of", "the bytes that a file has of a segment: a word for every four"),
     ("functions/src/function_code/copying.rt", "elements", "sixteen elements at most, by its precondition"),

@@ -6,8 +6,8 @@
 -- Loading has the program that an executable is to the machine, and what is known of the state in which a run begins.
 -- Certified has what is answered where such a run is certified, Promised what a certificate says of all runs.
 -- Calls has the calls that lead to a step.
--- Compared has where what two runs show differs; Witnessed two runs that differ in what is secret alone, and of which an
---   observer sees not the same; Drawn what is secret in the runs of each try.
+-- Compared has where what two runs show differs; Witnessed two runs that differ in what is secret alone, and of which
+--   an observer sees not the same; Drawn what is secret in the runs of each try.
 -- private is for contracts of private functions alone.
 pub mod Word
 pub mod Needs
