@@ -1,4 +1,6 @@
-/* ChaCha20-Poly1305 (RFC 8439, section 2.8) in C around routines of the library. Lengths, nonce and associated data are public. */
+/* ChaCha20-Poly1305 (RFC 8439, section 2.8) in C around routines of the library. Lengths, nonce and associated data are public.
+   Of a C library it needs memset alone, and that where the compiler calls it for an array that begins as zeros, as clang does, and gcc
+   with -Os: ../foreign/mem.c has one. */
 #ifndef CHACHA20_POLY1305_H
 #define CHACHA20_POLY1305_H
 
