@@ -18,9 +18,9 @@ use Rattle.codegen.proofs.StoredValues.{stored_alike}
 use Rattle.codegen.specs.private.Emitted.{into_element_code, stored_value}
 use Rattle.codegen.specs.private.Loops.{any_sets, counting_home, loop_from, short_number}
 use Rattle.codegen.specs.expression_code.Allocation.{temporary, working_register}
-use Rattle.codegen.specs.expression_code.TermCode.{is_at_home, keeps_words, operand}
+use Rattle.codegen.specs.expression_code.TermCode.{into_by, is_at_home, keeps_words, operand, opposite_in}
 use Rattle.inline.specs.Flat as flat
-use Rattle.codegen.specs.Below.{Kind}
+use Rattle.codegen.specs.Below.{BinaryOperator, Kind}
 use Rattle.codegen.specs.expression_code.Layout.{term_layout}
 
 pub neither_of_three : (a b c : Bool) → (a || (b || c)) ≡ false → (a ≡ false) × (b ≡ false) × (c ≡ false)
@@ -146,32 +146,36 @@ module _ (layout : Frame) (left_out : ℕ → Bool)
   operand_same place e spares =
       ap (λ (h : Option ℕ). at_home h (temporary a.count (temporaries_offset layout) place)) (term_home_same e spares)
 
-  pub into_same : (d place : ℕ) (e : TermTree) → Spares (λ y. names_in y e)
-      → into_code (term_layout fewer) d place e ≡ into_code (term_layout layout) d place e
-  into_same d place (flat.number value kind) spares = refl
-  into_same d place (flat.truth value) spares = refl
-  into_same d place (flat.variable x) spares = rw (location_same x spares) refl
-  into_same d place (flat.prefix operator width e) spares =
-      rw (at_home_same e spares, operand_same place e spares, into_same (own place) place e spares) refl
-  into_same d place (flat.rotate width e amount) spares =
-      rw (at_home_same e spares, operand_same place e spares, into_same (own place) place e spares) refl
-  into_same d place (flat.convert kind e) spares =
-      simp (at_home_same, operand_same, into_same (own place) place e spares, into_same d place e spares)
-  into_same d place (flat.element source x size index) spares =
+  opposite_same : (e : TermTree) → opposite_in b e ≡ opposite_in a e
+  opposite_same (flat.binary source operator width left right) = refl
+  opposite_same e = refl
+
+  by_same : (other : Option BinaryOperator) (d place : ℕ) (e : TermTree) → Spares (λ y. names_in y e)
+      → into_by (term_layout fewer) other d place e ≡ into_by (term_layout layout) other d place e
+  by_same other d place (flat.number value kind) spares = refl
+  by_same other d place (flat.truth value) spares = refl
+  by_same other d place (flat.variable x) spares = rw (location_same x spares) refl
+  by_same other d place (flat.prefix operator width e) spares =
+      rw (at_home_same e spares, operand_same place e spares, by_same None (own place) place e spares) refl
+  by_same other d place (flat.rotate width e amount) spares =
+      rw (at_home_same e spares, operand_same place e spares, by_same None (own place) place e spares) refl
+  by_same other d place (flat.convert kind e) spares =
+      simp (at_home_same, operand_same, by_same None (own place) place e spares, by_same None d place e spares)
+  by_same other d place (flat.element source x size index) spares =
       let one = λ (y : ℕ) (out : left_out y ≡ true). (or_parts _ _ (spares y out)).1 in
-      rw (at_home_same index one, operand_same place index one, into_same (own place) place index one) refl
-  into_same d place (flat.binary source operator width left right) spares =
+      rw (at_home_same index one, operand_same place index one, by_same None (own place) place index one) refl
+  by_same other d place (flat.binary source operator width left right) spares =
       let parts = λ (y : ℕ) (out : left_out y ≡ true). or_parts _ _ (spares y out) in
       let one : Spares (λ y. names_in y left) = λ y out. (parts y out).0 in
       let two : Spares (λ y. names_in y right) = λ y out. (parts y out).1 in
       simp (
         at_home_same,
         operand_same,
-        into_same (own place) place left one,
-        into_same (own place) place right two,
-        into_same (own (place + 1)) (place + 1) right two,
+        by_same None (own place) place left one,
+        by_same None (own place) place right two,
+        by_same None (own (place + 1)) (place + 1) right two,
       )
-  into_same d place (flat.select condition accepted otherwise) spares =
+  by_same other d place (flat.select condition accepted otherwise) spares =
       let parts = λ (y : ℕ) (out : left_out y ≡ true). neither_of_three _ _ _ (spares y out) in
       let one : Spares (λ y. names_in y condition) = λ y out. (parts y out).0 in
       let two : Spares (λ y. names_in y accepted) = λ y out. (parts y out).1 in
@@ -179,10 +183,15 @@ module _ (layout : Frame) (left_out : ℕ → Bool)
       simp (
         at_home_same,
         operand_same,
-        into_same (own place) place condition one,
-        into_same (own (place + 1)) (place + 1) accepted two,
-        into_same (own (place + 2)) (place + 2) otherwise three,
+        opposite_same,
+        by_same (opposite_in a condition) (own place) place condition one,
+        by_same None (own (place + 1)) (place + 1) accepted two,
+        by_same None (own (place + 2)) (place + 2) otherwise three,
       )
+
+  pub into_same : (d place : ℕ) (e : TermTree) → Spares (λ y. names_in y e)
+      → into_code (term_layout fewer) d place e ≡ into_code (term_layout layout) d place e
+  into_same d place e spares = by_same None d place e spares
 
   read_same : (r place : ℕ) (e : TermTree) → Spares (λ y. names_in y e)
       → read_code fewer r place e ≡ read_code layout r place e

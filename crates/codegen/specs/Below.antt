@@ -34,7 +34,7 @@ pub use Rattle.rv_machine.specs.Sizes.{byte_count}
 pub use Rattle.rv_machine.specs.declared.observation.Event.{Event}
 pub use Rattle.rv_machine.specs.declared.observation.Observation.{Observation}
 pub use Rattle.language.specs.Limits.{most_declared_bytes, most_elements, most_nodes}
-pub use Rattle.language.specs.Operators.{operated, operation_of, truth_of, swapped_of, width_of}
+pub use Rattle.language.specs.Operators.{operated, operation_of, opposite_of, truth_of, swapped_of, width_of}
 pub use Rattle.language.specs.Size.{array_words, element_bytes, held_words}
 pub use Rattle.language.specs.WellTyped.{logic, Makes}
 pub use Rattle.language.specs.arguments.Within.{AreWithin}

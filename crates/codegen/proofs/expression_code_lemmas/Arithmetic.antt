@@ -1,6 +1,6 @@
 -- Arithmetic of addresses, of numbers in two parts, and of masks.
 use Rattle.std.proofs.Common.{◌≡◌, ℕ, ◌+◌, ◌*◌, ◌%◌, ◌^◌, ◌<◌, ◌==◌, Bool, true, false, not, ◌&&◌, if◌then◌else◌}
-use Rattle.std.proofs.Common.{bit_and, bit_xor, ap, ◌∙◌, arith}
+use Rattle.std.proofs.Common.{bit_and, bit_xor, refl, ap, ◌∙◌, arith}
 use Rattle.codegen.proofs.expression_code_lemmas.Below.{lower_part, nat_tests, upper_part, and_mask, xor_of_32, sum_of}
 use Rattle.codegen.proofs.expression_code_lemmas.Below.{difference_of, sign_extended}
 use Rattle.std.specs.Int.{bit_at}
@@ -64,22 +64,40 @@ merge true old new p q = ap (bit_xor old) (all_ones (bit_xor new old) (xor_of_32
     ∙ same_from_bits _ new (bit_back new old)
 merge false old new p q = ap (bit_xor old) (and_zero_r (bit_xor new old)) ∙ xor_zero_r old
 
--- the choice of a where c is 1, of b where c is 0
-abbrev pub chosen : ℕ → ℕ → ℕ → ℕ
-chosen c a b = merged (difference_of 0 c) b a
+-- whether a condition is true, by what is made of it: itself, or its opposite
+abbrev pub picks : Bool → ℕ → Bool
+picks true v = v == 0
+picks false v = not (v == 0)
 
-pub choice : (c a b : ℕ) → c < 2 → a < 2 ^ 32 → b < 2 ^ 32 → chosen c a b ≡ (if c == 0 then b else a)
-choice c a b h p q = ap (λ m. merged m b a) (mask_when c h)
-    ∙ (merge (not (c == 0)) b a q p ∙ grind (arith, nat_tests))
+abbrev pub mask_from : Bool → ℕ → ℕ
+mask_from true v = sum_of v 4294967295
+mask_from false v = difference_of 0 v
 
--- what a has under the mask of c: a where c is 1, and else 0
-abbrev pub chosen_or_zero : ℕ → ℕ → ℕ
-chosen_or_zero c a = bit_and a (difference_of 0 c)
+pub if_not : (b : Bool) (x y : ℕ) → (if not b then x else y) ≡ (if b then y else x)
+if_not true x y = refl
+if_not false x y = refl
+
+mask_is : (is_opposite : Bool) (v : ℕ) → v < 2 → mask_from is_opposite v ≡ mask_of (picks is_opposite v)
+mask_is true v h = mask_otherwise v h
+mask_is false v h = mask_when v h
+
+-- the choice of a where the condition is true, of b where it is not
+abbrev pub chosen : Bool → ℕ → ℕ → ℕ → ℕ
+chosen is_opposite c a b = merged (mask_from is_opposite c) b a
+
+pub choice : (is_opposite : Bool) (c a b : ℕ) → c < 2 → a < 2 ^ 32 → b < 2 ^ 32
+    → chosen is_opposite c a b ≡ (if picks is_opposite c then a else b)
+choice is_opposite c a b h p q =
+    ap (λ m. merged m b a) (mask_is is_opposite c h) ∙ merge (picks is_opposite c) b a q p
+
+-- what a has under the mask: a where the condition is true, and else 0
+abbrev pub chosen_or_zero : Bool → ℕ → ℕ → ℕ
+chosen_or_zero is_opposite c a = bit_and a (mask_from is_opposite c)
 
 under_mask : (b : Bool) (a : ℕ) → a < 2 ^ 32 → bit_and a (mask_of b) ≡ (if b then a else 0)
 under_mask true a p = all_ones a p
 under_mask false a p = and_zero_r a
 
-pub choice_or_zero : (c a : ℕ) → c < 2 → a < 2 ^ 32 → chosen_or_zero c a ≡ (if c == 0 then 0 else a)
-choice_or_zero c a h p = ap (bit_and a) (mask_when c h)
-    ∙ (under_mask (not (c == 0)) a p ∙ grind (arith, nat_tests))
+pub choice_or_zero : (is_opposite : Bool) (c a : ℕ) → c < 2 → a < 2 ^ 32
+    → chosen_or_zero is_opposite c a ≡ (if picks is_opposite c then a else 0)
+choice_or_zero is_opposite c a h p = ap (bit_and a) (mask_is is_opposite c h) ∙ under_mask (picks is_opposite c) a p

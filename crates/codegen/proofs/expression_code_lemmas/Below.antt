@@ -23,7 +23,8 @@ pub use Rattle.codegen.specs.expression_code.TermCode.{near_offset, number_code,
 pub use Rattle.codegen.specs.expression_code.TermCode.{prefix_code, raise_code, rotate_code, row_of, scale_code}
 pub use Rattle.codegen.specs.expression_code.TermCode.{RowStep, lower_part, move_code, step_code, store_code, swapped}
 pub use Rattle.codegen.specs.expression_code.TermCode.{upper_part, choice_or_zero_code, emitted_operator, kind_at}
-pub use Rattle.codegen.specs.expression_code.TermCode.{number_step_code, of_bits}
+pub use Rattle.codegen.specs.expression_code.TermCode.{into_by, mask_code, number_step_code, of_bits, opposite_by}
+pub use Rattle.codegen.specs.expression_code.TermCode.{opposite_in, placed_code}
 pub use Rattle.branch_removal.specs.Heights.{height_of}
 pub use Rattle.codegen.specs.declared.expression_code.locations.Location.{Location}
 pub use Rattle.codegen.specs.declared.expression_code.locations.Location.TheVariants.{InRegister, InSlot}
@@ -36,7 +37,7 @@ pub use Rattle.inline.specs.FlatTyping.{TermHasType, of_binary, of_conversion, o
 pub use Rattle.inline.specs.FlatTyping.{of_rotation, of_selection, of_truth, of_variable, Types, types_of}
 pub use Rattle.inline.specs.Path.{AreFine, bounded, decided, divided, indexed, Mark, multiplied, Path}
 pub use Rattle.inline.specs.declared.flat.FlatVariable.{FlatVariable}
-pub use Rattle.language.specs.Operators.{operated, prefix_value, swapped_of, width_of}
+pub use Rattle.language.specs.Operators.{operated, opposite_of, prefix_value, swapped_of, width_of}
 pub use Rattle.language.specs.Size.{element_bytes, held_words}
 pub use Rattle.language.specs.declared.signature.Form.{Form}
 pub use Rattle.language.specs.declared.signature.Kind.{Kind}

@@ -1,10 +1,15 @@
 -- Of bools, which are 0 or 1: the operator whose code is emitted makes of them what the operator means, and puts the
--- same on the path.
-use Rattle.std.proofs.Common.{◌≡◌, ℕ, zero, suc, ◌<◌, ◌&&◌, ◌||◌, bit_and, bit_or, refl, arith}
-use Rattle.codegen.proofs.expression_code_lemmas.Below.{Allocation, BinaryOperator, emitted_operator, IsWithinKind}
-use Rattle.codegen.proofs.expression_code_lemmas.Below.{marks_of, of_bits, operated, Place, Profile, Width, word_of}
-use Rattle.codegen.proofs.expression_code_lemmas.Below.{WordType}
-use Rattle.codegen.specs.Below.{LogicalAnd, LogicalOr, logic, Makes, operation_of, truth_of}
+-- same on the path; and where a mask is made of another comparison, that is the opposite.
+use Rattle.std.proofs.Common.{◌≡◌, ℕ, zero, suc, ◌<◌, ◌==◌, ◌&&◌, ◌||◌, not, bit_and, bit_or, IfSome, Option, None}
+use Rattle.std.proofs.Common.{refl, arith}
+use Rattle.codegen.proofs.expression_code_lemmas.Below.{Allocation, binary, BinaryOperator, emitted_operator, Finish}
+use Rattle.codegen.proofs.expression_code_lemmas.Below.{IsWithinKind, marks_of, nat_tests, of_bits, operated}
+use Rattle.codegen.proofs.expression_code_lemmas.Below.{opposite_by, opposite_in, opposite_of, Place, Profile, TermTree}
+use Rattle.codegen.proofs.expression_code_lemmas.Below.{Width, word_of, WordType}
+use Rattle.codegen.specs.Below.{Equal, Greater, GreaterOrEqual, Less, LessOrEqual, LogicalAnd, LogicalOr, logic, Makes}
+use Rattle.codegen.specs.Below.{operation_of, truth_of, Unequal}
+use Rattle.codegen.specs.declared.expression_code.numbers.Finish.TheVariants.{GivesZero}
+use Rattle.codegen.specs.expression_code.TermCode.{finish_of}
 use Rattle.std.proofs.lemmas.Bool.{cond_both}
 
 -- functions of two bools are the same where they are at 0 and at 1
@@ -47,3 +52,36 @@ module _ (place : Place) (a b : ℕ) where
   emitted_marks allocation operator =
       cond_both allocation.immediates (of_bits operator) operator
       (λ emitted. marks_of place operator a b ≡ marks_of place emitted a b) (λ on. bits_marks operator) (λ off. refl)
+
+-- of the same operands a comparison holds exactly where another one does not, and shows the same
+pub record IsOpposite (operator other : BinaryOperator) : Type 0 where
+  pub operation : operation_of other ≡ operation_of operator
+  pub denies : (w : Width) (a b : ℕ) → (operated other w a b == 0) ≡ not (operated operator w a b == 0)
+  pub unmarked : (place : Place) (a b : ℕ) → marks_of place operator a b ≡ marks_of place other a b
+
+opposite : (operator : BinaryOperator) → IfSome (opposite_of operator) (IsOpposite operator)
+opposite Equal =
+    record { operation = refl; denies = λ w a b. grind (arith, nat_tests); unmarked = λ place a b. refl }
+opposite Unequal =
+    record { operation = refl; denies = λ w a b. grind (arith, nat_tests); unmarked = λ place a b. refl }
+opposite Less =
+    record { operation = refl; denies = λ w a b. grind (arith, nat_tests); unmarked = λ place a b. refl }
+opposite LessOrEqual =
+    record { operation = refl; denies = λ w a b. grind (arith, nat_tests); unmarked = λ place a b. refl }
+opposite Greater =
+    record { operation = refl; denies = λ w a b. grind (arith, nat_tests); unmarked = λ place a b. refl }
+opposite GreaterOrEqual =
+    record { operation = refl; denies = λ w a b. grind (arith, nat_tests); unmarked = λ place a b. refl }
+opposite operator = tt
+
+by_finish : (finish : Finish) (operator : BinaryOperator) → IfSome (opposite_by finish operator) (IsOpposite operator)
+by_finish GivesZero operator = opposite operator
+by_finish finish operator = tt
+
+pub opposite_known : (allocation : Allocation) (place : Place) (operator : BinaryOperator) (w : Width)
+    (left right : TermTree)
+    → IfSome (opposite_in allocation (binary place operator w left right)) (IsOpposite operator)
+opposite_known allocation place operator w left right =
+    let finish = finish_of allocation operator left right in
+    cond_both allocation.immediates (opposite_by finish operator) None
+    (λ (o : Option BinaryOperator). IfSome o (IsOpposite operator)) (λ on. by_finish finish operator) (λ off. tt)

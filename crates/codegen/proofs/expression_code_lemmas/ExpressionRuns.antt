@@ -1,13 +1,14 @@
 -- The code of an expression puts the expression's value where it is found.
 use Rattle.std.proofs.Common.{◌≡◌, ℕ, ◌+◌, ◌-◌, ◌*◌, ◌%◌, ◌^◌, ◌<◌, ◌≤◌, true, List, [], ◌++◌, length, Option, None}
 use Rattle.std.proofs.Common.{Some, slice_get, slice_index, refl, sym, ap, ap₂, ◌∙◌, arith, Bool, append-nil, false}
-use Rattle.std.proofs.Common.{inl, if◌then◌else◌, ◌==◌}
+use Rattle.std.proofs.Common.{inl, if◌then◌else◌, ◌==◌, IfSome, is_some, length-append, subst}
 use Rattle.codegen.proofs.expression_code_lemmas.Below.{along, at_home, array_as, as_code, binary, BinaryOperator}
 use Rattle.codegen.proofs.expression_code_lemmas.Below.{by_test, near_element, Profile, State, StraightState, cheaper}
 use Rattle.codegen.proofs.expression_code_lemmas.Below.{Boolean, choice_code, choice_or_zero_code, chooses_zero, Label}
 use Rattle.codegen.proofs.expression_code_lemmas.Below.{constant_code, copy_code, keeps_words, Kind, element_code}
 use Rattle.codegen.proofs.expression_code_lemmas.Below.{expr_code, fetch_code, gives, TermHasType, height_of, home_of}
-use Rattle.codegen.proofs.expression_code_lemmas.Below.{InSlot, Instr, into_code, left_row, lt-ltb, move_code, none}
+use Rattle.codegen.proofs.expression_code_lemmas.Below.{InSlot, Instr, into_by, into_code, left_row, lt-ltb, move_code}
+use Rattle.codegen.proofs.expression_code_lemmas.Below.{none, opposite_in, placed_code}
 use Rattle.codegen.proofs.expression_code_lemmas.Below.{number_at, number_code, number_row, NumberRow, of_binary}
 use Rattle.codegen.proofs.expression_code_lemmas.Below.{of_conversion, of_element, of_number, of_prefix, of_rotation}
 use Rattle.codegen.proofs.expression_code_lemmas.Below.{of_selection, of_truth, of_variable, operand, operated, Path}
@@ -17,12 +18,15 @@ use Rattle.codegen.proofs.expression_code_lemmas.Below.{variable_offset, weaken,
 use Rattle.codegen.proofs.expression_code_lemmas.Below.{registers_after, word_as, word_of, WordType, working_register}
 use Rattle.codegen.proofs.expression_code_lemmas.Events.{by_index}
 use Rattle.codegen.proofs.expression_code_lemmas.Fitting.{value_fits}
-use Rattle.codegen.proofs.expression_code_lemmas.Frame.{Setting, Steps, base_of, by_option, Runs, HeldAt, terms_at}
+use Rattle.codegen.proofs.expression_code_lemmas.Frame.{After, Before, Setting, Steps, base_of, by_option, Runs}
+use Rattle.codegen.proofs.expression_code_lemmas.Frame.{HeldAt, terms_at}
 use Rattle.codegen.proofs.expression_code_lemmas.WorkRegisters.{place_works, IsFree, ArePair, IsTarget, free_from}
 use Rattle.codegen.proofs.expression_code_lemmas.WorkRegisters.{working_free, operand_apart, operand_not, own_target}
 use Rattle.codegen.proofs.expression_code_lemmas.WorkRegisters.{works_at, low_at, target_works, spare_works}
 use Rattle.codegen.proofs.expression_code_lemmas.WorkRegisters.{not_written}
-use Rattle.codegen.proofs.expression_code_lemmas.Arithmetic.{chosen, chosen_or_zero, choice, choice_or_zero}
+use Rattle.codegen.proofs.expression_code_lemmas.Arithmetic.{chosen, chosen_or_zero, choice, choice_or_zero, if_not}
+use Rattle.codegen.proofs.expression_code_lemmas.Arithmetic.{picks}
+use Rattle.codegen.proofs.expression_code_lemmas.BoolCode.{IsOpposite, opposite_known}
 use Rattle.codegen.proofs.expression_code_lemmas.Moves.{is_written, take, move_runs}
 use Rattle.codegen.proofs.expression_code_lemmas.NumberCode.{known, known_word, left_known, number_means, right_known}
 use Rattle.codegen.proofs.expression_code_lemmas.NumberCode.{row_quiet, swapped_quiet, swapped_same, zero_known}
@@ -33,7 +37,8 @@ use Rattle.codegen.proofs.expression_code_lemmas.OperatorCode.{choice_made, choi
 use Rattle.codegen.proofs.expression_code_lemmas.Homes.{conversion_kept}
 use Rattle.codegen.proofs.expression_code_lemmas.Places.{kind_known}
 use Rattle.codegen.proofs.expression_code_lemmas.TermLengths.{height, constant_length, move_length, convert_length}
-use Rattle.codegen.proofs.expression_code_lemmas.TermLengths.{number_length, prefix_length, rotate_length}
+use Rattle.codegen.proofs.expression_code_lemmas.TermLengths.{mask_length, number_length, prefix_length}
+use Rattle.codegen.proofs.expression_code_lemmas.TermLengths.{rotate_length}
 use Rattle.codegen.proofs.expression_code_lemmas.Values.{array_lies, Leaves, Ready, Valued, ValuedIn, kind_fits}
 use Rattle.codegen.proofs.expression_code_lemmas.Values.{place_ends, value_word}
 use Rattle.codegen.proofs.expression_code_lemmas.Elements.{near_runs, picked}
@@ -244,26 +249,45 @@ module _ (z : Setting) (free : ℕ) (aligned : free % 4 ≡ 0) (above : base_of 
           value_fits (types_of z.code.profile z.declared) env.variables ready.fits more,
         )))))
 
-    -- A choice, which the mask of its condition makes alone where the third operand is 0.
-    chosen_runs : {condition accepted otherwise : TermTree} {kind : Kind} {l m n : Label}
-        → Typed slots condition (record { kind = Boolean; label = l })
+    -- A choice, which the mask of its condition makes alone where the third operand is 0. The mask is made of the
+    -- condition or of its opposite.
+
+    abbrev mask : ℕ
+    mask = working_register count place 29
+
+    abbrev selected : Bool → TermTree → List Instr → TermTree → TermTree → List Instr
+    selected is_opposite tested is accepted otherwise =
+        let c = found slots place tested 29 in
+        let l = found slots (place + 1) accepted 30 in
+        if chooses_zero z.allocation otherwise
+        then placed_code (terms_at z free) place tested is ++ placed_at (place + 1) accepted
+        ++ fetched place tested 29 ++ fetched (place + 1) accepted 30
+        ++ choice_or_zero_code is_opposite d mask c l
+        else placed_code (terms_at z free) place tested is ++ placed_at (place + 1) accepted
+        ++ placed_at (place + 2) otherwise
+        ++ fetched place tested 29 ++ fetched (place + 1) accepted 30 ++ fetched (place + 2) otherwise 31
+        ++ choice_code is_opposite d mask next c l (found slots (place + 2) otherwise 31)
+
+    chosen_runs : (is_opposite : Bool) {tested accepted otherwise whole : TermTree} {kind : Kind} {l m n : Label}
+        → Typed slots tested (record { kind = Boolean; label = l })
         → Typed slots accepted (record { kind = kind; label = m })
         → Typed slots otherwise (record { kind = kind; label = n })
+        → ((v : Values) → ((if picks is_opposite (value_in v tested) then value_in v accepted else value_in v otherwise)
+        ≡ value_in v whole)
+        × (path_in v whole ≡ path_in v tested ++ path_in v accepted ++ path_in v otherwise))
         → HasSlot slots (place + 2)
-        → Lies slots condition place → Lies slots accepted (place + 1) → Lies slots otherwise (place + 2)
-        → Comes (select condition accepted otherwise)
-        (16 * (1 + term_nodes condition + term_nodes accepted + term_nodes otherwise) - 3)
-        (into_code (terms_at z free) d place (select condition accepted otherwise))
-    chosen_runs {condition = condition} {accepted = accepted} {otherwise = otherwise} has chooses more room first
-        second third =
-        let e = operands condition accepted otherwise in
-        let c = found slots place condition 29 in
+        → Lies slots tested place → Lies slots accepted (place + 1) → Lies slots otherwise (place + 2)
+        → Comes whole (16 * (1 + term_nodes tested + term_nodes accepted + term_nodes otherwise) - 3)
+        (selected is_opposite tested (into_code (terms_at z free) mask place tested) accepted otherwise)
+    chosen_runs is_opposite {tested = tested} {accepted = accepted} {otherwise = otherwise} has chooses more same room
+        first second third =
+        let e = operands tested accepted otherwise in
+        let c = found slots place tested 29 in
         let l = found slots (place + 1) accepted 30 in
         let r = found slots (place + 2) otherwise 31 in
-        let mask = working_register count place 29 in
         let mask_free = working_free count place 29 few (omega arith) (omega arith) in
         let mask_works = place_works count place d place 29 (omega arith) (omega arith) in
-        let c_free = found_free slots place 0 condition (omega arith) in
+        let c_free = found_free slots place 0 tested (omega arith) in
         let l_free = found_free slots place 1 accepted (omega arith) in
         let r_free = found_free slots place 2 otherwise (omega arith) in
         let lm = found_apart slots place 1 0 accepted (omega arith) in
@@ -274,36 +298,99 @@ module _ (z : Setting) (free : ℕ) (aligned : free % 4 ≡ 0) (above : base_of 
         by_test (chooses_zero z.allocation otherwise)
         (λ is.
         let zero = known otherwise 0 (zero_known z.allocation otherwise is) in
-        let masked = choice_or_zero_made spare works own spare_own l_free mask_free mask_works c_free lm in
-        along (λ env. ap (λ (p : Path). path_in env.variables condition ++ path_in env.variables accepted ++ p)
-        (zero env.variables).1 ∙ append-nil (path_in env.variables condition ++ path_in env.variables accepted))
-        (cheaper (omega arith)
-        (computed e (choice_or_zero_code d mask c l) masked.0
+        let masked = choice_or_zero_made spare works own spare_own l_free is_opposite mask_free mask_works c_free lm in
+        along (λ env. (same env.variables).1
+        ∙ (ap (λ (p : Path). path_in env.variables tested ++ path_in env.variables accepted ++ p)
+        (zero env.variables).1 ∙ append-nil (path_in env.variables tested ++ path_in env.variables accepted)))
+        (cheaper (omega (arith, length-append {A = Instr}, mask_length is_opposite mask c))
+        (computed e (choice_or_zero_code is_opposite d mask c l) masked.0
         (one_fetched slots place e 1 (omega arith) (omega arith) (omega arith)
         (one_fetched slots place e 0 (omega arith) (omega arith) (omega arith) two))
         (λ env s u ready done.
         masked.1 u.regs
-        ∙ (ap₂ chosen_or_zero (done.fetched 0 (omega arith)) (done.fetched 1 (omega arith))
-        ∙ (choice_or_zero (value env condition) (value env accepted) (omega (arith, truth env s ready))
+        ∙ (ap₂ (chosen_or_zero is_opposite) (done.fetched 0 (omega arith)) (done.fetched 1 (omega arith))
+        ∙ (choice_or_zero is_opposite (value env tested) (value env accepted) (omega (arith, truth env s ready))
         (fits chooses env s ready)
-        ∙ ap (λ v. if value env condition == 0 then v else value env accepted) (sym (zero env.variables).0)))))))
+        ∙ (ap (λ v. if picks is_opposite (value env tested) then value env accepted else v)
+        (sym (zero env.variables).0)
+        ∙ (same env.variables).0)))))))
         (λ is.
-        let merged = choice_made pair works own next_own r_free mask_free mask_works c_free l_free
+        let merged = choice_made pair works own next_own r_free is_opposite mask_free mask_works c_free l_free
         (operand_apart count place (place + 1) 29 30 mask few (omega arith) (omega arith) (omega arith) (omega arith)
         (inl refl)) lm
         (found_apart slots place 2 0 otherwise (omega arith)) (found_apart slots place 2 1 otherwise (omega arith)) in
-        cheaper (omega (arith, height condition, height accepted, height otherwise))
-        (computed e (choice_code d mask next c l r) merged.0
+        along (λ env. (same env.variables).1)
+        (cheaper (omega (
+          arith,
+          length-append {A = Instr},
+          mask_length is_opposite mask c,
+          height tested,
+          height accepted,
+          height otherwise,
+        ))
+        (computed e (choice_code is_opposite d mask next c l r) merged.0
         (one_fetched slots place e 2 (omega arith) (omega arith) room
         (one_fetched slots place e 1 (omega arith) (omega arith) (omega arith)
         (one_fetched slots place e 0 (omega arith) (omega arith) (omega arith)
         (one_more slots place e 2 two third))))
         (λ env s u ready done.
         merged.1 u.regs
-        ∙ (ap (λ v. chosen v (u.regs l) (u.regs r)) (done.fetched 0 (omega arith))
-        ∙ (ap₂ (chosen (value env condition)) (done.fetched 1 (omega arith)) (done.fetched 2 (omega arith))
-        ∙ choice (value env condition) (value env accepted) (value env otherwise) (omega (arith, truth env s ready))
-        (fits chooses env s ready) (fits more env s ready))))))
+        ∙ (ap (λ v. chosen is_opposite v (u.regs l) (u.regs r)) (done.fetched 0 (omega arith))
+        ∙ (ap₂ (chosen is_opposite (value env tested)) (done.fetched 1 (omega arith)) (done.fetched 2 (omega arith))
+        ∙ (choice is_opposite (value env tested) (value env accepted) (value env otherwise)
+        (omega (arith, truth env s ready)) (fits chooses env s ready) (fits more env s ready)
+        ∙ (same env.variables).0)))))))
+
+    -- the code of the choice is that of the operator that stands for the condition's own
+    by_opposite : {n : ℕ} {steps : Steps} {P : Before} {Q : After} (code : Option BinaryOperator → List Instr)
+        (o : Option BinaryOperator)
+        → ((other : BinaryOperator) → o ≡ Some other → Runs z n steps (code (Some other)) P Q)
+        → (o ≡ None → Runs z n steps (code None) P Q)
+        → Runs z n steps (code o) P Q
+    by_opposite code (Some other) some none = some other refl
+    by_opposite code None some none = none refl
+
+    -- A choice by a comparison, whose opposite its mask may be made of.
+    compared_runs : (source : Place) (operator : BinaryOperator) (width : Width)
+        {left right accepted otherwise : TermTree} {one two : WordType} {kind : Kind} {l m n : Label}
+        → Typed slots left one → Typed slots right two
+        → Makes z.code.profile (operation_of operator) one two (record { kind = Boolean; label = l })
+        → width ≡ width_of one.kind
+        → Typed slots accepted (record { kind = kind; label = m })
+        → Typed slots otherwise (record { kind = kind; label = n })
+        → HasSlot slots (place + 2)
+        → ((o : BinaryOperator) → Makes z.code.profile (operation_of o) one two (record { kind = Boolean; label = l })
+        → Lies slots (binary source o width left right) place)
+        → Lies slots accepted (place + 1) → Lies slots otherwise (place + 2)
+        → Comes (select (binary source operator width left right) accepted otherwise)
+        (16 * (1 + (1 + term_nodes left + term_nodes right) + term_nodes accepted + term_nodes otherwise) - 3)
+        (into_code (terms_at z free) d place (select (binary source operator width left right) accepted otherwise))
+    compared_runs source operator width {left = left} {right = right} {accepted = accepted} {otherwise = otherwise}
+        {one = one} {two = two} {l = l} has other makes same chooses more room first second third =
+        let condition = binary source operator width left right in
+        by_opposite
+        (λ o. selected (is_some o) condition (into_by (terms_at z free) o mask place condition) accepted otherwise)
+        (opposite_in z.allocation condition)
+        (λ o is.
+        let opposite : IsOpposite operator o = subst (λ (x : Option BinaryOperator). IfSome x (IsOpposite operator)) is
+        (opposite_known z.allocation source operator width left right) in
+        let kept = subst (λ made. Makes z.code.profile made one two (record { kind = Boolean; label = l }))
+        (sym opposite.operation) makes in
+        chosen_runs true (of_binary {place = source} {operator = o} has other kept same) chooses more
+        (λ v.
+        let a = value_in v left in
+        let b = value_in v right in
+        let x = value_in v accepted in
+        let y = value_in v otherwise in (
+          ap (λ is. if is then x else y) (opposite.denies width a b) ∙ if_not (operated operator width a b == 0) x y,
+          ap (λ (p : Path). (path_in v left ++ path_in v right ++ p) ++ path_in v accepted ++ path_in v otherwise)
+              (opposite.unmarked source a b),
+        ))
+        room (first o kept) second third)
+        (λ is.
+        chosen_runs false (of_binary {place = source} {operator = operator} has other makes same) chooses more
+        (λ v. (if_not (value_in v condition == 0) (value_in v accepted) (value_in v otherwise), refl))
+        room (first operator makes) second third)
 
   -- an expression whose value can come into any register comes into its place
   lies : {e : TermTree} {word : WordType} → Typed slots e word → (place : ℕ)
@@ -368,8 +455,22 @@ module _ (z : Setting) (free : ℕ) (aligned : free % 4 ≡ 0) (above : base_of 
       (width_of kind))
       (λ m. refl)
       (lies has place room (into_runs has place)))
-  into_runs (of_selection has chooses more) place d target room =
-      chosen_runs place d target has chooses more (omega arith)
+  into_runs (of_selection (of_binary {place = source} {operator = operator} {width = width} has other makes same)
+      chooses more) place d target room =
+      compared_runs place d target source operator width has other makes same chooses more (omega arith)
+      (λ o kept.
+      lies (of_binary {place = source} {operator = o} has other kept same) place (omega arith)
+      (λ d target room.
+      operated_runs place d target source o width has other kept (omega arith)
+      (lies has place (omega arith) (into_runs has place))
+      (lies other place (omega arith) (into_runs other place))
+      (lies other (place + 1) (omega arith) (into_runs other (place + 1)))))
+      (lies chooses (place + 1) (omega arith) (into_runs chooses (place + 1)))
+      (lies more (place + 2) (omega arith) (into_runs more (place + 2)))
+  into_runs (of_selection {condition = condition} {accepted = accepted} {otherwise = otherwise} has chooses more) place d
+      target room =
+      chosen_runs place d target false has chooses more
+      (λ v. (if_not (value_in v condition == 0) (value_in v accepted) (value_in v otherwise), refl)) (omega arith)
       (lies has place (omega arith) (into_runs has place))
       (lies chooses (place + 1) (omega arith) (into_runs chooses (place + 1)))
       (lies more (place + 2) (omega arith) (into_runs more (place + 2)))

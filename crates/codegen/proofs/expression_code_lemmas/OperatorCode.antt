@@ -280,24 +280,58 @@ module _ {d t : ℕ} (pair : ArePair d t) where
       operator_plain first operator w plain = simp (wd, wt, d32, t32, q32 first, q32 source, cut_plain w)
 
       -- a choice, with the mask in m
-      pub choice_made : {m c l : ℕ} → IsFree m → works m ≡ true → IsFree c → IsFree l → m ≢ t → l ≢ m → r ≢ m → r ≢ t
-          → (only_computes works (choice_code d m t c l r) ≡ true)
-          × ((regs : ℕ → ℕ) → registers_after (choice_code d m t c l r) regs d ≡ chosen (regs c) (regs l) (regs r))
-      choice_made {m = m} {l = l} mask wm condition first mt lm rm rt =
-          let mm = eq-eqb m m refl in
-          let m_t = ne_eqb m t mt in
-          let l_m = ne_eqb l m lm in
-          let r_m = ne_eqb r m rm in
-          let r_t = ne_eqb r t rt in (
-            simp (wd, wt, wm, d32, t32, q32 mask, q32 condition, q32 first, q32 source),
-            λ regs. simp (dd, tt', mm, m_t, l_m, r_m, r_t, d0, t0, q0 mask, q0 condition, q0 first, q0 source),
-          )
+      pub choice_made : (is_opposite : Bool) {m c l : ℕ} → IsFree m → works m ≡ true → IsFree c → IsFree l → m ≢ t
+          → l ≢ m → r ≢ m → r ≢ t
+          → (only_computes works (choice_code is_opposite d m t c l r) ≡ true)
+          × ((regs : ℕ → ℕ) → registers_after (choice_code is_opposite d m t c l r) regs d
+          ≡ chosen is_opposite (regs c) (regs l) (regs r))
+      choice_made true {m = m} {l = l} mask wm condition first mt lm rm rt = (
+        simp (wd, wt, wm, d32, t32, q32 mask, q32 condition, q32 first, q32 source),
+        λ regs. simp (
+          dd,
+          tt',
+          eq-eqb m m refl,
+          ne_eqb m t mt,
+          ne_eqb l m lm,
+          ne_eqb r m rm,
+          ne_eqb r t rt,
+          d0,
+          t0,
+          q0 mask,
+          q0 condition,
+          q0 first,
+          q0 source,
+        ),
+      )
+      choice_made false {m = m} {l = l} mask wm condition first mt lm rm rt = (
+        simp (wd, wt, wm, d32, t32, q32 mask, q32 condition, q32 first, q32 source),
+        λ regs. simp (
+          dd,
+          tt',
+          eq-eqb m m refl,
+          ne_eqb m t mt,
+          ne_eqb l m lm,
+          ne_eqb r m rm,
+          ne_eqb r t rt,
+          d0,
+          t0,
+          q0 mask,
+          q0 condition,
+          q0 first,
+          q0 source,
+        ),
+      )
 
       -- and one between a value and 0
-      pub choice_or_zero_made : {m c : ℕ} → IsFree m → works m ≡ true → IsFree c → r ≢ m
-          → (only_computes works (choice_or_zero_code d m c r) ≡ true)
-          × ((regs : ℕ → ℕ) → registers_after (choice_or_zero_code d m c r) regs d ≡ chosen_or_zero (regs c) (regs r))
-      choice_or_zero_made {m = m} mask wm condition rm = (
+      pub choice_or_zero_made : (is_opposite : Bool) {m c : ℕ} → IsFree m → works m ≡ true → IsFree c → r ≢ m
+          → (only_computes works (choice_or_zero_code is_opposite d m c r) ≡ true)
+          × ((regs : ℕ → ℕ) → registers_after (choice_or_zero_code is_opposite d m c r) regs d
+          ≡ chosen_or_zero is_opposite (regs c) (regs r))
+      choice_or_zero_made true {m = m} mask wm condition rm = (
+        simp (wd, wm, d32, q32 mask, q32 condition, q32 source),
+        λ regs. simp (dd, eq-eqb m m refl, ne_eqb r m rm, d0, q0 mask, q0 condition, q0 source),
+      )
+      choice_or_zero_made false {m = m} mask wm condition rm = (
         simp (wd, wm, d32, q32 mask, q32 condition, q32 source),
         λ regs. simp (dd, eq-eqb m m refl, ne_eqb r m rm, d0, q0 mask, q0 condition, q0 source),
       )

@@ -1,14 +1,16 @@
 -- What is known of a term: how many temporaries it has at once, how many instructions it is, and which variables it
 -- names.
 use Rattle.std.proofs.Common.{◌≡◌, ℕ, ◌+◌, ◌*◌, ◌%◌, ◌<◌, ◌≤◌, ◌==◌, Bool, true, false, cond, nat_lt, List, length}
-use Rattle.std.proofs.Common.{Option, None, Some, ◌-◌, arith, length-append}
+use Rattle.std.proofs.Common.{Option, None, Some, ◌-◌, arith, length-append, unwrap_or}
 use Rattle.std.proofs.lemmas.Option.{slice_get_within}
 use Rattle.codegen.proofs.expression_code_lemmas.Below.{expr_code, address_code, around_code, binary}
 use Rattle.codegen.proofs.expression_code_lemmas.Below.{BinaryOperator, bits, code_by, chooses_zero, constant_code}
 use Rattle.codegen.proofs.expression_code_lemmas.Below.{convert, convert_code, copy_code, element, fetch_code, Finish}
 use Rattle.codegen.proofs.expression_code_lemmas.Below.{finish_code, FlatVariable, TermHasType, height_of, InRegister}
-use Rattle.codegen.proofs.expression_code_lemmas.Below.{InSlot, Instr, into_code, IsAmong, is_at_home, keep_code}
-use Rattle.codegen.proofs.expression_code_lemmas.Below.{keeps_words, Kind, left_row, load_code, Location, move_code}
+use Rattle.codegen.proofs.expression_code_lemmas.Below.{InSlot, Instr, into_by, into_code, IsAmong, is_at_home}
+use Rattle.codegen.proofs.expression_code_lemmas.Below.{keep_code}
+use Rattle.codegen.proofs.expression_code_lemmas.Below.{keeps_words, Kind, left_row, load_code, Location, mask_code}
+use Rattle.codegen.proofs.expression_code_lemmas.Below.{move_code, opposite_in, placed_code}
 use Rattle.codegen.proofs.expression_code_lemmas.Below.{narrow_code, narrowed_in, near_element, number_code, NumberRow}
 use Rattle.codegen.proofs.expression_code_lemmas.Below.{NumberStep, number_step_code, of_binary, of_conversion}
 use Rattle.codegen.proofs.expression_code_lemmas.Below.{of_element, of_number, of_prefix, of_rotation, of_selection}
@@ -134,6 +136,10 @@ rotate_length d r w amount =
     (omega (arith, narrow_length d d w)) in
     simp length-append (omega (arith, narrow_length d r w, around))
 
+pub mask_length : (is_opposite : Bool) (m c : ℕ) → length (mask_code is_opposite m c) ≤ 1
+mask_length true m c = omega arith
+mask_length false m c = omega arith
+
 scale_length : (d r : ℕ) (kind : Kind) → length (scale_code d r kind) ≤ 2
 scale_length d r Boolean = omega arith
 scale_length d r kind = omega arith
@@ -148,10 +154,10 @@ module _ (layout : TermLayout) where
   abbrev own : ℕ → ℕ
   own place = working_register layout.allocation.count place 29
 
-  placed_length : (place : ℕ) (e : TermTree)
-      → length (into_code layout (own place) place e) ≤ 16 * term_nodes e - 3
-      → length (expr_code layout place e) ≤ 16 * term_nodes e
-  placed_length place e few =
+  placed_length : (other : Option BinaryOperator) (place : ℕ) (e : TermTree)
+      → length (into_by layout other (own place) place e) ≤ 16 * term_nodes e - 3
+      → length (placed_code layout place e (into_by layout other (own place) place e)) ≤ 16 * term_nodes e
+  placed_length other place e few =
       one_of (is_at_home layout.allocation e) _ _ _ (omega arith)
       (simp length-append (omega (
         arith,
@@ -160,44 +166,48 @@ module _ (layout : TermLayout) where
         keep_length (temporary layout.allocation.count layout.free place),
       )))
 
-  into_short : (d place : ℕ) (e : TermTree) → length (into_code layout d place e) ≤ 16 * term_nodes e - 3
-  into_short d place (variable x) = omega (arith, copy_length d (variable_location layout.declared layout.allocation x))
-  into_short d place (prefix operator width e) =
-      let placed = placed_length place e (into_short (own place) place e) in
+  into_short : (other : Option BinaryOperator) (d place : ℕ) (e : TermTree)
+      → length (into_by layout other d place e) ≤ 16 * term_nodes e - 3
+  into_short other d place (variable x) =
+      omega (arith, copy_length d (variable_location layout.declared layout.allocation x))
+  into_short other d place (prefix operator width e) =
+      let placed = placed_length None place e (into_short None (own place) place e) in
       omega (arith, length-append {A = Instr}, placed, fetch_length, prefix_length)
-  into_short d place (binary source operator width one other) =
-      let left = placed_length place one (into_short (own place) place one) in
-      let right = placed_length place other (into_short (own place) place other) in
-      let next = placed_length (place + 1) other (into_short (own (place + 1)) (place + 1) other) in
-      code_length (right_row layout.allocation operator other) _ _ _
+  into_short other d place (binary source operator width one two) =
+      let emitted = unwrap_or other operator in
+      let left = placed_length None place one (into_short None (own place) place one) in
+      let right = placed_length None place two (into_short None (own place) place two) in
+      let next = placed_length None (place + 1) two (into_short None (own (place + 1)) (place + 1) two) in
+      code_length (right_row layout.allocation emitted two) _ _ _
       (λ row.
       let made = number_length d (register_of (operand layout place one) 29) width row in
       omega (arith, length-append {A = Instr}, left, fetch_length, made))
-      (code_length (left_row layout.allocation operator one) _ _ _
+      (code_length (left_row layout.allocation emitted one) _ _ _
       (λ row.
-      let made = number_length d (register_of (operand layout place other) 29) width row in
+      let made = number_length d (register_of (operand layout place two) 29) width row in
       omega (arith, length-append {A = Instr}, right, fetch_length, made))
       (omega (arith, length-append {A = Instr}, left, next, fetch_length, operator_length)))
-  into_short d place (rotate width e amount) =
-      let placed = placed_length place e (into_short (own place) place e) in
+  into_short other d place (rotate width e amount) =
+      let placed = placed_length None place e (into_short None (own place) place e) in
       omega (arith, length-append {A = Instr}, placed, fetch_length, rotate_length)
-  into_short d place (convert kind e) =
-      let placed = placed_length place e (into_short (own place) place e) in
-      one_of (keeps_words layout.allocation kind) _ _ _ (omega (arith, into_short d place e))
+  into_short other d place (convert kind e) =
+      let placed = placed_length None place e (into_short None (own place) place e) in
+      one_of (keeps_words layout.allocation kind) _ _ _ (omega (arith, into_short None d place e))
       (omega (arith, length-append {A = Instr}, placed, fetch_length, convert_length))
-  into_short d place (select condition accepted otherwise) =
-      let first = placed_length place condition (into_short (own place) place condition) in
-      let second = placed_length (place + 1) accepted (into_short (own (place + 1)) (place + 1) accepted) in
-      let third = placed_length (place + 2) otherwise (into_short (own (place + 2)) (place + 2) otherwise) in
+  into_short other d place (select condition accepted otherwise) =
+      let opposite = opposite_in layout.allocation condition in
+      let first = placed_length opposite place condition (into_short opposite (own place) place condition) in
+      let second = placed_length None (place + 1) accepted (into_short None (own (place + 1)) (place + 1) accepted) in
+      let third = placed_length None (place + 2) otherwise (into_short None (own (place + 2)) (place + 2) otherwise) in
       one_of (chooses_zero layout.allocation otherwise) _ _ _
-      (omega (arith, length-append {A = Instr}, first, second, fetch_length))
-      (omega (arith, length-append {A = Instr}, first, second, third, fetch_length))
-  into_short d place (element source x size index) =
-      let placed = placed_length place index (into_short (own place) place index) in
+      (omega (arith, length-append {A = Instr}, first, second, fetch_length, mask_length))
+      (omega (arith, length-append {A = Instr}, first, second, third, fetch_length, mask_length))
+  into_short other d place (element source x size index) =
+      let placed = placed_length None place index (into_short None (own place) place index) in
       code_length (near_element layout.declared layout.allocation x index) _ _ _ (λ o. omega arith)
       (omega (arith, length-append {A = Instr}, placed, fetch_length, address_length))
-  into_short d place e = omega (arith, constant_length)
+  into_short other d place e = omega (arith, constant_length)
 
   pub into_length : (d place : ℕ) (e : TermTree)
       → length (into_code layout d place e) + 3 ≤ 16 * term_nodes e
-  into_length d place e = omega (arith, into_short d place e, height e)
+  into_length d place e = omega (arith, into_short None d place e, height e)

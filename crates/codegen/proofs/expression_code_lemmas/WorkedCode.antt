@@ -6,7 +6,8 @@ use Rattle.codegen.proofs.expression_code_lemmas.Below.{Allocation, binary, conv
 use Rattle.codegen.proofs.expression_code_lemmas.Below.{Instr, into_code, Place, rotate, select, TermTree, variable}
 use Rattle.codegen.proofs.expression_code_lemmas.Below.{word_as, WordType}
 use Rattle.codegen.specs.expression_code.Allocation.{plain}
-use Rattle.codegen.specs.Below.{Addi, Andi, array_as, BitAnd, LogicalAnd, LessOrEqual, Lui, Lw, Mul, Multiply, number}
+use Rattle.codegen.specs.Below.{Addi, Andi, array_as, BitAnd, GreaterOrEqual, Less, LogicalAnd, LessOrEqual, Lui, Lw}
+use Rattle.codegen.specs.Below.{Mul, Multiply, number}
 use Rattle.codegen.specs.Below.{ShiftLeft, Slli, Sltiu, Srli, Subtract, Uint32, Uint8, Unequal, W32}
 use Rattle.language.specs.declared.signature.Label.TheVariants.{Public}
 use Rattle.language.specs.declared.operators.BinaryOperator.TheVariants.{Add}
@@ -106,6 +107,31 @@ module _ (place : Place) where
       ∷ instr.Register register.Sub 5 0 13 ∷ instr.Register register.Xor 6 14 7 ∷ instr.Register register.And 6 6 5
       ∷ instr.Register register.Xor 5 7 6 ∷ []
   choice_of_zero = refl
+
+  -- a mask is made of the opposite of what would take another instruction
+  mask_of_opposite : code with_numbers (select (binary place LessOrEqual W32 a b) b (number 0 Uint32))
+      ≡ instr.Register register.Sltu 5 14 13 ∷ instr.Immediate Addi 5 5 4095 ∷ instr.Register register.And 5 14 5 ∷ []
+  mask_of_opposite = refl
+
+  mask_of_own : code with_numbers (select (binary place Less W32 a b) b (number 0 Uint32))
+      ≡ instr.Register register.Sltu 5 13 14 ∷ instr.Register register.Sub 5 0 5 ∷ instr.Register register.And 5 14 5 ∷ []
+  mask_of_own = refl
+
+  -- with a number, where that has the instruction less
+  mask_with_number : code with_numbers (select (binary place GreaterOrEqual W32 a (number 7 Uint32)) a b)
+      ≡ instr.Immediate Sltiu 5 13 7 ∷ instr.Immediate Addi 5 5 4095 ∷ instr.Register register.Xor 6 13 14
+      ∷ instr.Register register.And 6 6 5 ∷ instr.Register register.Xor 5 14 6 ∷ []
+  mask_with_number = refl
+
+  mask_at_most : code with_numbers (select (binary place LessOrEqual W32 a (number 7 Uint32)) b (number 0 Uint32))
+      ≡ instr.Immediate Sltiu 5 13 8 ∷ instr.Register register.Sub 5 0 5 ∷ instr.Register register.And 5 14 5 ∷ []
+  mask_at_most = refl
+
+  -- which plain code has
+  mask_plain : code both_home (select (binary place LessOrEqual W32 a b) a b)
+      ≡ instr.Register register.Sltu 5 14 13 ∷ instr.Immediate Sltiu 5 5 1 ∷ instr.Register register.Sub 5 0 5
+      ∷ instr.Register register.Xor 6 13 14 ∷ instr.Register register.And 6 6 5 ∷ instr.Register register.Xor 5 14 6 ∷ []
+  mask_plain = refl
 
   rotated : code both_home (rotate W32 a 7) ≡ instr.Shift Slli 30 13 7 ∷ instr.Shift Srli 5 13 25
       ∷ instr.Register register.Add 5 30 5 ∷ []

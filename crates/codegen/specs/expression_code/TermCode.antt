@@ -1,6 +1,6 @@
 -- The instructions that are emitted for slots, numbers, operators and expressions.
 use Rattle.std.specs.Prelude.{ℕ, zero, suc, ◌+◌, ◌-◌, ◌*◌, ◌/◌, ◌%◌, ◌^◌, ◌==◌, ◌<◌, ◌&&◌, Bool, true, false, List, []}
-use Rattle.std.specs.Prelude.{◌∷◌, ◌++◌, nat_lt, Option, None, Some, is_some, if◌then◌else◌}
+use Rattle.std.specs.Prelude.{◌∷◌, ◌++◌, nat_lt, Option, None, Some, is_some, if◌then◌else◌, unwrap_or}
 use Rattle.codegen.specs.expression_code.Layout.{TermLayout, variable_offset, variable_location}
 use Rattle.codegen.specs.expression_code.Allocation.{register_of, Allocation, home_of, temporary, working_register}
 use Rattle.codegen.specs.expression_code.Allocation.{at_home}
@@ -17,8 +17,8 @@ use Rattle.codegen.specs.expression_code.Registers.{zero_register, frame_registe
 use Rattle.codegen.specs.expression_code.Registers.{second_spare, third_spare}
 use Rattle.codegen.specs.Below.{Add, Addi, And, Andi, binary, BinaryOperator, bits, Boolean, convert, Divu, element}
 use Rattle.codegen.specs.Below.{element_bytes, FlatVariable, Immediate, Instr, Kind, Lbu, Lhu, Load, LoadOperation, Lui}
-use Rattle.codegen.specs.Below.{Lw, Mul, Mulhu, number, Or, prefix, Register, Remu, rotate, select, Shift, Sll, Slli}
-use Rattle.codegen.specs.Below.{Sltiu}
+use Rattle.codegen.specs.Below.{Lw, Mul, Mulhu, number, opposite_of, Or, prefix, Register, Remu, rotate, select, Shift}
+use Rattle.codegen.specs.Below.{Sll, Slli, Sltiu}
 use Rattle.codegen.specs.Below.{Sltu, Srl, Srli, Store, Sub, Sw, TermTree, truth, Uint16, Uint32, Uint8, Upper}
 use Rattle.codegen.specs.Below.{variable, W16, W32, W8, Width, width_of, Xor}
 use Rattle.rv_code.specs.declared.instructions.Instr.TheVariants.{Multiply, Divide}
@@ -191,6 +191,27 @@ of_bits operator = operator
 abbrev pub emitted_operator : Allocation → BinaryOperator → BinaryOperator
 emitted_operator allocation operator = if allocation.immediates then of_bits operator else operator
 
+-- what the code of an operator between two expressions ends with
+abbrev pub finish_by : Option NumberRow → Finish → Finish
+finish_by None finish = finish
+finish_by (Some row) finish = row.finish
+
+abbrev pub finish_of : Allocation → BinaryOperator → TermTree → TermTree → Finish
+finish_of allocation operator left right =
+    finish_by (right_row allocation operator right)
+    (finish_by (left_row allocation operator left) (row_of operator).finish)
+
+-- the opposite of a comparison that ends with whether something is 0
+abbrev pub opposite_by : Finish → BinaryOperator → Option BinaryOperator
+opposite_by GivesZero operator = opposite_of operator
+opposite_by finish operator = None
+
+-- the comparison that better code makes a condition's mask of, where that is its opposite
+abbrev pub opposite_in : Allocation → TermTree → Option BinaryOperator
+opposite_in allocation (binary source operator width left right) =
+    if allocation.immediates then opposite_by (finish_of allocation operator left right) operator else None
+opposite_in allocation e = None
+
 -- Each operator between an operand and a number in the instruction is a row as well.
 
 abbrev pub number_step_code : ℕ → ℕ → NumberStep → List Instr
@@ -217,14 +238,21 @@ around_code d r w amount =
 abbrev pub rotate_code : ℕ → ℕ → Width → ℕ → List Instr
 rotate_code d r w amount = narrow_code d r w ++ around_code d (narrowed_in d r w) w (amount % bits w)
 
--- of three operands, the second where the first is 1 and the third where it is 0; m gets the mask, and t what differs
-abbrev pub choice_code : ℕ → ℕ → ℕ → ℕ → ℕ → ℕ → List Instr
-choice_code d m t c l r =
-    Register Sub m zero_register c ∷ Register Xor t l r ∷ Register And t t m ∷ Register Xor d r t ∷ []
+-- the mask of a condition: all ones where it is true, and else 0. It is 0 less the condition, which is 1 or 0, and 1
+-- less than its opposite, where that is in c.
+abbrev pub mask_code : Bool → ℕ → ℕ → List Instr
+mask_code true m c = Immediate Addi m c 4095 ∷ []
+mask_code false m c = negation_code m c
 
--- of two operands, the second where the first is 1, and else 0; m gets the mask
-abbrev pub choice_or_zero_code : ℕ → ℕ → ℕ → ℕ → List Instr
-choice_or_zero_code d m c l = Register Sub m zero_register c ∷ Register And d l m ∷ []
+-- of three operands, the second where the first is true and the third where it is not; m gets the mask, and t what
+-- differs
+abbrev pub choice_code : Bool → ℕ → ℕ → ℕ → ℕ → ℕ → ℕ → List Instr
+choice_code is_opposite d m t c l r =
+    mask_code is_opposite m c ++ Register Xor t l r ∷ Register And t t m ∷ Register Xor d r t ∷ []
+
+-- of two operands, the second where the first is true, and else 0; m gets the mask
+abbrev pub choice_or_zero_code : Bool → ℕ → ℕ → ℕ → ℕ → List Instr
+choice_or_zero_code is_opposite d m c l = mask_code is_opposite m c ++ Register And d l m ∷ []
 
 -- Elements of arrays. An index in a register becomes the address of its element but for the lower part of the array's
 -- offset, which the access adds.
@@ -336,56 +364,63 @@ module _ (layout : TermLayout) where
 
   -- An expression into a register, with its operands in the places from this one on. None is fetched before the code
   -- of all of them is through. Where the instruction holds an operand that is a number, the other one is the only
-  -- operand, and a choice between a value and 0 has two.
-  abbrev pub into_code : ℕ → ℕ → TermTree → List Instr
-  into_code d place (number value kind) = constant_code d value
-  into_code d place (truth value) = constant_code d (word_of value)
-  into_code d place (variable x) = copy_code d (variable_location layout.declared layout.allocation x)
-  into_code d place (prefix operator width e) =
-      placed_code place e (into_code (own_register place) place e) ++ fetch_operand place e first_spare
+  -- operand, and a choice between a value and 0 has two. Another operator, where one is given, stands for the
+  -- expression's own.
+  abbrev pub into_by : Option BinaryOperator → ℕ → ℕ → TermTree → List Instr
+  into_by other d place (number value kind) = constant_code d value
+  into_by other d place (truth value) = constant_code d (word_of value)
+  into_by other d place (variable x) = copy_code d (variable_location layout.declared layout.allocation x)
+  into_by other d place (prefix operator width e) =
+      placed_code place e (into_by None (own_register place) place e) ++ fetch_operand place e first_spare
       ++ prefix_code d (operand_register place e first_spare) operator width
-  into_code d place (binary source operator width left right) =
+  into_by other d place (binary source own width left right) =
+      let operator = unwrap_or other own in
       code_by (right_row layout.allocation operator right)
       (λ row.
-      placed_code place left (into_code (own_register place) place left) ++ fetch_operand place left first_spare
+      placed_code place left (into_by None (own_register place) place left) ++ fetch_operand place left first_spare
       ++ number_code d (operand_register place left first_spare) width row)
       (code_by (left_row layout.allocation operator left)
       (λ row.
-      placed_code place right (into_code (own_register place) place right) ++ fetch_operand place right first_spare
+      placed_code place right (into_by None (own_register place) place right) ++ fetch_operand place right first_spare
       ++ number_code d (operand_register place right first_spare) width row)
-      (placed_code place left (into_code (own_register place) place left)
-      ++ placed_code (place + 1) right (into_code (own_register (place + 1)) (place + 1) right)
+      (placed_code place left (into_by None (own_register place) place left)
+      ++ placed_code (place + 1) right (into_by None (own_register (place + 1)) (place + 1) right)
       ++ fetch_operand place left first_spare ++ fetch_operand (place + 1) right second_spare
       ++ operator_code d (next_register place)
       (operand_register place left first_spare) (operand_register (place + 1) right second_spare)
       (emitted_operator layout.allocation operator) width))
-  into_code d place (rotate width e amount) =
-      placed_code place e (into_code (own_register place) place e) ++ fetch_operand place e first_spare
+  into_by other d place (rotate width e amount) =
+      placed_code place e (into_by None (own_register place) place e) ++ fetch_operand place e first_spare
       ++ rotate_code d (operand_register place e first_spare) width amount
-  into_code d place (convert kind e) =
-      if keeps_words layout.allocation kind then into_code d place e else
-      placed_code place e (into_code (own_register place) place e) ++ fetch_operand place e first_spare
+  into_by other d place (convert kind e) =
+      if keeps_words layout.allocation kind then into_by None d place e else
+      placed_code place e (into_by None (own_register place) place e) ++ fetch_operand place e first_spare
       ++ convert_code d (operand_register place e first_spare) (width_of kind)
-  into_code d place (select condition accepted otherwise) =
+  into_by other d place (select condition accepted otherwise) =
+      let opposite = opposite_in layout.allocation condition in
       if chooses_zero layout.allocation otherwise
-      then placed_code place condition (into_code (own_register place) place condition)
-      ++ placed_code (place + 1) accepted (into_code (own_register (place + 1)) (place + 1) accepted)
+      then placed_code place condition (into_by opposite (own_register place) place condition)
+      ++ placed_code (place + 1) accepted (into_by None (own_register (place + 1)) (place + 1) accepted)
       ++ fetch_operand place condition first_spare ++ fetch_operand (place + 1) accepted second_spare
-      ++ choice_or_zero_code d (own_register place) (operand_register place condition first_spare)
+      ++ choice_or_zero_code (is_some opposite) d (own_register place) (operand_register place condition first_spare)
       (operand_register (place + 1) accepted second_spare)
-      else placed_code place condition (into_code (own_register place) place condition)
-      ++ placed_code (place + 1) accepted (into_code (own_register (place + 1)) (place + 1) accepted)
-      ++ placed_code (place + 2) otherwise (into_code (own_register (place + 2)) (place + 2) otherwise)
+      else placed_code place condition (into_by opposite (own_register place) place condition)
+      ++ placed_code (place + 1) accepted (into_by None (own_register (place + 1)) (place + 1) accepted)
+      ++ placed_code (place + 2) otherwise (into_by None (own_register (place + 2)) (place + 2) otherwise)
       ++ fetch_operand place condition first_spare ++ fetch_operand (place + 1) accepted second_spare
       ++ fetch_operand (place + 2) otherwise third_spare
-      ++ choice_code d (own_register place) (next_register place)
+      ++ choice_code (is_some opposite) d (own_register place) (next_register place)
       (operand_register place condition first_spare) (operand_register (place + 1) accepted second_spare)
       (operand_register (place + 2) otherwise third_spare)
-  into_code d place (element source x size index) =
+  into_by other d place (element source x size index) =
       code_by (near_element layout.declared layout.allocation x index) (near_code d (kind_at layout.declared x))
-      (placed_code place index (into_code (own_register place) place index) ++ fetch_operand place index first_spare
+      (placed_code place index (into_by None (own_register place) place index) ++ fetch_operand place index first_spare
       ++ element_code d (operand_register place index first_spare) (kind_at layout.declared x)
       (variable_offset layout.declared x))
+
+  -- an expression into a register
+  abbrev pub into_code : ℕ → ℕ → TermTree → List Instr
+  into_code d place e = into_by None d place e
 
   -- an expression into a place, unless it is at home
   abbrev pub expr_code : ℕ → TermTree → List Instr

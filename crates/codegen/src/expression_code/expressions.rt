@@ -1,11 +1,12 @@
 // An expression's code, and how many temporaries it has at once.
 
-ghost use Rattle.std.specs.Prelude.{◌≡◌, ◌++◌, ◌+◌, ◌*◌, ◌≤◌, length, OnOk, IfOk};
+ghost use Rattle.std.specs.Prelude.{◌≡◌, ◌++◌, ◌+◌, ◌*◌, ◌≤◌, is_some, length, OnOk, IfOk};
 ghost use Rattle.codegen.specs.expression_code.Layout.{temporaries_offset, term_layout};
 ghost use Rattle.codegen.specs.expression_code.Allocation.{register_of, slots_to, working_register};
 ghost use Rattle.codegen.specs.expression_code.Registers.{first_spare, second_spare, third_spare};
 ghost use Rattle.codegen.specs.expression_code.TermCode.{into_code, expr_code, operand, fetch_code};
-ghost use Rattle.codegen.specs.expression_code.TermCode.{choice_or_zero_code, IsAmong};
+ghost use Rattle.codegen.specs.expression_code.TermCode.{choice_or_zero_code, into_by, IsAmong, opposite_in};
+ghost use Rattle.codegen.specs.expression_code.TermCode.{own_register, placed_code};
 ghost use Rattle.codegen.specs.Below.{height_of, term_tree};
 
 use crate::expression_code::layout::Layout;
@@ -14,9 +15,10 @@ use crate::expression_code::locations::{
 };
 use crate::expression_code::numbers::{chooses_zero, left_row, right_row};
 use crate::expression_code::operators::{ChoiceOperands, OperandRegisters};
-use crate::expression_code::truths::emitted;
+use crate::expression_code::truths::{emitted, opposite_in};
 use crate::expression_code::{emit, operators};
 use inline::Term;
+use language::BinaryOperator;
 use rv_code::{Instr, Reg};
 use std::alloc::AllocError;
 
@@ -81,6 +83,7 @@ fn fetched_choice(
         ++ fetch_code (operand terms (place + 2) (term_tree otherwise.now)) third_spare) }
     ensures registers { let terms = term_layout layout.now in
         IfOk result (λ registers. registers ≡ record {
+          is_opposite = is_some (opposite_in layout.now.allocation (term_tree condition.now));
           mask = working_register terms.allocation.count place first_spare;
           scratch = working_register terms.allocation.count (place + 1) second_spare;
           condition = register_of (operand terms place (term_tree condition.now)) first_spare;
@@ -90,10 +93,12 @@ fn fetched_choice(
 {
     let second = layout.place_behind(place, 1);
     let third = layout.place_behind(place, 2);
+    let is_opposite = opposite_in(layout, condition).is_some();
     let condition = fetched(layout, code, place, condition, FIRST_SPARE)?;
     let accepted = fetched(layout, code, second, accepted, SECOND_SPARE)?;
     let otherwise = fetched(layout, code, third, otherwise, THIRD_SPARE)?;
     Ok(ChoiceOperands {
+        is_opposite,
         mask: layout.working_register(place, FIRST_SPARE),
         scratch: layout.working_register(second, SECOND_SPARE),
         condition,
@@ -151,14 +156,16 @@ fn fetched_or_zero(
         let c = operand terms place (term_tree condition.now) in
         let l = operand terms (place + 1) (term_tree accepted.now) in
         OnOk result (code.new.items ≡ code.old.items ++ fetch_code c first_spare ++ fetch_code l second_spare
-        ++ choice_or_zero_code target (working_register terms.allocation.count place first_spare)
+        ++ choice_or_zero_code (is_some (opposite_in layout.now.allocation (term_tree condition.now))) target
+        (working_register terms.allocation.count place first_spare)
         (register_of c first_spare) (register_of l second_spare)) }
 {
     let second = layout.place_behind(place, 1);
+    let is_opposite = opposite_in(layout, condition).is_some();
     let condition = fetched(layout, code, place, condition, FIRST_SPARE)?;
     let accepted = fetched(layout, code, second, accepted, SECOND_SPARE)?;
     let mask = layout.working_register(place, FIRST_SPARE);
-    operators::choice_or_zero(code, target, mask, condition, accepted)
+    operators::choice_or_zero(code, is_opposite, target, mask, condition, accepted)
 }
 
 /// An expression into a place, and the register of what is there, which is fetched where it lies in a slot.
@@ -184,11 +191,12 @@ fn evaluated(
 }
 
 /// An expression into a register, with its operands in the places from this one on. No operand is fetched before the
-/// code of all of them is through.
+/// code of all of them is through. Another operator, where one is given, stands for the expression's own.
 #[cycle(expressions)]
-pub fn into(
+fn into_by(
     layout: &Layout<'_>,
     code: &mut Vec<Instr>,
+    other: Option<BinaryOperator>,
     target: Reg,
     place: u32,
     term: &Term,
@@ -197,7 +205,7 @@ pub fn into(
     requires room { temporaries_offset layout.now
         + 4 * slots_to layout.now.allocation.count (height_of (term_tree term.now) + place) ≤ 65536 }
     ensures { OnOk result (code.new.items ≡ code.old.items
-        ++ into_code (term_layout layout.now) target place (term_tree term.now)) }
+        ++ into_by (term_layout layout.now) other target place (term_tree term.now)) }
 {
     match term {
         Term::Number(value, _) => emit::constant(code, target, *value),
@@ -207,12 +215,13 @@ pub fn into(
             let register = evaluated(layout, code, place, operand)?;
             operators::prefix(code, target, register, *operator, *width)
         }
-        Term::Binary(_, operator, width, left, right) => {
-            if let Some(row) = right_row(layout, *operator, right) {
+        Term::Binary(_, own, width, left, right) => {
+            let operator = other.unwrap_or(*own);
+            if let Some(row) = right_row(layout, operator, right) {
                 let register = evaluated(layout, code, place, left)?;
                 return operators::with_number(code, target, register, *width, row);
             }
-            if let Some(row) = left_row(layout, *operator, left) {
+            if let Some(row) = left_row(layout, operator, left) {
                 let register = evaluated(layout, code, place, right)?;
                 return operators::with_number(code, target, register, *width, row);
             }
@@ -220,7 +229,7 @@ pub fn into(
             expression(layout, code, place, left)?;
             expression(layout, code, next, right)?;
             let registers = fetched_operands(layout, code, target, place, left, right)?;
-            operators::operator(code, &registers, emitted(layout, *operator), *width)
+            operators::operator(code, &registers, emitted(layout, operator), *width)
         }
         Term::Rotate(width, operand, amount) => {
             let register = evaluated(layout, code, place, operand)?;
@@ -228,7 +237,7 @@ pub fn into(
         }
         Term::Convert(kind, operand) => {
             if layout.keeps_words(*kind) {
-                return into(layout, code, target, place, operand);
+                return into_by(layout, code, None, target, place, operand);
             }
             let register = evaluated(layout, code, place, operand)?;
             operators::convert(code, target, register, *kind)
@@ -236,7 +245,8 @@ pub fn into(
         Term::Select(condition, accepted, otherwise) => {
             let second = layout.place_behind(place, 1);
             let third = layout.place_behind(place, 2);
-            expression(layout, code, place, condition)?;
+            let opposite = opposite_in(layout, condition);
+            placed_by(layout, code, opposite, place, condition)?;
             expression(layout, code, second, accepted)?;
             if chooses_zero(layout, otherwise) {
                 return fetched_or_zero(layout, code, target, place, condition, accepted);
@@ -261,7 +271,33 @@ pub fn into(
     }
 }
 
-/// An expression into a place, where temporaries live in all lower ones. What has a home needs no code.
+/// An expression into a place, where temporaries live in all lower ones, with another operator for its own where one is
+/// given. What has a home needs no code.
+#[cycle(expressions)]
+fn placed_by(
+    layout: &Layout<'_>,
+    code: &mut Vec<Instr>,
+    other: Option<BinaryOperator>,
+    place: u32,
+    term: &Term,
+) -> Result<(), AllocError>
+    requires among { IsAmong (length layout.now.declared) (term_tree term.now) }
+    requires room { temporaries_offset layout.now
+        + 4 * slots_to layout.now.allocation.count (height_of (term_tree term.now) + place) ≤ 65536 }
+    ensures { let terms = term_layout layout.now in
+        OnOk result (code.new.items ≡ code.old.items
+        ++ placed_code terms place (term_tree term.now)
+        (into_by terms other (own_register terms place) place (term_tree term.now))) }
+{
+    if layout.is_at_home(term) {
+        return Ok(());
+    }
+    let register = layout.working_register(place, FIRST_SPARE);
+    into_by(layout, code, other, register, place, term)?;
+    keep(code, &layout.temporary(place))
+}
+
+/// An expression into a place.
 #[cycle(expressions)]
 pub fn expression(
     layout: &Layout<'_>,
@@ -275,15 +311,22 @@ pub fn expression(
     ensures { OnOk result (code.new.items ≡ code.old.items
         ++ expr_code (term_layout layout.now) place (term_tree term.now)) }
 {
-    if layout.is_at_home(term) {
-        return Ok(());
-    }
-    into(
-        layout,
-        code,
-        layout.working_register(place, FIRST_SPARE),
-        place,
-        term,
-    )?;
-    keep(code, &layout.temporary(place))
+    placed_by(layout, code, None, place, term)
+}
+
+/// An expression into a register.
+pub fn into(
+    layout: &Layout<'_>,
+    code: &mut Vec<Instr>,
+    target: Reg,
+    place: u32,
+    term: &Term,
+) -> Result<(), AllocError>
+    requires among { IsAmong (length layout.now.declared) (term_tree term.now) }
+    requires room { temporaries_offset layout.now
+        + 4 * slots_to layout.now.allocation.count (height_of (term_tree term.now) + place) ≤ 65536 }
+    ensures { OnOk result (code.new.items ≡ code.old.items
+        ++ into_code (term_layout layout.now) target place (term_tree term.now)) }
+{
+    into_by(layout, code, None, target, place, term)
 }

@@ -6,8 +6,8 @@ ghost use Rattle.codegen.specs.expression_code.TermCode.{move_code, cut_code, na
 ghost use Rattle.codegen.specs.expression_code.TermCode.{is_zero_code, is_not_zero_code, negation_code, step_code};
 ghost use Rattle.codegen.specs.expression_code.TermCode.{finish_code, operator_code, number_step_code, number_code};
 ghost use Rattle.codegen.specs.expression_code.TermCode.{prefix_code, around_code, rotate_code, choice_code};
-ghost use Rattle.codegen.specs.expression_code.TermCode.{choice_or_zero_code};
-ghost use Rattle.codegen.specs.Below.{bits, width_of};
+ghost use Rattle.codegen.specs.expression_code.TermCode.{choice_or_zero_code, mask_code};
+ghost use Rattle.codegen.specs.Below.{Addi, bits, Immediate, width_of};
 
 use crate::expression_code::emit::{MINUS_ONE, append};
 use crate::expression_code::locations::{SECOND_SPARE, move_register};
@@ -79,9 +79,11 @@ impl OperandRegisters {
     }
 }
 
-/// The registers of a choice: those that get the mask and what differs, and those of the operands.
+/// The registers of a choice: those that get the mask and what differs, and those of the operands, of which the first
+/// may be the condition's opposite.
 #[derive(Drop)]
 pub struct ChoiceOperands {
+    pub is_opposite: bool,
     pub mask: Reg,
     pub scratch: Reg,
     pub condition: Reg,
@@ -144,6 +146,18 @@ fn negate(code: &mut Vec<Instr>, d: Reg, r: Reg) -> Result<(), AllocError>
     ensures { OnOk result (code.new.items ≡ code.old.items ++ negation_code d r) }
 {
     append(code, Instr::Register(Operation::Sub, d, Reg::X0, r))
+}
+
+/// One less than a register, into another.
+fn less_one(d: Reg, r: Reg) -> Instr
+    ensures { result ≡ Immediate Addi d r 4095 }
+{
+    Instr::Immediate(
+        ImmediateOperation::Addi,
+        d,
+        r,
+        Immediate12::from_bits(MINUS_ONE),
+    )
 }
 
 /// An instruction, whose outcome in a register is cut where it is narrow.
@@ -268,10 +282,8 @@ pub fn prefix(
     match operator {
         PrefixOperator::Not => is_zero(code, d, r),
         PrefixOperator::Complement => {
-            let less_one = Immediate12::from_bits(MINUS_ONE);
-            let decrement = Instr::Immediate(ImmediateOperation::Addi, d, d, less_one);
             negate(code, d, r)?;
-            narrowed(code, d, width, decrement)
+            narrowed(code, d, width, less_one(d, d))
         }
         PrefixOperator::Negate => {
             negate(code, d, r)?;
@@ -332,37 +344,51 @@ pub fn convert(code: &mut Vec<Instr>, d: Reg, r: Reg, kind: Kind) -> Result<(), 
     move_register(code, d, narrowed_in(d, r, width))
 }
 
-/// Of three operands, the second where the first is 1 and the third where it is 0, into a register.
+/// The mask of a condition, or of the opposite of what is in its register, into a register.
+fn mask(
+    code: &mut Vec<Instr>,
+    is_opposite: bool,
+    mask: Reg,
+    condition: Reg,
+) -> Result<(), AllocError>
+    ensures { OnOk result (code.new.items ≡ code.old.items ++ mask_code is_opposite mask condition) }
+{
+    if is_opposite {
+        return append(code, less_one(mask, condition));
+    }
+    negate(code, mask, condition)
+}
+
+/// Of three operands, the second where the condition is true and the third where it is not, into a register.
 pub fn choice(code: &mut Vec<Instr>, target: Reg, c: &ChoiceOperands) -> Result<(), AllocError>
     ensures { OnOk result (code.new.items ≡ code.old.items
-        ++ choice_code target c.now.mask c.now.scratch c.now.condition c.now.accepted c.now.otherwise) }
+        ++ choice_code c.now.is_opposite target c.now.mask c.now.scratch c.now.condition c.now.accepted
+        c.now.otherwise) }
 {
-    let mask = Instr::Register(Operation::Sub, c.mask, Reg::X0, c.condition);
     let differing = Instr::Register(Operation::Xor, c.scratch, c.accepted, c.otherwise);
     let masked = Instr::Register(Operation::And, c.scratch, c.scratch, c.mask);
     let chosen = Instr::Register(Operation::Xor, target, c.otherwise, c.scratch);
-    append(code, mask)?;
+    mask(code, c.is_opposite, c.mask, c.condition)?;
     append(code, differing)?;
     append(code, masked)?;
     append(code, chosen)
 }
 
-/// Of two operands, the second where the first is 1, and else 0, into a register. Another one gets the mask.
+/// Of two operands, the second where the condition is true, and else 0, into a register. Another one gets the mask.
 pub fn choice_or_zero(
     code: &mut Vec<Instr>,
+    is_opposite: bool,
     target: Reg,
-    mask: Reg,
+    masked: Reg,
     condition: Reg,
     accepted: Reg,
 ) -> Result<(), AllocError>
-    ensures { OnOk result (code.new.items ≡ code.old.items ++ choice_or_zero_code target mask condition accepted) }
+    ensures { OnOk result (code.new.items ≡ code.old.items
+        ++ choice_or_zero_code is_opposite target masked condition accepted) }
 {
+    mask(code, is_opposite, masked, condition)?;
     append(
         code,
-        Instr::Register(Operation::Sub, mask, Reg::X0, condition),
-    )?;
-    append(
-        code,
-        Instr::Register(Operation::And, target, accepted, mask),
+        Instr::Register(Operation::And, target, accepted, masked),
     )
 }
