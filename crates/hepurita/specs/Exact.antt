@@ -8,6 +8,7 @@ use Rattle.hepurita.specs.Needs.{Needs, optimised_needs, plain_needs}
 use Rattle.optimisation.specs.element_words.Exact.{split_of}
 use Rattle.hepurita.specs.declared.optimised.Optimisation.{Optimisation}
 use Rattle.hepurita.specs.declared.optimised.Optimisation.TheVariants.{Off, On, Small}
+use Rattle.optimisation.specs.high_products.Exact.{with_high_products}
 use Rattle.optimisation.specs.live_words.Exact.{shared_of}
 use Rattle.optimisation.specs.needed_variables.Exact.{fitted_of}
 use Rattle.optimisation.specs.number_words.Exact.{numbers_as_words}
@@ -34,13 +35,21 @@ fitted_where_shared straight = option_map fitted_with_words (shared_of straight)
 abbrev pub finished_of : StraightProgram → StraightProgram
 finished_of straight = after fitted_where_shared (after simplified_of (after split_of straight))
 
+-- and of straight code as it is: first of all, upper words of products that it makes of halves are operators. Then its
+-- loops stay, or they are unrolled
+abbrev pub small_of : StraightProgram → StraightProgram
+small_of straight = finished_of (after simplified_of (after with_high_products straight))
+
+abbrev pub fast_of : StraightProgram → StraightProgram
+fast_of straight = finished_of (after unrolled_of (after with_high_products straight))
+
 -- the images that are tried for straight code where optimised code is asked for. Each is there where it is within the
 -- limit on words: for small code one with its loops, and else one with its loops unrolled first
 abbrev pub small_for : StraightProgram → List (Option Fields)
-small_for straight = optimised_fields_of (finished_of (after simplified_of straight)) ∷ []
+small_for straight = optimised_fields_of (small_of straight) ∷ []
 
 abbrev pub optimised_for : StraightProgram → List (Option Fields)
-optimised_for straight = optimised_fields_of (finished_of (after unrolled_of straight)) ∷ small_for straight
+optimised_for straight = optimised_fields_of (fast_of straight) ∷ small_for straight
 
 -- the image for straight code, which is the plain one where no optimised one is there: only from here on do the codes
 -- differ
@@ -66,9 +75,8 @@ first_needs (straight ∷ others) otherwise =
 
 abbrev pub needs_for : Optimisation → StraightProgram → Needs
 needs_for Off straight = plain_needs straight
-needs_for On straight =
-    first_needs (finished_of (after unrolled_of straight) ∷ finished_of (after simplified_of straight) ∷ []) straight
-needs_for Small straight = first_needs (finished_of (after simplified_of straight) ∷ []) straight
+needs_for On straight = first_needs (fast_of straight ∷ small_of straight ∷ []) straight
+needs_for Small straight = first_needs (small_of straight ∷ []) straight
 
 unfoldable pub frame_needs_for : Optimisation → Profile → List ProcedureTree → ProcedureTree → Needs
 frame_needs_for optimisation profile before export =

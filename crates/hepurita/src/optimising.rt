@@ -2,10 +2,10 @@
 
 ghost use Rattle.std.specs.Prelude.{◌≡◌, IfOk, IfErr, IfSome, unwrap_or};
 ghost use Rattle.std.specs.Option.{option_map};
-ghost use Rattle.hepurita.specs.Below.{IsImage, IsWantOfMemory, optimised_fields_of, simplified_of, unrolled_of};
+ghost use Rattle.hepurita.specs.Below.{IsImage, IsWantOfMemory, optimised_fields_of};
 ghost use Rattle.hepurita.specs.Needs.{needs_as, optimised_needs};
 ghost use Rattle.hepurita.specs.CodeFor.{IsCodeFor};
-ghost use Rattle.hepurita.specs.Exact.{after, finished_of, fitted_with_words};
+ghost use Rattle.hepurita.specs.Exact.{finished_of, fitted_with_words, small_of, fast_of};
 ghost use Rattle.optimisation.specs.needed_variables.Exact.{fitted_of};
 
 use crate::generated::Generated;
@@ -15,6 +15,7 @@ use codegen::generate_optimised;
 use language::Refusal;
 use optimisation::constants::{simplify, unroll};
 use optimisation::element_words::ElementWords;
+use optimisation::high_products::high_products;
 use optimisation::live_words::share_words;
 use optimisation::needed_variables::{needed_variables, with_needed};
 use optimisation::number_words::NumberWords;
@@ -113,34 +114,40 @@ fn finished(alloc: Global, straight: &StraightCode<'_>) -> Result<Option<Generat
     }
 }
 
-/// The optimised code of a program in which loops become their iterations, where it is within the limit on words. Only
-/// memory refuses it.
+/// The optimised code of a program in which loops become their iterations, where it is within the limit on words. What
+/// it makes of halves of products is operators first. Only memory refuses it.
 pub fn unrolled(alloc: Global, straight: &StraightCode<'_>) -> Result<Option<Generated>, Refusal>
     ensures generated { IfOk result (λ made. IfSome made (IsCodeFor straight.now)) }
     ensures exact { IfOk result (λ made.
-        option_map (λ made. made.code) made ≡ optimised_fields_of (finished_of (after unrolled_of straight.now))) }
+        option_map (λ made. made.code) made ≡ optimised_fields_of (fast_of straight.now)) }
     ensures needs { IfOk result (λ made. IfSome made
-        (λ made. needs_as made.needs ≡ optimised_needs (finished_of (after unrolled_of straight.now)))) }
+        (λ made. needs_as made.needs ≡ optimised_needs (fast_of straight.now))) }
     ensures allowed { IfOk result (λ made. IfSome made (λ made. IsImage made.code)) }
     ensures memory { IfErr result (λ refusal. IsWantOfMemory refusal.rule refusal.place) }
 {
-    let without_loops = unroll(alloc, straight)?;
+    let with_operators = high_products(alloc, straight)?;
+    let products = made_or_given(&with_operators, straight);
+    let without_loops = unroll(alloc, products)?;
+    let code = made_or_given(&without_loops, products);
     replaced_is_removed();
-    finished(alloc, made_or_given(&without_loops, straight))
+    finished(alloc, code)
 }
 
 /// The optimised code of a program in which all loops that make iterations stay, where it is within the limit on words.
-/// Only memory refuses it.
+/// What it makes of halves of products is operators first. Only memory refuses it.
 pub fn rolled(alloc: Global, straight: &StraightCode<'_>) -> Result<Option<Generated>, Refusal>
     ensures generated { IfOk result (λ made. IfSome made (IsCodeFor straight.now)) }
     ensures exact { IfOk result (λ made.
-        option_map (λ made. made.code) made ≡ optimised_fields_of (finished_of (after simplified_of straight.now))) }
+        option_map (λ made. made.code) made ≡ optimised_fields_of (small_of straight.now)) }
     ensures needs { IfOk result (λ made. IfSome made
-        (λ made. needs_as made.needs ≡ optimised_needs (finished_of (after simplified_of straight.now)))) }
+        (λ made. needs_as made.needs ≡ optimised_needs (small_of straight.now))) }
     ensures allowed { IfOk result (λ made. IfSome made (λ made. IsImage made.code)) }
     ensures memory { IfErr result (λ refusal. IsWantOfMemory refusal.rule refusal.place) }
 {
-    let simpler = simplify(alloc, straight)?;
+    let with_operators = high_products(alloc, straight)?;
+    let products = made_or_given(&with_operators, straight);
+    let with_numbers = simplify(alloc, products)?;
+    let code = made_or_given(&with_numbers, products);
     replaced_is_removed();
-    finished(alloc, made_or_given(&simpler, straight))
+    finished(alloc, code)
 }
