@@ -76,6 +76,7 @@ RECURSIONS = [
     ("optimisation/src/constants/statements.rt", "simplification", "the statements, and the iterations that are unrolled"),
     ("optimisation/src/element_words/narrowing.rt", "narrowing", "nothing is added: an entry an array is there before"),
     ("optimisation/src/element_words/statements.rt", "splitting", "the statements of straight code, each of which is followed once"),
+    ("optimisation/src/high_products/statements.rt", "replacing", "the statements of straight code, each of which is followed once"),
     ("optimisation/src/live_words/gathering.rt", "gathering", "a flag a variable, for each level of nesting"),
     ("optimisation/src/live_words/statements.rt", "sharing", "the statements of straight code, and a flag a variable for each level"),
     ("optimisation/src/number_words/statements.rt", "wording", "the statements of straight code, each of which is followed once"),
