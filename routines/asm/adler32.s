@@ -1,4 +1,4 @@
-# adler32: made by factc function; 168 words, 112 bytes of stack, profile 1
+# adler32: made by factc function; 194 words, 144 bytes of stack, profile 1
     .option push
     .option norvc
     .option norelax
@@ -17,8 +17,8 @@ adler32:
     .cfi_offset 8, -16
     # arguments that are needed behind the body
     # the frame's base
-    .word 0xfa010113  # addi x2, x2, -96
-    .cfi_def_cfa 2, 112
+    .word 0xf8010113  # addi x2, x2, -128
+    .cfi_def_cfa 2, 144
     # parameter 0: a word
     .word 0x00a12023  # sw x10, 0(x2)
     # parameter 1: an array
@@ -74,32 +74,55 @@ adler32:
     .word 0x0062d2b3  # srl x5, x5, x6
     .word 0x04512623  # sw x5, 76(x2)
     .word 0x00000293  # addi x5, x0, 0
-    .word 0x04512c23  # sw x5, 88(x2)
+    .word 0x06512823  # sw x5, 112(x2)
     .word 0x04000293  # addi x5, x0, 64
-    .word 0x04512e23  # sw x5, 92(x2)
-    .word 0x05812303  # lw x6, 88(x2)
-    .word 0x05c12283  # lw x5, 92(x2)
+    .word 0x06512a23  # sw x5, 116(x2)
+    .word 0x07012303  # lw x6, 112(x2)
+    .word 0x07412283  # lw x5, 116(x2)
     .word 0x005332b3  # sltu x5, x6, x5
     .word 0x00029463  # bne x5, x0, 8
-    .word 0x0cc0006f  # jal x0, 204
+    .word 0x0540006f  # jal x0, 84
     .word 0x04612823  # sw x6, 80(x2)
     .word 0x00130313  # addi x6, x6, 1
-    .word 0x04612c23  # sw x6, 88(x2)
+    .word 0x06612823  # sw x6, 112(x2)
     .word 0x05012283  # lw x5, 80(x2)
     .word 0x04412303  # lw x6, 68(x2)
     .word 0x0062b2b3  # sltu x5, x5, x6
     .word 0x00029463  # bne x5, x0, 8
-    .word 0x0a80006f  # jal x0, 168
+    .word 0x0300006f  # jal x0, 48
     .word 0x04812283  # lw x5, 72(x2)
     .word 0x05012303  # lw x6, 80(x2)
     .word 0x00230333  # add x6, x6, x2
     .word 0x00434303  # lbu x6, 4(x6)
     .word 0x006282b3  # add x5, x5, x6
     .word 0x04512423  # sw x5, 72(x2)
+    .word 0x04c12283  # lw x5, 76(x2)
+    .word 0x04812303  # lw x6, 72(x2)
+    .word 0x006282b3  # add x5, x5, x6
+    .word 0x04512623  # sw x5, 76(x2)
+    .word 0x0040006f  # jal x0, 4
+    .word 0xfa1ff06f  # jal x0, -96
     .word 0x04812283  # lw x5, 72(x2)
+    .word 0x04512a23  # sw x5, 84(x2)
+    .word 0x05412283  # lw x5, 84(x2)
+    .word 0x01000313  # addi x6, x0, 16
+    .word 0x0062d2b3  # srl x5, x5, x6
+    .word 0x04512c23  # sw x5, 88(x2)
+    .word 0x05412283  # lw x5, 84(x2)
+    .word 0x00010337  # lui x6, 0x00010
+    .word 0xfff30313  # addi x6, x6, -1
+    .word 0x0062f2b3  # and x5, x5, x6
+    .word 0x05812303  # lw x6, 88(x2)
+    .word 0x00400393  # addi x7, x0, 4
+    .word 0x00731333  # sll x6, x6, x7
+    .word 0x006282b3  # add x5, x5, x6
+    .word 0x05812303  # lw x6, 88(x2)
+    .word 0x406282b3  # sub x5, x5, x6
+    .word 0x04512e23  # sw x5, 92(x2)
+    .word 0x05c12283  # lw x5, 92(x2)
     .word 0x00010337  # lui x6, 0x00010
     .word 0xff130313  # addi x6, x6, -15
-    .word 0x04812383  # lw x7, 72(x2)
+    .word 0x05c12383  # lw x7, 92(x2)
     .word 0x0063b333  # sltu x6, x7, x6
     .word 0x00133313  # sltiu x6, x6, 1
     .word 0x000103b7  # lui x7, 0x00010
@@ -112,13 +135,26 @@ adler32:
     .word 0x406282b3  # sub x5, x5, x6
     .word 0x04512423  # sw x5, 72(x2)
     .word 0x04c12283  # lw x5, 76(x2)
-    .word 0x04812303  # lw x6, 72(x2)
+    .word 0x06512023  # sw x5, 96(x2)
+    .word 0x06012283  # lw x5, 96(x2)
+    .word 0x01000313  # addi x6, x0, 16
+    .word 0x0062d2b3  # srl x5, x5, x6
+    .word 0x06512223  # sw x5, 100(x2)
+    .word 0x06012283  # lw x5, 96(x2)
+    .word 0x00010337  # lui x6, 0x00010
+    .word 0xfff30313  # addi x6, x6, -1
+    .word 0x0062f2b3  # and x5, x5, x6
+    .word 0x06412303  # lw x6, 100(x2)
+    .word 0x00400393  # addi x7, x0, 4
+    .word 0x00731333  # sll x6, x6, x7
     .word 0x006282b3  # add x5, x5, x6
-    .word 0x04512623  # sw x5, 76(x2)
-    .word 0x04c12283  # lw x5, 76(x2)
+    .word 0x06412303  # lw x6, 100(x2)
+    .word 0x406282b3  # sub x5, x5, x6
+    .word 0x06512423  # sw x5, 104(x2)
+    .word 0x06812283  # lw x5, 104(x2)
     .word 0x00010337  # lui x6, 0x00010
     .word 0xff130313  # addi x6, x6, -15
-    .word 0x04c12383  # lw x7, 76(x2)
+    .word 0x06812383  # lw x7, 104(x2)
     .word 0x0063b333  # sltu x6, x7, x6
     .word 0x00133313  # sltiu x6, x6, 1
     .word 0x000103b7  # lui x7, 0x00010
@@ -130,18 +166,16 @@ adler32:
     .word 0x00744333  # xor x6, x8, x7
     .word 0x406282b3  # sub x5, x5, x6
     .word 0x04512623  # sw x5, 76(x2)
-    .word 0x0040006f  # jal x0, 4
-    .word 0xf29ff06f  # jal x0, -216
     .word 0x04c12283  # lw x5, 76(x2)
     .word 0x01000313  # addi x6, x0, 16
     .word 0x006292b3  # sll x5, x5, x6
     .word 0x04812303  # lw x6, 72(x2)
     .word 0x0062e2b3  # or x5, x5, x6
-    .word 0x04512a23  # sw x5, 84(x2)
+    .word 0x06512623  # sw x5, 108(x2)
     # the result
-    .word 0x05412503  # lw x10, 84(x2)
+    .word 0x06c12503  # lw x10, 108(x2)
     # above the frame
-    .word 0x06010293  # addi x5, x2, 96
+    .word 0x08010293  # addi x5, x2, 128
     # the caller's registers
     .word 0x0002a403  # lw x8, 0(x5)
     .cfi_restore 8
@@ -153,15 +187,7 @@ adler32:
     .word 0x00012223  # sw x0, 4(x2)
     .word 0x00012423  # sw x0, 8(x2)
     .word 0x00012623  # sw x0, 12(x2)
-    .word 0x00012823  # sw x0, 16(x2)
-    .word 0x00012a23  # sw x0, 20(x2)
-    .word 0x00012c23  # sw x0, 24(x2)
-    .word 0x00012e23  # sw x0, 28(x2)
-    .word 0x02012023  # sw x0, 32(x2)
-    .word 0x02012223  # sw x0, 36(x2)
-    .word 0x02012423  # sw x0, 40(x2)
-    .word 0x02012623  # sw x0, 44(x2)
-    .word 0x03010113  # addi x2, x2, 48
+    .word 0x01010113  # addi x2, x2, 16
     .word 0x00012023  # sw x0, 0(x2)
     .word 0x00012223  # sw x0, 4(x2)
     .word 0x00012423  # sw x0, 8(x2)
