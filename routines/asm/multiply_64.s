@@ -1,4 +1,4 @@
-# multiply_64: made by factc function; 110 words, 64 bytes of stack, profile 1
+# multiply_64: made by factc function; 143 words, 64 bytes of stack, profile 1
     .option push
     .option norvc
     .option norelax
@@ -10,60 +10,32 @@
 multiply_64:
     .cfi_startproc
     # room above the frame
-    .word 0xff010113  # addi x2, x2, -16
-    .cfi_def_cfa_offset 16
+    .word 0xfe010113  # addi x2, x2, -32
+    .cfi_def_cfa_offset 32
     # the caller's registers
     .word 0x00812023  # sw x8, 0(x2)
-    .cfi_offset 8, -16
+    .cfi_offset 8, -32
+    .word 0x00912223  # sw x9, 4(x2)
+    .cfi_offset 9, -28
     # arguments that are needed behind the body
-    .word 0x00a12223  # sw x10, 4(x2)
-    .word 0x00b12423  # sw x11, 8(x2)
-    .word 0x00c12623  # sw x12, 12(x2)
+    .word 0x00a12a23  # sw x10, 20(x2)
+    .word 0x00b12c23  # sw x11, 24(x2)
+    .word 0x00c12e23  # sw x12, 28(x2)
     # the frame's base
-    .word 0xfd010113  # addi x2, x2, -48
+    .word 0xfe010113  # addi x2, x2, -32
     .cfi_def_cfa 2, 64
     # parameter 0: a word
     .word 0x00a12023  # sw x10, 0(x2)
     # parameter 1: a word
     .word 0x00b12223  # sw x11, 4(x2)
+    # parameter 2: an array
+    .word 0x00060293  # addi x5, x12, 0
+    .word 0x00810313  # addi x6, x2, 8
+    .word 0x0002ae03  # lw x28, 0(x5)
+    .word 0x01c32023  # sw x28, 0(x6)
+    .word 0x0042ae03  # lw x28, 4(x5)
+    .word 0x01c32223  # sw x28, 4(x6)
     # the body
-    .word 0x00012283  # lw x5, 0(x2)
-    .word 0x00010337  # lui x6, 0x00010
-    .word 0xfff30313  # addi x6, x6, -1
-    .word 0x0062f2b3  # and x5, x5, x6
-    .word 0x00512823  # sw x5, 16(x2)
-    .word 0x00012283  # lw x5, 0(x2)
-    .word 0x01000313  # addi x6, x0, 16
-    .word 0x0062d2b3  # srl x5, x5, x6
-    .word 0x00512a23  # sw x5, 20(x2)
-    .word 0x00412283  # lw x5, 4(x2)
-    .word 0x00010337  # lui x6, 0x00010
-    .word 0xfff30313  # addi x6, x6, -1
-    .word 0x0062f2b3  # and x5, x5, x6
-    .word 0x00512c23  # sw x5, 24(x2)
-    .word 0x00412283  # lw x5, 4(x2)
-    .word 0x01000313  # addi x6, x0, 16
-    .word 0x0062d2b3  # srl x5, x5, x6
-    .word 0x00512e23  # sw x5, 28(x2)
-    .word 0x01412283  # lw x5, 20(x2)
-    .word 0x01812303  # lw x6, 24(x2)
-    .word 0x026282b3  # mul x5, x5, x6
-    .word 0x01012303  # lw x6, 16(x2)
-    .word 0x01812383  # lw x7, 24(x2)
-    .word 0x02730333  # mul x6, x6, x7
-    .word 0x01000393  # addi x7, x0, 16
-    .word 0x00735333  # srl x6, x6, x7
-    .word 0x006282b3  # add x5, x5, x6
-    .word 0x02512023  # sw x5, 32(x2)
-    .word 0x01012283  # lw x5, 16(x2)
-    .word 0x01c12303  # lw x6, 28(x2)
-    .word 0x026282b3  # mul x5, x5, x6
-    .word 0x02012303  # lw x6, 32(x2)
-    .word 0x000103b7  # lui x7, 0x00010
-    .word 0xfff38393  # addi x7, x7, -1
-    .word 0x00737333  # and x6, x6, x7
-    .word 0x006282b3  # add x5, x5, x6
-    .word 0x02512223  # sw x5, 36(x2)
     .word 0x00000293  # addi x5, x0, 0
     .word 0x00012303  # lw x6, 0(x2)
     .word 0x00412383  # lw x7, 4(x2)
@@ -72,14 +44,76 @@ multiply_64:
     .word 0x002282b3  # add x5, x5, x2
     .word 0x0062a423  # sw x6, 8(x5)
     .word 0x00100293  # addi x5, x0, 1
+    .word 0x00512823  # sw x5, 16(x2)
+    .word 0x00012283  # lw x5, 0(x2)
+    .word 0x00512a23  # sw x5, 20(x2)
+    .word 0x00412283  # lw x5, 4(x2)
+    .word 0x00512c23  # sw x5, 24(x2)
+    .word 0x01012283  # lw x5, 16(x2)
     .word 0x01412303  # lw x6, 20(x2)
-    .word 0x01c12383  # lw x7, 28(x2)
+    .word 0x01000393  # addi x7, x0, 16
+    .word 0x00735333  # srl x6, x6, x7
+    .word 0x01812383  # lw x7, 24(x2)
+    .word 0x01000413  # addi x8, x0, 16
+    .word 0x0083d3b3  # srl x7, x7, x8
     .word 0x02730333  # mul x6, x6, x7
-    .word 0x02012383  # lw x7, 32(x2)
+    .word 0x01412383  # lw x7, 20(x2)
+    .word 0x01000413  # addi x8, x0, 16
+    .word 0x0083d3b3  # srl x7, x7, x8
+    .word 0x01812403  # lw x8, 24(x2)
+    .word 0x000104b7  # lui x9, 0x00010
+    .word 0xfff48493  # addi x9, x9, -1
+    .word 0x00947433  # and x8, x8, x9
+    .word 0x028383b3  # mul x7, x7, x8
     .word 0x01000413  # addi x8, x0, 16
     .word 0x0083d3b3  # srl x7, x7, x8
     .word 0x00730333  # add x6, x6, x7
-    .word 0x02412383  # lw x7, 36(x2)
+    .word 0x01412383  # lw x7, 20(x2)
+    .word 0x00010437  # lui x8, 0x00010
+    .word 0xfff40413  # addi x8, x8, -1
+    .word 0x0083f3b3  # and x7, x7, x8
+    .word 0x01812403  # lw x8, 24(x2)
+    .word 0x01000493  # addi x9, x0, 16
+    .word 0x00945433  # srl x8, x8, x9
+    .word 0x028383b3  # mul x7, x7, x8
+    .word 0x01000413  # addi x8, x0, 16
+    .word 0x0083d3b3  # srl x7, x7, x8
+    .word 0x00730333  # add x6, x6, x7
+    .word 0x01412383  # lw x7, 20(x2)
+    .word 0x00010437  # lui x8, 0x00010
+    .word 0xfff40413  # addi x8, x8, -1
+    .word 0x0083f3b3  # and x7, x7, x8
+    .word 0x01812403  # lw x8, 24(x2)
+    .word 0x000104b7  # lui x9, 0x00010
+    .word 0xfff48493  # addi x9, x9, -1
+    .word 0x00947433  # and x8, x8, x9
+    .word 0x028383b3  # mul x7, x7, x8
+    .word 0x01000413  # addi x8, x0, 16
+    .word 0x0083d3b3  # srl x7, x7, x8
+    .word 0x01412403  # lw x8, 20(x2)
+    .word 0x01000493  # addi x9, x0, 16
+    .word 0x00945433  # srl x8, x8, x9
+    .word 0x01812483  # lw x9, 24(x2)
+    .word 0x00010537  # lui x10, 0x00010
+    .word 0xfff50513  # addi x10, x10, -1
+    .word 0x00a4f4b3  # and x9, x9, x10
+    .word 0x02940433  # mul x8, x8, x9
+    .word 0x000104b7  # lui x9, 0x00010
+    .word 0xfff48493  # addi x9, x9, -1
+    .word 0x00947433  # and x8, x8, x9
+    .word 0x008383b3  # add x7, x7, x8
+    .word 0x01412403  # lw x8, 20(x2)
+    .word 0x000104b7  # lui x9, 0x00010
+    .word 0xfff48493  # addi x9, x9, -1
+    .word 0x00947433  # and x8, x8, x9
+    .word 0x01812483  # lw x9, 24(x2)
+    .word 0x01000513  # addi x10, x0, 16
+    .word 0x00a4d4b3  # srl x9, x9, x10
+    .word 0x02940433  # mul x8, x8, x9
+    .word 0x000104b7  # lui x9, 0x00010
+    .word 0xfff48493  # addi x9, x9, -1
+    .word 0x00947433  # and x8, x8, x9
+    .word 0x008383b3  # add x7, x7, x8
     .word 0x01000413  # addi x8, x0, 16
     .word 0x0083d3b3  # srl x7, x7, x8
     .word 0x00730333  # add x6, x6, x7
@@ -96,12 +130,14 @@ multiply_64:
     .word 0x00432e03  # lw x28, 4(x6)
     .word 0x01c2a223  # sw x28, 4(x5)
     # above the frame
-    .word 0x03010293  # addi x5, x2, 48
+    .word 0x02010293  # addi x5, x2, 32
     # the caller's registers
     .word 0x0002a403  # lw x8, 0(x5)
     .cfi_restore 8
+    .word 0x0042a483  # lw x9, 4(x5)
+    .cfi_restore 9
     # the caller's x2
-    .word 0x01028293  # addi x5, x5, 16
+    .word 0x02028293  # addi x5, x5, 32
     .cfi_def_cfa 5, 0
     # all the room, wiped upward
     .word 0x00012023  # sw x0, 0(x2)
