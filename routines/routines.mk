@@ -2,14 +2,15 @@
 #     ROUTINES_USED = chacha20_xor poly1305_block
 #     include hepurita/routines/routines.mk
 #     firmware.elf: main.o $(ROUTINES_OBJECTS)
-# and $(ROUTINES_FLAGS) among the flags of what includes their headers. ROUTINES_BUILD is the folder for the objects, and
-# ROUTINES_AS what assembles them. Neither Rattle nor factc is needed.
+# and $(ROUTINES_FLAGS) among the flags of what includes their headers. ROUTINES_CODE = small takes the code of fewer words,
+# ROUTINES_BUILD is the folder for the objects, and ROUTINES_AS what assembles them. Neither Rattle nor factc is needed.
 ROUTINES_FOLDER := $(dir $(lastword $(MAKEFILE_LIST)))
 ROUTINES_BUILD ?= routine_objects
 ROUTINES_AS ?= riscv64-unknown-elf-gcc -march=rv32im -mabi=ilp32
-ROUTINES_FLAGS = -I$(ROUTINES_FOLDER)include
+ROUTINES_CODE ?= asm
+ROUTINES_FLAGS = -I$(ROUTINES_FOLDER)$(if $(filter small,$(ROUTINES_CODE)),small,include)
 ROUTINES_OBJECTS = $(ROUTINES_USED:%=$(ROUTINES_BUILD)/%.o)
 
-$(ROUTINES_BUILD)/%.o: $(ROUTINES_FOLDER)asm/%.s
+$(ROUTINES_BUILD)/%.o: $(ROUTINES_FOLDER)$(ROUTINES_CODE)/%.s
 	@mkdir -p $(@D)
 	$(ROUTINES_AS) -c $< -o $@

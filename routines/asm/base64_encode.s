@@ -1,4 +1,4 @@
-# base64_encode: made by factc function; 294 words, 192 bytes of stack, profile 1
+# base64_encode: made by factc function; 347 words, 144 bytes of stack, profile 1
     .option push
     .option norvc
     .option norelax
@@ -13,21 +13,15 @@ base64_encode:
     .word 0xff010113  # addi x2, x2, -16
     .cfi_def_cfa_offset 16
     # the caller's registers
-    .word 0x00812023  # sw x8, 0(x2)
-    .cfi_offset 8, -16
+    .word 0x00912023  # sw x9, 0(x2)
+    .cfi_offset 9, -16
     # arguments that are needed behind the body
     .word 0x00a12223  # sw x10, 4(x2)
     .word 0x00b12423  # sw x11, 8(x2)
     .word 0x00c12623  # sw x12, 12(x2)
     # the frame's base
-    .word 0xf5010113  # addi x2, x2, -176
-    .cfi_def_cfa 2, 192
-    # the frame's word at 132, zeroed
-    .word 0x08012223  # sw x0, 132(x2)
-    # the frame's word at 136, zeroed
-    .word 0x08012423  # sw x0, 136(x2)
-    # the frame's word at 140, zeroed
-    .word 0x08012623  # sw x0, 140(x2)
+    .word 0xf8010113  # addi x2, x2, -128
+    .cfi_def_cfa 2, 144
     # parameter 0: an array
     .word 0x00050293  # addi x5, x10, 0
     .word 0x00010313  # addi x6, x2, 0
@@ -74,176 +68,227 @@ base64_encode:
     # parameter 1: a word
     .word 0x02b12823  # sw x11, 48(x2)
     # the body
-    .word 0x00000293  # addi x5, x0, 0
-    .word 0x08512a23  # sw x5, 148(x2)
-    .word 0x01000293  # addi x5, x0, 16
-    .word 0x08512c23  # sw x5, 152(x2)
-    .word 0x09412303  # lw x6, 148(x2)
-    .word 0x09812283  # lw x5, 152(x2)
-    .word 0x005332b3  # sltu x5, x6, x5
-    .word 0x00029463  # bne x5, x0, 8
-    .word 0x2780006f  # jal x0, 632
-    .word 0x06612a23  # sw x6, 116(x2)
-    .word 0x00130313  # addi x6, x6, 1
-    .word 0x08612a23  # sw x6, 148(x2)
-    .word 0x00000293  # addi x5, x0, 0
-    .word 0x06512c23  # sw x5, 120(x2)
-    .word 0x00000293  # addi x5, x0, 0
-    .word 0x08512e23  # sw x5, 156(x2)
+    .word 0x03012483  # lw x9, 48(x2)
+    .word 0x00000513  # addi x10, x0, 0
+    .word 0x00000593  # addi x11, x0, 0
+    .word 0x00000613  # addi x12, x0, 0
+    .word 0x00000693  # addi x13, x0, 0
+    .word 0x00000513  # addi x10, x0, 0
+    .word 0x00000593  # addi x11, x0, 0
     .word 0x00300293  # addi x5, x0, 3
-    .word 0x0a512023  # sw x5, 160(x2)
-    .word 0x09c12303  # lw x6, 156(x2)
-    .word 0x0a012283  # lw x5, 160(x2)
-    .word 0x005332b3  # sltu x5, x6, x5
-    .word 0x00029463  # bne x5, x0, 8
-    .word 0x0740006f  # jal x0, 116
-    .word 0x06612e23  # sw x6, 124(x2)
-    .word 0x00130313  # addi x6, x6, 1
-    .word 0x08612e23  # sw x6, 156(x2)
-    .word 0x07812283  # lw x5, 120(x2)
-    .word 0x00800313  # addi x6, x0, 8
-    .word 0x006292b3  # sll x5, x5, x6
-    .word 0x06512c23  # sw x5, 120(x2)
+    .word 0x02a282b3  # mul x5, x5, x10
+    .word 0x0092fa63  # bgeu x5, x9, 20
     .word 0x00300293  # addi x5, x0, 3
-    .word 0x07412303  # lw x6, 116(x2)
-    .word 0x026282b3  # mul x5, x5, x6
-    .word 0x07c12303  # lw x6, 124(x2)
-    .word 0x006282b3  # add x5, x5, x6
-    .word 0x03012303  # lw x6, 48(x2)
-    .word 0x0062b2b3  # sltu x5, x5, x6
-    .word 0x00029463  # bne x5, x0, 8
-    .word 0x0300006f  # jal x0, 48
-    .word 0x07812283  # lw x5, 120(x2)
+    .word 0x02a282b3  # mul x5, x5, x10
+    .word 0x002285b3  # add x11, x5, x2
+    .word 0x0005c583  # lbu x11, 0(x11)
+    .word 0x00859593  # slli x11, x11, 8
+    .word 0x00300293  # addi x5, x0, 3
+    .word 0x02a282b3  # mul x5, x5, x10
+    .word 0x00128293  # addi x5, x5, 1
+    .word 0x0092fe63  # bgeu x5, x9, 28
     .word 0x00300313  # addi x6, x0, 3
-    .word 0x07412383  # lw x7, 116(x2)
-    .word 0x02730333  # mul x6, x6, x7
-    .word 0x07c12383  # lw x7, 124(x2)
-    .word 0x00730333  # add x6, x6, x7
+    .word 0x02a30333  # mul x6, x6, x10
+    .word 0x00130313  # addi x6, x6, 1
     .word 0x00230333  # add x6, x6, x2
     .word 0x00034303  # lbu x6, 0(x6)
-    .word 0x0062e2b3  # or x5, x5, x6
-    .word 0x06512c23  # sw x5, 120(x2)
-    .word 0x0040006f  # jal x0, 4
-    .word 0xf81ff06f  # jal x0, -128
-    .word 0x00000293  # addi x5, x0, 0
-    .word 0x08512e23  # sw x5, 156(x2)
-    .word 0x00400293  # addi x5, x0, 4
-    .word 0x0a512023  # sw x5, 160(x2)
-    .word 0x09c12303  # lw x6, 156(x2)
-    .word 0x0a012283  # lw x5, 160(x2)
-    .word 0x005332b3  # sltu x5, x6, x5
-    .word 0x00029463  # bne x5, x0, 8
-    .word 0x1a80006f  # jal x0, 424
-    .word 0x08612023  # sw x6, 128(x2)
-    .word 0x00130313  # addi x6, x6, 1
-    .word 0x08612e23  # sw x6, 156(x2)
-    .word 0x07812283  # lw x5, 120(x2)
-    .word 0x01200313  # addi x6, x0, 18
-    .word 0x00600393  # addi x7, x0, 6
-    .word 0x08012403  # lw x8, 128(x2)
-    .word 0x028383b3  # mul x7, x7, x8
-    .word 0x40730333  # sub x6, x6, x7
-    .word 0x0062d2b3  # srl x5, x5, x6
-    .word 0x03f00313  # addi x6, x0, 63
-    .word 0x0062f2b3  # and x5, x5, x6
-    .word 0x0ff2f293  # andi x5, x5, 255
-    .word 0x08512223  # sw x5, 132(x2)
-    .word 0x08412283  # lw x5, 132(x2)
-    .word 0x04100313  # addi x6, x0, 65
-    .word 0x006282b3  # add x5, x5, x6
-    .word 0x0ff2f293  # andi x5, x5, 255
-    .word 0x08512423  # sw x5, 136(x2)
-    .word 0x08412283  # lw x5, 132(x2)
-    .word 0x01a00313  # addi x6, x0, 26
-    .word 0x0062b2b3  # sltu x5, x5, x6
-    .word 0x08812303  # lw x6, 136(x2)
-    .word 0x08412383  # lw x7, 132(x2)
-    .word 0x04700413  # addi x8, x0, 71
-    .word 0x008383b3  # add x7, x7, x8
-    .word 0x0ff3f393  # andi x7, x7, 255
-    .word 0x405002b3  # sub x5, x0, x5
-    .word 0x00734333  # xor x6, x6, x7
-    .word 0x00537333  # and x6, x6, x5
-    .word 0x0063c2b3  # xor x5, x7, x6
-    .word 0x08512423  # sw x5, 136(x2)
-    .word 0x08412283  # lw x5, 132(x2)
-    .word 0x03400313  # addi x6, x0, 52
-    .word 0x0062b2b3  # sltu x5, x5, x6
-    .word 0x08812303  # lw x6, 136(x2)
-    .word 0x08412383  # lw x7, 132(x2)
-    .word 0x00400413  # addi x8, x0, 4
-    .word 0x408383b3  # sub x7, x7, x8
-    .word 0x0ff3f393  # andi x7, x7, 255
-    .word 0x405002b3  # sub x5, x0, x5
-    .word 0x00734333  # xor x6, x6, x7
-    .word 0x00537333  # and x6, x6, x5
-    .word 0x0063c2b3  # xor x5, x7, x6
-    .word 0x08512423  # sw x5, 136(x2)
-    .word 0x08412283  # lw x5, 132(x2)
-    .word 0x03e00313  # addi x6, x0, 62
-    .word 0x406282b3  # sub x5, x5, x6
-    .word 0x0012b293  # sltiu x5, x5, 1
-    .word 0x02b00313  # addi x6, x0, 43
-    .word 0x08812383  # lw x7, 136(x2)
-    .word 0x405002b3  # sub x5, x0, x5
-    .word 0x00734333  # xor x6, x6, x7
-    .word 0x00537333  # and x6, x6, x5
-    .word 0x0063c2b3  # xor x5, x7, x6
-    .word 0x08512423  # sw x5, 136(x2)
-    .word 0x08412283  # lw x5, 132(x2)
-    .word 0x03f00313  # addi x6, x0, 63
-    .word 0x406282b3  # sub x5, x5, x6
-    .word 0x0012b293  # sltiu x5, x5, 1
-    .word 0x02f00313  # addi x6, x0, 47
-    .word 0x08812383  # lw x7, 136(x2)
-    .word 0x405002b3  # sub x5, x0, x5
-    .word 0x00734333  # xor x6, x6, x7
-    .word 0x00537333  # and x6, x6, x5
-    .word 0x0063c2b3  # xor x5, x7, x6
-    .word 0x08512623  # sw x5, 140(x2)
-    .word 0x08012283  # lw x5, 128(x2)
-    .word 0x00000313  # addi x6, x0, 0
-    .word 0x005332b3  # sltu x5, x6, x5
-    .word 0x03012303  # lw x6, 48(x2)
-    .word 0x00300393  # addi x7, x0, 3
-    .word 0x07412403  # lw x8, 116(x2)
-    .word 0x028383b3  # mul x7, x7, x8
-    .word 0x08012403  # lw x8, 128(x2)
-    .word 0x008383b3  # add x7, x7, x8
-    .word 0x00733333  # sltu x6, x6, x7
-    .word 0x00603333  # sltu x6, x0, x6
-    .word 0x005032b3  # sltu x5, x0, x5
-    .word 0x0062f2b3  # and x5, x5, x6
-    .word 0x00029463  # bne x5, x0, 8
-    .word 0x0100006f  # jal x0, 16
-    .word 0x03d00293  # addi x5, x0, 61
-    .word 0x08512623  # sw x5, 140(x2)
-    .word 0x0040006f  # jal x0, 4
-    .word 0x03012283  # lw x5, 48(x2)
+    .word 0x0065e5b3  # or x11, x11, x6
+    .word 0x00859593  # slli x11, x11, 8
+    .word 0x00300293  # addi x5, x0, 3
+    .word 0x02a282b3  # mul x5, x5, x10
+    .word 0x00228293  # addi x5, x5, 2
+    .word 0x0092fe63  # bgeu x5, x9, 28
     .word 0x00300313  # addi x6, x0, 3
-    .word 0x07412383  # lw x7, 116(x2)
-    .word 0x02730333  # mul x6, x6, x7
-    .word 0x005332b3  # sltu x5, x6, x5
-    .word 0x0012b293  # sltiu x5, x5, 1
-    .word 0x00029463  # bne x5, x0, 8
-    .word 0x0100006f  # jal x0, 16
-    .word 0x00000293  # addi x5, x0, 0
-    .word 0x08512623  # sw x5, 140(x2)
-    .word 0x0040006f  # jal x0, 4
-    .word 0x00400293  # addi x5, x0, 4
-    .word 0x07412303  # lw x6, 116(x2)
-    .word 0x026282b3  # mul x5, x5, x6
-    .word 0x08012303  # lw x6, 128(x2)
-    .word 0x006282b3  # add x5, x5, x6
-    .word 0x08c12303  # lw x6, 140(x2)
+    .word 0x02a30333  # mul x6, x6, x10
+    .word 0x00230313  # addi x6, x6, 2
+    .word 0x00230333  # add x6, x6, x2
+    .word 0x00034303  # lbu x6, 0(x6)
+    .word 0x0065e5b3  # or x11, x11, x6
+    .word 0x0125d293  # srli x5, x11, 18
+    .word 0x03f2f293  # andi x5, x5, 63
+    .word 0x0ff2f613  # andi x12, x5, 255
+    .word 0x04160693  # addi x13, x12, 65
+    .word 0x0ff6f693  # andi x13, x13, 255
+    .word 0x01a63293  # sltiu x5, x12, 26
+    .word 0x04760393  # addi x7, x12, 71
+    .word 0x0ff3f393  # andi x7, x7, 255
+    .word 0x405002b3  # sub x5, x0, x5
+    .word 0x0076c333  # xor x6, x13, x7
+    .word 0x00537333  # and x6, x6, x5
+    .word 0x0063c6b3  # xor x13, x7, x6
+    .word 0x03463293  # sltiu x5, x12, 52
+    .word 0xffc60393  # addi x7, x12, -4
+    .word 0x0ff3f393  # andi x7, x7, 255
+    .word 0x405002b3  # sub x5, x0, x5
+    .word 0x0076c333  # xor x6, x13, x7
+    .word 0x00537333  # and x6, x6, x5
+    .word 0x0063c6b3  # xor x13, x7, x6
+    .word 0xfc260293  # addi x5, x12, -62
+    .word 0x005032b3  # sltu x5, x0, x5
+    .word 0x02b00313  # addi x6, x0, 43
+    .word 0xfff28293  # addi x5, x5, -1
+    .word 0x00d34333  # xor x6, x6, x13
+    .word 0x00537333  # and x6, x6, x5
+    .word 0x0066c6b3  # xor x13, x13, x6
+    .word 0xfc160293  # addi x5, x12, -63
+    .word 0x005032b3  # sltu x5, x0, x5
+    .word 0x02f00313  # addi x6, x0, 47
+    .word 0xfff28293  # addi x5, x5, -1
+    .word 0x00d34333  # xor x6, x6, x13
+    .word 0x00537333  # and x6, x6, x5
+    .word 0x0066c633  # xor x12, x13, x6
+    .word 0x00300313  # addi x6, x0, 3
+    .word 0x02a30333  # mul x6, x6, x10
+    .word 0x00936463  # bltu x6, x9, 8
+    .word 0x00000613  # addi x12, x0, 0
+    .word 0x00251293  # slli x5, x10, 2
     .word 0x002282b3  # add x5, x5, x2
-    .word 0x02628a23  # sb x6, 52(x5)
-    .word 0xe4dff06f  # jal x0, -436
-    .word 0xd7dff06f  # jal x0, -644
+    .word 0x02c28a23  # sb x12, 52(x5)
+    .word 0x00c5d293  # srli x5, x11, 12
+    .word 0x03f2f293  # andi x5, x5, 63
+    .word 0x0ff2f613  # andi x12, x5, 255
+    .word 0x04160693  # addi x13, x12, 65
+    .word 0x0ff6f693  # andi x13, x13, 255
+    .word 0x01a63293  # sltiu x5, x12, 26
+    .word 0x04760393  # addi x7, x12, 71
+    .word 0x0ff3f393  # andi x7, x7, 255
+    .word 0x405002b3  # sub x5, x0, x5
+    .word 0x0076c333  # xor x6, x13, x7
+    .word 0x00537333  # and x6, x6, x5
+    .word 0x0063c6b3  # xor x13, x7, x6
+    .word 0x03463293  # sltiu x5, x12, 52
+    .word 0xffc60393  # addi x7, x12, -4
+    .word 0x0ff3f393  # andi x7, x7, 255
+    .word 0x405002b3  # sub x5, x0, x5
+    .word 0x0076c333  # xor x6, x13, x7
+    .word 0x00537333  # and x6, x6, x5
+    .word 0x0063c6b3  # xor x13, x7, x6
+    .word 0xfc260293  # addi x5, x12, -62
+    .word 0x005032b3  # sltu x5, x0, x5
+    .word 0x02b00313  # addi x6, x0, 43
+    .word 0xfff28293  # addi x5, x5, -1
+    .word 0x00d34333  # xor x6, x6, x13
+    .word 0x00537333  # and x6, x6, x5
+    .word 0x0066c6b3  # xor x13, x13, x6
+    .word 0xfc160293  # addi x5, x12, -63
+    .word 0x005032b3  # sltu x5, x0, x5
+    .word 0x02f00313  # addi x6, x0, 47
+    .word 0xfff28293  # addi x5, x5, -1
+    .word 0x00d34333  # xor x6, x6, x13
+    .word 0x00537333  # and x6, x6, x5
+    .word 0x0066c633  # xor x12, x13, x6
+    .word 0x00300313  # addi x6, x0, 3
+    .word 0x02a30333  # mul x6, x6, x10
+    .word 0x00130313  # addi x6, x6, 1
+    .word 0x0064f463  # bgeu x9, x6, 8
+    .word 0x03d00613  # addi x12, x0, 61
+    .word 0x00300313  # addi x6, x0, 3
+    .word 0x02a30333  # mul x6, x6, x10
+    .word 0x00936463  # bltu x6, x9, 8
+    .word 0x00000613  # addi x12, x0, 0
+    .word 0x00251293  # slli x5, x10, 2
+    .word 0x00128293  # addi x5, x5, 1
+    .word 0x002282b3  # add x5, x5, x2
+    .word 0x02c28a23  # sb x12, 52(x5)
+    .word 0x0065d293  # srli x5, x11, 6
+    .word 0x03f2f293  # andi x5, x5, 63
+    .word 0x0ff2f613  # andi x12, x5, 255
+    .word 0x04160693  # addi x13, x12, 65
+    .word 0x0ff6f693  # andi x13, x13, 255
+    .word 0x01a63293  # sltiu x5, x12, 26
+    .word 0x04760393  # addi x7, x12, 71
+    .word 0x0ff3f393  # andi x7, x7, 255
+    .word 0x405002b3  # sub x5, x0, x5
+    .word 0x0076c333  # xor x6, x13, x7
+    .word 0x00537333  # and x6, x6, x5
+    .word 0x0063c6b3  # xor x13, x7, x6
+    .word 0x03463293  # sltiu x5, x12, 52
+    .word 0xffc60393  # addi x7, x12, -4
+    .word 0x0ff3f393  # andi x7, x7, 255
+    .word 0x405002b3  # sub x5, x0, x5
+    .word 0x0076c333  # xor x6, x13, x7
+    .word 0x00537333  # and x6, x6, x5
+    .word 0x0063c6b3  # xor x13, x7, x6
+    .word 0xfc260293  # addi x5, x12, -62
+    .word 0x005032b3  # sltu x5, x0, x5
+    .word 0x02b00313  # addi x6, x0, 43
+    .word 0xfff28293  # addi x5, x5, -1
+    .word 0x00d34333  # xor x6, x6, x13
+    .word 0x00537333  # and x6, x6, x5
+    .word 0x0066c6b3  # xor x13, x13, x6
+    .word 0xfc160293  # addi x5, x12, -63
+    .word 0x005032b3  # sltu x5, x0, x5
+    .word 0x02f00313  # addi x6, x0, 47
+    .word 0xfff28293  # addi x5, x5, -1
+    .word 0x00d34333  # xor x6, x6, x13
+    .word 0x00537333  # and x6, x6, x5
+    .word 0x0066c633  # xor x12, x13, x6
+    .word 0x00300313  # addi x6, x0, 3
+    .word 0x02a30333  # mul x6, x6, x10
+    .word 0x00230313  # addi x6, x6, 2
+    .word 0x0064f463  # bgeu x9, x6, 8
+    .word 0x03d00613  # addi x12, x0, 61
+    .word 0x00300313  # addi x6, x0, 3
+    .word 0x02a30333  # mul x6, x6, x10
+    .word 0x00936463  # bltu x6, x9, 8
+    .word 0x00000613  # addi x12, x0, 0
+    .word 0x00251293  # slli x5, x10, 2
+    .word 0x00228293  # addi x5, x5, 2
+    .word 0x002282b3  # add x5, x5, x2
+    .word 0x02c28a23  # sb x12, 52(x5)
+    .word 0x03f5f293  # andi x5, x11, 63
+    .word 0x0ff2f613  # andi x12, x5, 255
+    .word 0x04160693  # addi x13, x12, 65
+    .word 0x0ff6f693  # andi x13, x13, 255
+    .word 0x01a63293  # sltiu x5, x12, 26
+    .word 0x04760393  # addi x7, x12, 71
+    .word 0x0ff3f393  # andi x7, x7, 255
+    .word 0x405002b3  # sub x5, x0, x5
+    .word 0x0076c333  # xor x6, x13, x7
+    .word 0x00537333  # and x6, x6, x5
+    .word 0x0063c6b3  # xor x13, x7, x6
+    .word 0x03463293  # sltiu x5, x12, 52
+    .word 0xffc60393  # addi x7, x12, -4
+    .word 0x0ff3f393  # andi x7, x7, 255
+    .word 0x405002b3  # sub x5, x0, x5
+    .word 0x0076c333  # xor x6, x13, x7
+    .word 0x00537333  # and x6, x6, x5
+    .word 0x0063c6b3  # xor x13, x7, x6
+    .word 0xfc260293  # addi x5, x12, -62
+    .word 0x005032b3  # sltu x5, x0, x5
+    .word 0x02b00313  # addi x6, x0, 43
+    .word 0xfff28293  # addi x5, x5, -1
+    .word 0x00d34333  # xor x6, x6, x13
+    .word 0x00537333  # and x6, x6, x5
+    .word 0x0066c6b3  # xor x13, x13, x6
+    .word 0xfc160293  # addi x5, x12, -63
+    .word 0x005032b3  # sltu x5, x0, x5
+    .word 0x02f00313  # addi x6, x0, 47
+    .word 0xfff28293  # addi x5, x5, -1
+    .word 0x00d34333  # xor x6, x6, x13
+    .word 0x00537333  # and x6, x6, x5
+    .word 0x0066c633  # xor x12, x13, x6
+    .word 0x00300313  # addi x6, x0, 3
+    .word 0x02a30333  # mul x6, x6, x10
+    .word 0x00330313  # addi x6, x6, 3
+    .word 0x0064f463  # bgeu x9, x6, 8
+    .word 0x03d00613  # addi x12, x0, 61
+    .word 0x00300313  # addi x6, x0, 3
+    .word 0x02a30333  # mul x6, x6, x10
+    .word 0x00936463  # bltu x6, x9, 8
+    .word 0x00000613  # addi x12, x0, 0
+    .word 0x00251293  # slli x5, x10, 2
+    .word 0x00328293  # addi x5, x5, 3
+    .word 0x002282b3  # add x5, x5, x2
+    .word 0x02c28a23  # sb x12, 52(x5)
+    .word 0x00150513  # addi x10, x10, 1
+    .word 0x01053293  # sltiu x5, x10, 16
+    .word 0xca029ee3  # bne x5, x0, -836
+    .word 0xfff50513  # addi x10, x10, -1
     # the result
     .word 0x00000513  # addi x10, x0, 0
     # parameter 2: the array, back
-    .word 0x0bc12283  # lw x5, 188(x2)
+    .word 0x08c12283  # lw x5, 140(x2)
     .word 0x03410313  # addi x6, x2, 52
     .word 0x0032fe13  # andi x28, x5, 3
     .word 0x020e0e63  # beq x28, x0, 60
@@ -283,14 +328,19 @@ base64_encode:
     .word 0x02030313  # addi x6, x6, 32
     .word 0xfa729ce3  # bne x5, x7, -72
     # above the frame
-    .word 0x0b010293  # addi x5, x2, 176
+    .word 0x08010293  # addi x5, x2, 128
     # the caller's registers
-    .word 0x0002a403  # lw x8, 0(x5)
-    .cfi_restore 8
+    .word 0x0002a483  # lw x9, 0(x5)
+    .cfi_restore 9
     # the caller's x2
     .word 0x01028293  # addi x5, x5, 16
     .cfi_def_cfa 5, 0
     # all the room, wiped upward
+    .word 0x00012023  # sw x0, 0(x2)
+    .word 0x00012223  # sw x0, 4(x2)
+    .word 0x00012423  # sw x0, 8(x2)
+    .word 0x00012623  # sw x0, 12(x2)
+    .word 0x01010113  # addi x2, x2, 16
     .word 0x00012023  # sw x0, 0(x2)
     .word 0x00012223  # sw x0, 4(x2)
     .word 0x00012423  # sw x0, 8(x2)

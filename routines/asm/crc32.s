@@ -1,4 +1,4 @@
-# crc32: made by factc function; 139 words, 128 bytes of stack, profile 1
+# crc32: made by factc function; 153 words, 112 bytes of stack, profile 1
     .option push
     .option norvc
     .option norelax
@@ -13,12 +13,12 @@ crc32:
     .word 0xff010113  # addi x2, x2, -16
     .cfi_def_cfa_offset 16
     # the caller's registers
-    .word 0x00812023  # sw x8, 0(x2)
-    .cfi_offset 8, -16
+    .word 0x00912023  # sw x9, 0(x2)
+    .cfi_offset 9, -16
     # arguments that are needed behind the body
     # the frame's base
-    .word 0xf9010113  # addi x2, x2, -112
-    .cfi_def_cfa 2, 128
+    .word 0xfa010113  # addi x2, x2, -96
+    .cfi_def_cfa 2, 112
     # parameter 0: a word
     .word 0x00a12023  # sw x10, 0(x2)
     # parameter 1: an array
@@ -64,75 +64,89 @@ crc32:
     # parameter 2: a word
     .word 0x04c12223  # sw x12, 68(x2)
     # the body
-    .word 0x00012283  # lw x5, 0(x2)
-    .word 0x405002b3  # sub x5, x0, x5
-    .word 0xfff28293  # addi x5, x5, -1
-    .word 0x04512423  # sw x5, 72(x2)
-    .word 0x00000293  # addi x5, x0, 0
-    .word 0x04512c23  # sw x5, 88(x2)
-    .word 0x04000293  # addi x5, x0, 64
-    .word 0x04512e23  # sw x5, 92(x2)
-    .word 0x05812303  # lw x6, 88(x2)
-    .word 0x05c12283  # lw x5, 92(x2)
-    .word 0x005332b3  # sltu x5, x6, x5
-    .word 0x00029463  # bne x5, x0, 8
-    .word 0x0a80006f  # jal x0, 168
-    .word 0x04612623  # sw x6, 76(x2)
-    .word 0x00130313  # addi x6, x6, 1
-    .word 0x04612c23  # sw x6, 88(x2)
-    .word 0x04c12283  # lw x5, 76(x2)
-    .word 0x04412303  # lw x6, 68(x2)
-    .word 0x0062b2b3  # sltu x5, x5, x6
-    .word 0x00029463  # bne x5, x0, 8
-    .word 0x0840006f  # jal x0, 132
-    .word 0x04812283  # lw x5, 72(x2)
-    .word 0x04c12303  # lw x6, 76(x2)
-    .word 0x00230333  # add x6, x6, x2
+    .word 0x00012483  # lw x9, 0(x2)
+    .word 0x04412503  # lw x10, 68(x2)
+    .word 0x00000613  # addi x12, x0, 0
+    .word 0xedb886b7  # lui x13, 0xedb88
+    .word 0x32068693  # addi x13, x13, 800
+    .word 0x409005b3  # sub x11, x0, x9
+    .word 0xfff58593  # addi x11, x11, -1
+    .word 0x00000613  # addi x12, x0, 0
+    .word 0x0aa67863  # bgeu x12, x10, 176
+    .word 0x00260333  # add x6, x12, x2
     .word 0x00434303  # lbu x6, 4(x6)
-    .word 0x0062c2b3  # xor x5, x5, x6
-    .word 0x04512423  # sw x5, 72(x2)
-    .word 0x00000293  # addi x5, x0, 0
-    .word 0x06512023  # sw x5, 96(x2)
-    .word 0x00800293  # addi x5, x0, 8
-    .word 0x06512223  # sw x5, 100(x2)
-    .word 0x06012303  # lw x6, 96(x2)
-    .word 0x06412283  # lw x5, 100(x2)
-    .word 0x005332b3  # sltu x5, x6, x5
-    .word 0x00029463  # bne x5, x0, 8
-    .word 0x0440006f  # jal x0, 68
-    .word 0x04612823  # sw x6, 80(x2)
-    .word 0x00130313  # addi x6, x6, 1
-    .word 0x06612023  # sw x6, 96(x2)
-    .word 0x04812283  # lw x5, 72(x2)
-    .word 0x00100313  # addi x6, x0, 1
-    .word 0x0062d2b3  # srl x5, x5, x6
-    .word 0xedb88337  # lui x6, 0xedb88
-    .word 0x32030313  # addi x6, x6, 800
-    .word 0x04812383  # lw x7, 72(x2)
-    .word 0x00100413  # addi x8, x0, 1
-    .word 0x0083f3b3  # and x7, x7, x8
+    .word 0x0065c5b3  # xor x11, x11, x6
+    .word 0x0015d293  # srli x5, x11, 1
+    .word 0x0015f393  # andi x7, x11, 1
     .word 0x407003b3  # sub x7, x0, x7
-    .word 0x00737333  # and x6, x6, x7
-    .word 0x0062c2b3  # xor x5, x5, x6
-    .word 0x04512423  # sw x5, 72(x2)
-    .word 0xfb1ff06f  # jal x0, -80
-    .word 0x0040006f  # jal x0, 4
-    .word 0xf4dff06f  # jal x0, -180
-    .word 0x04812283  # lw x5, 72(x2)
-    .word 0x405002b3  # sub x5, x0, x5
+    .word 0x0076f333  # and x6, x13, x7
+    .word 0x0062c5b3  # xor x11, x5, x6
+    .word 0x0015d293  # srli x5, x11, 1
+    .word 0x0015f393  # andi x7, x11, 1
+    .word 0x407003b3  # sub x7, x0, x7
+    .word 0x0076f333  # and x6, x13, x7
+    .word 0x0062c5b3  # xor x11, x5, x6
+    .word 0x0015d293  # srli x5, x11, 1
+    .word 0x0015f393  # andi x7, x11, 1
+    .word 0x407003b3  # sub x7, x0, x7
+    .word 0x0076f333  # and x6, x13, x7
+    .word 0x0062c5b3  # xor x11, x5, x6
+    .word 0x0015d293  # srli x5, x11, 1
+    .word 0x0015f393  # andi x7, x11, 1
+    .word 0x407003b3  # sub x7, x0, x7
+    .word 0x0076f333  # and x6, x13, x7
+    .word 0x0062c5b3  # xor x11, x5, x6
+    .word 0x0015d293  # srli x5, x11, 1
+    .word 0x0015f393  # andi x7, x11, 1
+    .word 0x407003b3  # sub x7, x0, x7
+    .word 0x0076f333  # and x6, x13, x7
+    .word 0x0062c5b3  # xor x11, x5, x6
+    .word 0x0015d293  # srli x5, x11, 1
+    .word 0x0015f393  # andi x7, x11, 1
+    .word 0x407003b3  # sub x7, x0, x7
+    .word 0x0076f333  # and x6, x13, x7
+    .word 0x0062c5b3  # xor x11, x5, x6
+    .word 0x0015d293  # srli x5, x11, 1
+    .word 0x0015f393  # andi x7, x11, 1
+    .word 0x407003b3  # sub x7, x0, x7
+    .word 0x0076f333  # and x6, x13, x7
+    .word 0x0062c5b3  # xor x11, x5, x6
+    .word 0x0015d293  # srli x5, x11, 1
+    .word 0x0015f393  # andi x7, x11, 1
+    .word 0x407003b3  # sub x7, x0, x7
+    .word 0x0076f333  # and x6, x13, x7
+    .word 0x0062c5b3  # xor x11, x5, x6
+    .word 0x00160613  # addi x12, x12, 1
+    .word 0x04063293  # sltiu x5, x12, 64
+    .word 0xf40294e3  # bne x5, x0, -184
+    .word 0xfff60613  # addi x12, x12, -1
+    .word 0x40b002b3  # sub x5, x0, x11
     .word 0xfff28293  # addi x5, x5, -1
-    .word 0x04512a23  # sw x5, 84(x2)
+    .word 0x04512423  # sw x5, 72(x2)
     # the result
-    .word 0x05412503  # lw x10, 84(x2)
+    .word 0x04812503  # lw x10, 72(x2)
     # above the frame
-    .word 0x07010293  # addi x5, x2, 112
+    .word 0x06010293  # addi x5, x2, 96
     # the caller's registers
-    .word 0x0002a403  # lw x8, 0(x5)
-    .cfi_restore 8
+    .word 0x0002a483  # lw x9, 0(x5)
+    .cfi_restore 9
     # the caller's x2
     .word 0x01028293  # addi x5, x5, 16
     .cfi_def_cfa 5, 0
     # all the room, wiped upward
+    .word 0x00012023  # sw x0, 0(x2)
+    .word 0x00012223  # sw x0, 4(x2)
+    .word 0x00012423  # sw x0, 8(x2)
+    .word 0x00012623  # sw x0, 12(x2)
+    .word 0x00012823  # sw x0, 16(x2)
+    .word 0x00012a23  # sw x0, 20(x2)
+    .word 0x00012c23  # sw x0, 24(x2)
+    .word 0x00012e23  # sw x0, 28(x2)
+    .word 0x02012023  # sw x0, 32(x2)
+    .word 0x02012223  # sw x0, 36(x2)
+    .word 0x02012423  # sw x0, 40(x2)
+    .word 0x02012623  # sw x0, 44(x2)
+    .word 0x03010113  # addi x2, x2, 48
     .word 0x00012023  # sw x0, 0(x2)
     .word 0x00012223  # sw x0, 4(x2)
     .word 0x00012423  # sw x0, 8(x2)

@@ -1,4 +1,4 @@
-# equal_16: made by factc function; 120 words, 64 bytes of stack, profile 1
+# equal_16: made by factc function; 157 words, 64 bytes of stack, profile 1
     .option push
     .option norvc
     .option norelax
@@ -10,14 +10,15 @@
 equal_16:
     .cfi_startproc
     # room above the frame
-    .cfi_def_cfa_offset 0
+    .word 0xff010113  # addi x2, x2, -16
+    .cfi_def_cfa_offset 16
     # the caller's registers
+    .word 0x00812023  # sw x8, 0(x2)
+    .cfi_offset 8, -16
     # arguments that are needed behind the body
     # the frame's base
-    .word 0xfc010113  # addi x2, x2, -64
+    .word 0xfd010113  # addi x2, x2, -48
     .cfi_def_cfa 2, 64
-    # the frame's word at 32, zeroed
-    .word 0x02012023  # sw x0, 32(x2)
     # parameter 0: an array
     .word 0x00050293  # addi x5, x10, 0
     .word 0x00010313  # addi x6, x2, 0
@@ -73,43 +74,80 @@ equal_16:
     .word 0x00c2ae03  # lw x28, 12(x5)
     .word 0x01c32623  # sw x28, 12(x6)
     # the body
-    .word 0x00000293  # addi x5, x0, 0
-    .word 0x02512023  # sw x5, 32(x2)
-    .word 0x00000293  # addi x5, x0, 0
-    .word 0x02512623  # sw x5, 44(x2)
-    .word 0x01000293  # addi x5, x0, 16
-    .word 0x02512823  # sw x5, 48(x2)
-    .word 0x02c12303  # lw x6, 44(x2)
-    .word 0x03012283  # lw x5, 48(x2)
-    .word 0x005332b3  # sltu x5, x6, x5
-    .word 0x00029463  # bne x5, x0, 8
-    .word 0x03c0006f  # jal x0, 60
-    .word 0x02612223  # sw x6, 36(x2)
-    .word 0x00130313  # addi x6, x6, 1
-    .word 0x02612623  # sw x6, 44(x2)
-    .word 0x02012283  # lw x5, 32(x2)
-    .word 0x02412303  # lw x6, 36(x2)
-    .word 0x00230333  # add x6, x6, x2
-    .word 0x00034303  # lbu x6, 0(x6)
-    .word 0x02412383  # lw x7, 36(x2)
-    .word 0x002383b3  # add x7, x7, x2
-    .word 0x0103c383  # lbu x7, 16(x7)
+    .word 0x00014283  # lbu x5, 0(x2)
+    .word 0x01014303  # lbu x6, 16(x2)
+    .word 0x0062c433  # xor x8, x5, x6
+    .word 0x00114303  # lbu x6, 1(x2)
+    .word 0x01114383  # lbu x7, 17(x2)
     .word 0x00734333  # xor x6, x6, x7
-    .word 0x0062e2b3  # or x5, x5, x6
+    .word 0x00646433  # or x8, x8, x6
+    .word 0x00214303  # lbu x6, 2(x2)
+    .word 0x01214383  # lbu x7, 18(x2)
+    .word 0x00734333  # xor x6, x6, x7
+    .word 0x00646433  # or x8, x8, x6
+    .word 0x00314303  # lbu x6, 3(x2)
+    .word 0x01314383  # lbu x7, 19(x2)
+    .word 0x00734333  # xor x6, x6, x7
+    .word 0x00646433  # or x8, x8, x6
+    .word 0x00414303  # lbu x6, 4(x2)
+    .word 0x01414383  # lbu x7, 20(x2)
+    .word 0x00734333  # xor x6, x6, x7
+    .word 0x00646433  # or x8, x8, x6
+    .word 0x00514303  # lbu x6, 5(x2)
+    .word 0x01514383  # lbu x7, 21(x2)
+    .word 0x00734333  # xor x6, x6, x7
+    .word 0x00646433  # or x8, x8, x6
+    .word 0x00614303  # lbu x6, 6(x2)
+    .word 0x01614383  # lbu x7, 22(x2)
+    .word 0x00734333  # xor x6, x6, x7
+    .word 0x00646433  # or x8, x8, x6
+    .word 0x00714303  # lbu x6, 7(x2)
+    .word 0x01714383  # lbu x7, 23(x2)
+    .word 0x00734333  # xor x6, x6, x7
+    .word 0x00646433  # or x8, x8, x6
+    .word 0x00814303  # lbu x6, 8(x2)
+    .word 0x01814383  # lbu x7, 24(x2)
+    .word 0x00734333  # xor x6, x6, x7
+    .word 0x00646433  # or x8, x8, x6
+    .word 0x00914303  # lbu x6, 9(x2)
+    .word 0x01914383  # lbu x7, 25(x2)
+    .word 0x00734333  # xor x6, x6, x7
+    .word 0x00646433  # or x8, x8, x6
+    .word 0x00a14303  # lbu x6, 10(x2)
+    .word 0x01a14383  # lbu x7, 26(x2)
+    .word 0x00734333  # xor x6, x6, x7
+    .word 0x00646433  # or x8, x8, x6
+    .word 0x00b14303  # lbu x6, 11(x2)
+    .word 0x01b14383  # lbu x7, 27(x2)
+    .word 0x00734333  # xor x6, x6, x7
+    .word 0x00646433  # or x8, x8, x6
+    .word 0x00c14303  # lbu x6, 12(x2)
+    .word 0x01c14383  # lbu x7, 28(x2)
+    .word 0x00734333  # xor x6, x6, x7
+    .word 0x00646433  # or x8, x8, x6
+    .word 0x00d14303  # lbu x6, 13(x2)
+    .word 0x01d14383  # lbu x7, 29(x2)
+    .word 0x00734333  # xor x6, x6, x7
+    .word 0x00646433  # or x8, x8, x6
+    .word 0x00e14303  # lbu x6, 14(x2)
+    .word 0x01e14383  # lbu x7, 30(x2)
+    .word 0x00734333  # xor x6, x6, x7
+    .word 0x00646433  # or x8, x8, x6
+    .word 0x00f14303  # lbu x6, 15(x2)
+    .word 0x01f14383  # lbu x7, 31(x2)
+    .word 0x00734333  # xor x6, x6, x7
+    .word 0x00646433  # or x8, x8, x6
+    .word 0x00143293  # sltiu x5, x8, 1
     .word 0x02512023  # sw x5, 32(x2)
-    .word 0xfb9ff06f  # jal x0, -72
-    .word 0x02012283  # lw x5, 32(x2)
-    .word 0x00000313  # addi x6, x0, 0
-    .word 0x406282b3  # sub x5, x5, x6
-    .word 0x0012b293  # sltiu x5, x5, 1
-    .word 0x02512423  # sw x5, 40(x2)
     # the result
-    .word 0x02812503  # lw x10, 40(x2)
+    .word 0x02012503  # lw x10, 32(x2)
     # above the frame
-    .word 0x04010293  # addi x5, x2, 64
+    .word 0x03010293  # addi x5, x2, 48
     # the caller's registers
+    .word 0x0002a403  # lw x8, 0(x5)
+    .cfi_restore 8
     # the caller's x2
-    .word 0x00028293  # addi x5, x5, 0
+    .word 0x01028293  # addi x5, x5, 16
     .cfi_def_cfa 5, 0
     # all the room, wiped upward
     .word 0x00012023  # sw x0, 0(x2)

@@ -1,4 +1,4 @@
-# equal_32: made by factc function; 145 words, 96 bytes of stack, profile 1
+# equal_32: made by factc function; 246 words, 96 bytes of stack, profile 1
     .option push
     .option norvc
     .option norelax
@@ -10,14 +10,15 @@
 equal_32:
     .cfi_startproc
     # room above the frame
-    .cfi_def_cfa_offset 0
+    .word 0xff010113  # addi x2, x2, -16
+    .cfi_def_cfa_offset 16
     # the caller's registers
+    .word 0x00812023  # sw x8, 0(x2)
+    .cfi_offset 8, -16
     # arguments that are needed behind the body
     # the frame's base
-    .word 0xfa010113  # addi x2, x2, -96
+    .word 0xfb010113  # addi x2, x2, -80
     .cfi_def_cfa 2, 96
-    # the frame's word at 64, zeroed
-    .word 0x04012023  # sw x0, 64(x2)
     # parameter 0: an array
     .word 0x00050293  # addi x5, x10, 0
     .word 0x00010313  # addi x6, x2, 0
@@ -89,43 +90,144 @@ equal_32:
     .word 0x01c2ae03  # lw x28, 28(x5)
     .word 0x01c32e23  # sw x28, 28(x6)
     # the body
-    .word 0x00000293  # addi x5, x0, 0
-    .word 0x04512023  # sw x5, 64(x2)
-    .word 0x00000293  # addi x5, x0, 0
-    .word 0x04512623  # sw x5, 76(x2)
-    .word 0x02000293  # addi x5, x0, 32
-    .word 0x04512823  # sw x5, 80(x2)
-    .word 0x04c12303  # lw x6, 76(x2)
-    .word 0x05012283  # lw x5, 80(x2)
-    .word 0x005332b3  # sltu x5, x6, x5
-    .word 0x00029463  # bne x5, x0, 8
-    .word 0x03c0006f  # jal x0, 60
-    .word 0x04612223  # sw x6, 68(x2)
-    .word 0x00130313  # addi x6, x6, 1
-    .word 0x04612623  # sw x6, 76(x2)
-    .word 0x04012283  # lw x5, 64(x2)
-    .word 0x04412303  # lw x6, 68(x2)
-    .word 0x00230333  # add x6, x6, x2
-    .word 0x00034303  # lbu x6, 0(x6)
-    .word 0x04412383  # lw x7, 68(x2)
-    .word 0x002383b3  # add x7, x7, x2
-    .word 0x0203c383  # lbu x7, 32(x7)
+    .word 0x00014283  # lbu x5, 0(x2)
+    .word 0x02014303  # lbu x6, 32(x2)
+    .word 0x0062c433  # xor x8, x5, x6
+    .word 0x00114303  # lbu x6, 1(x2)
+    .word 0x02114383  # lbu x7, 33(x2)
     .word 0x00734333  # xor x6, x6, x7
-    .word 0x0062e2b3  # or x5, x5, x6
+    .word 0x00646433  # or x8, x8, x6
+    .word 0x00214303  # lbu x6, 2(x2)
+    .word 0x02214383  # lbu x7, 34(x2)
+    .word 0x00734333  # xor x6, x6, x7
+    .word 0x00646433  # or x8, x8, x6
+    .word 0x00314303  # lbu x6, 3(x2)
+    .word 0x02314383  # lbu x7, 35(x2)
+    .word 0x00734333  # xor x6, x6, x7
+    .word 0x00646433  # or x8, x8, x6
+    .word 0x00414303  # lbu x6, 4(x2)
+    .word 0x02414383  # lbu x7, 36(x2)
+    .word 0x00734333  # xor x6, x6, x7
+    .word 0x00646433  # or x8, x8, x6
+    .word 0x00514303  # lbu x6, 5(x2)
+    .word 0x02514383  # lbu x7, 37(x2)
+    .word 0x00734333  # xor x6, x6, x7
+    .word 0x00646433  # or x8, x8, x6
+    .word 0x00614303  # lbu x6, 6(x2)
+    .word 0x02614383  # lbu x7, 38(x2)
+    .word 0x00734333  # xor x6, x6, x7
+    .word 0x00646433  # or x8, x8, x6
+    .word 0x00714303  # lbu x6, 7(x2)
+    .word 0x02714383  # lbu x7, 39(x2)
+    .word 0x00734333  # xor x6, x6, x7
+    .word 0x00646433  # or x8, x8, x6
+    .word 0x00814303  # lbu x6, 8(x2)
+    .word 0x02814383  # lbu x7, 40(x2)
+    .word 0x00734333  # xor x6, x6, x7
+    .word 0x00646433  # or x8, x8, x6
+    .word 0x00914303  # lbu x6, 9(x2)
+    .word 0x02914383  # lbu x7, 41(x2)
+    .word 0x00734333  # xor x6, x6, x7
+    .word 0x00646433  # or x8, x8, x6
+    .word 0x00a14303  # lbu x6, 10(x2)
+    .word 0x02a14383  # lbu x7, 42(x2)
+    .word 0x00734333  # xor x6, x6, x7
+    .word 0x00646433  # or x8, x8, x6
+    .word 0x00b14303  # lbu x6, 11(x2)
+    .word 0x02b14383  # lbu x7, 43(x2)
+    .word 0x00734333  # xor x6, x6, x7
+    .word 0x00646433  # or x8, x8, x6
+    .word 0x00c14303  # lbu x6, 12(x2)
+    .word 0x02c14383  # lbu x7, 44(x2)
+    .word 0x00734333  # xor x6, x6, x7
+    .word 0x00646433  # or x8, x8, x6
+    .word 0x00d14303  # lbu x6, 13(x2)
+    .word 0x02d14383  # lbu x7, 45(x2)
+    .word 0x00734333  # xor x6, x6, x7
+    .word 0x00646433  # or x8, x8, x6
+    .word 0x00e14303  # lbu x6, 14(x2)
+    .word 0x02e14383  # lbu x7, 46(x2)
+    .word 0x00734333  # xor x6, x6, x7
+    .word 0x00646433  # or x8, x8, x6
+    .word 0x00f14303  # lbu x6, 15(x2)
+    .word 0x02f14383  # lbu x7, 47(x2)
+    .word 0x00734333  # xor x6, x6, x7
+    .word 0x00646433  # or x8, x8, x6
+    .word 0x01014303  # lbu x6, 16(x2)
+    .word 0x03014383  # lbu x7, 48(x2)
+    .word 0x00734333  # xor x6, x6, x7
+    .word 0x00646433  # or x8, x8, x6
+    .word 0x01114303  # lbu x6, 17(x2)
+    .word 0x03114383  # lbu x7, 49(x2)
+    .word 0x00734333  # xor x6, x6, x7
+    .word 0x00646433  # or x8, x8, x6
+    .word 0x01214303  # lbu x6, 18(x2)
+    .word 0x03214383  # lbu x7, 50(x2)
+    .word 0x00734333  # xor x6, x6, x7
+    .word 0x00646433  # or x8, x8, x6
+    .word 0x01314303  # lbu x6, 19(x2)
+    .word 0x03314383  # lbu x7, 51(x2)
+    .word 0x00734333  # xor x6, x6, x7
+    .word 0x00646433  # or x8, x8, x6
+    .word 0x01414303  # lbu x6, 20(x2)
+    .word 0x03414383  # lbu x7, 52(x2)
+    .word 0x00734333  # xor x6, x6, x7
+    .word 0x00646433  # or x8, x8, x6
+    .word 0x01514303  # lbu x6, 21(x2)
+    .word 0x03514383  # lbu x7, 53(x2)
+    .word 0x00734333  # xor x6, x6, x7
+    .word 0x00646433  # or x8, x8, x6
+    .word 0x01614303  # lbu x6, 22(x2)
+    .word 0x03614383  # lbu x7, 54(x2)
+    .word 0x00734333  # xor x6, x6, x7
+    .word 0x00646433  # or x8, x8, x6
+    .word 0x01714303  # lbu x6, 23(x2)
+    .word 0x03714383  # lbu x7, 55(x2)
+    .word 0x00734333  # xor x6, x6, x7
+    .word 0x00646433  # or x8, x8, x6
+    .word 0x01814303  # lbu x6, 24(x2)
+    .word 0x03814383  # lbu x7, 56(x2)
+    .word 0x00734333  # xor x6, x6, x7
+    .word 0x00646433  # or x8, x8, x6
+    .word 0x01914303  # lbu x6, 25(x2)
+    .word 0x03914383  # lbu x7, 57(x2)
+    .word 0x00734333  # xor x6, x6, x7
+    .word 0x00646433  # or x8, x8, x6
+    .word 0x01a14303  # lbu x6, 26(x2)
+    .word 0x03a14383  # lbu x7, 58(x2)
+    .word 0x00734333  # xor x6, x6, x7
+    .word 0x00646433  # or x8, x8, x6
+    .word 0x01b14303  # lbu x6, 27(x2)
+    .word 0x03b14383  # lbu x7, 59(x2)
+    .word 0x00734333  # xor x6, x6, x7
+    .word 0x00646433  # or x8, x8, x6
+    .word 0x01c14303  # lbu x6, 28(x2)
+    .word 0x03c14383  # lbu x7, 60(x2)
+    .word 0x00734333  # xor x6, x6, x7
+    .word 0x00646433  # or x8, x8, x6
+    .word 0x01d14303  # lbu x6, 29(x2)
+    .word 0x03d14383  # lbu x7, 61(x2)
+    .word 0x00734333  # xor x6, x6, x7
+    .word 0x00646433  # or x8, x8, x6
+    .word 0x01e14303  # lbu x6, 30(x2)
+    .word 0x03e14383  # lbu x7, 62(x2)
+    .word 0x00734333  # xor x6, x6, x7
+    .word 0x00646433  # or x8, x8, x6
+    .word 0x01f14303  # lbu x6, 31(x2)
+    .word 0x03f14383  # lbu x7, 63(x2)
+    .word 0x00734333  # xor x6, x6, x7
+    .word 0x00646433  # or x8, x8, x6
+    .word 0x00143293  # sltiu x5, x8, 1
     .word 0x04512023  # sw x5, 64(x2)
-    .word 0xfb9ff06f  # jal x0, -72
-    .word 0x04012283  # lw x5, 64(x2)
-    .word 0x00000313  # addi x6, x0, 0
-    .word 0x406282b3  # sub x5, x5, x6
-    .word 0x0012b293  # sltiu x5, x5, 1
-    .word 0x04512423  # sw x5, 72(x2)
     # the result
-    .word 0x04812503  # lw x10, 72(x2)
+    .word 0x04012503  # lw x10, 64(x2)
     # above the frame
-    .word 0x06010293  # addi x5, x2, 96
+    .word 0x05010293  # addi x5, x2, 80
     # the caller's registers
+    .word 0x0002a403  # lw x8, 0(x5)
+    .cfi_restore 8
     # the caller's x2
-    .word 0x00028293  # addi x5, x5, 0
+    .word 0x01028293  # addi x5, x5, 16
     .cfi_def_cfa 5, 0
     # all the room, wiped upward
     .word 0x00012023  # sw x0, 0(x2)

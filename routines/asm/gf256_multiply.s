@@ -1,4 +1,4 @@
-# gf256_multiply: made by factc function; 199 words, 112 bytes of stack, profile 1
+# gf256_multiply: made by factc function; 221 words, 80 bytes of stack, profile 1
     .option push
     .option norvc
     .option norelax
@@ -13,15 +13,15 @@ gf256_multiply:
     .word 0xff010113  # addi x2, x2, -16
     .cfi_def_cfa_offset 16
     # the caller's registers
-    .word 0x00812023  # sw x8, 0(x2)
-    .cfi_offset 8, -16
+    .word 0x00912023  # sw x9, 0(x2)
+    .cfi_offset 9, -16
     # arguments that are needed behind the body
     .word 0x00a12223  # sw x10, 4(x2)
     .word 0x00b12423  # sw x11, 8(x2)
     .word 0x00c12623  # sw x12, 12(x2)
     # the frame's base
-    .word 0xfa010113  # addi x2, x2, -96
-    .cfi_def_cfa 2, 112
+    .word 0xfc010113  # addi x2, x2, -64
+    .cfi_def_cfa 2, 80
     # parameter 0: an array
     .word 0x00050293  # addi x5, x10, 0
     .word 0x00010313  # addi x6, x2, 0
@@ -77,75 +77,105 @@ gf256_multiply:
     .word 0x00c2ae03  # lw x28, 12(x5)
     .word 0x01c32623  # sw x28, 12(x6)
     # the body
-    .word 0x00000293  # addi x5, x0, 0
-    .word 0x04512423  # sw x5, 72(x2)
-    .word 0x01000293  # addi x5, x0, 16
-    .word 0x04512623  # sw x5, 76(x2)
-    .word 0x04812303  # lw x6, 72(x2)
-    .word 0x04c12283  # lw x5, 76(x2)
-    .word 0x005332b3  # sltu x5, x6, x5
-    .word 0x00029463  # bne x5, x0, 8
-    .word 0x0e40006f  # jal x0, 228
-    .word 0x02612823  # sw x6, 48(x2)
-    .word 0x00130313  # addi x6, x6, 1
-    .word 0x04612423  # sw x6, 72(x2)
-    .word 0x00000293  # addi x5, x0, 0
-    .word 0x02512a23  # sw x5, 52(x2)
-    .word 0x03012283  # lw x5, 48(x2)
-    .word 0x002282b3  # add x5, x5, x2
-    .word 0x0002c283  # lbu x5, 0(x5)
-    .word 0x02512c23  # sw x5, 56(x2)
-    .word 0x03012283  # lw x5, 48(x2)
-    .word 0x002282b3  # add x5, x5, x2
-    .word 0x0102c283  # lbu x5, 16(x5)
-    .word 0x02512e23  # sw x5, 60(x2)
-    .word 0x00000293  # addi x5, x0, 0
-    .word 0x04512823  # sw x5, 80(x2)
-    .word 0x00800293  # addi x5, x0, 8
-    .word 0x04512a23  # sw x5, 84(x2)
-    .word 0x05012303  # lw x6, 80(x2)
-    .word 0x05412283  # lw x5, 84(x2)
-    .word 0x005332b3  # sltu x5, x6, x5
-    .word 0x00029463  # bne x5, x0, 8
-    .word 0x0740006f  # jal x0, 116
-    .word 0x04612023  # sw x6, 64(x2)
-    .word 0x00130313  # addi x6, x6, 1
-    .word 0x04612823  # sw x6, 80(x2)
-    .word 0x03412283  # lw x5, 52(x2)
-    .word 0x03812303  # lw x6, 56(x2)
-    .word 0x03c12383  # lw x7, 60(x2)
-    .word 0x04012403  # lw x8, 64(x2)
-    .word 0x0083d3b3  # srl x7, x7, x8
-    .word 0x00100413  # addi x8, x0, 1
-    .word 0x0083f3b3  # and x7, x7, x8
+    .word 0x00000493  # addi x9, x0, 0
+    .word 0x00000513  # addi x10, x0, 0
+    .word 0x00000593  # addi x11, x0, 0
+    .word 0x00000613  # addi x12, x0, 0
+    .word 0x00000493  # addi x9, x0, 0
+    .word 0x002485b3  # add x11, x9, x2
+    .word 0x0005c583  # lbu x11, 0(x11)
+    .word 0x00248633  # add x12, x9, x2
+    .word 0x01064603  # lbu x12, 16(x12)
+    .word 0x00167313  # andi x6, x12, 1
+    .word 0x40600333  # sub x6, x0, x6
+    .word 0x0065f533  # and x10, x11, x6
+    .word 0x00159293  # slli x5, x11, 1
+    .word 0x0075d313  # srli x6, x11, 7
+    .word 0x00137313  # andi x6, x6, 1
+    .word 0x40600333  # sub x6, x0, x6
+    .word 0x11b37313  # andi x6, x6, 283
+    .word 0x0062c5b3  # xor x11, x5, x6
+    .word 0x00165393  # srli x7, x12, 1
+    .word 0x0013f393  # andi x7, x7, 1
     .word 0x407003b3  # sub x7, x0, x7
-    .word 0x00737333  # and x6, x6, x7
-    .word 0x0062c2b3  # xor x5, x5, x6
-    .word 0x02512a23  # sw x5, 52(x2)
-    .word 0x03812283  # lw x5, 56(x2)
-    .word 0x00100313  # addi x6, x0, 1
-    .word 0x006292b3  # sll x5, x5, x6
-    .word 0x11b00313  # addi x6, x0, 283
-    .word 0x03812383  # lw x7, 56(x2)
-    .word 0x00700413  # addi x8, x0, 7
-    .word 0x0083d3b3  # srl x7, x7, x8
-    .word 0x00100413  # addi x8, x0, 1
-    .word 0x0083f3b3  # and x7, x7, x8
+    .word 0x0075f333  # and x6, x11, x7
+    .word 0x00654533  # xor x10, x10, x6
+    .word 0x00159293  # slli x5, x11, 1
+    .word 0x0075d313  # srli x6, x11, 7
+    .word 0x00137313  # andi x6, x6, 1
+    .word 0x40600333  # sub x6, x0, x6
+    .word 0x11b37313  # andi x6, x6, 283
+    .word 0x0062c5b3  # xor x11, x5, x6
+    .word 0x00265393  # srli x7, x12, 2
+    .word 0x0013f393  # andi x7, x7, 1
     .word 0x407003b3  # sub x7, x0, x7
-    .word 0x00737333  # and x6, x6, x7
-    .word 0x0062c2b3  # xor x5, x5, x6
-    .word 0x02512c23  # sw x5, 56(x2)
-    .word 0xf81ff06f  # jal x0, -128
-    .word 0x03012283  # lw x5, 48(x2)
-    .word 0x03412303  # lw x6, 52(x2)
-    .word 0x0ff37313  # andi x6, x6, 255
-    .word 0x002282b3  # add x5, x5, x2
-    .word 0x02628023  # sb x6, 32(x5)
-    .word 0xf11ff06f  # jal x0, -240
+    .word 0x0075f333  # and x6, x11, x7
+    .word 0x00654533  # xor x10, x10, x6
+    .word 0x00159293  # slli x5, x11, 1
+    .word 0x0075d313  # srli x6, x11, 7
+    .word 0x00137313  # andi x6, x6, 1
+    .word 0x40600333  # sub x6, x0, x6
+    .word 0x11b37313  # andi x6, x6, 283
+    .word 0x0062c5b3  # xor x11, x5, x6
+    .word 0x00365393  # srli x7, x12, 3
+    .word 0x0013f393  # andi x7, x7, 1
+    .word 0x407003b3  # sub x7, x0, x7
+    .word 0x0075f333  # and x6, x11, x7
+    .word 0x00654533  # xor x10, x10, x6
+    .word 0x00159293  # slli x5, x11, 1
+    .word 0x0075d313  # srli x6, x11, 7
+    .word 0x00137313  # andi x6, x6, 1
+    .word 0x40600333  # sub x6, x0, x6
+    .word 0x11b37313  # andi x6, x6, 283
+    .word 0x0062c5b3  # xor x11, x5, x6
+    .word 0x00465393  # srli x7, x12, 4
+    .word 0x0013f393  # andi x7, x7, 1
+    .word 0x407003b3  # sub x7, x0, x7
+    .word 0x0075f333  # and x6, x11, x7
+    .word 0x00654533  # xor x10, x10, x6
+    .word 0x00159293  # slli x5, x11, 1
+    .word 0x0075d313  # srli x6, x11, 7
+    .word 0x00137313  # andi x6, x6, 1
+    .word 0x40600333  # sub x6, x0, x6
+    .word 0x11b37313  # andi x6, x6, 283
+    .word 0x0062c5b3  # xor x11, x5, x6
+    .word 0x00565393  # srli x7, x12, 5
+    .word 0x0013f393  # andi x7, x7, 1
+    .word 0x407003b3  # sub x7, x0, x7
+    .word 0x0075f333  # and x6, x11, x7
+    .word 0x00654533  # xor x10, x10, x6
+    .word 0x00159293  # slli x5, x11, 1
+    .word 0x0075d313  # srli x6, x11, 7
+    .word 0x00137313  # andi x6, x6, 1
+    .word 0x40600333  # sub x6, x0, x6
+    .word 0x11b37313  # andi x6, x6, 283
+    .word 0x0062c5b3  # xor x11, x5, x6
+    .word 0x00665393  # srli x7, x12, 6
+    .word 0x0013f393  # andi x7, x7, 1
+    .word 0x407003b3  # sub x7, x0, x7
+    .word 0x0075f333  # and x6, x11, x7
+    .word 0x00654533  # xor x10, x10, x6
+    .word 0x00159293  # slli x5, x11, 1
+    .word 0x0075d313  # srli x6, x11, 7
+    .word 0x00137313  # andi x6, x6, 1
+    .word 0x40600333  # sub x6, x0, x6
+    .word 0x11b37313  # andi x6, x6, 283
+    .word 0x0062c5b3  # xor x11, x5, x6
+    .word 0x00765393  # srli x7, x12, 7
+    .word 0x0013f393  # andi x7, x7, 1
+    .word 0x407003b3  # sub x7, x0, x7
+    .word 0x0075f333  # and x6, x11, x7
+    .word 0x00654533  # xor x10, x10, x6
+    .word 0x002482b3  # add x5, x9, x2
+    .word 0x02a28023  # sb x10, 32(x5)
+    .word 0x00148493  # addi x9, x9, 1
+    .word 0x0104b293  # sltiu x5, x9, 16
+    .word 0xea0290e3  # bne x5, x0, -352
+    .word 0xfff48493  # addi x9, x9, -1
     # the result
     .word 0x00000513  # addi x10, x0, 0
     # parameter 2: the array, back
-    .word 0x06c12283  # lw x5, 108(x2)
+    .word 0x04c12283  # lw x5, 76(x2)
     .word 0x02010313  # addi x6, x2, 32
     .word 0x0032fe13  # andi x28, x5, 3
     .word 0x020e0e63  # beq x28, x0, 60
@@ -172,10 +202,10 @@ gf256_multiply:
     .word 0x00c32e03  # lw x28, 12(x6)
     .word 0x01c2a623  # sw x28, 12(x5)
     # above the frame
-    .word 0x06010293  # addi x5, x2, 96
+    .word 0x04010293  # addi x5, x2, 64
     # the caller's registers
-    .word 0x0002a403  # lw x8, 0(x5)
-    .cfi_restore 8
+    .word 0x0002a483  # lw x9, 0(x5)
+    .cfi_restore 9
     # the caller's x2
     .word 0x01028293  # addi x5, x5, 16
     .cfi_def_cfa 5, 0
@@ -184,15 +214,7 @@ gf256_multiply:
     .word 0x00012223  # sw x0, 4(x2)
     .word 0x00012423  # sw x0, 8(x2)
     .word 0x00012623  # sw x0, 12(x2)
-    .word 0x00012823  # sw x0, 16(x2)
-    .word 0x00012a23  # sw x0, 20(x2)
-    .word 0x00012c23  # sw x0, 24(x2)
-    .word 0x00012e23  # sw x0, 28(x2)
-    .word 0x02012023  # sw x0, 32(x2)
-    .word 0x02012223  # sw x0, 36(x2)
-    .word 0x02012423  # sw x0, 40(x2)
-    .word 0x02012623  # sw x0, 44(x2)
-    .word 0x03010113  # addi x2, x2, 48
+    .word 0x01010113  # addi x2, x2, 16
     .word 0x00012023  # sw x0, 0(x2)
     .word 0x00012223  # sw x0, 4(x2)
     .word 0x00012423  # sw x0, 8(x2)

@@ -1,4 +1,4 @@
-# hex_decode: made by factc function; 259 words, 160 bytes of stack, profile 1
+# hex_decode: made by factc function; 193 words, 128 bytes of stack, profile 1
     .option push
     .option norvc
     .option norelax
@@ -15,28 +15,12 @@ hex_decode:
     # the caller's registers
     .word 0x00812023  # sw x8, 0(x2)
     .cfi_offset 8, -16
-    .word 0x00912223  # sw x9, 4(x2)
-    .cfi_offset 9, -12
     # arguments that are needed behind the body
     .word 0x00a12423  # sw x10, 8(x2)
     .word 0x00b12623  # sw x11, 12(x2)
     # the frame's base
-    .word 0xf7010113  # addi x2, x2, -144
-    .cfi_def_cfa 2, 160
-    # the frame's word at 96, zeroed
-    .word 0x06012023  # sw x0, 96(x2)
-    # the frame's word at 100, zeroed
-    .word 0x06012223  # sw x0, 100(x2)
-    # the frame's word at 108, zeroed
-    .word 0x06012623  # sw x0, 108(x2)
-    # the frame's word at 112, zeroed
-    .word 0x06012823  # sw x0, 112(x2)
-    # the frame's word at 116, zeroed
-    .word 0x06012a23  # sw x0, 116(x2)
-    # the frame's word at 120, zeroed
-    .word 0x06012c23  # sw x0, 120(x2)
-    # the frame's word at 124, zeroed
-    .word 0x06012e23  # sw x0, 124(x2)
+    .word 0xf9010113  # addi x2, x2, -112
+    .cfi_def_cfa 2, 128
     # parameter 0: an array
     .word 0x00050293  # addi x5, x10, 0
     .word 0x00010313  # addi x6, x2, 0
@@ -113,102 +97,54 @@ hex_decode:
     .word 0x01c2ae03  # lw x28, 28(x5)
     .word 0x01c32e23  # sw x28, 28(x6)
     # the body
-    .word 0x00100293  # addi x5, x0, 1
-    .word 0x06512023  # sw x5, 96(x2)
-    .word 0x00000293  # addi x5, x0, 0
-    .word 0x06512223  # sw x5, 100(x2)
-    .word 0x00000293  # addi x5, x0, 0
-    .word 0x08512223  # sw x5, 132(x2)
-    .word 0x04000293  # addi x5, x0, 64
-    .word 0x08512423  # sw x5, 136(x2)
-    .word 0x08412303  # lw x6, 132(x2)
-    .word 0x08812283  # lw x5, 136(x2)
-    .word 0x005332b3  # sltu x5, x6, x5
-    .word 0x00029463  # bne x5, x0, 8
-    .word 0x1380006f  # jal x0, 312
-    .word 0x06612423  # sw x6, 104(x2)
-    .word 0x00130313  # addi x6, x6, 1
-    .word 0x08612223  # sw x6, 132(x2)
-    .word 0x06812283  # lw x5, 104(x2)
-    .word 0x002282b3  # add x5, x5, x2
+    .word 0x00000613  # addi x12, x0, 0
+    .word 0x00000693  # addi x13, x0, 0
+    .word 0x00000713  # addi x14, x0, 0
+    .word 0x00000793  # addi x15, x0, 0
+    .word 0x00000813  # addi x16, x0, 0
+    .word 0x00100513  # addi x10, x0, 1
+    .word 0x00000593  # addi x11, x0, 0
+    .word 0x00000613  # addi x12, x0, 0
+    .word 0x002602b3  # add x5, x12, x2
     .word 0x0002c283  # lbu x5, 0(x5)
-    .word 0x03000313  # addi x6, x0, 48
-    .word 0x406282b3  # sub x5, x5, x6
-    .word 0x0ff2f293  # andi x5, x5, 255
-    .word 0x06512623  # sw x5, 108(x2)
-    .word 0x06812283  # lw x5, 104(x2)
-    .word 0x002282b3  # add x5, x5, x2
+    .word 0xfd028693  # addi x13, x5, -48
+    .word 0x0ff6f693  # andi x13, x13, 255
+    .word 0x002602b3  # add x5, x12, x2
     .word 0x0002c283  # lbu x5, 0(x5)
-    .word 0x02000313  # addi x6, x0, 32
-    .word 0x0062e2b3  # or x5, x5, x6
-    .word 0x06100313  # addi x6, x0, 97
-    .word 0x406282b3  # sub x5, x5, x6
-    .word 0x0ff2f293  # andi x5, x5, 255
-    .word 0x06512823  # sw x5, 112(x2)
-    .word 0x06c12283  # lw x5, 108(x2)
-    .word 0x00a00313  # addi x6, x0, 10
-    .word 0x0062b2b3  # sltu x5, x5, x6
-    .word 0x06512a23  # sw x5, 116(x2)
-    .word 0x07012283  # lw x5, 112(x2)
-    .word 0x00600313  # addi x6, x0, 6
-    .word 0x0062b2b3  # sltu x5, x5, x6
-    .word 0x06512c23  # sw x5, 120(x2)
-    .word 0x07412283  # lw x5, 116(x2)
-    .word 0x06c12303  # lw x6, 108(x2)
-    .word 0x07812383  # lw x7, 120(x2)
-    .word 0x07012403  # lw x8, 112(x2)
-    .word 0x00a00493  # addi x9, x0, 10
-    .word 0x00940433  # add x8, x8, x9
+    .word 0x0202e293  # ori x5, x5, 32
+    .word 0xf9f28713  # addi x14, x5, -97
+    .word 0x0ff77713  # andi x14, x14, 255
+    .word 0x00a6b793  # sltiu x15, x13, 10
+    .word 0x00673813  # sltiu x16, x14, 6
+    .word 0x00a70413  # addi x8, x14, 10
     .word 0x0ff47413  # andi x8, x8, 255
-    .word 0x00000493  # addi x9, x0, 0
-    .word 0x407003b3  # sub x7, x0, x7
-    .word 0x00944433  # xor x8, x8, x9
-    .word 0x00747433  # and x8, x8, x7
-    .word 0x0084c3b3  # xor x7, x9, x8
-    .word 0x405002b3  # sub x5, x0, x5
-    .word 0x00734333  # xor x6, x6, x7
+    .word 0x410003b3  # sub x7, x0, x16
+    .word 0x007473b3  # and x7, x8, x7
+    .word 0x40f002b3  # sub x5, x0, x15
+    .word 0x0076c333  # xor x6, x13, x7
     .word 0x00537333  # and x6, x6, x5
-    .word 0x0063c2b3  # xor x5, x7, x6
-    .word 0x06512e23  # sw x5, 124(x2)
-    .word 0x06012283  # lw x5, 96(x2)
-    .word 0x07412303  # lw x6, 116(x2)
-    .word 0x07812383  # lw x7, 120(x2)
-    .word 0x007033b3  # sltu x7, x0, x7
-    .word 0x00603333  # sltu x6, x0, x6
-    .word 0x00736333  # or x6, x6, x7
-    .word 0x00603333  # sltu x6, x0, x6
-    .word 0x005032b3  # sltu x5, x0, x5
-    .word 0x0062f2b3  # and x5, x5, x6
-    .word 0x06512023  # sw x5, 96(x2)
-    .word 0x06812283  # lw x5, 104(x2)
-    .word 0x00200313  # addi x6, x0, 2
-    .word 0x0262f2b3  # remu x5, x5, x6
+    .word 0x0063c6b3  # xor x13, x7, x6
+    .word 0x0107e333  # or x6, x15, x16
+    .word 0x00657533  # and x10, x10, x6
+    .word 0x00167293  # andi x5, x12, 1
     .word 0x00100313  # addi x6, x0, 1
-    .word 0x406282b3  # sub x5, x5, x6
-    .word 0x0012b293  # sltiu x5, x5, 1
-    .word 0x00029463  # bne x5, x0, 8
-    .word 0x0340006f  # jal x0, 52
-    .word 0x06812283  # lw x5, 104(x2)
-    .word 0x00200313  # addi x6, x0, 2
-    .word 0x0262d2b3  # divu x5, x5, x6
-    .word 0x06412303  # lw x6, 100(x2)
-    .word 0x00400393  # addi x7, x0, 4
-    .word 0x00731333  # sll x6, x6, x7
+    .word 0x00629e63  # bne x5, x6, 28
+    .word 0x00165293  # srli x5, x12, 1
+    .word 0x00459313  # slli x6, x11, 4
     .word 0x0ff37313  # andi x6, x6, 255
-    .word 0x07c12383  # lw x7, 124(x2)
-    .word 0x00736333  # or x6, x6, x7
+    .word 0x00d36333  # or x6, x6, x13
     .word 0x002282b3  # add x5, x5, x2
     .word 0x04628023  # sb x6, 64(x5)
-    .word 0x0040006f  # jal x0, 4
-    .word 0x07c12283  # lw x5, 124(x2)
-    .word 0x06512223  # sw x5, 100(x2)
-    .word 0xebdff06f  # jal x0, -324
-    .word 0x06012283  # lw x5, 96(x2)
-    .word 0x08512023  # sw x5, 128(x2)
+    .word 0x00068593  # addi x11, x13, 0
+    .word 0x00160613  # addi x12, x12, 1
+    .word 0x04063293  # sltiu x5, x12, 64
+    .word 0xf6029ee3  # bne x5, x0, -132
+    .word 0xfff60613  # addi x12, x12, -1
+    .word 0x06a12023  # sw x10, 96(x2)
     # the result
-    .word 0x08012503  # lw x10, 128(x2)
+    .word 0x06012503  # lw x10, 96(x2)
     # parameter 1: the array, back
-    .word 0x09c12283  # lw x5, 156(x2)
+    .word 0x07c12283  # lw x5, 124(x2)
     .word 0x04010313  # addi x6, x2, 64
     .word 0x0032fe13  # andi x28, x5, 3
     .word 0x020e0e63  # beq x28, x0, 60
@@ -243,25 +179,14 @@ hex_decode:
     .word 0x01c32e03  # lw x28, 28(x6)
     .word 0x01c2ae23  # sw x28, 28(x5)
     # above the frame
-    .word 0x09010293  # addi x5, x2, 144
+    .word 0x07010293  # addi x5, x2, 112
     # the caller's registers
     .word 0x0002a403  # lw x8, 0(x5)
     .cfi_restore 8
-    .word 0x0042a483  # lw x9, 4(x5)
-    .cfi_restore 9
     # the caller's x2
     .word 0x01028293  # addi x5, x5, 16
     .cfi_def_cfa 5, 0
     # all the room, wiped upward
-    .word 0x00012023  # sw x0, 0(x2)
-    .word 0x00012223  # sw x0, 4(x2)
-    .word 0x00012423  # sw x0, 8(x2)
-    .word 0x00012623  # sw x0, 12(x2)
-    .word 0x00012823  # sw x0, 16(x2)
-    .word 0x00012a23  # sw x0, 20(x2)
-    .word 0x00012c23  # sw x0, 24(x2)
-    .word 0x00012e23  # sw x0, 28(x2)
-    .word 0x02010113  # addi x2, x2, 32
     .word 0x00012023  # sw x0, 0(x2)
     .word 0x00012223  # sw x0, 4(x2)
     .word 0x00012423  # sw x0, 8(x2)

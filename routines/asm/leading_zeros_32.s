@@ -1,4 +1,4 @@
-# leading_zeros_32: made by factc function; 69 words, 32 bytes of stack, profile 1
+# leading_zeros_32: made by factc function; 324 words, 32 bytes of stack, profile 1
     .option push
     .option norvc
     .option norelax
@@ -10,64 +10,323 @@
 leading_zeros_32:
     .cfi_startproc
     # room above the frame
-    .cfi_def_cfa_offset 0
+    .word 0xff010113  # addi x2, x2, -16
+    .cfi_def_cfa_offset 16
     # the caller's registers
+    .word 0x00812023  # sw x8, 0(x2)
+    .cfi_offset 8, -16
+    .word 0x00912223  # sw x9, 4(x2)
+    .cfi_offset 9, -12
     # arguments that are needed behind the body
     # the frame's base
-    .word 0xfe010113  # addi x2, x2, -32
+    .word 0xff010113  # addi x2, x2, -16
     .cfi_def_cfa 2, 32
-    # the frame's word at 16, zeroed
-    .word 0x00012823  # sw x0, 16(x2)
-    # the frame's word at 20, zeroed
-    .word 0x00012a23  # sw x0, 20(x2)
+    # the frame's word at 8, zeroed
+    .word 0x00012423  # sw x0, 8(x2)
+    # the frame's word at 12, zeroed
+    .word 0x00012623  # sw x0, 12(x2)
     # parameter 0: a word
     .word 0x00a12023  # sw x10, 0(x2)
     # the body
-    .word 0x02000293  # addi x5, x0, 32
-    .word 0x00512223  # sw x5, 4(x2)
-    .word 0x00000293  # addi x5, x0, 0
-    .word 0x00512c23  # sw x5, 24(x2)
-    .word 0x02000293  # addi x5, x0, 32
-    .word 0x00512e23  # sw x5, 28(x2)
-    .word 0x01812303  # lw x6, 24(x2)
-    .word 0x01c12283  # lw x5, 28(x2)
-    .word 0x005332b3  # sltu x5, x6, x5
-    .word 0x00029463  # bne x5, x0, 8
-    .word 0x0680006f  # jal x0, 104
-    .word 0x00612423  # sw x6, 8(x2)
-    .word 0x00130313  # addi x6, x6, 1
-    .word 0x00612c23  # sw x6, 24(x2)
-    .word 0x00012283  # lw x5, 0(x2)
-    .word 0x00812303  # lw x6, 8(x2)
-    .word 0x0062d2b3  # srl x5, x5, x6
-    .word 0x00100313  # addi x6, x0, 1
-    .word 0x0062f2b3  # and x5, x5, x6
-    .word 0x00100313  # addi x6, x0, 1
-    .word 0x406282b3  # sub x5, x5, x6
-    .word 0x0012b293  # sltiu x5, x5, 1
-    .word 0x405003b3  # sub x7, x0, x5
+    .word 0x00012403  # lw x8, 0(x2)
+    .word 0x00812503  # lw x10, 8(x2)
+    .word 0x02000493  # addi x9, x0, 32
+    .word 0x00147293  # andi x5, x8, 1
     .word 0xfff28293  # addi x5, x5, -1
-    .word 0x00712823  # sw x7, 16(x2)
-    .word 0x00512a23  # sw x5, 20(x2)
+    .word 0x0012b293  # sltiu x5, x5, 1
+    .word 0x40500533  # sub x10, x0, x5
     .word 0x01f00293  # addi x5, x0, 31
-    .word 0x00812303  # lw x6, 8(x2)
-    .word 0x406282b3  # sub x5, x5, x6
-    .word 0x00412303  # lw x6, 4(x2)
-    .word 0x01012383  # lw x7, 16(x2)
-    .word 0x0062c2b3  # xor x5, x5, x6
-    .word 0x0072f2b3  # and x5, x5, x7
-    .word 0x005342b3  # xor x5, x6, x5
-    .word 0x00512223  # sw x5, 4(x2)
-    .word 0xf8dff06f  # jal x0, -116
-    .word 0x00412283  # lw x5, 4(x2)
-    .word 0x00512623  # sw x5, 12(x2)
+    .word 0x0092c2b3  # xor x5, x5, x9
+    .word 0x00a2f2b3  # and x5, x5, x10
+    .word 0x0054c4b3  # xor x9, x9, x5
+    .word 0x00145293  # srli x5, x8, 1
+    .word 0x0012f293  # andi x5, x5, 1
+    .word 0xfff28293  # addi x5, x5, -1
+    .word 0x0012b293  # sltiu x5, x5, 1
+    .word 0x40500533  # sub x10, x0, x5
+    .word 0x01e00293  # addi x5, x0, 30
+    .word 0x0092c2b3  # xor x5, x5, x9
+    .word 0x00a2f2b3  # and x5, x5, x10
+    .word 0x0054c4b3  # xor x9, x9, x5
+    .word 0x00245293  # srli x5, x8, 2
+    .word 0x0012f293  # andi x5, x5, 1
+    .word 0xfff28293  # addi x5, x5, -1
+    .word 0x0012b293  # sltiu x5, x5, 1
+    .word 0x40500533  # sub x10, x0, x5
+    .word 0x01d00293  # addi x5, x0, 29
+    .word 0x0092c2b3  # xor x5, x5, x9
+    .word 0x00a2f2b3  # and x5, x5, x10
+    .word 0x0054c4b3  # xor x9, x9, x5
+    .word 0x00345293  # srli x5, x8, 3
+    .word 0x0012f293  # andi x5, x5, 1
+    .word 0xfff28293  # addi x5, x5, -1
+    .word 0x0012b293  # sltiu x5, x5, 1
+    .word 0x40500533  # sub x10, x0, x5
+    .word 0x01c00293  # addi x5, x0, 28
+    .word 0x0092c2b3  # xor x5, x5, x9
+    .word 0x00a2f2b3  # and x5, x5, x10
+    .word 0x0054c4b3  # xor x9, x9, x5
+    .word 0x00445293  # srli x5, x8, 4
+    .word 0x0012f293  # andi x5, x5, 1
+    .word 0xfff28293  # addi x5, x5, -1
+    .word 0x0012b293  # sltiu x5, x5, 1
+    .word 0x40500533  # sub x10, x0, x5
+    .word 0x01b00293  # addi x5, x0, 27
+    .word 0x0092c2b3  # xor x5, x5, x9
+    .word 0x00a2f2b3  # and x5, x5, x10
+    .word 0x0054c4b3  # xor x9, x9, x5
+    .word 0x00545293  # srli x5, x8, 5
+    .word 0x0012f293  # andi x5, x5, 1
+    .word 0xfff28293  # addi x5, x5, -1
+    .word 0x0012b293  # sltiu x5, x5, 1
+    .word 0x40500533  # sub x10, x0, x5
+    .word 0x01a00293  # addi x5, x0, 26
+    .word 0x0092c2b3  # xor x5, x5, x9
+    .word 0x00a2f2b3  # and x5, x5, x10
+    .word 0x0054c4b3  # xor x9, x9, x5
+    .word 0x00645293  # srli x5, x8, 6
+    .word 0x0012f293  # andi x5, x5, 1
+    .word 0xfff28293  # addi x5, x5, -1
+    .word 0x0012b293  # sltiu x5, x5, 1
+    .word 0x40500533  # sub x10, x0, x5
+    .word 0x01900293  # addi x5, x0, 25
+    .word 0x0092c2b3  # xor x5, x5, x9
+    .word 0x00a2f2b3  # and x5, x5, x10
+    .word 0x0054c4b3  # xor x9, x9, x5
+    .word 0x00745293  # srli x5, x8, 7
+    .word 0x0012f293  # andi x5, x5, 1
+    .word 0xfff28293  # addi x5, x5, -1
+    .word 0x0012b293  # sltiu x5, x5, 1
+    .word 0x40500533  # sub x10, x0, x5
+    .word 0x01800293  # addi x5, x0, 24
+    .word 0x0092c2b3  # xor x5, x5, x9
+    .word 0x00a2f2b3  # and x5, x5, x10
+    .word 0x0054c4b3  # xor x9, x9, x5
+    .word 0x00845293  # srli x5, x8, 8
+    .word 0x0012f293  # andi x5, x5, 1
+    .word 0xfff28293  # addi x5, x5, -1
+    .word 0x0012b293  # sltiu x5, x5, 1
+    .word 0x40500533  # sub x10, x0, x5
+    .word 0x01700293  # addi x5, x0, 23
+    .word 0x0092c2b3  # xor x5, x5, x9
+    .word 0x00a2f2b3  # and x5, x5, x10
+    .word 0x0054c4b3  # xor x9, x9, x5
+    .word 0x00945293  # srli x5, x8, 9
+    .word 0x0012f293  # andi x5, x5, 1
+    .word 0xfff28293  # addi x5, x5, -1
+    .word 0x0012b293  # sltiu x5, x5, 1
+    .word 0x40500533  # sub x10, x0, x5
+    .word 0x01600293  # addi x5, x0, 22
+    .word 0x0092c2b3  # xor x5, x5, x9
+    .word 0x00a2f2b3  # and x5, x5, x10
+    .word 0x0054c4b3  # xor x9, x9, x5
+    .word 0x00a45293  # srli x5, x8, 10
+    .word 0x0012f293  # andi x5, x5, 1
+    .word 0xfff28293  # addi x5, x5, -1
+    .word 0x0012b293  # sltiu x5, x5, 1
+    .word 0x40500533  # sub x10, x0, x5
+    .word 0x01500293  # addi x5, x0, 21
+    .word 0x0092c2b3  # xor x5, x5, x9
+    .word 0x00a2f2b3  # and x5, x5, x10
+    .word 0x0054c4b3  # xor x9, x9, x5
+    .word 0x00b45293  # srli x5, x8, 11
+    .word 0x0012f293  # andi x5, x5, 1
+    .word 0xfff28293  # addi x5, x5, -1
+    .word 0x0012b293  # sltiu x5, x5, 1
+    .word 0x40500533  # sub x10, x0, x5
+    .word 0x01400293  # addi x5, x0, 20
+    .word 0x0092c2b3  # xor x5, x5, x9
+    .word 0x00a2f2b3  # and x5, x5, x10
+    .word 0x0054c4b3  # xor x9, x9, x5
+    .word 0x00c45293  # srli x5, x8, 12
+    .word 0x0012f293  # andi x5, x5, 1
+    .word 0xfff28293  # addi x5, x5, -1
+    .word 0x0012b293  # sltiu x5, x5, 1
+    .word 0x40500533  # sub x10, x0, x5
+    .word 0x01300293  # addi x5, x0, 19
+    .word 0x0092c2b3  # xor x5, x5, x9
+    .word 0x00a2f2b3  # and x5, x5, x10
+    .word 0x0054c4b3  # xor x9, x9, x5
+    .word 0x00d45293  # srli x5, x8, 13
+    .word 0x0012f293  # andi x5, x5, 1
+    .word 0xfff28293  # addi x5, x5, -1
+    .word 0x0012b293  # sltiu x5, x5, 1
+    .word 0x40500533  # sub x10, x0, x5
+    .word 0x01200293  # addi x5, x0, 18
+    .word 0x0092c2b3  # xor x5, x5, x9
+    .word 0x00a2f2b3  # and x5, x5, x10
+    .word 0x0054c4b3  # xor x9, x9, x5
+    .word 0x00e45293  # srli x5, x8, 14
+    .word 0x0012f293  # andi x5, x5, 1
+    .word 0xfff28293  # addi x5, x5, -1
+    .word 0x0012b293  # sltiu x5, x5, 1
+    .word 0x40500533  # sub x10, x0, x5
+    .word 0x01100293  # addi x5, x0, 17
+    .word 0x0092c2b3  # xor x5, x5, x9
+    .word 0x00a2f2b3  # and x5, x5, x10
+    .word 0x0054c4b3  # xor x9, x9, x5
+    .word 0x00f45293  # srli x5, x8, 15
+    .word 0x0012f293  # andi x5, x5, 1
+    .word 0xfff28293  # addi x5, x5, -1
+    .word 0x0012b293  # sltiu x5, x5, 1
+    .word 0x40500533  # sub x10, x0, x5
+    .word 0x01000293  # addi x5, x0, 16
+    .word 0x0092c2b3  # xor x5, x5, x9
+    .word 0x00a2f2b3  # and x5, x5, x10
+    .word 0x0054c4b3  # xor x9, x9, x5
+    .word 0x01045293  # srli x5, x8, 16
+    .word 0x0012f293  # andi x5, x5, 1
+    .word 0xfff28293  # addi x5, x5, -1
+    .word 0x0012b293  # sltiu x5, x5, 1
+    .word 0x40500533  # sub x10, x0, x5
+    .word 0x00f00293  # addi x5, x0, 15
+    .word 0x0092c2b3  # xor x5, x5, x9
+    .word 0x00a2f2b3  # and x5, x5, x10
+    .word 0x0054c4b3  # xor x9, x9, x5
+    .word 0x01145293  # srli x5, x8, 17
+    .word 0x0012f293  # andi x5, x5, 1
+    .word 0xfff28293  # addi x5, x5, -1
+    .word 0x0012b293  # sltiu x5, x5, 1
+    .word 0x40500533  # sub x10, x0, x5
+    .word 0x00e00293  # addi x5, x0, 14
+    .word 0x0092c2b3  # xor x5, x5, x9
+    .word 0x00a2f2b3  # and x5, x5, x10
+    .word 0x0054c4b3  # xor x9, x9, x5
+    .word 0x01245293  # srli x5, x8, 18
+    .word 0x0012f293  # andi x5, x5, 1
+    .word 0xfff28293  # addi x5, x5, -1
+    .word 0x0012b293  # sltiu x5, x5, 1
+    .word 0x40500533  # sub x10, x0, x5
+    .word 0x00d00293  # addi x5, x0, 13
+    .word 0x0092c2b3  # xor x5, x5, x9
+    .word 0x00a2f2b3  # and x5, x5, x10
+    .word 0x0054c4b3  # xor x9, x9, x5
+    .word 0x01345293  # srli x5, x8, 19
+    .word 0x0012f293  # andi x5, x5, 1
+    .word 0xfff28293  # addi x5, x5, -1
+    .word 0x0012b293  # sltiu x5, x5, 1
+    .word 0x40500533  # sub x10, x0, x5
+    .word 0x00c00293  # addi x5, x0, 12
+    .word 0x0092c2b3  # xor x5, x5, x9
+    .word 0x00a2f2b3  # and x5, x5, x10
+    .word 0x0054c4b3  # xor x9, x9, x5
+    .word 0x01445293  # srli x5, x8, 20
+    .word 0x0012f293  # andi x5, x5, 1
+    .word 0xfff28293  # addi x5, x5, -1
+    .word 0x0012b293  # sltiu x5, x5, 1
+    .word 0x40500533  # sub x10, x0, x5
+    .word 0x00b00293  # addi x5, x0, 11
+    .word 0x0092c2b3  # xor x5, x5, x9
+    .word 0x00a2f2b3  # and x5, x5, x10
+    .word 0x0054c4b3  # xor x9, x9, x5
+    .word 0x01545293  # srli x5, x8, 21
+    .word 0x0012f293  # andi x5, x5, 1
+    .word 0xfff28293  # addi x5, x5, -1
+    .word 0x0012b293  # sltiu x5, x5, 1
+    .word 0x40500533  # sub x10, x0, x5
+    .word 0x00a00293  # addi x5, x0, 10
+    .word 0x0092c2b3  # xor x5, x5, x9
+    .word 0x00a2f2b3  # and x5, x5, x10
+    .word 0x0054c4b3  # xor x9, x9, x5
+    .word 0x01645293  # srli x5, x8, 22
+    .word 0x0012f293  # andi x5, x5, 1
+    .word 0xfff28293  # addi x5, x5, -1
+    .word 0x0012b293  # sltiu x5, x5, 1
+    .word 0x40500533  # sub x10, x0, x5
+    .word 0x00900293  # addi x5, x0, 9
+    .word 0x0092c2b3  # xor x5, x5, x9
+    .word 0x00a2f2b3  # and x5, x5, x10
+    .word 0x0054c4b3  # xor x9, x9, x5
+    .word 0x01745293  # srli x5, x8, 23
+    .word 0x0012f293  # andi x5, x5, 1
+    .word 0xfff28293  # addi x5, x5, -1
+    .word 0x0012b293  # sltiu x5, x5, 1
+    .word 0x40500533  # sub x10, x0, x5
+    .word 0x00800293  # addi x5, x0, 8
+    .word 0x0092c2b3  # xor x5, x5, x9
+    .word 0x00a2f2b3  # and x5, x5, x10
+    .word 0x0054c4b3  # xor x9, x9, x5
+    .word 0x01845293  # srli x5, x8, 24
+    .word 0x0012f293  # andi x5, x5, 1
+    .word 0xfff28293  # addi x5, x5, -1
+    .word 0x0012b293  # sltiu x5, x5, 1
+    .word 0x40500533  # sub x10, x0, x5
+    .word 0x00700293  # addi x5, x0, 7
+    .word 0x0092c2b3  # xor x5, x5, x9
+    .word 0x00a2f2b3  # and x5, x5, x10
+    .word 0x0054c4b3  # xor x9, x9, x5
+    .word 0x01945293  # srli x5, x8, 25
+    .word 0x0012f293  # andi x5, x5, 1
+    .word 0xfff28293  # addi x5, x5, -1
+    .word 0x0012b293  # sltiu x5, x5, 1
+    .word 0x40500533  # sub x10, x0, x5
+    .word 0x00600293  # addi x5, x0, 6
+    .word 0x0092c2b3  # xor x5, x5, x9
+    .word 0x00a2f2b3  # and x5, x5, x10
+    .word 0x0054c4b3  # xor x9, x9, x5
+    .word 0x01a45293  # srli x5, x8, 26
+    .word 0x0012f293  # andi x5, x5, 1
+    .word 0xfff28293  # addi x5, x5, -1
+    .word 0x0012b293  # sltiu x5, x5, 1
+    .word 0x40500533  # sub x10, x0, x5
+    .word 0x00500293  # addi x5, x0, 5
+    .word 0x0092c2b3  # xor x5, x5, x9
+    .word 0x00a2f2b3  # and x5, x5, x10
+    .word 0x0054c4b3  # xor x9, x9, x5
+    .word 0x01b45293  # srli x5, x8, 27
+    .word 0x0012f293  # andi x5, x5, 1
+    .word 0xfff28293  # addi x5, x5, -1
+    .word 0x0012b293  # sltiu x5, x5, 1
+    .word 0x40500533  # sub x10, x0, x5
+    .word 0x00400293  # addi x5, x0, 4
+    .word 0x0092c2b3  # xor x5, x5, x9
+    .word 0x00a2f2b3  # and x5, x5, x10
+    .word 0x0054c4b3  # xor x9, x9, x5
+    .word 0x01c45293  # srli x5, x8, 28
+    .word 0x0012f293  # andi x5, x5, 1
+    .word 0xfff28293  # addi x5, x5, -1
+    .word 0x0012b293  # sltiu x5, x5, 1
+    .word 0x40500533  # sub x10, x0, x5
+    .word 0x00300293  # addi x5, x0, 3
+    .word 0x0092c2b3  # xor x5, x5, x9
+    .word 0x00a2f2b3  # and x5, x5, x10
+    .word 0x0054c4b3  # xor x9, x9, x5
+    .word 0x01d45293  # srli x5, x8, 29
+    .word 0x0012f293  # andi x5, x5, 1
+    .word 0xfff28293  # addi x5, x5, -1
+    .word 0x0012b293  # sltiu x5, x5, 1
+    .word 0x40500533  # sub x10, x0, x5
+    .word 0x00200293  # addi x5, x0, 2
+    .word 0x0092c2b3  # xor x5, x5, x9
+    .word 0x00a2f2b3  # and x5, x5, x10
+    .word 0x0054c4b3  # xor x9, x9, x5
+    .word 0x01e45293  # srli x5, x8, 30
+    .word 0x0012f293  # andi x5, x5, 1
+    .word 0xfff28293  # addi x5, x5, -1
+    .word 0x0012b293  # sltiu x5, x5, 1
+    .word 0x40500533  # sub x10, x0, x5
+    .word 0x00100293  # addi x5, x0, 1
+    .word 0x0092c2b3  # xor x5, x5, x9
+    .word 0x00a2f2b3  # and x5, x5, x10
+    .word 0x0054c4b3  # xor x9, x9, x5
+    .word 0x01f45293  # srli x5, x8, 31
+    .word 0xfff28293  # addi x5, x5, -1
+    .word 0x0012b293  # sltiu x5, x5, 1
+    .word 0x40500533  # sub x10, x0, x5
+    .word 0xfff54293  # xori x5, x10, -1
+    .word 0x0054f4b3  # and x9, x9, x5
+    .word 0x00912223  # sw x9, 4(x2)
     # the result
-    .word 0x00c12503  # lw x10, 12(x2)
+    .word 0x00412503  # lw x10, 4(x2)
     # above the frame
-    .word 0x02010293  # addi x5, x2, 32
+    .word 0x01010293  # addi x5, x2, 16
     # the caller's registers
+    .word 0x0002a403  # lw x8, 0(x5)
+    .cfi_restore 8
+    .word 0x0042a483  # lw x9, 4(x5)
+    .cfi_restore 9
     # the caller's x2
-    .word 0x00028293  # addi x5, x5, 0
+    .word 0x01028293  # addi x5, x5, 16
     .cfi_def_cfa 5, 0
     # all the room, wiped upward
     .word 0x00012023  # sw x0, 0(x2)

@@ -1,4 +1,4 @@
-# lookup_256: made by factc function; 125 words, 304 bytes of stack, profile 1
+# lookup_256: made by factc function; 107 words, 288 bytes of stack, profile 1
     .option push
     .option norvc
     .option norelax
@@ -13,14 +13,12 @@ lookup_256:
     .word 0xff010113  # addi x2, x2, -16
     .cfi_def_cfa_offset 16
     # the caller's registers
-    .word 0x00812023  # sw x8, 0(x2)
-    .cfi_offset 8, -16
+    .word 0x00912023  # sw x9, 0(x2)
+    .cfi_offset 9, -16
     # arguments that are needed behind the body
     # the frame's base
-    .word 0xee010113  # addi x2, x2, -288
-    .cfi_def_cfa 2, 304
-    # the frame's word at 260, zeroed
-    .word 0x10012223  # sw x0, 260(x2)
+    .word 0xef010113  # addi x2, x2, -272
+    .cfi_def_cfa 2, 288
     # parameter 0: a word
     .word 0x0ff57513  # andi x10, x10, 255
     .word 0x00a12023  # sw x10, 0(x2)
@@ -65,43 +63,30 @@ lookup_256:
     .word 0x02030313  # addi x6, x6, 32
     .word 0xfa729ce3  # bne x5, x7, -72
     # the body
-    .word 0x00000293  # addi x5, x0, 0
-    .word 0x10512223  # sw x5, 260(x2)
-    .word 0x00000293  # addi x5, x0, 0
-    .word 0x10512823  # sw x5, 272(x2)
-    .word 0x10000293  # addi x5, x0, 256
-    .word 0x10512a23  # sw x5, 276(x2)
-    .word 0x11012303  # lw x6, 272(x2)
-    .word 0x11412283  # lw x5, 276(x2)
-    .word 0x005332b3  # sltu x5, x6, x5
-    .word 0x00029463  # bne x5, x0, 8
-    .word 0x0480006f  # jal x0, 72
-    .word 0x10612423  # sw x6, 264(x2)
-    .word 0x00130313  # addi x6, x6, 1
-    .word 0x10612823  # sw x6, 272(x2)
-    .word 0x10412283  # lw x5, 260(x2)
-    .word 0x10812303  # lw x6, 264(x2)
-    .word 0x00230333  # add x6, x6, x2
+    .word 0x00012483  # lw x9, 0(x2)
+    .word 0x00000593  # addi x11, x0, 0
+    .word 0x00000513  # addi x10, x0, 0
+    .word 0x00000593  # addi x11, x0, 0
+    .word 0x00258333  # add x6, x11, x2
     .word 0x00434303  # lbu x6, 4(x6)
-    .word 0x10812383  # lw x7, 264(x2)
-    .word 0x00012403  # lw x8, 0(x2)
-    .word 0x408383b3  # sub x7, x7, x8
+    .word 0x409583b3  # sub x7, x11, x9
     .word 0x0013b393  # sltiu x7, x7, 1
     .word 0x407003b3  # sub x7, x0, x7
     .word 0x0ff3f393  # andi x7, x7, 255
     .word 0x00737333  # and x6, x6, x7
-    .word 0x0062e2b3  # or x5, x5, x6
-    .word 0x10512223  # sw x5, 260(x2)
-    .word 0xfadff06f  # jal x0, -84
-    .word 0x10412283  # lw x5, 260(x2)
-    .word 0x10512623  # sw x5, 268(x2)
+    .word 0x00656533  # or x10, x10, x6
+    .word 0x00158593  # addi x11, x11, 1
+    .word 0x1005b293  # sltiu x5, x11, 256
+    .word 0xfc029ce3  # bne x5, x0, -40
+    .word 0xfff58593  # addi x11, x11, -1
+    .word 0x10a12223  # sw x10, 260(x2)
     # the result
-    .word 0x10c12503  # lw x10, 268(x2)
+    .word 0x10412503  # lw x10, 260(x2)
     # above the frame
-    .word 0x12010293  # addi x5, x2, 288
+    .word 0x11010293  # addi x5, x2, 272
     # the caller's registers
-    .word 0x0002a403  # lw x8, 0(x5)
-    .cfi_restore 8
+    .word 0x0002a483  # lw x9, 0(x5)
+    .cfi_restore 9
     # the caller's x2
     .word 0x01028293  # addi x5, x5, 16
     .cfi_def_cfa 5, 0
@@ -114,11 +99,7 @@ lookup_256:
     .word 0x00012a23  # sw x0, 20(x2)
     .word 0x00012c23  # sw x0, 24(x2)
     .word 0x00012e23  # sw x0, 28(x2)
-    .word 0x02012023  # sw x0, 32(x2)
-    .word 0x02012223  # sw x0, 36(x2)
-    .word 0x02012423  # sw x0, 40(x2)
-    .word 0x02012623  # sw x0, 44(x2)
-    .word 0x03010113  # addi x2, x2, 48
+    .word 0x02010113  # addi x2, x2, 32
     .word 0x00012023  # sw x0, 0(x2)
     .word 0x00012223  # sw x0, 4(x2)
     .word 0x00012423  # sw x0, 8(x2)

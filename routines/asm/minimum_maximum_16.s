@@ -1,4 +1,4 @@
-# minimum_maximum_16: made by factc function; 163 words, 112 bytes of stack, profile 1
+# minimum_maximum_16: made by factc function; 382 words, 96 bytes of stack, profile 1
     .option push
     .option norvc
     .option norelax
@@ -13,14 +13,12 @@ minimum_maximum_16:
     .word 0xff010113  # addi x2, x2, -16
     .cfi_def_cfa_offset 16
     # the caller's registers
-    .word 0x00812023  # sw x8, 0(x2)
-    .cfi_offset 8, -16
     # arguments that are needed behind the body
     .word 0x00a12423  # sw x10, 8(x2)
     .word 0x00b12623  # sw x11, 12(x2)
     # the frame's base
-    .word 0xfa010113  # addi x2, x2, -96
-    .cfi_def_cfa 2, 112
+    .word 0xfb010113  # addi x2, x2, -80
+    .cfi_def_cfa 2, 96
     # parameter 0: an array
     .word 0x00050293  # addi x5, x10, 0
     .word 0x00010313  # addi x6, x2, 0
@@ -46,99 +44,322 @@ minimum_maximum_16:
     .word 0x02030313  # addi x6, x6, 32
     .word 0xfa729ce3  # bne x5, x7, -72
     # the body
-    .word 0x00000293  # addi x5, x0, 0
-    .word 0x00000313  # addi x6, x0, 0
-    .word 0x00231313  # slli x6, x6, 2
-    .word 0x00230333  # add x6, x6, x2
-    .word 0x00032303  # lw x6, 0(x6)
-    .word 0x00229293  # slli x5, x5, 2
-    .word 0x002282b3  # add x5, x5, x2
-    .word 0x0462a023  # sw x6, 64(x5)
-    .word 0x00100293  # addi x5, x0, 1
-    .word 0x00000313  # addi x6, x0, 0
-    .word 0x00231313  # slli x6, x6, 2
-    .word 0x00230333  # add x6, x6, x2
-    .word 0x00032303  # lw x6, 0(x6)
-    .word 0x00229293  # slli x5, x5, 2
-    .word 0x002282b3  # add x5, x5, x2
-    .word 0x0462a023  # sw x6, 64(x5)
-    .word 0x00100293  # addi x5, x0, 1
-    .word 0x04512823  # sw x5, 80(x2)
-    .word 0x01000293  # addi x5, x0, 16
-    .word 0x04512a23  # sw x5, 84(x2)
-    .word 0x05012303  # lw x6, 80(x2)
-    .word 0x05412283  # lw x5, 84(x2)
-    .word 0x005332b3  # sltu x5, x6, x5
-    .word 0x00029463  # bne x5, x0, 8
-    .word 0x0dc0006f  # jal x0, 220
-    .word 0x04612423  # sw x6, 72(x2)
-    .word 0x00130313  # addi x6, x6, 1
-    .word 0x04612823  # sw x6, 80(x2)
-    .word 0x00000293  # addi x5, x0, 0
-    .word 0x04812303  # lw x6, 72(x2)
-    .word 0x00231313  # slli x6, x6, 2
-    .word 0x00230333  # add x6, x6, x2
-    .word 0x00032303  # lw x6, 0(x6)
-    .word 0x00000393  # addi x7, x0, 0
-    .word 0x00239393  # slli x7, x7, 2
-    .word 0x002383b3  # add x7, x7, x2
-    .word 0x0403a383  # lw x7, 64(x7)
-    .word 0x00733333  # sltu x6, x6, x7
-    .word 0x04812383  # lw x7, 72(x2)
-    .word 0x00239393  # slli x7, x7, 2
-    .word 0x002383b3  # add x7, x7, x2
-    .word 0x0003a383  # lw x7, 0(x7)
-    .word 0x00000413  # addi x8, x0, 0
-    .word 0x00241413  # slli x8, x8, 2
-    .word 0x00240433  # add x8, x8, x2
-    .word 0x04042403  # lw x8, 64(x8)
-    .word 0x40600333  # sub x6, x0, x6
-    .word 0x0083c3b3  # xor x7, x7, x8
-    .word 0x0063f3b3  # and x7, x7, x6
-    .word 0x00744333  # xor x6, x8, x7
-    .word 0x00229293  # slli x5, x5, 2
-    .word 0x002282b3  # add x5, x5, x2
-    .word 0x0462a023  # sw x6, 64(x5)
-    .word 0x00100293  # addi x5, x0, 1
-    .word 0x00100313  # addi x6, x0, 1
-    .word 0x00231313  # slli x6, x6, 2
-    .word 0x00230333  # add x6, x6, x2
-    .word 0x04032303  # lw x6, 64(x6)
-    .word 0x04812383  # lw x7, 72(x2)
-    .word 0x00239393  # slli x7, x7, 2
-    .word 0x002383b3  # add x7, x7, x2
-    .word 0x0003a383  # lw x7, 0(x7)
-    .word 0x00733333  # sltu x6, x6, x7
-    .word 0x04812383  # lw x7, 72(x2)
-    .word 0x00239393  # slli x7, x7, 2
-    .word 0x002383b3  # add x7, x7, x2
-    .word 0x0003a383  # lw x7, 0(x7)
-    .word 0x00100413  # addi x8, x0, 1
-    .word 0x00241413  # slli x8, x8, 2
-    .word 0x00240433  # add x8, x8, x2
-    .word 0x04042403  # lw x8, 64(x8)
-    .word 0x40600333  # sub x6, x0, x6
-    .word 0x0083c3b3  # xor x7, x7, x8
-    .word 0x0063f3b3  # and x7, x7, x6
-    .word 0x00744333  # xor x6, x8, x7
-    .word 0x00229293  # slli x5, x5, 2
-    .word 0x002282b3  # add x5, x5, x2
-    .word 0x0462a023  # sw x6, 64(x5)
-    .word 0xf19ff06f  # jal x0, -232
+    .word 0x00012283  # lw x5, 0(x2)
+    .word 0x04512023  # sw x5, 64(x2)
+    .word 0x00012283  # lw x5, 0(x2)
+    .word 0x04512223  # sw x5, 68(x2)
+    .word 0x00412283  # lw x5, 4(x2)
+    .word 0x04012303  # lw x6, 64(x2)
+    .word 0x0062b2b3  # sltu x5, x5, x6
+    .word 0x00412303  # lw x6, 4(x2)
+    .word 0x04012383  # lw x7, 64(x2)
+    .word 0x405002b3  # sub x5, x0, x5
+    .word 0x00734333  # xor x6, x6, x7
+    .word 0x00537333  # and x6, x6, x5
+    .word 0x0063c2b3  # xor x5, x7, x6
+    .word 0x04512023  # sw x5, 64(x2)
+    .word 0x04412283  # lw x5, 68(x2)
+    .word 0x00412303  # lw x6, 4(x2)
+    .word 0x0062b2b3  # sltu x5, x5, x6
+    .word 0x00412303  # lw x6, 4(x2)
+    .word 0x04412383  # lw x7, 68(x2)
+    .word 0x405002b3  # sub x5, x0, x5
+    .word 0x00734333  # xor x6, x6, x7
+    .word 0x00537333  # and x6, x6, x5
+    .word 0x0063c2b3  # xor x5, x7, x6
+    .word 0x04512223  # sw x5, 68(x2)
+    .word 0x00812283  # lw x5, 8(x2)
+    .word 0x04012303  # lw x6, 64(x2)
+    .word 0x0062b2b3  # sltu x5, x5, x6
+    .word 0x00812303  # lw x6, 8(x2)
+    .word 0x04012383  # lw x7, 64(x2)
+    .word 0x405002b3  # sub x5, x0, x5
+    .word 0x00734333  # xor x6, x6, x7
+    .word 0x00537333  # and x6, x6, x5
+    .word 0x0063c2b3  # xor x5, x7, x6
+    .word 0x04512023  # sw x5, 64(x2)
+    .word 0x04412283  # lw x5, 68(x2)
+    .word 0x00812303  # lw x6, 8(x2)
+    .word 0x0062b2b3  # sltu x5, x5, x6
+    .word 0x00812303  # lw x6, 8(x2)
+    .word 0x04412383  # lw x7, 68(x2)
+    .word 0x405002b3  # sub x5, x0, x5
+    .word 0x00734333  # xor x6, x6, x7
+    .word 0x00537333  # and x6, x6, x5
+    .word 0x0063c2b3  # xor x5, x7, x6
+    .word 0x04512223  # sw x5, 68(x2)
+    .word 0x00c12283  # lw x5, 12(x2)
+    .word 0x04012303  # lw x6, 64(x2)
+    .word 0x0062b2b3  # sltu x5, x5, x6
+    .word 0x00c12303  # lw x6, 12(x2)
+    .word 0x04012383  # lw x7, 64(x2)
+    .word 0x405002b3  # sub x5, x0, x5
+    .word 0x00734333  # xor x6, x6, x7
+    .word 0x00537333  # and x6, x6, x5
+    .word 0x0063c2b3  # xor x5, x7, x6
+    .word 0x04512023  # sw x5, 64(x2)
+    .word 0x04412283  # lw x5, 68(x2)
+    .word 0x00c12303  # lw x6, 12(x2)
+    .word 0x0062b2b3  # sltu x5, x5, x6
+    .word 0x00c12303  # lw x6, 12(x2)
+    .word 0x04412383  # lw x7, 68(x2)
+    .word 0x405002b3  # sub x5, x0, x5
+    .word 0x00734333  # xor x6, x6, x7
+    .word 0x00537333  # and x6, x6, x5
+    .word 0x0063c2b3  # xor x5, x7, x6
+    .word 0x04512223  # sw x5, 68(x2)
+    .word 0x01012283  # lw x5, 16(x2)
+    .word 0x04012303  # lw x6, 64(x2)
+    .word 0x0062b2b3  # sltu x5, x5, x6
+    .word 0x01012303  # lw x6, 16(x2)
+    .word 0x04012383  # lw x7, 64(x2)
+    .word 0x405002b3  # sub x5, x0, x5
+    .word 0x00734333  # xor x6, x6, x7
+    .word 0x00537333  # and x6, x6, x5
+    .word 0x0063c2b3  # xor x5, x7, x6
+    .word 0x04512023  # sw x5, 64(x2)
+    .word 0x04412283  # lw x5, 68(x2)
+    .word 0x01012303  # lw x6, 16(x2)
+    .word 0x0062b2b3  # sltu x5, x5, x6
+    .word 0x01012303  # lw x6, 16(x2)
+    .word 0x04412383  # lw x7, 68(x2)
+    .word 0x405002b3  # sub x5, x0, x5
+    .word 0x00734333  # xor x6, x6, x7
+    .word 0x00537333  # and x6, x6, x5
+    .word 0x0063c2b3  # xor x5, x7, x6
+    .word 0x04512223  # sw x5, 68(x2)
+    .word 0x01412283  # lw x5, 20(x2)
+    .word 0x04012303  # lw x6, 64(x2)
+    .word 0x0062b2b3  # sltu x5, x5, x6
+    .word 0x01412303  # lw x6, 20(x2)
+    .word 0x04012383  # lw x7, 64(x2)
+    .word 0x405002b3  # sub x5, x0, x5
+    .word 0x00734333  # xor x6, x6, x7
+    .word 0x00537333  # and x6, x6, x5
+    .word 0x0063c2b3  # xor x5, x7, x6
+    .word 0x04512023  # sw x5, 64(x2)
+    .word 0x04412283  # lw x5, 68(x2)
+    .word 0x01412303  # lw x6, 20(x2)
+    .word 0x0062b2b3  # sltu x5, x5, x6
+    .word 0x01412303  # lw x6, 20(x2)
+    .word 0x04412383  # lw x7, 68(x2)
+    .word 0x405002b3  # sub x5, x0, x5
+    .word 0x00734333  # xor x6, x6, x7
+    .word 0x00537333  # and x6, x6, x5
+    .word 0x0063c2b3  # xor x5, x7, x6
+    .word 0x04512223  # sw x5, 68(x2)
+    .word 0x01812283  # lw x5, 24(x2)
+    .word 0x04012303  # lw x6, 64(x2)
+    .word 0x0062b2b3  # sltu x5, x5, x6
+    .word 0x01812303  # lw x6, 24(x2)
+    .word 0x04012383  # lw x7, 64(x2)
+    .word 0x405002b3  # sub x5, x0, x5
+    .word 0x00734333  # xor x6, x6, x7
+    .word 0x00537333  # and x6, x6, x5
+    .word 0x0063c2b3  # xor x5, x7, x6
+    .word 0x04512023  # sw x5, 64(x2)
+    .word 0x04412283  # lw x5, 68(x2)
+    .word 0x01812303  # lw x6, 24(x2)
+    .word 0x0062b2b3  # sltu x5, x5, x6
+    .word 0x01812303  # lw x6, 24(x2)
+    .word 0x04412383  # lw x7, 68(x2)
+    .word 0x405002b3  # sub x5, x0, x5
+    .word 0x00734333  # xor x6, x6, x7
+    .word 0x00537333  # and x6, x6, x5
+    .word 0x0063c2b3  # xor x5, x7, x6
+    .word 0x04512223  # sw x5, 68(x2)
+    .word 0x01c12283  # lw x5, 28(x2)
+    .word 0x04012303  # lw x6, 64(x2)
+    .word 0x0062b2b3  # sltu x5, x5, x6
+    .word 0x01c12303  # lw x6, 28(x2)
+    .word 0x04012383  # lw x7, 64(x2)
+    .word 0x405002b3  # sub x5, x0, x5
+    .word 0x00734333  # xor x6, x6, x7
+    .word 0x00537333  # and x6, x6, x5
+    .word 0x0063c2b3  # xor x5, x7, x6
+    .word 0x04512023  # sw x5, 64(x2)
+    .word 0x04412283  # lw x5, 68(x2)
+    .word 0x01c12303  # lw x6, 28(x2)
+    .word 0x0062b2b3  # sltu x5, x5, x6
+    .word 0x01c12303  # lw x6, 28(x2)
+    .word 0x04412383  # lw x7, 68(x2)
+    .word 0x405002b3  # sub x5, x0, x5
+    .word 0x00734333  # xor x6, x6, x7
+    .word 0x00537333  # and x6, x6, x5
+    .word 0x0063c2b3  # xor x5, x7, x6
+    .word 0x04512223  # sw x5, 68(x2)
+    .word 0x02012283  # lw x5, 32(x2)
+    .word 0x04012303  # lw x6, 64(x2)
+    .word 0x0062b2b3  # sltu x5, x5, x6
+    .word 0x02012303  # lw x6, 32(x2)
+    .word 0x04012383  # lw x7, 64(x2)
+    .word 0x405002b3  # sub x5, x0, x5
+    .word 0x00734333  # xor x6, x6, x7
+    .word 0x00537333  # and x6, x6, x5
+    .word 0x0063c2b3  # xor x5, x7, x6
+    .word 0x04512023  # sw x5, 64(x2)
+    .word 0x04412283  # lw x5, 68(x2)
+    .word 0x02012303  # lw x6, 32(x2)
+    .word 0x0062b2b3  # sltu x5, x5, x6
+    .word 0x02012303  # lw x6, 32(x2)
+    .word 0x04412383  # lw x7, 68(x2)
+    .word 0x405002b3  # sub x5, x0, x5
+    .word 0x00734333  # xor x6, x6, x7
+    .word 0x00537333  # and x6, x6, x5
+    .word 0x0063c2b3  # xor x5, x7, x6
+    .word 0x04512223  # sw x5, 68(x2)
+    .word 0x02412283  # lw x5, 36(x2)
+    .word 0x04012303  # lw x6, 64(x2)
+    .word 0x0062b2b3  # sltu x5, x5, x6
+    .word 0x02412303  # lw x6, 36(x2)
+    .word 0x04012383  # lw x7, 64(x2)
+    .word 0x405002b3  # sub x5, x0, x5
+    .word 0x00734333  # xor x6, x6, x7
+    .word 0x00537333  # and x6, x6, x5
+    .word 0x0063c2b3  # xor x5, x7, x6
+    .word 0x04512023  # sw x5, 64(x2)
+    .word 0x04412283  # lw x5, 68(x2)
+    .word 0x02412303  # lw x6, 36(x2)
+    .word 0x0062b2b3  # sltu x5, x5, x6
+    .word 0x02412303  # lw x6, 36(x2)
+    .word 0x04412383  # lw x7, 68(x2)
+    .word 0x405002b3  # sub x5, x0, x5
+    .word 0x00734333  # xor x6, x6, x7
+    .word 0x00537333  # and x6, x6, x5
+    .word 0x0063c2b3  # xor x5, x7, x6
+    .word 0x04512223  # sw x5, 68(x2)
+    .word 0x02812283  # lw x5, 40(x2)
+    .word 0x04012303  # lw x6, 64(x2)
+    .word 0x0062b2b3  # sltu x5, x5, x6
+    .word 0x02812303  # lw x6, 40(x2)
+    .word 0x04012383  # lw x7, 64(x2)
+    .word 0x405002b3  # sub x5, x0, x5
+    .word 0x00734333  # xor x6, x6, x7
+    .word 0x00537333  # and x6, x6, x5
+    .word 0x0063c2b3  # xor x5, x7, x6
+    .word 0x04512023  # sw x5, 64(x2)
+    .word 0x04412283  # lw x5, 68(x2)
+    .word 0x02812303  # lw x6, 40(x2)
+    .word 0x0062b2b3  # sltu x5, x5, x6
+    .word 0x02812303  # lw x6, 40(x2)
+    .word 0x04412383  # lw x7, 68(x2)
+    .word 0x405002b3  # sub x5, x0, x5
+    .word 0x00734333  # xor x6, x6, x7
+    .word 0x00537333  # and x6, x6, x5
+    .word 0x0063c2b3  # xor x5, x7, x6
+    .word 0x04512223  # sw x5, 68(x2)
+    .word 0x02c12283  # lw x5, 44(x2)
+    .word 0x04012303  # lw x6, 64(x2)
+    .word 0x0062b2b3  # sltu x5, x5, x6
+    .word 0x02c12303  # lw x6, 44(x2)
+    .word 0x04012383  # lw x7, 64(x2)
+    .word 0x405002b3  # sub x5, x0, x5
+    .word 0x00734333  # xor x6, x6, x7
+    .word 0x00537333  # and x6, x6, x5
+    .word 0x0063c2b3  # xor x5, x7, x6
+    .word 0x04512023  # sw x5, 64(x2)
+    .word 0x04412283  # lw x5, 68(x2)
+    .word 0x02c12303  # lw x6, 44(x2)
+    .word 0x0062b2b3  # sltu x5, x5, x6
+    .word 0x02c12303  # lw x6, 44(x2)
+    .word 0x04412383  # lw x7, 68(x2)
+    .word 0x405002b3  # sub x5, x0, x5
+    .word 0x00734333  # xor x6, x6, x7
+    .word 0x00537333  # and x6, x6, x5
+    .word 0x0063c2b3  # xor x5, x7, x6
+    .word 0x04512223  # sw x5, 68(x2)
+    .word 0x03012283  # lw x5, 48(x2)
+    .word 0x04012303  # lw x6, 64(x2)
+    .word 0x0062b2b3  # sltu x5, x5, x6
+    .word 0x03012303  # lw x6, 48(x2)
+    .word 0x04012383  # lw x7, 64(x2)
+    .word 0x405002b3  # sub x5, x0, x5
+    .word 0x00734333  # xor x6, x6, x7
+    .word 0x00537333  # and x6, x6, x5
+    .word 0x0063c2b3  # xor x5, x7, x6
+    .word 0x04512023  # sw x5, 64(x2)
+    .word 0x04412283  # lw x5, 68(x2)
+    .word 0x03012303  # lw x6, 48(x2)
+    .word 0x0062b2b3  # sltu x5, x5, x6
+    .word 0x03012303  # lw x6, 48(x2)
+    .word 0x04412383  # lw x7, 68(x2)
+    .word 0x405002b3  # sub x5, x0, x5
+    .word 0x00734333  # xor x6, x6, x7
+    .word 0x00537333  # and x6, x6, x5
+    .word 0x0063c2b3  # xor x5, x7, x6
+    .word 0x04512223  # sw x5, 68(x2)
+    .word 0x03412283  # lw x5, 52(x2)
+    .word 0x04012303  # lw x6, 64(x2)
+    .word 0x0062b2b3  # sltu x5, x5, x6
+    .word 0x03412303  # lw x6, 52(x2)
+    .word 0x04012383  # lw x7, 64(x2)
+    .word 0x405002b3  # sub x5, x0, x5
+    .word 0x00734333  # xor x6, x6, x7
+    .word 0x00537333  # and x6, x6, x5
+    .word 0x0063c2b3  # xor x5, x7, x6
+    .word 0x04512023  # sw x5, 64(x2)
+    .word 0x04412283  # lw x5, 68(x2)
+    .word 0x03412303  # lw x6, 52(x2)
+    .word 0x0062b2b3  # sltu x5, x5, x6
+    .word 0x03412303  # lw x6, 52(x2)
+    .word 0x04412383  # lw x7, 68(x2)
+    .word 0x405002b3  # sub x5, x0, x5
+    .word 0x00734333  # xor x6, x6, x7
+    .word 0x00537333  # and x6, x6, x5
+    .word 0x0063c2b3  # xor x5, x7, x6
+    .word 0x04512223  # sw x5, 68(x2)
+    .word 0x03812283  # lw x5, 56(x2)
+    .word 0x04012303  # lw x6, 64(x2)
+    .word 0x0062b2b3  # sltu x5, x5, x6
+    .word 0x03812303  # lw x6, 56(x2)
+    .word 0x04012383  # lw x7, 64(x2)
+    .word 0x405002b3  # sub x5, x0, x5
+    .word 0x00734333  # xor x6, x6, x7
+    .word 0x00537333  # and x6, x6, x5
+    .word 0x0063c2b3  # xor x5, x7, x6
+    .word 0x04512023  # sw x5, 64(x2)
+    .word 0x04412283  # lw x5, 68(x2)
+    .word 0x03812303  # lw x6, 56(x2)
+    .word 0x0062b2b3  # sltu x5, x5, x6
+    .word 0x03812303  # lw x6, 56(x2)
+    .word 0x04412383  # lw x7, 68(x2)
+    .word 0x405002b3  # sub x5, x0, x5
+    .word 0x00734333  # xor x6, x6, x7
+    .word 0x00537333  # and x6, x6, x5
+    .word 0x0063c2b3  # xor x5, x7, x6
+    .word 0x04512223  # sw x5, 68(x2)
+    .word 0x03c12283  # lw x5, 60(x2)
+    .word 0x04012303  # lw x6, 64(x2)
+    .word 0x0062b2b3  # sltu x5, x5, x6
+    .word 0x03c12303  # lw x6, 60(x2)
+    .word 0x04012383  # lw x7, 64(x2)
+    .word 0x405002b3  # sub x5, x0, x5
+    .word 0x00734333  # xor x6, x6, x7
+    .word 0x00537333  # and x6, x6, x5
+    .word 0x0063c2b3  # xor x5, x7, x6
+    .word 0x04512023  # sw x5, 64(x2)
+    .word 0x04412283  # lw x5, 68(x2)
+    .word 0x03c12303  # lw x6, 60(x2)
+    .word 0x0062b2b3  # sltu x5, x5, x6
+    .word 0x03c12303  # lw x6, 60(x2)
+    .word 0x04412383  # lw x7, 68(x2)
+    .word 0x405002b3  # sub x5, x0, x5
+    .word 0x00734333  # xor x6, x6, x7
+    .word 0x00537333  # and x6, x6, x5
+    .word 0x0063c2b3  # xor x5, x7, x6
+    .word 0x04512223  # sw x5, 68(x2)
     # the result
     .word 0x00000513  # addi x10, x0, 0
     # parameter 1: the array, back
-    .word 0x06c12283  # lw x5, 108(x2)
+    .word 0x05c12283  # lw x5, 92(x2)
     .word 0x04010313  # addi x6, x2, 64
     .word 0x00032e03  # lw x28, 0(x6)
     .word 0x01c2a023  # sw x28, 0(x5)
     .word 0x00432e03  # lw x28, 4(x6)
     .word 0x01c2a223  # sw x28, 4(x5)
     # above the frame
-    .word 0x06010293  # addi x5, x2, 96
+    .word 0x05010293  # addi x5, x2, 80
     # the caller's registers
-    .word 0x0002a403  # lw x8, 0(x5)
-    .cfi_restore 8
     # the caller's x2
     .word 0x01028293  # addi x5, x5, 16
     .cfi_def_cfa 5, 0
@@ -151,11 +372,7 @@ minimum_maximum_16:
     .word 0x00012a23  # sw x0, 20(x2)
     .word 0x00012c23  # sw x0, 24(x2)
     .word 0x00012e23  # sw x0, 28(x2)
-    .word 0x02012023  # sw x0, 32(x2)
-    .word 0x02012223  # sw x0, 36(x2)
-    .word 0x02012423  # sw x0, 40(x2)
-    .word 0x02012623  # sw x0, 44(x2)
-    .word 0x03010113  # addi x2, x2, 48
+    .word 0x02010113  # addi x2, x2, 32
     .word 0x00012023  # sw x0, 0(x2)
     .word 0x00012223  # sw x0, 4(x2)
     .word 0x00012423  # sw x0, 8(x2)

@@ -1,4 +1,4 @@
-# mlkem_compress: made by factc function; 206 words, 560 bytes of stack, profile 1
+# mlkem_compress: made by factc function; 175 words, 544 bytes of stack, profile 1
     .option push
     .option norvc
     .option norelax
@@ -20,8 +20,8 @@ mlkem_compress:
     # arguments that are needed behind the body
     .word 0x00a12623  # sw x10, 12(x2)
     # the frame's base
-    .word 0xde010113  # addi x2, x2, -544
-    .cfi_def_cfa 2, 560
+    .word 0xdf010113  # addi x2, x2, -528
+    .cfi_def_cfa 2, 544
     # parameter 0: an array
     .word 0x00050293  # addi x5, x10, 0
     .word 0x00010313  # addi x6, x2, 0
@@ -65,81 +65,54 @@ mlkem_compress:
     # parameter 1: a word
     .word 0x20b12023  # sw x11, 512(x2)
     # the body
-    .word 0x20012283  # lw x5, 512(x2)
+    .word 0x20012483  # lw x9, 512(x2)
+    .word 0x00000593  # addi x11, x0, 0
+    .word 0x00000613  # addi x12, x0, 0
+    .word 0x00000693  # addi x13, x0, 0
     .word 0x00c00313  # addi x6, x0, 12
-    .word 0x0262f2b3  # remu x5, x5, x6
-    .word 0x20512223  # sw x5, 516(x2)
-    .word 0x00000293  # addi x5, x0, 0
-    .word 0x20512c23  # sw x5, 536(x2)
-    .word 0x10000293  # addi x5, x0, 256
-    .word 0x20512e23  # sw x5, 540(x2)
-    .word 0x21812303  # lw x6, 536(x2)
-    .word 0x21c12283  # lw x5, 540(x2)
-    .word 0x005332b3  # sltu x5, x6, x5
-    .word 0x00029463  # bne x5, x0, 8
-    .word 0x0ec0006f  # jal x0, 236
-    .word 0x20612423  # sw x6, 520(x2)
-    .word 0x00130313  # addi x6, x6, 1
-    .word 0x20612c23  # sw x6, 536(x2)
-    .word 0x20812283  # lw x5, 520(x2)
-    .word 0x00129293  # slli x5, x5, 1
+    .word 0x0264f533  # remu x10, x9, x6
+    .word 0x00000593  # addi x11, x0, 0
+    .word 0x00159293  # slli x5, x11, 1
     .word 0x002282b3  # add x5, x5, x2
     .word 0x0002d283  # lhu x5, 0(x5)
-    .word 0x20412303  # lw x6, 516(x2)
-    .word 0x006292b3  # sll x5, x5, x6
-    .word 0x68000313  # addi x6, x0, 1664
-    .word 0x006282b3  # add x5, x5, x6
-    .word 0x20512623  # sw x5, 524(x2)
-    .word 0x20c12283  # lw x5, 524(x2)
-    .word 0x00c00313  # addi x6, x0, 12
-    .word 0x0062d2b3  # srl x5, x5, x6
+    .word 0x00a292b3  # sll x5, x5, x10
+    .word 0x68028613  # addi x12, x5, 1664
+    .word 0x00c65293  # srli x5, x12, 12
     .word 0x00001337  # lui x6, 0x00001
     .word 0x3af30313  # addi x6, x6, 943
     .word 0x026282b3  # mul x5, x5, x6
-    .word 0x20c12303  # lw x6, 524(x2)
-    .word 0x000013b7  # lui x7, 0x00001
-    .word 0xfff38393  # addi x7, x7, -1
-    .word 0x00737333  # and x6, x6, x7
+    .word 0x01461313  # slli x6, x12, 20
+    .word 0x01435313  # srli x6, x6, 20
     .word 0x000013b7  # lui x7, 0x00001
     .word 0x3af38393  # addi x7, x7, 943
     .word 0x02730333  # mul x6, x6, x7
-    .word 0x00c00393  # addi x7, x0, 12
-    .word 0x00735333  # srl x6, x6, x7
+    .word 0x00c35313  # srli x6, x6, 12
     .word 0x006282b3  # add x5, x5, x6
-    .word 0x00c00313  # addi x6, x0, 12
-    .word 0x0062d2b3  # srl x5, x5, x6
-    .word 0x20512823  # sw x5, 528(x2)
-    .word 0x21012283  # lw x5, 528(x2)
-    .word 0x00001337  # lui x6, 0x00001
-    .word 0xd0130313  # addi x6, x6, -767
-    .word 0x20c12383  # lw x7, 524(x2)
-    .word 0x21012403  # lw x8, 528(x2)
-    .word 0x000014b7  # lui x9, 0x00001
-    .word 0xd0148493  # addi x9, x9, -767
-    .word 0x02940433  # mul x8, x8, x9
-    .word 0x408383b3  # sub x7, x7, x8
-    .word 0x0063b333  # sltu x6, x7, x6
+    .word 0x00c2d693  # srli x13, x5, 12
+    .word 0x00001437  # lui x8, 0x00001
+    .word 0xd0140413  # addi x8, x8, -767
+    .word 0x028683b3  # mul x7, x13, x8
+    .word 0x40760333  # sub x6, x12, x7
+    .word 0x000013b7  # lui x7, 0x00001
+    .word 0xd0138393  # addi x7, x7, -767
+    .word 0x00733333  # sltu x6, x6, x7
     .word 0x00133313  # sltiu x6, x6, 1
-    .word 0x006282b3  # add x5, x5, x6
-    .word 0x20512823  # sw x5, 528(x2)
-    .word 0x20812283  # lw x5, 520(x2)
-    .word 0x21012303  # lw x6, 528(x2)
+    .word 0x006686b3  # add x13, x13, x6
     .word 0x00100393  # addi x7, x0, 1
-    .word 0x20412403  # lw x8, 516(x2)
-    .word 0x008393b3  # sll x7, x7, x8
-    .word 0x00100413  # addi x8, x0, 1
-    .word 0x408383b3  # sub x7, x7, x8
-    .word 0x00737333  # and x6, x6, x7
-    .word 0x01031313  # slli x6, x6, 16
-    .word 0x01035313  # srli x6, x6, 16
-    .word 0x00129293  # slli x5, x5, 1
+    .word 0x00a393b3  # sll x7, x7, x10
+    .word 0xfff38393  # addi x7, x7, -1
+    .word 0x0076f333  # and x6, x13, x7
+    .word 0x00159293  # slli x5, x11, 1
     .word 0x002282b3  # add x5, x5, x2
     .word 0x00629023  # sh x6, 0(x5)
-    .word 0xf09ff06f  # jal x0, -248
+    .word 0x00158593  # addi x11, x11, 1
+    .word 0x1005b293  # sltiu x5, x11, 256
+    .word 0xf6029ae3  # bne x5, x0, -140
+    .word 0xfff58593  # addi x11, x11, -1
     # the result
     .word 0x00000513  # addi x10, x0, 0
     # parameter 0: the array, back
-    .word 0x22c12283  # lw x5, 556(x2)
+    .word 0x21c12283  # lw x5, 540(x2)
     .word 0x00010313  # addi x6, x2, 0
     .word 0x0032fe13  # andi x28, x5, 3
     .word 0x020e0e63  # beq x28, x0, 60
@@ -179,7 +152,7 @@ mlkem_compress:
     .word 0x02030313  # addi x6, x6, 32
     .word 0xfa729ce3  # bne x5, x7, -72
     # above the frame
-    .word 0x22010293  # addi x5, x2, 544
+    .word 0x21010293  # addi x5, x2, 528
     # the caller's registers
     .word 0x0002a403  # lw x8, 0(x5)
     .cfi_restore 8
@@ -197,11 +170,7 @@ mlkem_compress:
     .word 0x00012a23  # sw x0, 20(x2)
     .word 0x00012c23  # sw x0, 24(x2)
     .word 0x00012e23  # sw x0, 28(x2)
-    .word 0x02012023  # sw x0, 32(x2)
-    .word 0x02012223  # sw x0, 36(x2)
-    .word 0x02012423  # sw x0, 40(x2)
-    .word 0x02012623  # sw x0, 44(x2)
-    .word 0x03010113  # addi x2, x2, 48
+    .word 0x02010113  # addi x2, x2, 32
     .word 0x00012023  # sw x0, 0(x2)
     .word 0x00012223  # sw x0, 4(x2)
     .word 0x00012423  # sw x0, 8(x2)

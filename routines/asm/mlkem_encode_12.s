@@ -1,4 +1,4 @@
-# mlkem_encode_12: made by factc function; 205 words, 944 bytes of stack, profile 1
+# mlkem_encode_12: made by factc function; 171 words, 928 bytes of stack, profile 1
     .option push
     .option norvc
     .option norelax
@@ -13,18 +13,14 @@ mlkem_encode_12:
     .word 0xff010113  # addi x2, x2, -16
     .cfi_def_cfa_offset 16
     # the caller's registers
-    .word 0x00812023  # sw x8, 0(x2)
-    .cfi_offset 8, -16
+    .word 0x00912023  # sw x9, 0(x2)
+    .cfi_offset 9, -16
     # arguments that are needed behind the body
     .word 0x00a12423  # sw x10, 8(x2)
     .word 0x00b12623  # sw x11, 12(x2)
     # the frame's base
-    .word 0xc6010113  # addi x2, x2, -928
-    .cfi_def_cfa 2, 944
-    # the frame's word at 900, zeroed
-    .word 0x38012223  # sw x0, 900(x2)
-    # the frame's word at 904, zeroed
-    .word 0x38012423  # sw x0, 904(x2)
+    .word 0xc7010113  # addi x2, x2, -912
+    .cfi_def_cfa 2, 928
     # parameter 0: an array
     .word 0x00050293  # addi x5, x10, 0
     .word 0x00010313  # addi x6, x2, 0
@@ -66,80 +62,52 @@ mlkem_encode_12:
     .word 0x02030313  # addi x6, x6, 32
     .word 0xfa729ce3  # bne x5, x7, -72
     # the body
-    .word 0x00000293  # addi x5, x0, 0
-    .word 0x38512823  # sw x5, 912(x2)
-    .word 0x08000293  # addi x5, x0, 128
-    .word 0x38512a23  # sw x5, 916(x2)
-    .word 0x39012303  # lw x6, 912(x2)
-    .word 0x39412283  # lw x5, 916(x2)
-    .word 0x005332b3  # sltu x5, x6, x5
-    .word 0x00029463  # bne x5, x0, 8
-    .word 0x0f80006f  # jal x0, 248
-    .word 0x38612023  # sw x6, 896(x2)
-    .word 0x00130313  # addi x6, x6, 1
-    .word 0x38612823  # sw x6, 912(x2)
-    .word 0x00200293  # addi x5, x0, 2
-    .word 0x38012303  # lw x6, 896(x2)
-    .word 0x026282b3  # mul x5, x5, x6
-    .word 0x00129293  # slli x5, x5, 1
-    .word 0x002282b3  # add x5, x5, x2
-    .word 0x0002d283  # lhu x5, 0(x5)
-    .word 0x38512223  # sw x5, 900(x2)
-    .word 0x00200293  # addi x5, x0, 2
-    .word 0x38012303  # lw x6, 896(x2)
-    .word 0x026282b3  # mul x5, x5, x6
-    .word 0x00100313  # addi x6, x0, 1
-    .word 0x006282b3  # add x5, x5, x6
-    .word 0x00129293  # slli x5, x5, 1
-    .word 0x002282b3  # add x5, x5, x2
-    .word 0x0002d283  # lhu x5, 0(x5)
-    .word 0x38512423  # sw x5, 904(x2)
+    .word 0x00000493  # addi x9, x0, 0
+    .word 0x00000513  # addi x10, x0, 0
+    .word 0x00000593  # addi x11, x0, 0
+    .word 0x00000493  # addi x9, x0, 0
+    .word 0x00149293  # slli x5, x9, 1
+    .word 0x00129513  # slli x10, x5, 1
+    .word 0x00250533  # add x10, x10, x2
+    .word 0x00055503  # lhu x10, 0(x10)
+    .word 0x00149293  # slli x5, x9, 1
+    .word 0x00128293  # addi x5, x5, 1
+    .word 0x00129593  # slli x11, x5, 1
+    .word 0x002585b3  # add x11, x11, x2
+    .word 0x0005d583  # lhu x11, 0(x11)
     .word 0x00300293  # addi x5, x0, 3
-    .word 0x38012303  # lw x6, 896(x2)
-    .word 0x026282b3  # mul x5, x5, x6
-    .word 0x38412303  # lw x6, 900(x2)
-    .word 0x0ff37313  # andi x6, x6, 255
+    .word 0x029282b3  # mul x5, x5, x9
     .word 0x002282b3  # add x5, x5, x2
-    .word 0x20628023  # sb x6, 512(x5)
+    .word 0x20a28023  # sb x10, 512(x5)
     .word 0x00300293  # addi x5, x0, 3
-    .word 0x38012303  # lw x6, 896(x2)
-    .word 0x026282b3  # mul x5, x5, x6
-    .word 0x00100313  # addi x6, x0, 1
-    .word 0x006282b3  # add x5, x5, x6
-    .word 0x38412303  # lw x6, 900(x2)
-    .word 0x00800393  # addi x7, x0, 8
-    .word 0x00735333  # srl x6, x6, x7
+    .word 0x029282b3  # mul x5, x5, x9
+    .word 0x00128293  # addi x5, x5, 1
+    .word 0x00855313  # srli x6, x10, 8
     .word 0x01031313  # slli x6, x6, 16
     .word 0x01035313  # srli x6, x6, 16
-    .word 0x00f00393  # addi x7, x0, 15
-    .word 0x00737333  # and x6, x6, x7
-    .word 0x38812383  # lw x7, 904(x2)
-    .word 0x00400413  # addi x8, x0, 4
-    .word 0x008393b3  # sll x7, x7, x8
+    .word 0x00f37313  # andi x6, x6, 15
+    .word 0x00459393  # slli x7, x11, 4
     .word 0x01039393  # slli x7, x7, 16
     .word 0x0103d393  # srli x7, x7, 16
     .word 0x00736333  # or x6, x6, x7
-    .word 0x0ff37313  # andi x6, x6, 255
     .word 0x002282b3  # add x5, x5, x2
     .word 0x20628023  # sb x6, 512(x5)
     .word 0x00300293  # addi x5, x0, 3
-    .word 0x38012303  # lw x6, 896(x2)
-    .word 0x026282b3  # mul x5, x5, x6
-    .word 0x00200313  # addi x6, x0, 2
-    .word 0x006282b3  # add x5, x5, x6
-    .word 0x38812303  # lw x6, 904(x2)
-    .word 0x00400393  # addi x7, x0, 4
-    .word 0x00735333  # srl x6, x6, x7
+    .word 0x029282b3  # mul x5, x5, x9
+    .word 0x00228293  # addi x5, x5, 2
+    .word 0x0045d313  # srli x6, x11, 4
     .word 0x01031313  # slli x6, x6, 16
     .word 0x01035313  # srli x6, x6, 16
-    .word 0x0ff37313  # andi x6, x6, 255
     .word 0x002282b3  # add x5, x5, x2
     .word 0x20628023  # sb x6, 512(x5)
-    .word 0xefdff06f  # jal x0, -260
+    .word 0x00148493  # addi x9, x9, 1
+    .word 0x0804b293  # sltiu x5, x9, 128
+    .word 0xf60298e3  # bne x5, x0, -144
+    .word 0xfff48493  # addi x9, x9, -1
     # the result
     .word 0x00000513  # addi x10, x0, 0
     # parameter 1: the array, back
-    .word 0x3ac12283  # lw x5, 940(x2)
+    .word 0x39c12283  # lw x5, 924(x2)
     .word 0x20010313  # addi x6, x2, 512
     .word 0x0032fe13  # andi x28, x5, 3
     .word 0x020e0e63  # beq x28, x0, 60
@@ -179,10 +147,10 @@ mlkem_encode_12:
     .word 0x02030313  # addi x6, x6, 32
     .word 0xfa729ce3  # bne x5, x7, -72
     # above the frame
-    .word 0x3a010293  # addi x5, x2, 928
+    .word 0x39010293  # addi x5, x2, 912
     # the caller's registers
-    .word 0x0002a403  # lw x8, 0(x5)
-    .cfi_restore 8
+    .word 0x0002a483  # lw x9, 0(x5)
+    .cfi_restore 9
     # the caller's x2
     .word 0x01028293  # addi x5, x5, 16
     .cfi_def_cfa 5, 0
@@ -195,11 +163,7 @@ mlkem_encode_12:
     .word 0x00012a23  # sw x0, 20(x2)
     .word 0x00012c23  # sw x0, 24(x2)
     .word 0x00012e23  # sw x0, 28(x2)
-    .word 0x02012023  # sw x0, 32(x2)
-    .word 0x02012223  # sw x0, 36(x2)
-    .word 0x02012423  # sw x0, 40(x2)
-    .word 0x02012623  # sw x0, 44(x2)
-    .word 0x03010113  # addi x2, x2, 48
+    .word 0x02010113  # addi x2, x2, 32
     .word 0x00012023  # sw x0, 0(x2)
     .word 0x00012223  # sw x0, 4(x2)
     .word 0x00012423  # sw x0, 8(x2)

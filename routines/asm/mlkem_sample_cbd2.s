@@ -1,4 +1,4 @@
-# mlkem_sample_cbd2: made by factc function; 204 words, 704 bytes of stack, profile 1
+# mlkem_sample_cbd2: made by factc function; 184 words, 672 bytes of stack, profile 1
     .option push
     .option norvc
     .option norelax
@@ -13,16 +13,12 @@ mlkem_sample_cbd2:
     .word 0xff010113  # addi x2, x2, -16
     .cfi_def_cfa_offset 16
     # the caller's registers
-    .word 0x00812023  # sw x8, 0(x2)
-    .cfi_offset 8, -16
-    .word 0x00912223  # sw x9, 4(x2)
-    .cfi_offset 9, -12
     # arguments that are needed behind the body
     .word 0x00a12423  # sw x10, 8(x2)
     .word 0x00b12623  # sw x11, 12(x2)
     # the frame's base
-    .word 0xd5010113  # addi x2, x2, -688
-    .cfi_def_cfa 2, 704
+    .word 0xd7010113  # addi x2, x2, -656
+    .cfi_def_cfa 2, 672
     # parameter 0: an array
     .word 0x00050293  # addi x5, x10, 0
     .word 0x00010313  # addi x6, x2, 0
@@ -64,92 +60,67 @@ mlkem_sample_cbd2:
     .word 0x02030313  # addi x6, x6, 32
     .word 0xfa729ce3  # bne x5, x7, -72
     # the body
-    .word 0x00000293  # addi x5, x0, 0
-    .word 0x28512c23  # sw x5, 664(x2)
-    .word 0x10000293  # addi x5, x0, 256
-    .word 0x28512e23  # sw x5, 668(x2)
-    .word 0x29812303  # lw x6, 664(x2)
-    .word 0x29c12283  # lw x5, 668(x2)
-    .word 0x005332b3  # sltu x5, x6, x5
-    .word 0x00029463  # bne x5, x0, 8
-    .word 0x1280006f  # jal x0, 296
-    .word 0x28612023  # sw x6, 640(x2)
-    .word 0x00130313  # addi x6, x6, 1
-    .word 0x28612c23  # sw x6, 664(x2)
-    .word 0x000012b7  # lui x5, 0x00001
-    .word 0xd0128293  # addi x5, x5, -767
-    .word 0x28512223  # sw x5, 644(x2)
-    .word 0x00000293  # addi x5, x0, 0
-    .word 0x2a512023  # sw x5, 672(x2)
-    .word 0x00400293  # addi x5, x0, 4
-    .word 0x2a512223  # sw x5, 676(x2)
-    .word 0x2a012303  # lw x6, 672(x2)
-    .word 0x2a412283  # lw x5, 676(x2)
-    .word 0x005332b3  # sltu x5, x6, x5
-    .word 0x00029463  # bne x5, x0, 8
-    .word 0x0980006f  # jal x0, 152
-    .word 0x28612423  # sw x6, 648(x2)
-    .word 0x00130313  # addi x6, x6, 1
-    .word 0x2a612023  # sw x6, 672(x2)
-    .word 0x00400293  # addi x5, x0, 4
-    .word 0x28012303  # lw x6, 640(x2)
-    .word 0x026282b3  # mul x5, x5, x6
-    .word 0x28812303  # lw x6, 648(x2)
-    .word 0x006282b3  # add x5, x5, x6
-    .word 0x28512623  # sw x5, 652(x2)
-    .word 0x28c12283  # lw x5, 652(x2)
-    .word 0x00800313  # addi x6, x0, 8
-    .word 0x0262d2b3  # divu x5, x5, x6
+    .word 0x00000513  # addi x10, x0, 0
+    .word 0x00000593  # addi x11, x0, 0
+    .word 0x00000613  # addi x12, x0, 0
+    .word 0x00000693  # addi x13, x0, 0
+    .word 0x00001737  # lui x14, 0x00001
+    .word 0xd0170713  # addi x14, x14, -767
+    .word 0x00000513  # addi x10, x0, 0
+    .word 0x00251613  # slli x12, x10, 2
+    .word 0x00365293  # srli x5, x12, 3
     .word 0x002282b3  # add x5, x5, x2
     .word 0x0002c283  # lbu x5, 0(x5)
-    .word 0x28c12303  # lw x6, 652(x2)
-    .word 0x00800393  # addi x7, x0, 8
-    .word 0x02737333  # remu x6, x6, x7
+    .word 0x00767313  # andi x6, x12, 7
     .word 0x0062d2b3  # srl x5, x5, x6
     .word 0x0ff2f293  # andi x5, x5, 255
-    .word 0x00100313  # addi x6, x0, 1
-    .word 0x0062f2b3  # and x5, x5, x6
-    .word 0x28512823  # sw x5, 656(x2)
-    .word 0x28812283  # lw x5, 648(x2)
-    .word 0x00200313  # addi x6, x0, 2
-    .word 0x0062b2b3  # sltu x5, x5, x6
-    .word 0x00029463  # bne x5, x0, 8
-    .word 0x0180006f  # jal x0, 24
-    .word 0x28412283  # lw x5, 644(x2)
-    .word 0x29012303  # lw x6, 656(x2)
-    .word 0x006282b3  # add x5, x5, x6
-    .word 0x28512223  # sw x5, 644(x2)
-    .word 0x0140006f  # jal x0, 20
-    .word 0x28412283  # lw x5, 644(x2)
-    .word 0x29012303  # lw x6, 656(x2)
-    .word 0x406282b3  # sub x5, x5, x6
-    .word 0x28512223  # sw x5, 644(x2)
-    .word 0xf5dff06f  # jal x0, -164
-    .word 0x28012283  # lw x5, 640(x2)
-    .word 0x28412303  # lw x6, 644(x2)
-    .word 0x000013b7  # lui x7, 0x00001
-    .word 0xd0138393  # addi x7, x7, -767
-    .word 0x28412403  # lw x8, 644(x2)
-    .word 0x007433b3  # sltu x7, x8, x7
-    .word 0x0013b393  # sltiu x7, x7, 1
-    .word 0x00001437  # lui x8, 0x00001
-    .word 0xd0140413  # addi x8, x8, -767
-    .word 0x00000493  # addi x9, x0, 0
-    .word 0x407003b3  # sub x7, x0, x7
-    .word 0x00944433  # xor x8, x8, x9
-    .word 0x00747433  # and x8, x8, x7
-    .word 0x0084c3b3  # xor x7, x9, x8
-    .word 0x40730333  # sub x6, x6, x7
-    .word 0x01031313  # slli x6, x6, 16
-    .word 0x01035313  # srli x6, x6, 16
-    .word 0x00129293  # slli x5, x5, 1
+    .word 0x0012f693  # andi x13, x5, 1
+    .word 0x00d705b3  # add x11, x14, x13
+    .word 0x00251293  # slli x5, x10, 2
+    .word 0x00128613  # addi x12, x5, 1
+    .word 0x00365293  # srli x5, x12, 3
+    .word 0x002282b3  # add x5, x5, x2
+    .word 0x0002c283  # lbu x5, 0(x5)
+    .word 0x00767313  # andi x6, x12, 7
+    .word 0x0062d2b3  # srl x5, x5, x6
+    .word 0x0ff2f293  # andi x5, x5, 255
+    .word 0x0012f693  # andi x13, x5, 1
+    .word 0x00d585b3  # add x11, x11, x13
+    .word 0x00251293  # slli x5, x10, 2
+    .word 0x00228613  # addi x12, x5, 2
+    .word 0x00365293  # srli x5, x12, 3
+    .word 0x002282b3  # add x5, x5, x2
+    .word 0x0002c283  # lbu x5, 0(x5)
+    .word 0x00767313  # andi x6, x12, 7
+    .word 0x0062d2b3  # srl x5, x5, x6
+    .word 0x0ff2f293  # andi x5, x5, 255
+    .word 0x0012f693  # andi x13, x5, 1
+    .word 0x40d585b3  # sub x11, x11, x13
+    .word 0x00251293  # slli x5, x10, 2
+    .word 0x00328613  # addi x12, x5, 3
+    .word 0x00365293  # srli x5, x12, 3
+    .word 0x002282b3  # add x5, x5, x2
+    .word 0x0002c283  # lbu x5, 0(x5)
+    .word 0x00767313  # andi x6, x12, 7
+    .word 0x0062d2b3  # srl x5, x5, x6
+    .word 0x0ff2f293  # andi x5, x5, 255
+    .word 0x0012f693  # andi x13, x5, 1
+    .word 0x40d585b3  # sub x11, x11, x13
+    .word 0x00e5b3b3  # sltu x7, x11, x14
+    .word 0xfff38393  # addi x7, x7, -1
+    .word 0x007773b3  # and x7, x14, x7
+    .word 0x40758333  # sub x6, x11, x7
+    .word 0x00151293  # slli x5, x10, 1
     .word 0x002282b3  # add x5, x5, x2
     .word 0x08629023  # sh x6, 128(x5)
-    .word 0xecdff06f  # jal x0, -308
+    .word 0x00150513  # addi x10, x10, 1
+    .word 0x10053293  # sltiu x5, x10, 256
+    .word 0xf40290e3  # bne x5, x0, -192
+    .word 0xfff50513  # addi x10, x10, -1
     # the result
     .word 0x00000513  # addi x10, x0, 0
     # parameter 1: the array, back
-    .word 0x2bc12283  # lw x5, 700(x2)
+    .word 0x29c12283  # lw x5, 668(x2)
     .word 0x08010313  # addi x6, x2, 128
     .word 0x0032fe13  # andi x28, x5, 3
     .word 0x020e0e63  # beq x28, x0, 60
@@ -189,16 +160,21 @@ mlkem_sample_cbd2:
     .word 0x02030313  # addi x6, x6, 32
     .word 0xfa729ce3  # bne x5, x7, -72
     # above the frame
-    .word 0x2b010293  # addi x5, x2, 688
+    .word 0x29010293  # addi x5, x2, 656
     # the caller's registers
-    .word 0x0002a403  # lw x8, 0(x5)
-    .cfi_restore 8
-    .word 0x0042a483  # lw x9, 4(x5)
-    .cfi_restore 9
     # the caller's x2
     .word 0x01028293  # addi x5, x5, 16
     .cfi_def_cfa 5, 0
     # all the room, wiped upward
+    .word 0x00012023  # sw x0, 0(x2)
+    .word 0x00012223  # sw x0, 4(x2)
+    .word 0x00012423  # sw x0, 8(x2)
+    .word 0x00012623  # sw x0, 12(x2)
+    .word 0x00012823  # sw x0, 16(x2)
+    .word 0x00012a23  # sw x0, 20(x2)
+    .word 0x00012c23  # sw x0, 24(x2)
+    .word 0x00012e23  # sw x0, 28(x2)
+    .word 0x02010113  # addi x2, x2, 32
     .word 0x00012023  # sw x0, 0(x2)
     .word 0x00012223  # sw x0, 4(x2)
     .word 0x00012423  # sw x0, 8(x2)

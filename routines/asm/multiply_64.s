@@ -1,4 +1,4 @@
-# multiply_64: made by factc function; 143 words, 64 bytes of stack, profile 1
+# multiply_64: made by factc function; 59 words, 64 bytes of stack, profile 1
     .option push
     .option norvc
     .option norelax
@@ -28,98 +28,13 @@ multiply_64:
     .word 0x00a12023  # sw x10, 0(x2)
     # parameter 1: a word
     .word 0x00b12223  # sw x11, 4(x2)
-    # parameter 2: an array
-    .word 0x00060293  # addi x5, x12, 0
-    .word 0x00810313  # addi x6, x2, 8
-    .word 0x0002ae03  # lw x28, 0(x5)
-    .word 0x01c32023  # sw x28, 0(x6)
-    .word 0x0042ae03  # lw x28, 4(x5)
-    .word 0x01c32223  # sw x28, 4(x6)
     # the body
-    .word 0x00000293  # addi x5, x0, 0
-    .word 0x00012303  # lw x6, 0(x2)
-    .word 0x00412383  # lw x7, 4(x2)
-    .word 0x02730333  # mul x6, x6, x7
-    .word 0x00229293  # slli x5, x5, 2
-    .word 0x002282b3  # add x5, x5, x2
-    .word 0x0062a423  # sw x6, 8(x5)
-    .word 0x00100293  # addi x5, x0, 1
-    .word 0x00512823  # sw x5, 16(x2)
-    .word 0x00012283  # lw x5, 0(x2)
-    .word 0x00512a23  # sw x5, 20(x2)
-    .word 0x00412283  # lw x5, 4(x2)
-    .word 0x00512c23  # sw x5, 24(x2)
-    .word 0x01012283  # lw x5, 16(x2)
-    .word 0x01412303  # lw x6, 20(x2)
-    .word 0x01000393  # addi x7, x0, 16
-    .word 0x00735333  # srl x6, x6, x7
-    .word 0x01812383  # lw x7, 24(x2)
-    .word 0x01000413  # addi x8, x0, 16
-    .word 0x0083d3b3  # srl x7, x7, x8
-    .word 0x02730333  # mul x6, x6, x7
-    .word 0x01412383  # lw x7, 20(x2)
-    .word 0x01000413  # addi x8, x0, 16
-    .word 0x0083d3b3  # srl x7, x7, x8
-    .word 0x01812403  # lw x8, 24(x2)
-    .word 0x000104b7  # lui x9, 0x00010
-    .word 0xfff48493  # addi x9, x9, -1
-    .word 0x00947433  # and x8, x8, x9
-    .word 0x028383b3  # mul x7, x7, x8
-    .word 0x01000413  # addi x8, x0, 16
-    .word 0x0083d3b3  # srl x7, x7, x8
-    .word 0x00730333  # add x6, x6, x7
-    .word 0x01412383  # lw x7, 20(x2)
-    .word 0x00010437  # lui x8, 0x00010
-    .word 0xfff40413  # addi x8, x8, -1
-    .word 0x0083f3b3  # and x7, x7, x8
-    .word 0x01812403  # lw x8, 24(x2)
-    .word 0x01000493  # addi x9, x0, 16
-    .word 0x00945433  # srl x8, x8, x9
-    .word 0x028383b3  # mul x7, x7, x8
-    .word 0x01000413  # addi x8, x0, 16
-    .word 0x0083d3b3  # srl x7, x7, x8
-    .word 0x00730333  # add x6, x6, x7
-    .word 0x01412383  # lw x7, 20(x2)
-    .word 0x00010437  # lui x8, 0x00010
-    .word 0xfff40413  # addi x8, x8, -1
-    .word 0x0083f3b3  # and x7, x7, x8
-    .word 0x01812403  # lw x8, 24(x2)
-    .word 0x000104b7  # lui x9, 0x00010
-    .word 0xfff48493  # addi x9, x9, -1
-    .word 0x00947433  # and x8, x8, x9
-    .word 0x028383b3  # mul x7, x7, x8
-    .word 0x01000413  # addi x8, x0, 16
-    .word 0x0083d3b3  # srl x7, x7, x8
-    .word 0x01412403  # lw x8, 20(x2)
-    .word 0x01000493  # addi x9, x0, 16
-    .word 0x00945433  # srl x8, x8, x9
-    .word 0x01812483  # lw x9, 24(x2)
-    .word 0x00010537  # lui x10, 0x00010
-    .word 0xfff50513  # addi x10, x10, -1
-    .word 0x00a4f4b3  # and x9, x9, x10
-    .word 0x02940433  # mul x8, x8, x9
-    .word 0x000104b7  # lui x9, 0x00010
-    .word 0xfff48493  # addi x9, x9, -1
-    .word 0x00947433  # and x8, x8, x9
-    .word 0x008383b3  # add x7, x7, x8
-    .word 0x01412403  # lw x8, 20(x2)
-    .word 0x000104b7  # lui x9, 0x00010
-    .word 0xfff48493  # addi x9, x9, -1
-    .word 0x00947433  # and x8, x8, x9
-    .word 0x01812483  # lw x9, 24(x2)
-    .word 0x01000513  # addi x10, x0, 16
-    .word 0x00a4d4b3  # srl x9, x9, x10
-    .word 0x02940433  # mul x8, x8, x9
-    .word 0x000104b7  # lui x9, 0x00010
-    .word 0xfff48493  # addi x9, x9, -1
-    .word 0x00947433  # and x8, x8, x9
-    .word 0x008383b3  # add x7, x7, x8
-    .word 0x01000413  # addi x8, x0, 16
-    .word 0x0083d3b3  # srl x7, x7, x8
-    .word 0x00730333  # add x6, x6, x7
-    .word 0x00229293  # slli x5, x5, 2
-    .word 0x002282b3  # add x5, x5, x2
-    .word 0x0062a423  # sw x6, 8(x5)
+    .word 0x00012403  # lw x8, 0(x2)
+    .word 0x00412483  # lw x9, 4(x2)
+    .word 0x029402b3  # mul x5, x8, x9
+    .word 0x00512423  # sw x5, 8(x2)
+    .word 0x029432b3  # mulhu x5, x8, x9
+    .word 0x00512623  # sw x5, 12(x2)
     # the result
     .word 0x00000513  # addi x10, x0, 0
     # parameter 2: the array, back

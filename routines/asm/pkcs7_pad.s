@@ -1,4 +1,4 @@
-# pkcs7_pad: made by factc function; 124 words, 64 bytes of stack, profile 1
+# pkcs7_pad: made by factc function; 173 words, 48 bytes of stack, profile 1
     .option push
     .option norvc
     .option norelax
@@ -13,12 +13,16 @@ pkcs7_pad:
     .word 0xff010113  # addi x2, x2, -16
     .cfi_def_cfa_offset 16
     # the caller's registers
+    .word 0x00812023  # sw x8, 0(x2)
+    .cfi_offset 8, -16
+    .word 0x00912223  # sw x9, 4(x2)
+    .cfi_offset 9, -12
     # arguments that are needed behind the body
     .word 0x00a12423  # sw x10, 8(x2)
     .word 0x00b12623  # sw x11, 12(x2)
     # the frame's base
-    .word 0xfd010113  # addi x2, x2, -48
-    .cfi_def_cfa 2, 64
+    .word 0xfe010113  # addi x2, x2, -32
+    .cfi_def_cfa 2, 48
     # parameter 0: a word
     .word 0x00a12023  # sw x10, 0(x2)
     # parameter 1: an array
@@ -49,41 +53,91 @@ pkcs7_pad:
     .word 0x00c2ae03  # lw x28, 12(x5)
     .word 0x01c32623  # sw x28, 12(x6)
     # the body
-    .word 0x00012283  # lw x5, 0(x2)
-    .word 0x01000313  # addi x6, x0, 16
-    .word 0x0262f2b3  # remu x5, x5, x6
-    .word 0x00512a23  # sw x5, 20(x2)
-    .word 0x00000293  # addi x5, x0, 0
-    .word 0x02512023  # sw x5, 32(x2)
+    .word 0x00012403  # lw x8, 0(x2)
+    .word 0x00f47493  # andi x9, x8, 15
+    .word 0x00906863  # bltu x0, x9, 16
     .word 0x01000293  # addi x5, x0, 16
-    .word 0x02512223  # sw x5, 36(x2)
-    .word 0x02012303  # lw x6, 32(x2)
-    .word 0x02412283  # lw x5, 36(x2)
-    .word 0x005332b3  # sltu x5, x6, x5
-    .word 0x00029463  # bne x5, x0, 8
-    .word 0x04c0006f  # jal x0, 76
-    .word 0x00612c23  # sw x6, 24(x2)
-    .word 0x00130313  # addi x6, x6, 1
-    .word 0x02612023  # sw x6, 32(x2)
-    .word 0x01412283  # lw x5, 20(x2)
-    .word 0x01812303  # lw x6, 24(x2)
-    .word 0x005332b3  # sltu x5, x6, x5
-    .word 0x0012b293  # sltiu x5, x5, 1
-    .word 0x00029463  # bne x5, x0, 8
-    .word 0x0240006f  # jal x0, 36
-    .word 0x01812283  # lw x5, 24(x2)
-    .word 0x01000313  # addi x6, x0, 16
-    .word 0x01412383  # lw x7, 20(x2)
-    .word 0x40730333  # sub x6, x6, x7
-    .word 0x0ff37313  # andi x6, x6, 255
-    .word 0x002282b3  # add x5, x5, x2
-    .word 0x00628223  # sb x6, 4(x5)
-    .word 0x0040006f  # jal x0, 4
-    .word 0xfa9ff06f  # jal x0, -88
+    .word 0x409282b3  # sub x5, x5, x9
+    .word 0x00510223  # sb x5, 4(x2)
+    .word 0x00100313  # addi x6, x0, 1
+    .word 0x00936863  # bltu x6, x9, 16
+    .word 0x01000293  # addi x5, x0, 16
+    .word 0x409282b3  # sub x5, x5, x9
+    .word 0x005102a3  # sb x5, 5(x2)
+    .word 0x00200313  # addi x6, x0, 2
+    .word 0x00936863  # bltu x6, x9, 16
+    .word 0x01000293  # addi x5, x0, 16
+    .word 0x409282b3  # sub x5, x5, x9
+    .word 0x00510323  # sb x5, 6(x2)
+    .word 0x00300313  # addi x6, x0, 3
+    .word 0x00936863  # bltu x6, x9, 16
+    .word 0x01000293  # addi x5, x0, 16
+    .word 0x409282b3  # sub x5, x5, x9
+    .word 0x005103a3  # sb x5, 7(x2)
+    .word 0x00400313  # addi x6, x0, 4
+    .word 0x00936863  # bltu x6, x9, 16
+    .word 0x01000293  # addi x5, x0, 16
+    .word 0x409282b3  # sub x5, x5, x9
+    .word 0x00510423  # sb x5, 8(x2)
+    .word 0x00500313  # addi x6, x0, 5
+    .word 0x00936863  # bltu x6, x9, 16
+    .word 0x01000293  # addi x5, x0, 16
+    .word 0x409282b3  # sub x5, x5, x9
+    .word 0x005104a3  # sb x5, 9(x2)
+    .word 0x00600313  # addi x6, x0, 6
+    .word 0x00936863  # bltu x6, x9, 16
+    .word 0x01000293  # addi x5, x0, 16
+    .word 0x409282b3  # sub x5, x5, x9
+    .word 0x00510523  # sb x5, 10(x2)
+    .word 0x00700313  # addi x6, x0, 7
+    .word 0x00936863  # bltu x6, x9, 16
+    .word 0x01000293  # addi x5, x0, 16
+    .word 0x409282b3  # sub x5, x5, x9
+    .word 0x005105a3  # sb x5, 11(x2)
+    .word 0x00800313  # addi x6, x0, 8
+    .word 0x00936863  # bltu x6, x9, 16
+    .word 0x01000293  # addi x5, x0, 16
+    .word 0x409282b3  # sub x5, x5, x9
+    .word 0x00510623  # sb x5, 12(x2)
+    .word 0x00900313  # addi x6, x0, 9
+    .word 0x00936863  # bltu x6, x9, 16
+    .word 0x01000293  # addi x5, x0, 16
+    .word 0x409282b3  # sub x5, x5, x9
+    .word 0x005106a3  # sb x5, 13(x2)
+    .word 0x00a00313  # addi x6, x0, 10
+    .word 0x00936863  # bltu x6, x9, 16
+    .word 0x01000293  # addi x5, x0, 16
+    .word 0x409282b3  # sub x5, x5, x9
+    .word 0x00510723  # sb x5, 14(x2)
+    .word 0x00b00313  # addi x6, x0, 11
+    .word 0x00936863  # bltu x6, x9, 16
+    .word 0x01000293  # addi x5, x0, 16
+    .word 0x409282b3  # sub x5, x5, x9
+    .word 0x005107a3  # sb x5, 15(x2)
+    .word 0x00c00313  # addi x6, x0, 12
+    .word 0x00936863  # bltu x6, x9, 16
+    .word 0x01000293  # addi x5, x0, 16
+    .word 0x409282b3  # sub x5, x5, x9
+    .word 0x00510823  # sb x5, 16(x2)
+    .word 0x00d00313  # addi x6, x0, 13
+    .word 0x00936863  # bltu x6, x9, 16
+    .word 0x01000293  # addi x5, x0, 16
+    .word 0x409282b3  # sub x5, x5, x9
+    .word 0x005108a3  # sb x5, 17(x2)
+    .word 0x00e00313  # addi x6, x0, 14
+    .word 0x00936863  # bltu x6, x9, 16
+    .word 0x01000293  # addi x5, x0, 16
+    .word 0x409282b3  # sub x5, x5, x9
+    .word 0x00510923  # sb x5, 18(x2)
+    .word 0x00f00313  # addi x6, x0, 15
+    .word 0x00936863  # bltu x6, x9, 16
+    .word 0x01000293  # addi x5, x0, 16
+    .word 0x409282b3  # sub x5, x5, x9
+    .word 0x005109a3  # sb x5, 19(x2)
     # the result
     .word 0x00000513  # addi x10, x0, 0
     # parameter 1: the array, back
-    .word 0x03c12283  # lw x5, 60(x2)
+    .word 0x02c12283  # lw x5, 44(x2)
     .word 0x00410313  # addi x6, x2, 4
     .word 0x0032fe13  # andi x28, x5, 3
     .word 0x020e0e63  # beq x28, x0, 60
@@ -110,8 +164,12 @@ pkcs7_pad:
     .word 0x00c32e03  # lw x28, 12(x6)
     .word 0x01c2a623  # sw x28, 12(x5)
     # above the frame
-    .word 0x03010293  # addi x5, x2, 48
+    .word 0x02010293  # addi x5, x2, 32
     # the caller's registers
+    .word 0x0002a403  # lw x8, 0(x5)
+    .cfi_restore 8
+    .word 0x0042a483  # lw x9, 4(x5)
+    .cfi_restore 9
     # the caller's x2
     .word 0x01028293  # addi x5, x5, 16
     .cfi_def_cfa 5, 0
@@ -128,12 +186,7 @@ pkcs7_pad:
     .word 0x02012223  # sw x0, 36(x2)
     .word 0x02012423  # sw x0, 40(x2)
     .word 0x02012623  # sw x0, 44(x2)
-    .word 0x02012823  # sw x0, 48(x2)
-    .word 0x02012a23  # sw x0, 52(x2)
-    .word 0x02012c23  # sw x0, 56(x2)
-    .word 0x02012e23  # sw x0, 60(x2)
-    .word 0x04010113  # addi x2, x2, 64
-    .word 0xfa511ee3  # bne x2, x5, -68
+    .word 0x03010113  # addi x2, x2, 48
     .cfi_def_cfa 2, 0
     # temporaries, wiped
     .word 0x00000293  # addi x5, x0, 0

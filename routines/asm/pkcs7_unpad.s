@@ -1,4 +1,4 @@
-# pkcs7_unpad: made by factc function; 127 words, 64 bytes of stack, profile 1
+# pkcs7_unpad: made by factc function; 202 words, 48 bytes of stack, profile 1
     .option push
     .option norvc
     .option norelax
@@ -13,18 +13,12 @@ pkcs7_unpad:
     .word 0xff010113  # addi x2, x2, -16
     .cfi_def_cfa_offset 16
     # the caller's registers
-    .word 0x00812023  # sw x8, 0(x2)
-    .cfi_offset 8, -16
+    .word 0x00912023  # sw x9, 0(x2)
+    .cfi_offset 9, -16
     # arguments that are needed behind the body
     # the frame's base
-    .word 0xfd010113  # addi x2, x2, -48
-    .cfi_def_cfa 2, 64
-    # the frame's word at 16, zeroed
-    .word 0x00012823  # sw x0, 16(x2)
-    # the frame's word at 20, zeroed
-    .word 0x00012a23  # sw x0, 20(x2)
-    # the frame's word at 28, zeroed
-    .word 0x00012e23  # sw x0, 28(x2)
+    .word 0xfe010113  # addi x2, x2, -32
+    .cfi_def_cfa 2, 48
     # parameter 0: an array
     .word 0x00050293  # addi x5, x10, 0
     .word 0x00010313  # addi x6, x2, 0
@@ -53,71 +47,154 @@ pkcs7_unpad:
     .word 0x00c2ae03  # lw x28, 12(x5)
     .word 0x01c32623  # sw x28, 12(x6)
     # the body
-    .word 0x00f00293  # addi x5, x0, 15
-    .word 0x002282b3  # add x5, x5, x2
-    .word 0x0002c283  # lbu x5, 0(x5)
-    .word 0x00512823  # sw x5, 16(x2)
-    .word 0x01012283  # lw x5, 16(x2)
-    .word 0x00100313  # addi x6, x0, 1
-    .word 0x406282b3  # sub x5, x5, x6
+    .word 0x00f14483  # lbu x9, 15(x2)
+    .word 0xfff48293  # addi x5, x9, -1
     .word 0x0ff2f293  # andi x5, x5, 255
-    .word 0x01000313  # addi x6, x0, 16
-    .word 0x0062b2b3  # sltu x5, x5, x6
-    .word 0x00512a23  # sw x5, 20(x2)
-    .word 0x00000293  # addi x5, x0, 0
-    .word 0x02512223  # sw x5, 36(x2)
-    .word 0x01000293  # addi x5, x0, 16
-    .word 0x02512423  # sw x5, 40(x2)
-    .word 0x02412303  # lw x6, 36(x2)
-    .word 0x02812283  # lw x5, 40(x2)
-    .word 0x005332b3  # sltu x5, x6, x5
-    .word 0x00029463  # bne x5, x0, 8
-    .word 0x0700006f  # jal x0, 112
-    .word 0x00612c23  # sw x6, 24(x2)
-    .word 0x00130313  # addi x6, x6, 1
-    .word 0x02612223  # sw x6, 36(x2)
-    .word 0x01000293  # addi x5, x0, 16
-    .word 0x01812303  # lw x6, 24(x2)
-    .word 0x406282b3  # sub x5, x5, x6
-    .word 0x01012303  # lw x6, 16(x2)
-    .word 0x005332b3  # sltu x5, x6, x5
-    .word 0x0012b293  # sltiu x5, x5, 1
-    .word 0x00512e23  # sw x5, 28(x2)
-    .word 0x01412283  # lw x5, 20(x2)
-    .word 0x01c12303  # lw x6, 28(x2)
-    .word 0x00133313  # sltiu x6, x6, 1
-    .word 0x01812383  # lw x7, 24(x2)
-    .word 0x002383b3  # add x7, x7, x2
-    .word 0x0003c383  # lbu x7, 0(x7)
-    .word 0x01012403  # lw x8, 16(x2)
-    .word 0x408383b3  # sub x7, x7, x8
+    .word 0x0102b513  # sltiu x10, x5, 16
+    .word 0x0104b593  # sltiu x11, x9, 16
+    .word 0x0015b593  # sltiu x11, x11, 1
+    .word 0x0015b313  # sltiu x6, x11, 1
+    .word 0x00014383  # lbu x7, 0(x2)
+    .word 0x409383b3  # sub x7, x7, x9
     .word 0x0013b393  # sltiu x7, x7, 1
-    .word 0x007033b3  # sltu x7, x0, x7
-    .word 0x00603333  # sltu x6, x0, x6
     .word 0x00736333  # or x6, x6, x7
-    .word 0x00603333  # sltu x6, x0, x6
-    .word 0x005032b3  # sltu x5, x0, x5
-    .word 0x0062f2b3  # and x5, x5, x6
-    .word 0x00512a23  # sw x5, 20(x2)
-    .word 0xf85ff06f  # jal x0, -124
-    .word 0x01412283  # lw x5, 20(x2)
+    .word 0x00657533  # and x10, x10, x6
+    .word 0x00f4b593  # sltiu x11, x9, 15
+    .word 0x0015b593  # sltiu x11, x11, 1
+    .word 0x0015b313  # sltiu x6, x11, 1
+    .word 0x00114383  # lbu x7, 1(x2)
+    .word 0x409383b3  # sub x7, x7, x9
+    .word 0x0013b393  # sltiu x7, x7, 1
+    .word 0x00736333  # or x6, x6, x7
+    .word 0x00657533  # and x10, x10, x6
+    .word 0x00e4b593  # sltiu x11, x9, 14
+    .word 0x0015b593  # sltiu x11, x11, 1
+    .word 0x0015b313  # sltiu x6, x11, 1
+    .word 0x00214383  # lbu x7, 2(x2)
+    .word 0x409383b3  # sub x7, x7, x9
+    .word 0x0013b393  # sltiu x7, x7, 1
+    .word 0x00736333  # or x6, x6, x7
+    .word 0x00657533  # and x10, x10, x6
+    .word 0x00d4b593  # sltiu x11, x9, 13
+    .word 0x0015b593  # sltiu x11, x11, 1
+    .word 0x0015b313  # sltiu x6, x11, 1
+    .word 0x00314383  # lbu x7, 3(x2)
+    .word 0x409383b3  # sub x7, x7, x9
+    .word 0x0013b393  # sltiu x7, x7, 1
+    .word 0x00736333  # or x6, x6, x7
+    .word 0x00657533  # and x10, x10, x6
+    .word 0x00c4b593  # sltiu x11, x9, 12
+    .word 0x0015b593  # sltiu x11, x11, 1
+    .word 0x0015b313  # sltiu x6, x11, 1
+    .word 0x00414383  # lbu x7, 4(x2)
+    .word 0x409383b3  # sub x7, x7, x9
+    .word 0x0013b393  # sltiu x7, x7, 1
+    .word 0x00736333  # or x6, x6, x7
+    .word 0x00657533  # and x10, x10, x6
+    .word 0x00b4b593  # sltiu x11, x9, 11
+    .word 0x0015b593  # sltiu x11, x11, 1
+    .word 0x0015b313  # sltiu x6, x11, 1
+    .word 0x00514383  # lbu x7, 5(x2)
+    .word 0x409383b3  # sub x7, x7, x9
+    .word 0x0013b393  # sltiu x7, x7, 1
+    .word 0x00736333  # or x6, x6, x7
+    .word 0x00657533  # and x10, x10, x6
+    .word 0x00a4b593  # sltiu x11, x9, 10
+    .word 0x0015b593  # sltiu x11, x11, 1
+    .word 0x0015b313  # sltiu x6, x11, 1
+    .word 0x00614383  # lbu x7, 6(x2)
+    .word 0x409383b3  # sub x7, x7, x9
+    .word 0x0013b393  # sltiu x7, x7, 1
+    .word 0x00736333  # or x6, x6, x7
+    .word 0x00657533  # and x10, x10, x6
+    .word 0x0094b593  # sltiu x11, x9, 9
+    .word 0x0015b593  # sltiu x11, x11, 1
+    .word 0x0015b313  # sltiu x6, x11, 1
+    .word 0x00714383  # lbu x7, 7(x2)
+    .word 0x409383b3  # sub x7, x7, x9
+    .word 0x0013b393  # sltiu x7, x7, 1
+    .word 0x00736333  # or x6, x6, x7
+    .word 0x00657533  # and x10, x10, x6
+    .word 0x0084b593  # sltiu x11, x9, 8
+    .word 0x0015b593  # sltiu x11, x11, 1
+    .word 0x0015b313  # sltiu x6, x11, 1
+    .word 0x00814383  # lbu x7, 8(x2)
+    .word 0x409383b3  # sub x7, x7, x9
+    .word 0x0013b393  # sltiu x7, x7, 1
+    .word 0x00736333  # or x6, x6, x7
+    .word 0x00657533  # and x10, x10, x6
+    .word 0x0074b593  # sltiu x11, x9, 7
+    .word 0x0015b593  # sltiu x11, x11, 1
+    .word 0x0015b313  # sltiu x6, x11, 1
+    .word 0x00914383  # lbu x7, 9(x2)
+    .word 0x409383b3  # sub x7, x7, x9
+    .word 0x0013b393  # sltiu x7, x7, 1
+    .word 0x00736333  # or x6, x6, x7
+    .word 0x00657533  # and x10, x10, x6
+    .word 0x0064b593  # sltiu x11, x9, 6
+    .word 0x0015b593  # sltiu x11, x11, 1
+    .word 0x0015b313  # sltiu x6, x11, 1
+    .word 0x00a14383  # lbu x7, 10(x2)
+    .word 0x409383b3  # sub x7, x7, x9
+    .word 0x0013b393  # sltiu x7, x7, 1
+    .word 0x00736333  # or x6, x6, x7
+    .word 0x00657533  # and x10, x10, x6
+    .word 0x0054b593  # sltiu x11, x9, 5
+    .word 0x0015b593  # sltiu x11, x11, 1
+    .word 0x0015b313  # sltiu x6, x11, 1
+    .word 0x00b14383  # lbu x7, 11(x2)
+    .word 0x409383b3  # sub x7, x7, x9
+    .word 0x0013b393  # sltiu x7, x7, 1
+    .word 0x00736333  # or x6, x6, x7
+    .word 0x00657533  # and x10, x10, x6
+    .word 0x0044b593  # sltiu x11, x9, 4
+    .word 0x0015b593  # sltiu x11, x11, 1
+    .word 0x0015b313  # sltiu x6, x11, 1
+    .word 0x00c14383  # lbu x7, 12(x2)
+    .word 0x409383b3  # sub x7, x7, x9
+    .word 0x0013b393  # sltiu x7, x7, 1
+    .word 0x00736333  # or x6, x6, x7
+    .word 0x00657533  # and x10, x10, x6
+    .word 0x0034b593  # sltiu x11, x9, 3
+    .word 0x0015b593  # sltiu x11, x11, 1
+    .word 0x0015b313  # sltiu x6, x11, 1
+    .word 0x00d14383  # lbu x7, 13(x2)
+    .word 0x409383b3  # sub x7, x7, x9
+    .word 0x0013b393  # sltiu x7, x7, 1
+    .word 0x00736333  # or x6, x6, x7
+    .word 0x00657533  # and x10, x10, x6
+    .word 0x0024b593  # sltiu x11, x9, 2
+    .word 0x0015b593  # sltiu x11, x11, 1
+    .word 0x0015b313  # sltiu x6, x11, 1
+    .word 0x00e14383  # lbu x7, 14(x2)
+    .word 0x409383b3  # sub x7, x7, x9
+    .word 0x0013b393  # sltiu x7, x7, 1
+    .word 0x00736333  # or x6, x6, x7
+    .word 0x00657533  # and x10, x10, x6
+    .word 0x0014b593  # sltiu x11, x9, 1
+    .word 0x0015b593  # sltiu x11, x11, 1
+    .word 0x0015b313  # sltiu x6, x11, 1
+    .word 0x00f14383  # lbu x7, 15(x2)
+    .word 0x409383b3  # sub x7, x7, x9
+    .word 0x0013b393  # sltiu x7, x7, 1
+    .word 0x00736333  # or x6, x6, x7
+    .word 0x00657533  # and x10, x10, x6
     .word 0x01000313  # addi x6, x0, 16
-    .word 0x01012383  # lw x7, 16(x2)
-    .word 0x40730333  # sub x6, x6, x7
+    .word 0x40930333  # sub x6, x6, x9
     .word 0x0ff37313  # andi x6, x6, 255
     .word 0x0ff00393  # addi x7, x0, 255
-    .word 0x405002b3  # sub x5, x0, x5
+    .word 0x40a002b3  # sub x5, x0, x10
     .word 0x00734333  # xor x6, x6, x7
     .word 0x00537333  # and x6, x6, x5
     .word 0x0063c2b3  # xor x5, x7, x6
-    .word 0x02512023  # sw x5, 32(x2)
+    .word 0x00512823  # sw x5, 16(x2)
     # the result
-    .word 0x02012503  # lw x10, 32(x2)
+    .word 0x01012503  # lw x10, 16(x2)
     # above the frame
-    .word 0x03010293  # addi x5, x2, 48
+    .word 0x02010293  # addi x5, x2, 32
     # the caller's registers
-    .word 0x0002a403  # lw x8, 0(x5)
-    .cfi_restore 8
+    .word 0x0002a483  # lw x9, 0(x5)
+    .cfi_restore 9
     # the caller's x2
     .word 0x01028293  # addi x5, x5, 16
     .cfi_def_cfa 5, 0
@@ -134,12 +211,7 @@ pkcs7_unpad:
     .word 0x02012223  # sw x0, 36(x2)
     .word 0x02012423  # sw x0, 40(x2)
     .word 0x02012623  # sw x0, 44(x2)
-    .word 0x02012823  # sw x0, 48(x2)
-    .word 0x02012a23  # sw x0, 52(x2)
-    .word 0x02012c23  # sw x0, 56(x2)
-    .word 0x02012e23  # sw x0, 60(x2)
-    .word 0x04010113  # addi x2, x2, 64
-    .word 0xfa511ee3  # bne x2, x5, -68
+    .word 0x03010113  # addi x2, x2, 48
     .cfi_def_cfa 2, 0
     # temporaries, wiped
     .word 0x00000293  # addi x5, x0, 0

@@ -1,4 +1,4 @@
-# select_32: made by factc function; 184 words, 160 bytes of stack, profile 1
+# select_32: made by factc function; 378 words, 144 bytes of stack, profile 1
     .option push
     .option norvc
     .option norelax
@@ -13,16 +13,16 @@ select_32:
     .word 0xfe010113  # addi x2, x2, -32
     .cfi_def_cfa_offset 32
     # the caller's registers
-    .word 0x00812023  # sw x8, 0(x2)
-    .cfi_offset 8, -32
+    .word 0x00912023  # sw x9, 0(x2)
+    .cfi_offset 9, -32
     # arguments that are needed behind the body
     .word 0x00a12823  # sw x10, 16(x2)
     .word 0x00b12a23  # sw x11, 20(x2)
     .word 0x00c12c23  # sw x12, 24(x2)
     .word 0x00d12e23  # sw x13, 28(x2)
     # the frame's base
-    .word 0xf8010113  # addi x2, x2, -128
-    .cfi_def_cfa 2, 160
+    .word 0xf9010113  # addi x2, x2, -112
+    .cfi_def_cfa 2, 144
     # parameter 0: a word
     .word 0x00a03533  # sltu x10, x0, x10
     .word 0x00a12023  # sw x10, 0(x2)
@@ -97,37 +97,235 @@ select_32:
     .word 0x01c2ae03  # lw x28, 28(x5)
     .word 0x01c32e23  # sw x28, 28(x6)
     # the body
-    .word 0x00000293  # addi x5, x0, 0
-    .word 0x06512623  # sw x5, 108(x2)
-    .word 0x02000293  # addi x5, x0, 32
-    .word 0x06512823  # sw x5, 112(x2)
-    .word 0x06c12303  # lw x6, 108(x2)
-    .word 0x07012283  # lw x5, 112(x2)
-    .word 0x005332b3  # sltu x5, x6, x5
-    .word 0x00029463  # bne x5, x0, 8
-    .word 0x04c0006f  # jal x0, 76
-    .word 0x06612223  # sw x6, 100(x2)
-    .word 0x00130313  # addi x6, x6, 1
-    .word 0x06612623  # sw x6, 108(x2)
-    .word 0x06412283  # lw x5, 100(x2)
-    .word 0x00012303  # lw x6, 0(x2)
-    .word 0x06412383  # lw x7, 100(x2)
-    .word 0x002383b3  # add x7, x7, x2
-    .word 0x0043c383  # lbu x7, 4(x7)
-    .word 0x06412403  # lw x8, 100(x2)
-    .word 0x00240433  # add x8, x8, x2
-    .word 0x02444403  # lbu x8, 36(x8)
-    .word 0x40600333  # sub x6, x0, x6
-    .word 0x0083c3b3  # xor x7, x7, x8
-    .word 0x0063f3b3  # and x7, x7, x6
-    .word 0x00744333  # xor x6, x8, x7
-    .word 0x002282b3  # add x5, x5, x2
-    .word 0x04628223  # sb x6, 68(x5)
-    .word 0xfa9ff06f  # jal x0, -88
+    .word 0x00012483  # lw x9, 0(x2)
+    .word 0x00414303  # lbu x6, 4(x2)
+    .word 0x02414383  # lbu x7, 36(x2)
+    .word 0x409002b3  # sub x5, x0, x9
+    .word 0x00734333  # xor x6, x6, x7
+    .word 0x00537333  # and x6, x6, x5
+    .word 0x0063c2b3  # xor x5, x7, x6
+    .word 0x04510223  # sb x5, 68(x2)
+    .word 0x00514303  # lbu x6, 5(x2)
+    .word 0x02514383  # lbu x7, 37(x2)
+    .word 0x409002b3  # sub x5, x0, x9
+    .word 0x00734333  # xor x6, x6, x7
+    .word 0x00537333  # and x6, x6, x5
+    .word 0x0063c2b3  # xor x5, x7, x6
+    .word 0x045102a3  # sb x5, 69(x2)
+    .word 0x00614303  # lbu x6, 6(x2)
+    .word 0x02614383  # lbu x7, 38(x2)
+    .word 0x409002b3  # sub x5, x0, x9
+    .word 0x00734333  # xor x6, x6, x7
+    .word 0x00537333  # and x6, x6, x5
+    .word 0x0063c2b3  # xor x5, x7, x6
+    .word 0x04510323  # sb x5, 70(x2)
+    .word 0x00714303  # lbu x6, 7(x2)
+    .word 0x02714383  # lbu x7, 39(x2)
+    .word 0x409002b3  # sub x5, x0, x9
+    .word 0x00734333  # xor x6, x6, x7
+    .word 0x00537333  # and x6, x6, x5
+    .word 0x0063c2b3  # xor x5, x7, x6
+    .word 0x045103a3  # sb x5, 71(x2)
+    .word 0x00814303  # lbu x6, 8(x2)
+    .word 0x02814383  # lbu x7, 40(x2)
+    .word 0x409002b3  # sub x5, x0, x9
+    .word 0x00734333  # xor x6, x6, x7
+    .word 0x00537333  # and x6, x6, x5
+    .word 0x0063c2b3  # xor x5, x7, x6
+    .word 0x04510423  # sb x5, 72(x2)
+    .word 0x00914303  # lbu x6, 9(x2)
+    .word 0x02914383  # lbu x7, 41(x2)
+    .word 0x409002b3  # sub x5, x0, x9
+    .word 0x00734333  # xor x6, x6, x7
+    .word 0x00537333  # and x6, x6, x5
+    .word 0x0063c2b3  # xor x5, x7, x6
+    .word 0x045104a3  # sb x5, 73(x2)
+    .word 0x00a14303  # lbu x6, 10(x2)
+    .word 0x02a14383  # lbu x7, 42(x2)
+    .word 0x409002b3  # sub x5, x0, x9
+    .word 0x00734333  # xor x6, x6, x7
+    .word 0x00537333  # and x6, x6, x5
+    .word 0x0063c2b3  # xor x5, x7, x6
+    .word 0x04510523  # sb x5, 74(x2)
+    .word 0x00b14303  # lbu x6, 11(x2)
+    .word 0x02b14383  # lbu x7, 43(x2)
+    .word 0x409002b3  # sub x5, x0, x9
+    .word 0x00734333  # xor x6, x6, x7
+    .word 0x00537333  # and x6, x6, x5
+    .word 0x0063c2b3  # xor x5, x7, x6
+    .word 0x045105a3  # sb x5, 75(x2)
+    .word 0x00c14303  # lbu x6, 12(x2)
+    .word 0x02c14383  # lbu x7, 44(x2)
+    .word 0x409002b3  # sub x5, x0, x9
+    .word 0x00734333  # xor x6, x6, x7
+    .word 0x00537333  # and x6, x6, x5
+    .word 0x0063c2b3  # xor x5, x7, x6
+    .word 0x04510623  # sb x5, 76(x2)
+    .word 0x00d14303  # lbu x6, 13(x2)
+    .word 0x02d14383  # lbu x7, 45(x2)
+    .word 0x409002b3  # sub x5, x0, x9
+    .word 0x00734333  # xor x6, x6, x7
+    .word 0x00537333  # and x6, x6, x5
+    .word 0x0063c2b3  # xor x5, x7, x6
+    .word 0x045106a3  # sb x5, 77(x2)
+    .word 0x00e14303  # lbu x6, 14(x2)
+    .word 0x02e14383  # lbu x7, 46(x2)
+    .word 0x409002b3  # sub x5, x0, x9
+    .word 0x00734333  # xor x6, x6, x7
+    .word 0x00537333  # and x6, x6, x5
+    .word 0x0063c2b3  # xor x5, x7, x6
+    .word 0x04510723  # sb x5, 78(x2)
+    .word 0x00f14303  # lbu x6, 15(x2)
+    .word 0x02f14383  # lbu x7, 47(x2)
+    .word 0x409002b3  # sub x5, x0, x9
+    .word 0x00734333  # xor x6, x6, x7
+    .word 0x00537333  # and x6, x6, x5
+    .word 0x0063c2b3  # xor x5, x7, x6
+    .word 0x045107a3  # sb x5, 79(x2)
+    .word 0x01014303  # lbu x6, 16(x2)
+    .word 0x03014383  # lbu x7, 48(x2)
+    .word 0x409002b3  # sub x5, x0, x9
+    .word 0x00734333  # xor x6, x6, x7
+    .word 0x00537333  # and x6, x6, x5
+    .word 0x0063c2b3  # xor x5, x7, x6
+    .word 0x04510823  # sb x5, 80(x2)
+    .word 0x01114303  # lbu x6, 17(x2)
+    .word 0x03114383  # lbu x7, 49(x2)
+    .word 0x409002b3  # sub x5, x0, x9
+    .word 0x00734333  # xor x6, x6, x7
+    .word 0x00537333  # and x6, x6, x5
+    .word 0x0063c2b3  # xor x5, x7, x6
+    .word 0x045108a3  # sb x5, 81(x2)
+    .word 0x01214303  # lbu x6, 18(x2)
+    .word 0x03214383  # lbu x7, 50(x2)
+    .word 0x409002b3  # sub x5, x0, x9
+    .word 0x00734333  # xor x6, x6, x7
+    .word 0x00537333  # and x6, x6, x5
+    .word 0x0063c2b3  # xor x5, x7, x6
+    .word 0x04510923  # sb x5, 82(x2)
+    .word 0x01314303  # lbu x6, 19(x2)
+    .word 0x03314383  # lbu x7, 51(x2)
+    .word 0x409002b3  # sub x5, x0, x9
+    .word 0x00734333  # xor x6, x6, x7
+    .word 0x00537333  # and x6, x6, x5
+    .word 0x0063c2b3  # xor x5, x7, x6
+    .word 0x045109a3  # sb x5, 83(x2)
+    .word 0x01414303  # lbu x6, 20(x2)
+    .word 0x03414383  # lbu x7, 52(x2)
+    .word 0x409002b3  # sub x5, x0, x9
+    .word 0x00734333  # xor x6, x6, x7
+    .word 0x00537333  # and x6, x6, x5
+    .word 0x0063c2b3  # xor x5, x7, x6
+    .word 0x04510a23  # sb x5, 84(x2)
+    .word 0x01514303  # lbu x6, 21(x2)
+    .word 0x03514383  # lbu x7, 53(x2)
+    .word 0x409002b3  # sub x5, x0, x9
+    .word 0x00734333  # xor x6, x6, x7
+    .word 0x00537333  # and x6, x6, x5
+    .word 0x0063c2b3  # xor x5, x7, x6
+    .word 0x04510aa3  # sb x5, 85(x2)
+    .word 0x01614303  # lbu x6, 22(x2)
+    .word 0x03614383  # lbu x7, 54(x2)
+    .word 0x409002b3  # sub x5, x0, x9
+    .word 0x00734333  # xor x6, x6, x7
+    .word 0x00537333  # and x6, x6, x5
+    .word 0x0063c2b3  # xor x5, x7, x6
+    .word 0x04510b23  # sb x5, 86(x2)
+    .word 0x01714303  # lbu x6, 23(x2)
+    .word 0x03714383  # lbu x7, 55(x2)
+    .word 0x409002b3  # sub x5, x0, x9
+    .word 0x00734333  # xor x6, x6, x7
+    .word 0x00537333  # and x6, x6, x5
+    .word 0x0063c2b3  # xor x5, x7, x6
+    .word 0x04510ba3  # sb x5, 87(x2)
+    .word 0x01814303  # lbu x6, 24(x2)
+    .word 0x03814383  # lbu x7, 56(x2)
+    .word 0x409002b3  # sub x5, x0, x9
+    .word 0x00734333  # xor x6, x6, x7
+    .word 0x00537333  # and x6, x6, x5
+    .word 0x0063c2b3  # xor x5, x7, x6
+    .word 0x04510c23  # sb x5, 88(x2)
+    .word 0x01914303  # lbu x6, 25(x2)
+    .word 0x03914383  # lbu x7, 57(x2)
+    .word 0x409002b3  # sub x5, x0, x9
+    .word 0x00734333  # xor x6, x6, x7
+    .word 0x00537333  # and x6, x6, x5
+    .word 0x0063c2b3  # xor x5, x7, x6
+    .word 0x04510ca3  # sb x5, 89(x2)
+    .word 0x01a14303  # lbu x6, 26(x2)
+    .word 0x03a14383  # lbu x7, 58(x2)
+    .word 0x409002b3  # sub x5, x0, x9
+    .word 0x00734333  # xor x6, x6, x7
+    .word 0x00537333  # and x6, x6, x5
+    .word 0x0063c2b3  # xor x5, x7, x6
+    .word 0x04510d23  # sb x5, 90(x2)
+    .word 0x01b14303  # lbu x6, 27(x2)
+    .word 0x03b14383  # lbu x7, 59(x2)
+    .word 0x409002b3  # sub x5, x0, x9
+    .word 0x00734333  # xor x6, x6, x7
+    .word 0x00537333  # and x6, x6, x5
+    .word 0x0063c2b3  # xor x5, x7, x6
+    .word 0x04510da3  # sb x5, 91(x2)
+    .word 0x01c14303  # lbu x6, 28(x2)
+    .word 0x03c14383  # lbu x7, 60(x2)
+    .word 0x409002b3  # sub x5, x0, x9
+    .word 0x00734333  # xor x6, x6, x7
+    .word 0x00537333  # and x6, x6, x5
+    .word 0x0063c2b3  # xor x5, x7, x6
+    .word 0x04510e23  # sb x5, 92(x2)
+    .word 0x01d14303  # lbu x6, 29(x2)
+    .word 0x03d14383  # lbu x7, 61(x2)
+    .word 0x409002b3  # sub x5, x0, x9
+    .word 0x00734333  # xor x6, x6, x7
+    .word 0x00537333  # and x6, x6, x5
+    .word 0x0063c2b3  # xor x5, x7, x6
+    .word 0x04510ea3  # sb x5, 93(x2)
+    .word 0x01e14303  # lbu x6, 30(x2)
+    .word 0x03e14383  # lbu x7, 62(x2)
+    .word 0x409002b3  # sub x5, x0, x9
+    .word 0x00734333  # xor x6, x6, x7
+    .word 0x00537333  # and x6, x6, x5
+    .word 0x0063c2b3  # xor x5, x7, x6
+    .word 0x04510f23  # sb x5, 94(x2)
+    .word 0x01f14303  # lbu x6, 31(x2)
+    .word 0x03f14383  # lbu x7, 63(x2)
+    .word 0x409002b3  # sub x5, x0, x9
+    .word 0x00734333  # xor x6, x6, x7
+    .word 0x00537333  # and x6, x6, x5
+    .word 0x0063c2b3  # xor x5, x7, x6
+    .word 0x04510fa3  # sb x5, 95(x2)
+    .word 0x02014303  # lbu x6, 32(x2)
+    .word 0x04014383  # lbu x7, 64(x2)
+    .word 0x409002b3  # sub x5, x0, x9
+    .word 0x00734333  # xor x6, x6, x7
+    .word 0x00537333  # and x6, x6, x5
+    .word 0x0063c2b3  # xor x5, x7, x6
+    .word 0x06510023  # sb x5, 96(x2)
+    .word 0x02114303  # lbu x6, 33(x2)
+    .word 0x04114383  # lbu x7, 65(x2)
+    .word 0x409002b3  # sub x5, x0, x9
+    .word 0x00734333  # xor x6, x6, x7
+    .word 0x00537333  # and x6, x6, x5
+    .word 0x0063c2b3  # xor x5, x7, x6
+    .word 0x065100a3  # sb x5, 97(x2)
+    .word 0x02214303  # lbu x6, 34(x2)
+    .word 0x04214383  # lbu x7, 66(x2)
+    .word 0x409002b3  # sub x5, x0, x9
+    .word 0x00734333  # xor x6, x6, x7
+    .word 0x00537333  # and x6, x6, x5
+    .word 0x0063c2b3  # xor x5, x7, x6
+    .word 0x06510123  # sb x5, 98(x2)
+    .word 0x02314303  # lbu x6, 35(x2)
+    .word 0x04314383  # lbu x7, 67(x2)
+    .word 0x409002b3  # sub x5, x0, x9
+    .word 0x00734333  # xor x6, x6, x7
+    .word 0x00537333  # and x6, x6, x5
+    .word 0x0063c2b3  # xor x5, x7, x6
+    .word 0x065101a3  # sb x5, 99(x2)
     # the result
     .word 0x00000513  # addi x10, x0, 0
     # parameter 3: the array, back
-    .word 0x09c12283  # lw x5, 156(x2)
+    .word 0x08c12283  # lw x5, 140(x2)
     .word 0x04410313  # addi x6, x2, 68
     .word 0x0032fe13  # andi x28, x5, 3
     .word 0x020e0e63  # beq x28, x0, 60
@@ -162,10 +360,10 @@ select_32:
     .word 0x01c32e03  # lw x28, 28(x6)
     .word 0x01c2ae23  # sw x28, 28(x5)
     # above the frame
-    .word 0x08010293  # addi x5, x2, 128
+    .word 0x07010293  # addi x5, x2, 112
     # the caller's registers
-    .word 0x0002a403  # lw x8, 0(x5)
-    .cfi_restore 8
+    .word 0x0002a483  # lw x9, 0(x5)
+    .cfi_restore 9
     # the caller's x2
     .word 0x02028293  # addi x5, x5, 32
     .cfi_def_cfa 5, 0
@@ -174,11 +372,7 @@ select_32:
     .word 0x00012223  # sw x0, 4(x2)
     .word 0x00012423  # sw x0, 8(x2)
     .word 0x00012623  # sw x0, 12(x2)
-    .word 0x00012823  # sw x0, 16(x2)
-    .word 0x00012a23  # sw x0, 20(x2)
-    .word 0x00012c23  # sw x0, 24(x2)
-    .word 0x00012e23  # sw x0, 28(x2)
-    .word 0x02010113  # addi x2, x2, 32
+    .word 0x01010113  # addi x2, x2, 16
     .word 0x00012023  # sw x0, 0(x2)
     .word 0x00012223  # sw x0, 4(x2)
     .word 0x00012423  # sw x0, 8(x2)

@@ -1,4 +1,4 @@
-# sort_16: made by factc function; 220 words, 160 bytes of stack, profile 1
+# sort_16: made by factc function; 403 words, 112 bytes of stack, profile 1
     .option push
     .option norvc
     .option norelax
@@ -13,15 +13,17 @@ sort_16:
     .word 0xff010113  # addi x2, x2, -16
     .cfi_def_cfa_offset 16
     # the caller's registers
-    .word 0x00812023  # sw x8, 0(x2)
-    .cfi_offset 8, -16
+    .word 0x00912023  # sw x9, 0(x2)
+    .cfi_offset 9, -16
+    .word 0x01212223  # sw x18, 4(x2)
+    .cfi_offset 18, -12
+    .word 0x01312423  # sw x19, 8(x2)
+    .cfi_offset 19, -8
     # arguments that are needed behind the body
     .word 0x00a12623  # sw x10, 12(x2)
     # the frame's base
-    .word 0xf7010113  # addi x2, x2, -144
-    .cfi_def_cfa 2, 160
-    # the frame's word at 104, zeroed
-    .word 0x06012423  # sw x0, 104(x2)
+    .word 0xfa010113  # addi x2, x2, -96
+    .cfi_def_cfa 2, 112
     # parameter 0: an array
     .word 0x00050293  # addi x5, x10, 0
     .word 0x00010313  # addi x6, x2, 0
@@ -47,133 +49,309 @@ sort_16:
     .word 0x02030313  # addi x6, x6, 32
     .word 0xfa729ce3  # bne x5, x7, -72
     # the body
-    .word 0x00000293  # addi x5, x0, 0
-    .word 0x06512a23  # sw x5, 116(x2)
-    .word 0x00400293  # addi x5, x0, 4
-    .word 0x06512c23  # sw x5, 120(x2)
-    .word 0x07412303  # lw x6, 116(x2)
-    .word 0x07812283  # lw x5, 120(x2)
+    .word 0x00000493  # addi x9, x0, 0
+    .word 0x00000513  # addi x10, x0, 0
+    .word 0x00000593  # addi x11, x0, 0
+    .word 0x00000613  # addi x12, x0, 0
+    .word 0x00000693  # addi x13, x0, 0
+    .word 0x00000713  # addi x14, x0, 0
+    .word 0x00000793  # addi x15, x0, 0
+    .word 0x00000813  # addi x16, x0, 0
+    .word 0x00000893  # addi x17, x0, 0
+    .word 0x00000913  # addi x18, x0, 0
+    .word 0x00000993  # addi x19, x0, 0
+    .word 0x00000493  # addi x9, x0, 0
+    .word 0x00148513  # addi x10, x9, 1
+    .word 0x04012623  # sw x0, 76(x2)
+    .word 0x04a12823  # sw x10, 80(x2)
+    .word 0x04c12303  # lw x6, 76(x2)
+    .word 0x05012283  # lw x5, 80(x2)
     .word 0x005332b3  # sltu x5, x6, x5
     .word 0x00029463  # bne x5, x0, 8
-    .word 0x1cc0006f  # jal x0, 460
-    .word 0x04612023  # sw x6, 64(x2)
-    .word 0x00130313  # addi x6, x6, 1
-    .word 0x06612a23  # sw x6, 116(x2)
-    .word 0x04012283  # lw x5, 64(x2)
-    .word 0x00100313  # addi x6, x0, 1
-    .word 0x006282b3  # add x5, x5, x6
-    .word 0x04512223  # sw x5, 68(x2)
-    .word 0x00000293  # addi x5, x0, 0
-    .word 0x06512e23  # sw x5, 124(x2)
-    .word 0x04412283  # lw x5, 68(x2)
-    .word 0x08512023  # sw x5, 128(x2)
-    .word 0x07c12303  # lw x6, 124(x2)
-    .word 0x08012283  # lw x5, 128(x2)
-    .word 0x005332b3  # sltu x5, x6, x5
-    .word 0x00029463  # bne x5, x0, 8
-    .word 0x1880006f  # jal x0, 392
-    .word 0x04612423  # sw x6, 72(x2)
-    .word 0x00130313  # addi x6, x6, 1
-    .word 0x06612e23  # sw x6, 124(x2)
-    .word 0x04012283  # lw x5, 64(x2)
-    .word 0x04812303  # lw x6, 72(x2)
-    .word 0x406282b3  # sub x5, x5, x6
-    .word 0x00300313  # addi x6, x0, 3
-    .word 0x0062f2b3  # and x5, x5, x6
-    .word 0x04512623  # sw x5, 76(x2)
+    .word 0x4500006f  # jal x0, 1104
+    .word 0x00030593  # addi x11, x6, 0
+    .word 0x40b482b3  # sub x5, x9, x11
+    .word 0x0032f613  # andi x12, x5, 3
     .word 0x00100293  # addi x5, x0, 1
-    .word 0x04c12303  # lw x6, 76(x2)
-    .word 0x006292b3  # sll x5, x5, x6
-    .word 0x04512823  # sw x5, 80(x2)
+    .word 0x00c296b3  # sll x13, x5, x12
     .word 0x00000293  # addi x5, x0, 0
-    .word 0x08512223  # sw x5, 132(x2)
-    .word 0x00800293  # addi x5, x0, 8
-    .word 0x08512423  # sw x5, 136(x2)
-    .word 0x08412303  # lw x6, 132(x2)
-    .word 0x08812283  # lw x5, 136(x2)
-    .word 0x005332b3  # sltu x5, x6, x5
-    .word 0x00029463  # bne x5, x0, 8
-    .word 0x12c0006f  # jal x0, 300
-    .word 0x04612a23  # sw x6, 84(x2)
-    .word 0x00130313  # addi x6, x6, 1
-    .word 0x08612223  # sw x6, 132(x2)
-    .word 0x05412283  # lw x5, 84(x2)
-    .word 0x04c12303  # lw x6, 76(x2)
-    .word 0x0062d2b3  # srl x5, x5, x6
-    .word 0x04c12303  # lw x6, 76(x2)
-    .word 0x00100393  # addi x7, x0, 1
-    .word 0x00730333  # add x6, x6, x7
+    .word 0x00c2d2b3  # srl x5, x5, x12
+    .word 0x00160313  # addi x6, x12, 1
     .word 0x006292b3  # sll x5, x5, x6
-    .word 0x05412303  # lw x6, 84(x2)
-    .word 0x05012383  # lw x7, 80(x2)
-    .word 0x00100413  # addi x8, x0, 1
-    .word 0x408383b3  # sub x7, x7, x8
-    .word 0x00737333  # and x6, x6, x7
+    .word 0xfff68313  # addi x6, x13, -1
+    .word 0x00037313  # andi x6, x6, 0
     .word 0x0062e2b3  # or x5, x5, x6
-    .word 0x00f00313  # addi x6, x0, 15
-    .word 0x0062f2b3  # and x5, x5, x6
-    .word 0x04512c23  # sw x5, 88(x2)
-    .word 0x05812283  # lw x5, 88(x2)
-    .word 0x05012303  # lw x6, 80(x2)
-    .word 0x0062e2b3  # or x5, x5, x6
-    .word 0x00f00313  # addi x6, x0, 15
-    .word 0x0062f2b3  # and x5, x5, x6
-    .word 0x04512e23  # sw x5, 92(x2)
-    .word 0x05812283  # lw x5, 88(x2)
-    .word 0x00229293  # slli x5, x5, 2
-    .word 0x002282b3  # add x5, x5, x2
-    .word 0x0002a283  # lw x5, 0(x5)
-    .word 0x06512023  # sw x5, 96(x2)
-    .word 0x05c12283  # lw x5, 92(x2)
-    .word 0x00229293  # slli x5, x5, 2
-    .word 0x002282b3  # add x5, x5, x2
-    .word 0x0002a283  # lw x5, 0(x5)
-    .word 0x06512223  # sw x5, 100(x2)
-    .word 0x05812283  # lw x5, 88(x2)
-    .word 0x04412303  # lw x6, 68(x2)
-    .word 0x0062d2b3  # srl x5, x5, x6
-    .word 0x00100313  # addi x6, x0, 1
-    .word 0x0062f2b3  # and x5, x5, x6
-    .word 0x00000313  # addi x6, x0, 0
-    .word 0x406282b3  # sub x5, x5, x6
-    .word 0x0012b293  # sltiu x5, x5, 1
-    .word 0x06512423  # sw x5, 104(x2)
-    .word 0x06412283  # lw x5, 100(x2)
-    .word 0x06012303  # lw x6, 96(x2)
-    .word 0x0062b2b3  # sltu x5, x5, x6
-    .word 0x06812303  # lw x6, 104(x2)
-    .word 0x406282b3  # sub x5, x5, x6
-    .word 0x0012b293  # sltiu x5, x5, 1
-    .word 0x06012303  # lw x6, 96(x2)
-    .word 0x06412383  # lw x7, 100(x2)
-    .word 0x00734333  # xor x6, x6, x7
-    .word 0x00000393  # addi x7, x0, 0
-    .word 0x405002b3  # sub x5, x0, x5
-    .word 0x00734333  # xor x6, x6, x7
-    .word 0x00537333  # and x6, x6, x5
-    .word 0x0063c2b3  # xor x5, x7, x6
-    .word 0x06512623  # sw x5, 108(x2)
-    .word 0x05812283  # lw x5, 88(x2)
-    .word 0x06012303  # lw x6, 96(x2)
-    .word 0x06c12383  # lw x7, 108(x2)
-    .word 0x00734333  # xor x6, x6, x7
-    .word 0x00229293  # slli x5, x5, 2
+    .word 0x00f2f713  # andi x14, x5, 15
+    .word 0x00d762b3  # or x5, x14, x13
+    .word 0x00f2f793  # andi x15, x5, 15
+    .word 0x00271813  # slli x16, x14, 2
+    .word 0x00280833  # add x16, x16, x2
+    .word 0x00082803  # lw x16, 0(x16)
+    .word 0x00279893  # slli x17, x15, 2
+    .word 0x002888b3  # add x17, x17, x2
+    .word 0x0008a883  # lw x17, 0(x17)
+    .word 0x00a752b3  # srl x5, x14, x10
+    .word 0x0012f293  # andi x5, x5, 1
+    .word 0x0012b913  # sltiu x18, x5, 1
+    .word 0x0108b2b3  # sltu x5, x17, x16
+    .word 0x412282b3  # sub x5, x5, x18
+    .word 0x005032b3  # sltu x5, x0, x5
+    .word 0x01184333  # xor x6, x16, x17
+    .word 0xfff28293  # addi x5, x5, -1
+    .word 0x005379b3  # and x19, x6, x5
+    .word 0x01384333  # xor x6, x16, x19
+    .word 0x00271293  # slli x5, x14, 2
     .word 0x002282b3  # add x5, x5, x2
     .word 0x0062a023  # sw x6, 0(x5)
-    .word 0x05c12283  # lw x5, 92(x2)
-    .word 0x06412303  # lw x6, 100(x2)
-    .word 0x06c12383  # lw x7, 108(x2)
-    .word 0x00734333  # xor x6, x6, x7
-    .word 0x00229293  # slli x5, x5, 2
+    .word 0x0138c333  # xor x6, x17, x19
+    .word 0x00279293  # slli x5, x15, 2
     .word 0x002282b3  # add x5, x5, x2
     .word 0x0062a023  # sw x6, 0(x5)
-    .word 0xec9ff06f  # jal x0, -312
-    .word 0xe6dff06f  # jal x0, -404
-    .word 0xe29ff06f  # jal x0, -472
+    .word 0x00100293  # addi x5, x0, 1
+    .word 0x00c2d2b3  # srl x5, x5, x12
+    .word 0x00160313  # addi x6, x12, 1
+    .word 0x006292b3  # sll x5, x5, x6
+    .word 0xfff68313  # addi x6, x13, -1
+    .word 0x00137313  # andi x6, x6, 1
+    .word 0x0062e2b3  # or x5, x5, x6
+    .word 0x00f2f713  # andi x14, x5, 15
+    .word 0x00d762b3  # or x5, x14, x13
+    .word 0x00f2f793  # andi x15, x5, 15
+    .word 0x00271813  # slli x16, x14, 2
+    .word 0x00280833  # add x16, x16, x2
+    .word 0x00082803  # lw x16, 0(x16)
+    .word 0x00279893  # slli x17, x15, 2
+    .word 0x002888b3  # add x17, x17, x2
+    .word 0x0008a883  # lw x17, 0(x17)
+    .word 0x00a752b3  # srl x5, x14, x10
+    .word 0x0012f293  # andi x5, x5, 1
+    .word 0x0012b913  # sltiu x18, x5, 1
+    .word 0x0108b2b3  # sltu x5, x17, x16
+    .word 0x412282b3  # sub x5, x5, x18
+    .word 0x005032b3  # sltu x5, x0, x5
+    .word 0x01184333  # xor x6, x16, x17
+    .word 0xfff28293  # addi x5, x5, -1
+    .word 0x005379b3  # and x19, x6, x5
+    .word 0x01384333  # xor x6, x16, x19
+    .word 0x00271293  # slli x5, x14, 2
+    .word 0x002282b3  # add x5, x5, x2
+    .word 0x0062a023  # sw x6, 0(x5)
+    .word 0x0138c333  # xor x6, x17, x19
+    .word 0x00279293  # slli x5, x15, 2
+    .word 0x002282b3  # add x5, x5, x2
+    .word 0x0062a023  # sw x6, 0(x5)
+    .word 0x00200293  # addi x5, x0, 2
+    .word 0x00c2d2b3  # srl x5, x5, x12
+    .word 0x00160313  # addi x6, x12, 1
+    .word 0x006292b3  # sll x5, x5, x6
+    .word 0xfff68313  # addi x6, x13, -1
+    .word 0x00237313  # andi x6, x6, 2
+    .word 0x0062e2b3  # or x5, x5, x6
+    .word 0x00f2f713  # andi x14, x5, 15
+    .word 0x00d762b3  # or x5, x14, x13
+    .word 0x00f2f793  # andi x15, x5, 15
+    .word 0x00271813  # slli x16, x14, 2
+    .word 0x00280833  # add x16, x16, x2
+    .word 0x00082803  # lw x16, 0(x16)
+    .word 0x00279893  # slli x17, x15, 2
+    .word 0x002888b3  # add x17, x17, x2
+    .word 0x0008a883  # lw x17, 0(x17)
+    .word 0x00a752b3  # srl x5, x14, x10
+    .word 0x0012f293  # andi x5, x5, 1
+    .word 0x0012b913  # sltiu x18, x5, 1
+    .word 0x0108b2b3  # sltu x5, x17, x16
+    .word 0x412282b3  # sub x5, x5, x18
+    .word 0x005032b3  # sltu x5, x0, x5
+    .word 0x01184333  # xor x6, x16, x17
+    .word 0xfff28293  # addi x5, x5, -1
+    .word 0x005379b3  # and x19, x6, x5
+    .word 0x01384333  # xor x6, x16, x19
+    .word 0x00271293  # slli x5, x14, 2
+    .word 0x002282b3  # add x5, x5, x2
+    .word 0x0062a023  # sw x6, 0(x5)
+    .word 0x0138c333  # xor x6, x17, x19
+    .word 0x00279293  # slli x5, x15, 2
+    .word 0x002282b3  # add x5, x5, x2
+    .word 0x0062a023  # sw x6, 0(x5)
+    .word 0x00300293  # addi x5, x0, 3
+    .word 0x00c2d2b3  # srl x5, x5, x12
+    .word 0x00160313  # addi x6, x12, 1
+    .word 0x006292b3  # sll x5, x5, x6
+    .word 0xfff68313  # addi x6, x13, -1
+    .word 0x00337313  # andi x6, x6, 3
+    .word 0x0062e2b3  # or x5, x5, x6
+    .word 0x00f2f713  # andi x14, x5, 15
+    .word 0x00d762b3  # or x5, x14, x13
+    .word 0x00f2f793  # andi x15, x5, 15
+    .word 0x00271813  # slli x16, x14, 2
+    .word 0x00280833  # add x16, x16, x2
+    .word 0x00082803  # lw x16, 0(x16)
+    .word 0x00279893  # slli x17, x15, 2
+    .word 0x002888b3  # add x17, x17, x2
+    .word 0x0008a883  # lw x17, 0(x17)
+    .word 0x00a752b3  # srl x5, x14, x10
+    .word 0x0012f293  # andi x5, x5, 1
+    .word 0x0012b913  # sltiu x18, x5, 1
+    .word 0x0108b2b3  # sltu x5, x17, x16
+    .word 0x412282b3  # sub x5, x5, x18
+    .word 0x005032b3  # sltu x5, x0, x5
+    .word 0x01184333  # xor x6, x16, x17
+    .word 0xfff28293  # addi x5, x5, -1
+    .word 0x005379b3  # and x19, x6, x5
+    .word 0x01384333  # xor x6, x16, x19
+    .word 0x00271293  # slli x5, x14, 2
+    .word 0x002282b3  # add x5, x5, x2
+    .word 0x0062a023  # sw x6, 0(x5)
+    .word 0x0138c333  # xor x6, x17, x19
+    .word 0x00279293  # slli x5, x15, 2
+    .word 0x002282b3  # add x5, x5, x2
+    .word 0x0062a023  # sw x6, 0(x5)
+    .word 0x00400293  # addi x5, x0, 4
+    .word 0x00c2d2b3  # srl x5, x5, x12
+    .word 0x00160313  # addi x6, x12, 1
+    .word 0x006292b3  # sll x5, x5, x6
+    .word 0xfff68313  # addi x6, x13, -1
+    .word 0x00437313  # andi x6, x6, 4
+    .word 0x0062e2b3  # or x5, x5, x6
+    .word 0x00f2f713  # andi x14, x5, 15
+    .word 0x00d762b3  # or x5, x14, x13
+    .word 0x00f2f793  # andi x15, x5, 15
+    .word 0x00271813  # slli x16, x14, 2
+    .word 0x00280833  # add x16, x16, x2
+    .word 0x00082803  # lw x16, 0(x16)
+    .word 0x00279893  # slli x17, x15, 2
+    .word 0x002888b3  # add x17, x17, x2
+    .word 0x0008a883  # lw x17, 0(x17)
+    .word 0x00a752b3  # srl x5, x14, x10
+    .word 0x0012f293  # andi x5, x5, 1
+    .word 0x0012b913  # sltiu x18, x5, 1
+    .word 0x0108b2b3  # sltu x5, x17, x16
+    .word 0x412282b3  # sub x5, x5, x18
+    .word 0x005032b3  # sltu x5, x0, x5
+    .word 0x01184333  # xor x6, x16, x17
+    .word 0xfff28293  # addi x5, x5, -1
+    .word 0x005379b3  # and x19, x6, x5
+    .word 0x01384333  # xor x6, x16, x19
+    .word 0x00271293  # slli x5, x14, 2
+    .word 0x002282b3  # add x5, x5, x2
+    .word 0x0062a023  # sw x6, 0(x5)
+    .word 0x0138c333  # xor x6, x17, x19
+    .word 0x00279293  # slli x5, x15, 2
+    .word 0x002282b3  # add x5, x5, x2
+    .word 0x0062a023  # sw x6, 0(x5)
+    .word 0x00500293  # addi x5, x0, 5
+    .word 0x00c2d2b3  # srl x5, x5, x12
+    .word 0x00160313  # addi x6, x12, 1
+    .word 0x006292b3  # sll x5, x5, x6
+    .word 0xfff68313  # addi x6, x13, -1
+    .word 0x00537313  # andi x6, x6, 5
+    .word 0x0062e2b3  # or x5, x5, x6
+    .word 0x00f2f713  # andi x14, x5, 15
+    .word 0x00d762b3  # or x5, x14, x13
+    .word 0x00f2f793  # andi x15, x5, 15
+    .word 0x00271813  # slli x16, x14, 2
+    .word 0x00280833  # add x16, x16, x2
+    .word 0x00082803  # lw x16, 0(x16)
+    .word 0x00279893  # slli x17, x15, 2
+    .word 0x002888b3  # add x17, x17, x2
+    .word 0x0008a883  # lw x17, 0(x17)
+    .word 0x00a752b3  # srl x5, x14, x10
+    .word 0x0012f293  # andi x5, x5, 1
+    .word 0x0012b913  # sltiu x18, x5, 1
+    .word 0x0108b2b3  # sltu x5, x17, x16
+    .word 0x412282b3  # sub x5, x5, x18
+    .word 0x005032b3  # sltu x5, x0, x5
+    .word 0x01184333  # xor x6, x16, x17
+    .word 0xfff28293  # addi x5, x5, -1
+    .word 0x005379b3  # and x19, x6, x5
+    .word 0x01384333  # xor x6, x16, x19
+    .word 0x00271293  # slli x5, x14, 2
+    .word 0x002282b3  # add x5, x5, x2
+    .word 0x0062a023  # sw x6, 0(x5)
+    .word 0x0138c333  # xor x6, x17, x19
+    .word 0x00279293  # slli x5, x15, 2
+    .word 0x002282b3  # add x5, x5, x2
+    .word 0x0062a023  # sw x6, 0(x5)
+    .word 0x00600293  # addi x5, x0, 6
+    .word 0x00c2d2b3  # srl x5, x5, x12
+    .word 0x00160313  # addi x6, x12, 1
+    .word 0x006292b3  # sll x5, x5, x6
+    .word 0xfff68313  # addi x6, x13, -1
+    .word 0x00637313  # andi x6, x6, 6
+    .word 0x0062e2b3  # or x5, x5, x6
+    .word 0x00f2f713  # andi x14, x5, 15
+    .word 0x00d762b3  # or x5, x14, x13
+    .word 0x00f2f793  # andi x15, x5, 15
+    .word 0x00271813  # slli x16, x14, 2
+    .word 0x00280833  # add x16, x16, x2
+    .word 0x00082803  # lw x16, 0(x16)
+    .word 0x00279893  # slli x17, x15, 2
+    .word 0x002888b3  # add x17, x17, x2
+    .word 0x0008a883  # lw x17, 0(x17)
+    .word 0x00a752b3  # srl x5, x14, x10
+    .word 0x0012f293  # andi x5, x5, 1
+    .word 0x0012b913  # sltiu x18, x5, 1
+    .word 0x0108b2b3  # sltu x5, x17, x16
+    .word 0x412282b3  # sub x5, x5, x18
+    .word 0x005032b3  # sltu x5, x0, x5
+    .word 0x01184333  # xor x6, x16, x17
+    .word 0xfff28293  # addi x5, x5, -1
+    .word 0x005379b3  # and x19, x6, x5
+    .word 0x01384333  # xor x6, x16, x19
+    .word 0x00271293  # slli x5, x14, 2
+    .word 0x002282b3  # add x5, x5, x2
+    .word 0x0062a023  # sw x6, 0(x5)
+    .word 0x0138c333  # xor x6, x17, x19
+    .word 0x00279293  # slli x5, x15, 2
+    .word 0x002282b3  # add x5, x5, x2
+    .word 0x0062a023  # sw x6, 0(x5)
+    .word 0x00700293  # addi x5, x0, 7
+    .word 0x00c2d2b3  # srl x5, x5, x12
+    .word 0x00160313  # addi x6, x12, 1
+    .word 0x006292b3  # sll x5, x5, x6
+    .word 0xfff68313  # addi x6, x13, -1
+    .word 0x00737313  # andi x6, x6, 7
+    .word 0x0062e2b3  # or x5, x5, x6
+    .word 0x00f2f713  # andi x14, x5, 15
+    .word 0x00d762b3  # or x5, x14, x13
+    .word 0x00f2f793  # andi x15, x5, 15
+    .word 0x00271813  # slli x16, x14, 2
+    .word 0x00280833  # add x16, x16, x2
+    .word 0x00082803  # lw x16, 0(x16)
+    .word 0x00279893  # slli x17, x15, 2
+    .word 0x002888b3  # add x17, x17, x2
+    .word 0x0008a883  # lw x17, 0(x17)
+    .word 0x00a752b3  # srl x5, x14, x10
+    .word 0x0012f293  # andi x5, x5, 1
+    .word 0x0012b913  # sltiu x18, x5, 1
+    .word 0x0108b2b3  # sltu x5, x17, x16
+    .word 0x412282b3  # sub x5, x5, x18
+    .word 0x005032b3  # sltu x5, x0, x5
+    .word 0x01184333  # xor x6, x16, x17
+    .word 0xfff28293  # addi x5, x5, -1
+    .word 0x005379b3  # and x19, x6, x5
+    .word 0x01384333  # xor x6, x16, x19
+    .word 0x00271293  # slli x5, x14, 2
+    .word 0x002282b3  # add x5, x5, x2
+    .word 0x0062a023  # sw x6, 0(x5)
+    .word 0x0138c333  # xor x6, x17, x19
+    .word 0x00279293  # slli x5, x15, 2
+    .word 0x002282b3  # add x5, x5, x2
+    .word 0x0062a023  # sw x6, 0(x5)
+    .word 0x00158593  # addi x11, x11, 1
+    .word 0x05012283  # lw x5, 80(x2)
+    .word 0x0055b2b3  # sltu x5, x11, x5
+    .word 0xbc0292e3  # bne x5, x0, -1084
+    .word 0xfff58593  # addi x11, x11, -1
+    .word 0x0040006f  # jal x0, 4
+    .word 0x00148493  # addi x9, x9, 1
+    .word 0x0044b293  # sltiu x5, x9, 4
+    .word 0xb80296e3  # bne x5, x0, -1140
+    .word 0xfff48493  # addi x9, x9, -1
     # the result
     .word 0x00000513  # addi x10, x0, 0
     # parameter 0: the array, back
-    .word 0x09c12283  # lw x5, 156(x2)
+    .word 0x06c12283  # lw x5, 108(x2)
     .word 0x00010313  # addi x6, x2, 0
     .word 0x04000393  # addi x7, x0, 64
     .word 0x005383b3  # add x7, x7, x5
@@ -197,10 +375,14 @@ sort_16:
     .word 0x02030313  # addi x6, x6, 32
     .word 0xfa729ce3  # bne x5, x7, -72
     # above the frame
-    .word 0x09010293  # addi x5, x2, 144
+    .word 0x06010293  # addi x5, x2, 96
     # the caller's registers
-    .word 0x0002a403  # lw x8, 0(x5)
-    .cfi_restore 8
+    .word 0x0002a483  # lw x9, 0(x5)
+    .cfi_restore 9
+    .word 0x0042a903  # lw x18, 4(x5)
+    .cfi_restore 18
+    .word 0x0082a983  # lw x19, 8(x5)
+    .cfi_restore 19
     # the caller's x2
     .word 0x01028293  # addi x5, x5, 16
     .cfi_def_cfa 5, 0
@@ -213,7 +395,11 @@ sort_16:
     .word 0x00012a23  # sw x0, 20(x2)
     .word 0x00012c23  # sw x0, 24(x2)
     .word 0x00012e23  # sw x0, 28(x2)
-    .word 0x02010113  # addi x2, x2, 32
+    .word 0x02012023  # sw x0, 32(x2)
+    .word 0x02012223  # sw x0, 36(x2)
+    .word 0x02012423  # sw x0, 40(x2)
+    .word 0x02012623  # sw x0, 44(x2)
+    .word 0x03010113  # addi x2, x2, 48
     .word 0x00012023  # sw x0, 0(x2)
     .word 0x00012223  # sw x0, 4(x2)
     .word 0x00012423  # sw x0, 8(x2)

@@ -1,4 +1,4 @@
-# swap_32: made by factc function; 236 words, 112 bytes of stack, profile 1
+# swap_32: made by factc function; 549 words, 112 bytes of stack, profile 1
     .option push
     .option norvc
     .option norelax
@@ -10,18 +10,20 @@
 swap_32:
     .cfi_startproc
     # room above the frame
-    .word 0xff010113  # addi x2, x2, -16
-    .cfi_def_cfa_offset 16
+    .word 0xfe010113  # addi x2, x2, -32
+    .cfi_def_cfa_offset 32
     # the caller's registers
+    .word 0x00812023  # sw x8, 0(x2)
+    .cfi_offset 8, -32
+    .word 0x00912223  # sw x9, 4(x2)
+    .cfi_offset 9, -28
     # arguments that are needed behind the body
-    .word 0x00a12223  # sw x10, 4(x2)
-    .word 0x00b12423  # sw x11, 8(x2)
-    .word 0x00c12623  # sw x12, 12(x2)
+    .word 0x00a12a23  # sw x10, 20(x2)
+    .word 0x00b12c23  # sw x11, 24(x2)
+    .word 0x00c12e23  # sw x12, 28(x2)
     # the frame's base
-    .word 0xfa010113  # addi x2, x2, -96
+    .word 0xfb010113  # addi x2, x2, -80
     .cfi_def_cfa 2, 112
-    # the frame's word at 72, zeroed
-    .word 0x04012423  # sw x0, 72(x2)
     # parameter 0: a word
     .word 0x00a03533  # sltu x10, x0, x10
     .word 0x00a12023  # sw x10, 0(x2)
@@ -96,49 +98,359 @@ swap_32:
     .word 0x01c2ae03  # lw x28, 28(x5)
     .word 0x01c32e23  # sw x28, 28(x6)
     # the body
-    .word 0x00000293  # addi x5, x0, 0
-    .word 0x04512823  # sw x5, 80(x2)
-    .word 0x02000293  # addi x5, x0, 32
-    .word 0x04512a23  # sw x5, 84(x2)
-    .word 0x05012303  # lw x6, 80(x2)
-    .word 0x05412283  # lw x5, 84(x2)
-    .word 0x005332b3  # sltu x5, x6, x5
-    .word 0x00029463  # bne x5, x0, 8
-    .word 0x08c0006f  # jal x0, 140
-    .word 0x04612223  # sw x6, 68(x2)
-    .word 0x00130313  # addi x6, x6, 1
-    .word 0x04612823  # sw x6, 80(x2)
-    .word 0x00012283  # lw x5, 0(x2)
-    .word 0x04412303  # lw x6, 68(x2)
-    .word 0x00230333  # add x6, x6, x2
-    .word 0x00434303  # lbu x6, 4(x6)
-    .word 0x04412383  # lw x7, 68(x2)
-    .word 0x002383b3  # add x7, x7, x2
-    .word 0x0243c383  # lbu x7, 36(x7)
+    .word 0x00012403  # lw x8, 0(x2)
+    .word 0x00414303  # lbu x6, 4(x2)
+    .word 0x02414383  # lbu x7, 36(x2)
     .word 0x00734333  # xor x6, x6, x7
-    .word 0x00000393  # addi x7, x0, 0
-    .word 0x405002b3  # sub x5, x0, x5
+    .word 0x408002b3  # sub x5, x0, x8
+    .word 0x005374b3  # and x9, x6, x5
+    .word 0x00414283  # lbu x5, 4(x2)
+    .word 0x0092c2b3  # xor x5, x5, x9
+    .word 0x00510223  # sb x5, 4(x2)
+    .word 0x02414283  # lbu x5, 36(x2)
+    .word 0x0092c2b3  # xor x5, x5, x9
+    .word 0x02510223  # sb x5, 36(x2)
+    .word 0x00514303  # lbu x6, 5(x2)
+    .word 0x02514383  # lbu x7, 37(x2)
     .word 0x00734333  # xor x6, x6, x7
-    .word 0x00537333  # and x6, x6, x5
-    .word 0x0063c2b3  # xor x5, x7, x6
-    .word 0x04512423  # sw x5, 72(x2)
-    .word 0x04412283  # lw x5, 68(x2)
-    .word 0x04412303  # lw x6, 68(x2)
-    .word 0x00230333  # add x6, x6, x2
-    .word 0x00434303  # lbu x6, 4(x6)
-    .word 0x04812383  # lw x7, 72(x2)
+    .word 0x408002b3  # sub x5, x0, x8
+    .word 0x005374b3  # and x9, x6, x5
+    .word 0x00514283  # lbu x5, 5(x2)
+    .word 0x0092c2b3  # xor x5, x5, x9
+    .word 0x005102a3  # sb x5, 5(x2)
+    .word 0x02514283  # lbu x5, 37(x2)
+    .word 0x0092c2b3  # xor x5, x5, x9
+    .word 0x025102a3  # sb x5, 37(x2)
+    .word 0x00614303  # lbu x6, 6(x2)
+    .word 0x02614383  # lbu x7, 38(x2)
     .word 0x00734333  # xor x6, x6, x7
-    .word 0x002282b3  # add x5, x5, x2
-    .word 0x00628223  # sb x6, 4(x5)
-    .word 0x04412283  # lw x5, 68(x2)
-    .word 0x04412303  # lw x6, 68(x2)
-    .word 0x00230333  # add x6, x6, x2
-    .word 0x02434303  # lbu x6, 36(x6)
-    .word 0x04812383  # lw x7, 72(x2)
+    .word 0x408002b3  # sub x5, x0, x8
+    .word 0x005374b3  # and x9, x6, x5
+    .word 0x00614283  # lbu x5, 6(x2)
+    .word 0x0092c2b3  # xor x5, x5, x9
+    .word 0x00510323  # sb x5, 6(x2)
+    .word 0x02614283  # lbu x5, 38(x2)
+    .word 0x0092c2b3  # xor x5, x5, x9
+    .word 0x02510323  # sb x5, 38(x2)
+    .word 0x00714303  # lbu x6, 7(x2)
+    .word 0x02714383  # lbu x7, 39(x2)
     .word 0x00734333  # xor x6, x6, x7
-    .word 0x002282b3  # add x5, x5, x2
-    .word 0x02628223  # sb x6, 36(x5)
-    .word 0xf69ff06f  # jal x0, -152
+    .word 0x408002b3  # sub x5, x0, x8
+    .word 0x005374b3  # and x9, x6, x5
+    .word 0x00714283  # lbu x5, 7(x2)
+    .word 0x0092c2b3  # xor x5, x5, x9
+    .word 0x005103a3  # sb x5, 7(x2)
+    .word 0x02714283  # lbu x5, 39(x2)
+    .word 0x0092c2b3  # xor x5, x5, x9
+    .word 0x025103a3  # sb x5, 39(x2)
+    .word 0x00814303  # lbu x6, 8(x2)
+    .word 0x02814383  # lbu x7, 40(x2)
+    .word 0x00734333  # xor x6, x6, x7
+    .word 0x408002b3  # sub x5, x0, x8
+    .word 0x005374b3  # and x9, x6, x5
+    .word 0x00814283  # lbu x5, 8(x2)
+    .word 0x0092c2b3  # xor x5, x5, x9
+    .word 0x00510423  # sb x5, 8(x2)
+    .word 0x02814283  # lbu x5, 40(x2)
+    .word 0x0092c2b3  # xor x5, x5, x9
+    .word 0x02510423  # sb x5, 40(x2)
+    .word 0x00914303  # lbu x6, 9(x2)
+    .word 0x02914383  # lbu x7, 41(x2)
+    .word 0x00734333  # xor x6, x6, x7
+    .word 0x408002b3  # sub x5, x0, x8
+    .word 0x005374b3  # and x9, x6, x5
+    .word 0x00914283  # lbu x5, 9(x2)
+    .word 0x0092c2b3  # xor x5, x5, x9
+    .word 0x005104a3  # sb x5, 9(x2)
+    .word 0x02914283  # lbu x5, 41(x2)
+    .word 0x0092c2b3  # xor x5, x5, x9
+    .word 0x025104a3  # sb x5, 41(x2)
+    .word 0x00a14303  # lbu x6, 10(x2)
+    .word 0x02a14383  # lbu x7, 42(x2)
+    .word 0x00734333  # xor x6, x6, x7
+    .word 0x408002b3  # sub x5, x0, x8
+    .word 0x005374b3  # and x9, x6, x5
+    .word 0x00a14283  # lbu x5, 10(x2)
+    .word 0x0092c2b3  # xor x5, x5, x9
+    .word 0x00510523  # sb x5, 10(x2)
+    .word 0x02a14283  # lbu x5, 42(x2)
+    .word 0x0092c2b3  # xor x5, x5, x9
+    .word 0x02510523  # sb x5, 42(x2)
+    .word 0x00b14303  # lbu x6, 11(x2)
+    .word 0x02b14383  # lbu x7, 43(x2)
+    .word 0x00734333  # xor x6, x6, x7
+    .word 0x408002b3  # sub x5, x0, x8
+    .word 0x005374b3  # and x9, x6, x5
+    .word 0x00b14283  # lbu x5, 11(x2)
+    .word 0x0092c2b3  # xor x5, x5, x9
+    .word 0x005105a3  # sb x5, 11(x2)
+    .word 0x02b14283  # lbu x5, 43(x2)
+    .word 0x0092c2b3  # xor x5, x5, x9
+    .word 0x025105a3  # sb x5, 43(x2)
+    .word 0x00c14303  # lbu x6, 12(x2)
+    .word 0x02c14383  # lbu x7, 44(x2)
+    .word 0x00734333  # xor x6, x6, x7
+    .word 0x408002b3  # sub x5, x0, x8
+    .word 0x005374b3  # and x9, x6, x5
+    .word 0x00c14283  # lbu x5, 12(x2)
+    .word 0x0092c2b3  # xor x5, x5, x9
+    .word 0x00510623  # sb x5, 12(x2)
+    .word 0x02c14283  # lbu x5, 44(x2)
+    .word 0x0092c2b3  # xor x5, x5, x9
+    .word 0x02510623  # sb x5, 44(x2)
+    .word 0x00d14303  # lbu x6, 13(x2)
+    .word 0x02d14383  # lbu x7, 45(x2)
+    .word 0x00734333  # xor x6, x6, x7
+    .word 0x408002b3  # sub x5, x0, x8
+    .word 0x005374b3  # and x9, x6, x5
+    .word 0x00d14283  # lbu x5, 13(x2)
+    .word 0x0092c2b3  # xor x5, x5, x9
+    .word 0x005106a3  # sb x5, 13(x2)
+    .word 0x02d14283  # lbu x5, 45(x2)
+    .word 0x0092c2b3  # xor x5, x5, x9
+    .word 0x025106a3  # sb x5, 45(x2)
+    .word 0x00e14303  # lbu x6, 14(x2)
+    .word 0x02e14383  # lbu x7, 46(x2)
+    .word 0x00734333  # xor x6, x6, x7
+    .word 0x408002b3  # sub x5, x0, x8
+    .word 0x005374b3  # and x9, x6, x5
+    .word 0x00e14283  # lbu x5, 14(x2)
+    .word 0x0092c2b3  # xor x5, x5, x9
+    .word 0x00510723  # sb x5, 14(x2)
+    .word 0x02e14283  # lbu x5, 46(x2)
+    .word 0x0092c2b3  # xor x5, x5, x9
+    .word 0x02510723  # sb x5, 46(x2)
+    .word 0x00f14303  # lbu x6, 15(x2)
+    .word 0x02f14383  # lbu x7, 47(x2)
+    .word 0x00734333  # xor x6, x6, x7
+    .word 0x408002b3  # sub x5, x0, x8
+    .word 0x005374b3  # and x9, x6, x5
+    .word 0x00f14283  # lbu x5, 15(x2)
+    .word 0x0092c2b3  # xor x5, x5, x9
+    .word 0x005107a3  # sb x5, 15(x2)
+    .word 0x02f14283  # lbu x5, 47(x2)
+    .word 0x0092c2b3  # xor x5, x5, x9
+    .word 0x025107a3  # sb x5, 47(x2)
+    .word 0x01014303  # lbu x6, 16(x2)
+    .word 0x03014383  # lbu x7, 48(x2)
+    .word 0x00734333  # xor x6, x6, x7
+    .word 0x408002b3  # sub x5, x0, x8
+    .word 0x005374b3  # and x9, x6, x5
+    .word 0x01014283  # lbu x5, 16(x2)
+    .word 0x0092c2b3  # xor x5, x5, x9
+    .word 0x00510823  # sb x5, 16(x2)
+    .word 0x03014283  # lbu x5, 48(x2)
+    .word 0x0092c2b3  # xor x5, x5, x9
+    .word 0x02510823  # sb x5, 48(x2)
+    .word 0x01114303  # lbu x6, 17(x2)
+    .word 0x03114383  # lbu x7, 49(x2)
+    .word 0x00734333  # xor x6, x6, x7
+    .word 0x408002b3  # sub x5, x0, x8
+    .word 0x005374b3  # and x9, x6, x5
+    .word 0x01114283  # lbu x5, 17(x2)
+    .word 0x0092c2b3  # xor x5, x5, x9
+    .word 0x005108a3  # sb x5, 17(x2)
+    .word 0x03114283  # lbu x5, 49(x2)
+    .word 0x0092c2b3  # xor x5, x5, x9
+    .word 0x025108a3  # sb x5, 49(x2)
+    .word 0x01214303  # lbu x6, 18(x2)
+    .word 0x03214383  # lbu x7, 50(x2)
+    .word 0x00734333  # xor x6, x6, x7
+    .word 0x408002b3  # sub x5, x0, x8
+    .word 0x005374b3  # and x9, x6, x5
+    .word 0x01214283  # lbu x5, 18(x2)
+    .word 0x0092c2b3  # xor x5, x5, x9
+    .word 0x00510923  # sb x5, 18(x2)
+    .word 0x03214283  # lbu x5, 50(x2)
+    .word 0x0092c2b3  # xor x5, x5, x9
+    .word 0x02510923  # sb x5, 50(x2)
+    .word 0x01314303  # lbu x6, 19(x2)
+    .word 0x03314383  # lbu x7, 51(x2)
+    .word 0x00734333  # xor x6, x6, x7
+    .word 0x408002b3  # sub x5, x0, x8
+    .word 0x005374b3  # and x9, x6, x5
+    .word 0x01314283  # lbu x5, 19(x2)
+    .word 0x0092c2b3  # xor x5, x5, x9
+    .word 0x005109a3  # sb x5, 19(x2)
+    .word 0x03314283  # lbu x5, 51(x2)
+    .word 0x0092c2b3  # xor x5, x5, x9
+    .word 0x025109a3  # sb x5, 51(x2)
+    .word 0x01414303  # lbu x6, 20(x2)
+    .word 0x03414383  # lbu x7, 52(x2)
+    .word 0x00734333  # xor x6, x6, x7
+    .word 0x408002b3  # sub x5, x0, x8
+    .word 0x005374b3  # and x9, x6, x5
+    .word 0x01414283  # lbu x5, 20(x2)
+    .word 0x0092c2b3  # xor x5, x5, x9
+    .word 0x00510a23  # sb x5, 20(x2)
+    .word 0x03414283  # lbu x5, 52(x2)
+    .word 0x0092c2b3  # xor x5, x5, x9
+    .word 0x02510a23  # sb x5, 52(x2)
+    .word 0x01514303  # lbu x6, 21(x2)
+    .word 0x03514383  # lbu x7, 53(x2)
+    .word 0x00734333  # xor x6, x6, x7
+    .word 0x408002b3  # sub x5, x0, x8
+    .word 0x005374b3  # and x9, x6, x5
+    .word 0x01514283  # lbu x5, 21(x2)
+    .word 0x0092c2b3  # xor x5, x5, x9
+    .word 0x00510aa3  # sb x5, 21(x2)
+    .word 0x03514283  # lbu x5, 53(x2)
+    .word 0x0092c2b3  # xor x5, x5, x9
+    .word 0x02510aa3  # sb x5, 53(x2)
+    .word 0x01614303  # lbu x6, 22(x2)
+    .word 0x03614383  # lbu x7, 54(x2)
+    .word 0x00734333  # xor x6, x6, x7
+    .word 0x408002b3  # sub x5, x0, x8
+    .word 0x005374b3  # and x9, x6, x5
+    .word 0x01614283  # lbu x5, 22(x2)
+    .word 0x0092c2b3  # xor x5, x5, x9
+    .word 0x00510b23  # sb x5, 22(x2)
+    .word 0x03614283  # lbu x5, 54(x2)
+    .word 0x0092c2b3  # xor x5, x5, x9
+    .word 0x02510b23  # sb x5, 54(x2)
+    .word 0x01714303  # lbu x6, 23(x2)
+    .word 0x03714383  # lbu x7, 55(x2)
+    .word 0x00734333  # xor x6, x6, x7
+    .word 0x408002b3  # sub x5, x0, x8
+    .word 0x005374b3  # and x9, x6, x5
+    .word 0x01714283  # lbu x5, 23(x2)
+    .word 0x0092c2b3  # xor x5, x5, x9
+    .word 0x00510ba3  # sb x5, 23(x2)
+    .word 0x03714283  # lbu x5, 55(x2)
+    .word 0x0092c2b3  # xor x5, x5, x9
+    .word 0x02510ba3  # sb x5, 55(x2)
+    .word 0x01814303  # lbu x6, 24(x2)
+    .word 0x03814383  # lbu x7, 56(x2)
+    .word 0x00734333  # xor x6, x6, x7
+    .word 0x408002b3  # sub x5, x0, x8
+    .word 0x005374b3  # and x9, x6, x5
+    .word 0x01814283  # lbu x5, 24(x2)
+    .word 0x0092c2b3  # xor x5, x5, x9
+    .word 0x00510c23  # sb x5, 24(x2)
+    .word 0x03814283  # lbu x5, 56(x2)
+    .word 0x0092c2b3  # xor x5, x5, x9
+    .word 0x02510c23  # sb x5, 56(x2)
+    .word 0x01914303  # lbu x6, 25(x2)
+    .word 0x03914383  # lbu x7, 57(x2)
+    .word 0x00734333  # xor x6, x6, x7
+    .word 0x408002b3  # sub x5, x0, x8
+    .word 0x005374b3  # and x9, x6, x5
+    .word 0x01914283  # lbu x5, 25(x2)
+    .word 0x0092c2b3  # xor x5, x5, x9
+    .word 0x00510ca3  # sb x5, 25(x2)
+    .word 0x03914283  # lbu x5, 57(x2)
+    .word 0x0092c2b3  # xor x5, x5, x9
+    .word 0x02510ca3  # sb x5, 57(x2)
+    .word 0x01a14303  # lbu x6, 26(x2)
+    .word 0x03a14383  # lbu x7, 58(x2)
+    .word 0x00734333  # xor x6, x6, x7
+    .word 0x408002b3  # sub x5, x0, x8
+    .word 0x005374b3  # and x9, x6, x5
+    .word 0x01a14283  # lbu x5, 26(x2)
+    .word 0x0092c2b3  # xor x5, x5, x9
+    .word 0x00510d23  # sb x5, 26(x2)
+    .word 0x03a14283  # lbu x5, 58(x2)
+    .word 0x0092c2b3  # xor x5, x5, x9
+    .word 0x02510d23  # sb x5, 58(x2)
+    .word 0x01b14303  # lbu x6, 27(x2)
+    .word 0x03b14383  # lbu x7, 59(x2)
+    .word 0x00734333  # xor x6, x6, x7
+    .word 0x408002b3  # sub x5, x0, x8
+    .word 0x005374b3  # and x9, x6, x5
+    .word 0x01b14283  # lbu x5, 27(x2)
+    .word 0x0092c2b3  # xor x5, x5, x9
+    .word 0x00510da3  # sb x5, 27(x2)
+    .word 0x03b14283  # lbu x5, 59(x2)
+    .word 0x0092c2b3  # xor x5, x5, x9
+    .word 0x02510da3  # sb x5, 59(x2)
+    .word 0x01c14303  # lbu x6, 28(x2)
+    .word 0x03c14383  # lbu x7, 60(x2)
+    .word 0x00734333  # xor x6, x6, x7
+    .word 0x408002b3  # sub x5, x0, x8
+    .word 0x005374b3  # and x9, x6, x5
+    .word 0x01c14283  # lbu x5, 28(x2)
+    .word 0x0092c2b3  # xor x5, x5, x9
+    .word 0x00510e23  # sb x5, 28(x2)
+    .word 0x03c14283  # lbu x5, 60(x2)
+    .word 0x0092c2b3  # xor x5, x5, x9
+    .word 0x02510e23  # sb x5, 60(x2)
+    .word 0x01d14303  # lbu x6, 29(x2)
+    .word 0x03d14383  # lbu x7, 61(x2)
+    .word 0x00734333  # xor x6, x6, x7
+    .word 0x408002b3  # sub x5, x0, x8
+    .word 0x005374b3  # and x9, x6, x5
+    .word 0x01d14283  # lbu x5, 29(x2)
+    .word 0x0092c2b3  # xor x5, x5, x9
+    .word 0x00510ea3  # sb x5, 29(x2)
+    .word 0x03d14283  # lbu x5, 61(x2)
+    .word 0x0092c2b3  # xor x5, x5, x9
+    .word 0x02510ea3  # sb x5, 61(x2)
+    .word 0x01e14303  # lbu x6, 30(x2)
+    .word 0x03e14383  # lbu x7, 62(x2)
+    .word 0x00734333  # xor x6, x6, x7
+    .word 0x408002b3  # sub x5, x0, x8
+    .word 0x005374b3  # and x9, x6, x5
+    .word 0x01e14283  # lbu x5, 30(x2)
+    .word 0x0092c2b3  # xor x5, x5, x9
+    .word 0x00510f23  # sb x5, 30(x2)
+    .word 0x03e14283  # lbu x5, 62(x2)
+    .word 0x0092c2b3  # xor x5, x5, x9
+    .word 0x02510f23  # sb x5, 62(x2)
+    .word 0x01f14303  # lbu x6, 31(x2)
+    .word 0x03f14383  # lbu x7, 63(x2)
+    .word 0x00734333  # xor x6, x6, x7
+    .word 0x408002b3  # sub x5, x0, x8
+    .word 0x005374b3  # and x9, x6, x5
+    .word 0x01f14283  # lbu x5, 31(x2)
+    .word 0x0092c2b3  # xor x5, x5, x9
+    .word 0x00510fa3  # sb x5, 31(x2)
+    .word 0x03f14283  # lbu x5, 63(x2)
+    .word 0x0092c2b3  # xor x5, x5, x9
+    .word 0x02510fa3  # sb x5, 63(x2)
+    .word 0x02014303  # lbu x6, 32(x2)
+    .word 0x04014383  # lbu x7, 64(x2)
+    .word 0x00734333  # xor x6, x6, x7
+    .word 0x408002b3  # sub x5, x0, x8
+    .word 0x005374b3  # and x9, x6, x5
+    .word 0x02014283  # lbu x5, 32(x2)
+    .word 0x0092c2b3  # xor x5, x5, x9
+    .word 0x02510023  # sb x5, 32(x2)
+    .word 0x04014283  # lbu x5, 64(x2)
+    .word 0x0092c2b3  # xor x5, x5, x9
+    .word 0x04510023  # sb x5, 64(x2)
+    .word 0x02114303  # lbu x6, 33(x2)
+    .word 0x04114383  # lbu x7, 65(x2)
+    .word 0x00734333  # xor x6, x6, x7
+    .word 0x408002b3  # sub x5, x0, x8
+    .word 0x005374b3  # and x9, x6, x5
+    .word 0x02114283  # lbu x5, 33(x2)
+    .word 0x0092c2b3  # xor x5, x5, x9
+    .word 0x025100a3  # sb x5, 33(x2)
+    .word 0x04114283  # lbu x5, 65(x2)
+    .word 0x0092c2b3  # xor x5, x5, x9
+    .word 0x045100a3  # sb x5, 65(x2)
+    .word 0x02214303  # lbu x6, 34(x2)
+    .word 0x04214383  # lbu x7, 66(x2)
+    .word 0x00734333  # xor x6, x6, x7
+    .word 0x408002b3  # sub x5, x0, x8
+    .word 0x005374b3  # and x9, x6, x5
+    .word 0x02214283  # lbu x5, 34(x2)
+    .word 0x0092c2b3  # xor x5, x5, x9
+    .word 0x02510123  # sb x5, 34(x2)
+    .word 0x04214283  # lbu x5, 66(x2)
+    .word 0x0092c2b3  # xor x5, x5, x9
+    .word 0x04510123  # sb x5, 66(x2)
+    .word 0x02314303  # lbu x6, 35(x2)
+    .word 0x04314383  # lbu x7, 67(x2)
+    .word 0x00734333  # xor x6, x6, x7
+    .word 0x408002b3  # sub x5, x0, x8
+    .word 0x005374b3  # and x9, x6, x5
+    .word 0x02314283  # lbu x5, 35(x2)
+    .word 0x0092c2b3  # xor x5, x5, x9
+    .word 0x025101a3  # sb x5, 35(x2)
+    .word 0x04314283  # lbu x5, 67(x2)
+    .word 0x0092c2b3  # xor x5, x5, x9
+    .word 0x045101a3  # sb x5, 67(x2)
     # the result
     .word 0x00000513  # addi x10, x0, 0
     # parameter 1: the array, back
@@ -212,10 +524,14 @@ swap_32:
     .word 0x01c32e03  # lw x28, 28(x6)
     .word 0x01c2ae23  # sw x28, 28(x5)
     # above the frame
-    .word 0x06010293  # addi x5, x2, 96
+    .word 0x05010293  # addi x5, x2, 80
     # the caller's registers
+    .word 0x0002a403  # lw x8, 0(x5)
+    .cfi_restore 8
+    .word 0x0042a483  # lw x9, 4(x5)
+    .cfi_restore 9
     # the caller's x2
-    .word 0x01028293  # addi x5, x5, 16
+    .word 0x02028293  # addi x5, x5, 32
     .cfi_def_cfa 5, 0
     # all the room, wiped upward
     .word 0x00012023  # sw x0, 0(x2)

@@ -6,7 +6,7 @@
 #define FACT_adler32_H
 #include <stdbool.h>
 #include <stdint.h>
-#define adler32_STACK_BYTES 144
+#define adler32_STACK_BYTES 96
 #ifdef __cplusplus
 extern "C" {
 #endif

@@ -6,7 +6,7 @@
 #define FACT_aes128_decrypt_H
 #include <stdbool.h>
 #include <stdint.h>
-#define aes128_decrypt_STACK_BYTES 1776
+#define aes128_decrypt_STACK_BYTES 560
 #ifdef __cplusplus
 extern "C" {
 #endif

@@ -6,7 +6,7 @@
 #define FACT_ascon_permute_H
 #include <stdbool.h>
 #include <stdint.h>
-#define ascon_permute_STACK_BYTES 224
+#define ascon_permute_STACK_BYTES 112
 #ifdef __cplusplus
 extern "C" {
 #endif

@@ -6,7 +6,7 @@
 #define FACT_hex_decode_H
 #include <stdbool.h>
 #include <stdint.h>
-#define hex_decode_STACK_BYTES 160
+#define hex_decode_STACK_BYTES 128
 #ifdef __cplusplus
 extern "C" {
 #endif

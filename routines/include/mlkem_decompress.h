@@ -6,7 +6,7 @@
 #define FACT_mlkem_decompress_H
 #include <stdbool.h>
 #include <stdint.h>
-#define mlkem_decompress_STACK_BYTES 560
+#define mlkem_decompress_STACK_BYTES 544
 #ifdef __cplusplus
 extern "C" {
 #endif

@@ -6,7 +6,7 @@
 #define FACT_mlkem_encode_12_H
 #include <stdbool.h>
 #include <stdint.h>
-#define mlkem_encode_12_STACK_BYTES 944
+#define mlkem_encode_12_STACK_BYTES 928
 #ifdef __cplusplus
 extern "C" {
 #endif

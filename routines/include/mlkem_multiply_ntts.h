@@ -6,7 +6,7 @@
 #define FACT_mlkem_multiply_ntts_H
 #include <stdbool.h>
 #include <stdint.h>
-#define mlkem_multiply_ntts_STACK_BYTES 1936
+#define mlkem_multiply_ntts_STACK_BYTES 1840
 #ifdef __cplusplus
 extern "C" {
 #endif

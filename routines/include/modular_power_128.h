@@ -6,7 +6,7 @@
 #define FACT_modular_power_128_H
 #include <stdbool.h>
 #include <stdint.h>
-#define modular_power_128_STACK_BYTES 736
+#define modular_power_128_STACK_BYTES 288
 #ifdef __cplusplus
 extern "C" {
 #endif

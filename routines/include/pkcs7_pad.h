@@ -6,7 +6,7 @@
 #define FACT_pkcs7_pad_H
 #include <stdbool.h>
 #include <stdint.h>
-#define pkcs7_pad_STACK_BYTES 64
+#define pkcs7_pad_STACK_BYTES 48
 #ifdef __cplusplus
 extern "C" {
 #endif

@@ -6,7 +6,7 @@
 #define FACT_poly1305_H
 #include <stdbool.h>
 #include <stdint.h>
-#define poly1305_STACK_BYTES 560
+#define poly1305_STACK_BYTES 304
 #ifdef __cplusplus
 extern "C" {
 #endif

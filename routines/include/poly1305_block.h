@@ -6,7 +6,7 @@
 #define FACT_poly1305_block_H
 #include <stdbool.h>
 #include <stdint.h>
-#define poly1305_block_STACK_BYTES 416
+#define poly1305_block_STACK_BYTES 208
 #ifdef __cplusplus
 extern "C" {
 #endif

@@ -6,7 +6,7 @@
 #define FACT_poly1305_finish_H
 #include <stdbool.h>
 #include <stdint.h>
-#define poly1305_finish_STACK_BYTES 320
+#define poly1305_finish_STACK_BYTES 176
 #ifdef __cplusplus
 extern "C" {
 #endif

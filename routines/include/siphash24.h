@@ -6,7 +6,7 @@
 #define FACT_siphash24_H
 #include <stdbool.h>
 #include <stdint.h>
-#define siphash24_STACK_BYTES 272
+#define siphash24_STACK_BYTES 176
 #ifdef __cplusplus
 extern "C" {
 #endif

@@ -6,7 +6,7 @@
 #define FACT_sort_16_H
 #include <stdbool.h>
 #include <stdint.h>
-#define sort_16_STACK_BYTES 160
+#define sort_16_STACK_BYTES 112
 #ifdef __cplusplus
 extern "C" {
 #endif

@@ -16,6 +16,8 @@ C = [*TARGET, *FREE, "-std=c99", "-O1", "-Wall", "-Wextra", "-Werror"]
 TYPES = {"bool": "bool", "uint8": "uint8_t", "uint16": "uint16_t", "uint32": "uint32_t"}
 # Those whose runs take long: a test runs their first vector alone.
 SLOW = ("x25519", "modular_power_128")
+# The codes that are kept, by the option that asks for one, each with the folders of its texts for an assembler and its headers.
+KEPT = {"-O": {".s": "asm", ".h": "include"}, "-Os": {".s": "small", ".h": "small"}}
 MOST_SECONDS = 1_000
 
 
@@ -56,9 +58,9 @@ class Routine:
     def file(self, end):
         return os.path.join(LIBRARY, self.name, self.name + end)
 
-    def stored(self, end):
-        """Where the library keeps the text for an assembler or the header."""
-        return os.path.join(LIBRARY, {".s": "asm", ".h": "include"}[end], self.name + end)
+    def stored(self, code, end):
+        """Where the library keeps the text for an assembler or the header of a code."""
+        return os.path.join(LIBRARY, KEPT[code][end], self.name + end)
 
     def words(self, vector):
         return [",".join(map(str, argument)) for argument in vector.given]

@@ -1,0 +1,357 @@
+# ascon_permute: made by factc function; 304 words, 112 bytes of stack, profile 1
+    .option push
+    .option norvc
+    .option norelax
+    .cfi_sections .debug_frame
+    .section .text.ascon_permute, "ax", @progbits
+    .p2align 2
+    .globl ascon_permute
+    .type ascon_permute, @function
+ascon_permute:
+    .cfi_startproc
+    # room above the frame
+    .word 0xfd010113  # addi x2, x2, -48
+    .cfi_def_cfa_offset 48
+    # the caller's registers
+    .word 0x00812023  # sw x8, 0(x2)
+    .cfi_offset 8, -48
+    .word 0x00912223  # sw x9, 4(x2)
+    .cfi_offset 9, -44
+    .word 0x01212423  # sw x18, 8(x2)
+    .cfi_offset 18, -40
+    .word 0x01312623  # sw x19, 12(x2)
+    .cfi_offset 19, -36
+    .word 0x01412823  # sw x20, 16(x2)
+    .cfi_offset 20, -32
+    .word 0x01512a23  # sw x21, 20(x2)
+    .cfi_offset 21, -28
+    .word 0x01612c23  # sw x22, 24(x2)
+    .cfi_offset 22, -24
+    .word 0x01712e23  # sw x23, 28(x2)
+    .cfi_offset 23, -20
+    .word 0x03812023  # sw x24, 32(x2)
+    .cfi_offset 24, -16
+    .word 0x03912223  # sw x25, 36(x2)
+    .cfi_offset 25, -12
+    # arguments that are needed behind the body
+    .word 0x02a12623  # sw x10, 44(x2)
+    # the frame's base
+    .word 0xfc010113  # addi x2, x2, -64
+    .cfi_def_cfa 2, 112
+    # parameter 0: an array
+    .word 0x00050293  # addi x5, x10, 0
+    .word 0x00010313  # addi x6, x2, 0
+    .word 0x0002ae03  # lw x28, 0(x5)
+    .word 0x01c32023  # sw x28, 0(x6)
+    .word 0x0042ae03  # lw x28, 4(x5)
+    .word 0x01c32223  # sw x28, 4(x6)
+    .word 0x0082ae03  # lw x28, 8(x5)
+    .word 0x01c32423  # sw x28, 8(x6)
+    .word 0x00c2ae03  # lw x28, 12(x5)
+    .word 0x01c32623  # sw x28, 12(x6)
+    .word 0x0102ae03  # lw x28, 16(x5)
+    .word 0x01c32823  # sw x28, 16(x6)
+    .word 0x0142ae03  # lw x28, 20(x5)
+    .word 0x01c32a23  # sw x28, 20(x6)
+    .word 0x0182ae03  # lw x28, 24(x5)
+    .word 0x01c32c23  # sw x28, 24(x6)
+    .word 0x01c2ae03  # lw x28, 28(x5)
+    .word 0x01c32e23  # sw x28, 28(x6)
+    .word 0x0202ae03  # lw x28, 32(x5)
+    .word 0x03c32023  # sw x28, 32(x6)
+    .word 0x0242ae03  # lw x28, 36(x5)
+    .word 0x03c32223  # sw x28, 36(x6)
+    # parameter 1: a word
+    .word 0x02b12423  # sw x11, 40(x2)
+    # the body
+    .word 0x02812483  # lw x9, 40(x2)
+    .word 0x00000693  # addi x13, x0, 0
+    .word 0x00000713  # addi x14, x0, 0
+    .word 0x00000793  # addi x15, x0, 0
+    .word 0x00000993  # addi x19, x0, 0
+    .word 0x00000a93  # addi x21, x0, 0
+    .word 0x00000c93  # addi x25, x0, 0
+    .word 0x00012a03  # lw x20, 0(x2)
+    .word 0x00412503  # lw x10, 4(x2)
+    .word 0x00812883  # lw x17, 8(x2)
+    .word 0x00c12b03  # lw x22, 12(x2)
+    .word 0x01012583  # lw x11, 16(x2)
+    .word 0x01412603  # lw x12, 20(x2)
+    .word 0x01812803  # lw x16, 24(x2)
+    .word 0x01c12b83  # lw x23, 28(x2)
+    .word 0x02012903  # lw x18, 32(x2)
+    .word 0x02412c03  # lw x24, 36(x2)
+    .word 0x00c00293  # addi x5, x0, 12
+    .word 0x00c4b313  # sltiu x6, x9, 12
+    .word 0x00c00413  # addi x8, x0, 12
+    .word 0x0284f3b3  # remu x7, x9, x8
+    .word 0x00c00413  # addi x8, x0, 12
+    .word 0x40600333  # sub x6, x0, x6
+    .word 0x0083c3b3  # xor x7, x7, x8
+    .word 0x0063f3b3  # and x7, x7, x6
+    .word 0x00744333  # xor x6, x8, x7
+    .word 0x406282b3  # sub x5, x5, x6
+    .word 0x00c2b313  # sltiu x6, x5, 12
+    .word 0x00031463  # bne x6, x0, 8
+    .word 0x2500006f  # jal x0, 592
+    .word 0x00028693  # addi x13, x5, 0
+    .word 0x0f000293  # addi x5, x0, 240
+    .word 0x00f00313  # addi x6, x0, 15
+    .word 0x02d30333  # mul x6, x6, x13
+    .word 0x40628733  # sub x14, x5, x6
+    .word 0x012a47b3  # xor x15, x20, x18
+    .word 0x01094ab3  # xor x21, x18, x16
+    .word 0x0115c933  # xor x18, x11, x17
+    .word 0x41100333  # sub x6, x0, x17
+    .word 0xfff30313  # addi x6, x6, -1
+    .word 0x01237333  # and x6, x6, x18
+    .word 0x0067c9b3  # xor x19, x15, x6
+    .word 0x41200333  # sub x6, x0, x18
+    .word 0xfff30313  # addi x6, x6, -1
+    .word 0x01037333  # and x6, x6, x16
+    .word 0x0068ca33  # xor x20, x17, x6
+    .word 0x41000333  # sub x6, x0, x16
+    .word 0xfff30313  # addi x6, x6, -1
+    .word 0x01537333  # and x6, x6, x21
+    .word 0x00694cb3  # xor x25, x18, x6
+    .word 0x41500333  # sub x6, x0, x21
+    .word 0xfff30313  # addi x6, x6, -1
+    .word 0x00f37333  # and x6, x6, x15
+    .word 0x00684933  # xor x18, x16, x6
+    .word 0x40f00333  # sub x6, x0, x15
+    .word 0xfff30313  # addi x6, x6, -1
+    .word 0x01137333  # and x6, x6, x17
+    .word 0x006ac7b3  # xor x15, x21, x6
+    .word 0x013a4833  # xor x16, x20, x19
+    .word 0x00f9c8b3  # xor x17, x19, x15
+    .word 0x01994933  # xor x18, x18, x25
+    .word 0x419009b3  # sub x19, x0, x25
+    .word 0xfff98993  # addi x19, x19, -1
+    .word 0x01854ab3  # xor x21, x10, x24
+    .word 0x017c4c33  # xor x24, x24, x23
+    .word 0x016642b3  # xor x5, x12, x22
+    .word 0x00e2ccb3  # xor x25, x5, x14
+    .word 0x41600333  # sub x6, x0, x22
+    .word 0xfff30313  # addi x6, x6, -1
+    .word 0x01937333  # and x6, x6, x25
+    .word 0x006aca33  # xor x20, x21, x6
+    .word 0x41900333  # sub x6, x0, x25
+    .word 0xfff30313  # addi x6, x6, -1
+    .word 0x01737333  # and x6, x6, x23
+    .word 0x006b4533  # xor x10, x22, x6
+    .word 0x41700333  # sub x6, x0, x23
+    .word 0xfff30313  # addi x6, x6, -1
+    .word 0x01837333  # and x6, x6, x24
+    .word 0x006cccb3  # xor x25, x25, x6
+    .word 0x41800333  # sub x6, x0, x24
+    .word 0xfff30313  # addi x6, x6, -1
+    .word 0x01537333  # and x6, x6, x21
+    .word 0x006bc5b3  # xor x11, x23, x6
+    .word 0x41500333  # sub x6, x0, x21
+    .word 0xfff30313  # addi x6, x6, -1
+    .word 0x01637333  # and x6, x6, x22
+    .word 0x006c4ab3  # xor x21, x24, x6
+    .word 0x01454b33  # xor x22, x10, x20
+    .word 0x015a4bb3  # xor x23, x20, x21
+    .word 0x0195cc33  # xor x24, x11, x25
+    .word 0x41900cb3  # sub x25, x0, x25
+    .word 0xfffc8c93  # addi x25, x25, -1
+    .word 0x0138d313  # srli x6, x17, 19
+    .word 0x00db9393  # slli x7, x23, 13
+    .word 0x00736333  # or x6, x6, x7
+    .word 0x0068c2b3  # xor x5, x17, x6
+    .word 0x01c8d313  # srli x6, x17, 28
+    .word 0x004b9393  # slli x7, x23, 4
+    .word 0x00736333  # or x6, x6, x7
+    .word 0x0062ca33  # xor x20, x5, x6
+    .word 0x013bd313  # srli x6, x23, 19
+    .word 0x00d89393  # slli x7, x17, 13
+    .word 0x00736333  # or x6, x6, x7
+    .word 0x006bc2b3  # xor x5, x23, x6
+    .word 0x01cbd313  # srli x6, x23, 28
+    .word 0x00489393  # slli x7, x17, 4
+    .word 0x00736333  # or x6, x6, x7
+    .word 0x0062c533  # xor x10, x5, x6
+    .word 0x01db5313  # srli x6, x22, 29
+    .word 0x00381393  # slli x7, x16, 3
+    .word 0x00736333  # or x6, x6, x7
+    .word 0x006842b3  # xor x5, x16, x6
+    .word 0x007b5313  # srli x6, x22, 7
+    .word 0x01981393  # slli x7, x16, 25
+    .word 0x00736333  # or x6, x6, x7
+    .word 0x0062c8b3  # xor x17, x5, x6
+    .word 0x01d85313  # srli x6, x16, 29
+    .word 0x003b1393  # slli x7, x22, 3
+    .word 0x00736333  # or x6, x6, x7
+    .word 0x006b42b3  # xor x5, x22, x6
+    .word 0x00785313  # srli x6, x16, 7
+    .word 0x019b1393  # slli x7, x22, 25
+    .word 0x00736333  # or x6, x6, x7
+    .word 0x0062cb33  # xor x22, x5, x6
+    .word 0x0019d313  # srli x6, x19, 1
+    .word 0x01fc9393  # slli x7, x25, 31
+    .word 0x00736333  # or x6, x6, x7
+    .word 0x0069c2b3  # xor x5, x19, x6
+    .word 0x0069d313  # srli x6, x19, 6
+    .word 0x01ac9393  # slli x7, x25, 26
+    .word 0x00736333  # or x6, x6, x7
+    .word 0x0062c5b3  # xor x11, x5, x6
+    .word 0x001cd313  # srli x6, x25, 1
+    .word 0x01f99393  # slli x7, x19, 31
+    .word 0x00736333  # or x6, x6, x7
+    .word 0x006cc2b3  # xor x5, x25, x6
+    .word 0x006cd313  # srli x6, x25, 6
+    .word 0x01a99393  # slli x7, x19, 26
+    .word 0x00736333  # or x6, x6, x7
+    .word 0x0062c633  # xor x12, x5, x6
+    .word 0x00a95313  # srli x6, x18, 10
+    .word 0x016c1393  # slli x7, x24, 22
+    .word 0x00736333  # or x6, x6, x7
+    .word 0x006942b3  # xor x5, x18, x6
+    .word 0x01195313  # srli x6, x18, 17
+    .word 0x00fc1393  # slli x7, x24, 15
+    .word 0x00736333  # or x6, x6, x7
+    .word 0x0062c833  # xor x16, x5, x6
+    .word 0x00ac5313  # srli x6, x24, 10
+    .word 0x01691393  # slli x7, x18, 22
+    .word 0x00736333  # or x6, x6, x7
+    .word 0x006c42b3  # xor x5, x24, x6
+    .word 0x011c5313  # srli x6, x24, 17
+    .word 0x00f91393  # slli x7, x18, 15
+    .word 0x00736333  # or x6, x6, x7
+    .word 0x0062cbb3  # xor x23, x5, x6
+    .word 0x0077d313  # srli x6, x15, 7
+    .word 0x019a9393  # slli x7, x21, 25
+    .word 0x00736333  # or x6, x6, x7
+    .word 0x0067c2b3  # xor x5, x15, x6
+    .word 0x009ad313  # srli x6, x21, 9
+    .word 0x01779393  # slli x7, x15, 23
+    .word 0x00736333  # or x6, x6, x7
+    .word 0x0062c933  # xor x18, x5, x6
+    .word 0x007ad313  # srli x6, x21, 7
+    .word 0x01979393  # slli x7, x15, 25
+    .word 0x00736333  # or x6, x6, x7
+    .word 0x006ac2b3  # xor x5, x21, x6
+    .word 0x0097d313  # srli x6, x15, 9
+    .word 0x017a9393  # slli x7, x21, 23
+    .word 0x00736333  # or x6, x6, x7
+    .word 0x0062cc33  # xor x24, x5, x6
+    .word 0x00168693  # addi x13, x13, 1
+    .word 0x00c6b293  # sltiu x5, x13, 12
+    .word 0xdc0292e3  # bne x5, x0, -572
+    .word 0xfff68693  # addi x13, x13, -1
+    .word 0x0040006f  # jal x0, 4
+    .word 0x01412023  # sw x20, 0(x2)
+    .word 0x00a12223  # sw x10, 4(x2)
+    .word 0x01112423  # sw x17, 8(x2)
+    .word 0x01612623  # sw x22, 12(x2)
+    .word 0x00b12823  # sw x11, 16(x2)
+    .word 0x00c12a23  # sw x12, 20(x2)
+    .word 0x01012c23  # sw x16, 24(x2)
+    .word 0x01712e23  # sw x23, 28(x2)
+    .word 0x03212023  # sw x18, 32(x2)
+    .word 0x03812223  # sw x24, 36(x2)
+    # the result
+    .word 0x00000513  # addi x10, x0, 0
+    # parameter 0: the array, back
+    .word 0x06c12283  # lw x5, 108(x2)
+    .word 0x00010313  # addi x6, x2, 0
+    .word 0x00032e03  # lw x28, 0(x6)
+    .word 0x01c2a023  # sw x28, 0(x5)
+    .word 0x00432e03  # lw x28, 4(x6)
+    .word 0x01c2a223  # sw x28, 4(x5)
+    .word 0x00832e03  # lw x28, 8(x6)
+    .word 0x01c2a423  # sw x28, 8(x5)
+    .word 0x00c32e03  # lw x28, 12(x6)
+    .word 0x01c2a623  # sw x28, 12(x5)
+    .word 0x01032e03  # lw x28, 16(x6)
+    .word 0x01c2a823  # sw x28, 16(x5)
+    .word 0x01432e03  # lw x28, 20(x6)
+    .word 0x01c2aa23  # sw x28, 20(x5)
+    .word 0x01832e03  # lw x28, 24(x6)
+    .word 0x01c2ac23  # sw x28, 24(x5)
+    .word 0x01c32e03  # lw x28, 28(x6)
+    .word 0x01c2ae23  # sw x28, 28(x5)
+    .word 0x02032e03  # lw x28, 32(x6)
+    .word 0x03c2a023  # sw x28, 32(x5)
+    .word 0x02432e03  # lw x28, 36(x6)
+    .word 0x03c2a223  # sw x28, 36(x5)
+    # above the frame
+    .word 0x04010293  # addi x5, x2, 64
+    # the caller's registers
+    .word 0x0002a403  # lw x8, 0(x5)
+    .cfi_restore 8
+    .word 0x0042a483  # lw x9, 4(x5)
+    .cfi_restore 9
+    .word 0x0082a903  # lw x18, 8(x5)
+    .cfi_restore 18
+    .word 0x00c2a983  # lw x19, 12(x5)
+    .cfi_restore 19
+    .word 0x0102aa03  # lw x20, 16(x5)
+    .cfi_restore 20
+    .word 0x0142aa83  # lw x21, 20(x5)
+    .cfi_restore 21
+    .word 0x0182ab03  # lw x22, 24(x5)
+    .cfi_restore 22
+    .word 0x01c2ab83  # lw x23, 28(x5)
+    .cfi_restore 23
+    .word 0x0202ac03  # lw x24, 32(x5)
+    .cfi_restore 24
+    .word 0x0242ac83  # lw x25, 36(x5)
+    .cfi_restore 25
+    # the caller's x2
+    .word 0x03028293  # addi x5, x5, 48
+    .cfi_def_cfa 5, 0
+    # all the room, wiped upward
+    .word 0x00012023  # sw x0, 0(x2)
+    .word 0x00012223  # sw x0, 4(x2)
+    .word 0x00012423  # sw x0, 8(x2)
+    .word 0x00012623  # sw x0, 12(x2)
+    .word 0x00012823  # sw x0, 16(x2)
+    .word 0x00012a23  # sw x0, 20(x2)
+    .word 0x00012c23  # sw x0, 24(x2)
+    .word 0x00012e23  # sw x0, 28(x2)
+    .word 0x02012023  # sw x0, 32(x2)
+    .word 0x02012223  # sw x0, 36(x2)
+    .word 0x02012423  # sw x0, 40(x2)
+    .word 0x02012623  # sw x0, 44(x2)
+    .word 0x03010113  # addi x2, x2, 48
+    .word 0x00012023  # sw x0, 0(x2)
+    .word 0x00012223  # sw x0, 4(x2)
+    .word 0x00012423  # sw x0, 8(x2)
+    .word 0x00012623  # sw x0, 12(x2)
+    .word 0x00012823  # sw x0, 16(x2)
+    .word 0x00012a23  # sw x0, 20(x2)
+    .word 0x00012c23  # sw x0, 24(x2)
+    .word 0x00012e23  # sw x0, 28(x2)
+    .word 0x02012023  # sw x0, 32(x2)
+    .word 0x02012223  # sw x0, 36(x2)
+    .word 0x02012423  # sw x0, 40(x2)
+    .word 0x02012623  # sw x0, 44(x2)
+    .word 0x02012823  # sw x0, 48(x2)
+    .word 0x02012a23  # sw x0, 52(x2)
+    .word 0x02012c23  # sw x0, 56(x2)
+    .word 0x02012e23  # sw x0, 60(x2)
+    .word 0x04010113  # addi x2, x2, 64
+    .word 0xfa511ee3  # bne x2, x5, -68
+    .cfi_def_cfa 2, 0
+    # temporaries, wiped
+    .word 0x00000293  # addi x5, x0, 0
+    .word 0x00000313  # addi x6, x0, 0
+    .word 0x00000393  # addi x7, x0, 0
+    .word 0x00000593  # addi x11, x0, 0
+    .word 0x00000613  # addi x12, x0, 0
+    .word 0x00000693  # addi x13, x0, 0
+    .word 0x00000713  # addi x14, x0, 0
+    .word 0x00000793  # addi x15, x0, 0
+    .word 0x00000813  # addi x16, x0, 0
+    .word 0x00000893  # addi x17, x0, 0
+    .word 0x00000e13  # addi x28, x0, 0
+    .word 0x00000e93  # addi x29, x0, 0
+    .word 0x00000f13  # addi x30, x0, 0
+    .word 0x00000f93  # addi x31, x0, 0
+    # back
+    .word 0x00008067  # jalr x0, 0(x1)
+    .cfi_endproc
+    .size ascon_permute, . - ascon_permute
+    .option pop

@@ -1,0 +1,256 @@
+# base64_encode: made by factc function; 221 words, 160 bytes of stack, profile 1
+    .option push
+    .option norvc
+    .option norelax
+    .cfi_sections .debug_frame
+    .section .text.base64_encode, "ax", @progbits
+    .p2align 2
+    .globl base64_encode
+    .type base64_encode, @function
+base64_encode:
+    .cfi_startproc
+    # room above the frame
+    .word 0xff010113  # addi x2, x2, -16
+    .cfi_def_cfa_offset 16
+    # the caller's registers
+    .word 0x00912023  # sw x9, 0(x2)
+    .cfi_offset 9, -16
+    # arguments that are needed behind the body
+    .word 0x00a12223  # sw x10, 4(x2)
+    .word 0x00b12423  # sw x11, 8(x2)
+    .word 0x00c12623  # sw x12, 12(x2)
+    # the frame's base
+    .word 0xf7010113  # addi x2, x2, -144
+    .cfi_def_cfa 2, 160
+    # parameter 0: an array
+    .word 0x00050293  # addi x5, x10, 0
+    .word 0x00010313  # addi x6, x2, 0
+    .word 0x0032fe13  # andi x28, x5, 3
+    .word 0x020e0e63  # beq x28, x0, 60
+    .word 0x03000393  # addi x7, x0, 48
+    .word 0x005383b3  # add x7, x7, x5
+    .word 0x0002ce03  # lbu x28, 0(x5)
+    .word 0x01c30023  # sb x28, 0(x6)
+    .word 0x0012ce03  # lbu x28, 1(x5)
+    .word 0x01c300a3  # sb x28, 1(x6)
+    .word 0x0022ce03  # lbu x28, 2(x5)
+    .word 0x01c30123  # sb x28, 2(x6)
+    .word 0x0032ce03  # lbu x28, 3(x5)
+    .word 0x01c301a3  # sb x28, 3(x6)
+    .word 0x00428293  # addi x5, x5, 4
+    .word 0x00430313  # addi x6, x6, 4
+    .word 0xfc729ce3  # bne x5, x7, -40
+    .word 0x0640006f  # jal x0, 100
+    .word 0x0002ae03  # lw x28, 0(x5)
+    .word 0x01c32023  # sw x28, 0(x6)
+    .word 0x0042ae03  # lw x28, 4(x5)
+    .word 0x01c32223  # sw x28, 4(x6)
+    .word 0x0082ae03  # lw x28, 8(x5)
+    .word 0x01c32423  # sw x28, 8(x6)
+    .word 0x00c2ae03  # lw x28, 12(x5)
+    .word 0x01c32623  # sw x28, 12(x6)
+    .word 0x0102ae03  # lw x28, 16(x5)
+    .word 0x01c32823  # sw x28, 16(x6)
+    .word 0x0142ae03  # lw x28, 20(x5)
+    .word 0x01c32a23  # sw x28, 20(x6)
+    .word 0x0182ae03  # lw x28, 24(x5)
+    .word 0x01c32c23  # sw x28, 24(x6)
+    .word 0x01c2ae03  # lw x28, 28(x5)
+    .word 0x01c32e23  # sw x28, 28(x6)
+    .word 0x0202ae03  # lw x28, 32(x5)
+    .word 0x03c32023  # sw x28, 32(x6)
+    .word 0x0242ae03  # lw x28, 36(x5)
+    .word 0x03c32223  # sw x28, 36(x6)
+    .word 0x0282ae03  # lw x28, 40(x5)
+    .word 0x03c32423  # sw x28, 40(x6)
+    .word 0x02c2ae03  # lw x28, 44(x5)
+    .word 0x03c32623  # sw x28, 44(x6)
+    # parameter 1: a word
+    .word 0x02b12823  # sw x11, 48(x2)
+    # the body
+    .word 0x03012483  # lw x9, 48(x2)
+    .word 0x00000513  # addi x10, x0, 0
+    .word 0x00000593  # addi x11, x0, 0
+    .word 0x00000613  # addi x12, x0, 0
+    .word 0x00000693  # addi x13, x0, 0
+    .word 0x00000713  # addi x14, x0, 0
+    .word 0x00000793  # addi x15, x0, 0
+    .word 0x00000513  # addi x10, x0, 0
+    .word 0x00000593  # addi x11, x0, 0
+    .word 0x00000613  # addi x12, x0, 0
+    .word 0x00859593  # slli x11, x11, 8
+    .word 0x00300293  # addi x5, x0, 3
+    .word 0x02a282b3  # mul x5, x5, x10
+    .word 0x00c282b3  # add x5, x5, x12
+    .word 0x0092fe63  # bgeu x5, x9, 28
+    .word 0x00300313  # addi x6, x0, 3
+    .word 0x02a30333  # mul x6, x6, x10
+    .word 0x00c30333  # add x6, x6, x12
+    .word 0x00230333  # add x6, x6, x2
+    .word 0x00034303  # lbu x6, 0(x6)
+    .word 0x0065e5b3  # or x11, x11, x6
+    .word 0x00160613  # addi x12, x12, 1
+    .word 0x00363293  # sltiu x5, x12, 3
+    .word 0xfc0296e3  # bne x5, x0, -52
+    .word 0xfff60613  # addi x12, x12, -1
+    .word 0x00000693  # addi x13, x0, 0
+    .word 0x01200313  # addi x6, x0, 18
+    .word 0x00600393  # addi x7, x0, 6
+    .word 0x02d383b3  # mul x7, x7, x13
+    .word 0x40730333  # sub x6, x6, x7
+    .word 0x0065d2b3  # srl x5, x11, x6
+    .word 0x03f2f293  # andi x5, x5, 63
+    .word 0x0ff2f713  # andi x14, x5, 255
+    .word 0x04170793  # addi x15, x14, 65
+    .word 0x0ff7f793  # andi x15, x15, 255
+    .word 0x01a73293  # sltiu x5, x14, 26
+    .word 0x04770393  # addi x7, x14, 71
+    .word 0x0ff3f393  # andi x7, x7, 255
+    .word 0x405002b3  # sub x5, x0, x5
+    .word 0x0077c333  # xor x6, x15, x7
+    .word 0x00537333  # and x6, x6, x5
+    .word 0x0063c7b3  # xor x15, x7, x6
+    .word 0x03473293  # sltiu x5, x14, 52
+    .word 0xffc70393  # addi x7, x14, -4
+    .word 0x0ff3f393  # andi x7, x7, 255
+    .word 0x405002b3  # sub x5, x0, x5
+    .word 0x0077c333  # xor x6, x15, x7
+    .word 0x00537333  # and x6, x6, x5
+    .word 0x0063c7b3  # xor x15, x7, x6
+    .word 0xfc270293  # addi x5, x14, -62
+    .word 0x005032b3  # sltu x5, x0, x5
+    .word 0x02b00313  # addi x6, x0, 43
+    .word 0xfff28293  # addi x5, x5, -1
+    .word 0x00f34333  # xor x6, x6, x15
+    .word 0x00537333  # and x6, x6, x5
+    .word 0x0067c7b3  # xor x15, x15, x6
+    .word 0xfc170293  # addi x5, x14, -63
+    .word 0x005032b3  # sltu x5, x0, x5
+    .word 0x02f00313  # addi x6, x0, 47
+    .word 0xfff28293  # addi x5, x5, -1
+    .word 0x00f34333  # xor x6, x6, x15
+    .word 0x00537333  # and x6, x6, x5
+    .word 0x0067c733  # xor x14, x15, x6
+    .word 0x00d032b3  # sltu x5, x0, x13
+    .word 0x00300393  # addi x7, x0, 3
+    .word 0x02a383b3  # mul x7, x7, x10
+    .word 0x00d383b3  # add x7, x7, x13
+    .word 0x0074b333  # sltu x6, x9, x7
+    .word 0x0062f2b3  # and x5, x5, x6
+    .word 0x00028463  # beq x5, x0, 8
+    .word 0x03d00713  # addi x14, x0, 61
+    .word 0x00300313  # addi x6, x0, 3
+    .word 0x02a30333  # mul x6, x6, x10
+    .word 0x00936463  # bltu x6, x9, 8
+    .word 0x00000713  # addi x14, x0, 0
+    .word 0x00251293  # slli x5, x10, 2
+    .word 0x00d282b3  # add x5, x5, x13
+    .word 0x002282b3  # add x5, x5, x2
+    .word 0x02e28a23  # sb x14, 52(x5)
+    .word 0x00168693  # addi x13, x13, 1
+    .word 0x0046b293  # sltiu x5, x13, 4
+    .word 0xf20292e3  # bne x5, x0, -220
+    .word 0xfff68693  # addi x13, x13, -1
+    .word 0x00150513  # addi x10, x10, 1
+    .word 0x01053293  # sltiu x5, x10, 16
+    .word 0xec0296e3  # bne x5, x0, -308
+    .word 0xfff50513  # addi x10, x10, -1
+    # the result
+    .word 0x00000513  # addi x10, x0, 0
+    # parameter 2: the array, back
+    .word 0x09c12283  # lw x5, 156(x2)
+    .word 0x03410313  # addi x6, x2, 52
+    .word 0x0032fe13  # andi x28, x5, 3
+    .word 0x020e0e63  # beq x28, x0, 60
+    .word 0x04000393  # addi x7, x0, 64
+    .word 0x005383b3  # add x7, x7, x5
+    .word 0x00034e03  # lbu x28, 0(x6)
+    .word 0x01c28023  # sb x28, 0(x5)
+    .word 0x00134e03  # lbu x28, 1(x6)
+    .word 0x01c280a3  # sb x28, 1(x5)
+    .word 0x00234e03  # lbu x28, 2(x6)
+    .word 0x01c28123  # sb x28, 2(x5)
+    .word 0x00334e03  # lbu x28, 3(x6)
+    .word 0x01c281a3  # sb x28, 3(x5)
+    .word 0x00428293  # addi x5, x5, 4
+    .word 0x00430313  # addi x6, x6, 4
+    .word 0xfc729ce3  # bne x5, x7, -40
+    .word 0x0580006f  # jal x0, 88
+    .word 0x04000393  # addi x7, x0, 64
+    .word 0x005383b3  # add x7, x7, x5
+    .word 0x00032e03  # lw x28, 0(x6)
+    .word 0x01c2a023  # sw x28, 0(x5)
+    .word 0x00432e03  # lw x28, 4(x6)
+    .word 0x01c2a223  # sw x28, 4(x5)
+    .word 0x00832e03  # lw x28, 8(x6)
+    .word 0x01c2a423  # sw x28, 8(x5)
+    .word 0x00c32e03  # lw x28, 12(x6)
+    .word 0x01c2a623  # sw x28, 12(x5)
+    .word 0x01032e03  # lw x28, 16(x6)
+    .word 0x01c2a823  # sw x28, 16(x5)
+    .word 0x01432e03  # lw x28, 20(x6)
+    .word 0x01c2aa23  # sw x28, 20(x5)
+    .word 0x01832e03  # lw x28, 24(x6)
+    .word 0x01c2ac23  # sw x28, 24(x5)
+    .word 0x01c32e03  # lw x28, 28(x6)
+    .word 0x01c2ae23  # sw x28, 28(x5)
+    .word 0x02028293  # addi x5, x5, 32
+    .word 0x02030313  # addi x6, x6, 32
+    .word 0xfa729ce3  # bne x5, x7, -72
+    # above the frame
+    .word 0x09010293  # addi x5, x2, 144
+    # the caller's registers
+    .word 0x0002a483  # lw x9, 0(x5)
+    .cfi_restore 9
+    # the caller's x2
+    .word 0x01028293  # addi x5, x5, 16
+    .cfi_def_cfa 5, 0
+    # all the room, wiped upward
+    .word 0x00012023  # sw x0, 0(x2)
+    .word 0x00012223  # sw x0, 4(x2)
+    .word 0x00012423  # sw x0, 8(x2)
+    .word 0x00012623  # sw x0, 12(x2)
+    .word 0x00012823  # sw x0, 16(x2)
+    .word 0x00012a23  # sw x0, 20(x2)
+    .word 0x00012c23  # sw x0, 24(x2)
+    .word 0x00012e23  # sw x0, 28(x2)
+    .word 0x02010113  # addi x2, x2, 32
+    .word 0x00012023  # sw x0, 0(x2)
+    .word 0x00012223  # sw x0, 4(x2)
+    .word 0x00012423  # sw x0, 8(x2)
+    .word 0x00012623  # sw x0, 12(x2)
+    .word 0x00012823  # sw x0, 16(x2)
+    .word 0x00012a23  # sw x0, 20(x2)
+    .word 0x00012c23  # sw x0, 24(x2)
+    .word 0x00012e23  # sw x0, 28(x2)
+    .word 0x02012023  # sw x0, 32(x2)
+    .word 0x02012223  # sw x0, 36(x2)
+    .word 0x02012423  # sw x0, 40(x2)
+    .word 0x02012623  # sw x0, 44(x2)
+    .word 0x02012823  # sw x0, 48(x2)
+    .word 0x02012a23  # sw x0, 52(x2)
+    .word 0x02012c23  # sw x0, 56(x2)
+    .word 0x02012e23  # sw x0, 60(x2)
+    .word 0x04010113  # addi x2, x2, 64
+    .word 0xfa511ee3  # bne x2, x5, -68
+    .cfi_def_cfa 2, 0
+    # temporaries, wiped
+    .word 0x00000293  # addi x5, x0, 0
+    .word 0x00000313  # addi x6, x0, 0
+    .word 0x00000393  # addi x7, x0, 0
+    .word 0x00000593  # addi x11, x0, 0
+    .word 0x00000613  # addi x12, x0, 0
+    .word 0x00000693  # addi x13, x0, 0
+    .word 0x00000713  # addi x14, x0, 0
+    .word 0x00000793  # addi x15, x0, 0
+    .word 0x00000813  # addi x16, x0, 0
+    .word 0x00000893  # addi x17, x0, 0
+    .word 0x00000e13  # addi x28, x0, 0
+    .word 0x00000e93  # addi x29, x0, 0
+    .word 0x00000f13  # addi x30, x0, 0
+    .word 0x00000f93  # addi x31, x0, 0
+    # back
+    .word 0x00008067  # jalr x0, 0(x1)
+    .cfi_endproc
+    .size base64_encode, . - base64_encode
+    .option pop

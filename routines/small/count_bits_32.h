@@ -1,0 +1,18 @@
+/* count_bits_32: made by factc function.
+   Arrays are aligned by their elements, lie outside the stack below the caller, and no two that are not const overlap.
+   For an observer of profile 1: neither the instructions that it executes, nor the addresses of its loads and stores,
+   nor the operands of its divisions depend on secret arguments. Nothing is proved of time. */
+#ifndef FACT_count_bits_32_H
+#define FACT_count_bits_32_H
+#include <stdbool.h>
+#include <stdint.h>
+#define count_bits_32_STACK_BYTES 32
+#ifdef __cplusplus
+extern "C" {
+#endif
+uint32_t /* secret */ count_bits_32(
+    uint32_t x /* secret */);
+#ifdef __cplusplus
+}
+#endif
+#endif

@@ -1,0 +1,20 @@
+/* divide_32: made by factc function.
+   Arrays are aligned by their elements, lie outside the stack below the caller, and no two that are not const overlap.
+   For an observer of profile 1: neither the instructions that it executes, nor the addresses of its loads and stores,
+   nor the operands of its divisions depend on secret arguments. Nothing is proved of time. */
+#ifndef FACT_divide_32_H
+#define FACT_divide_32_H
+#include <stdbool.h>
+#include <stdint.h>
+#define divide_32_STACK_BYTES 80
+#ifdef __cplusplus
+extern "C" {
+#endif
+void divide_32(
+    uint32_t dividend /* secret */,
+    uint32_t divisor /* secret */,
+    uint32_t result[2] /* secret */);
+#ifdef __cplusplus
+}
+#endif
+#endif

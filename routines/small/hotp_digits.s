@@ -1,0 +1,148 @@
+# hotp_digits: made by factc function; 115 words, 48 bytes of stack, profile 1
+    .option push
+    .option norvc
+    .option norelax
+    .cfi_sections .debug_frame
+    .section .text.hotp_digits, "ax", @progbits
+    .p2align 2
+    .globl hotp_digits
+    .type hotp_digits, @function
+hotp_digits:
+    .cfi_startproc
+    # room above the frame
+    .word 0xff010113  # addi x2, x2, -16
+    .cfi_def_cfa_offset 16
+    # the caller's registers
+    .word 0x00912023  # sw x9, 0(x2)
+    .cfi_offset 9, -16
+    # arguments that are needed behind the body
+    # the frame's base
+    .word 0xfe010113  # addi x2, x2, -32
+    .cfi_def_cfa 2, 48
+    # parameter 0: an array
+    .word 0x00050293  # addi x5, x10, 0
+    .word 0x00010313  # addi x6, x2, 0
+    .word 0x0032fe13  # andi x28, x5, 3
+    .word 0x020e0e63  # beq x28, x0, 60
+    .word 0x01400393  # addi x7, x0, 20
+    .word 0x005383b3  # add x7, x7, x5
+    .word 0x0002ce03  # lbu x28, 0(x5)
+    .word 0x01c30023  # sb x28, 0(x6)
+    .word 0x0012ce03  # lbu x28, 1(x5)
+    .word 0x01c300a3  # sb x28, 1(x6)
+    .word 0x0022ce03  # lbu x28, 2(x5)
+    .word 0x01c30123  # sb x28, 2(x6)
+    .word 0x0032ce03  # lbu x28, 3(x5)
+    .word 0x01c301a3  # sb x28, 3(x6)
+    .word 0x00428293  # addi x5, x5, 4
+    .word 0x00430313  # addi x6, x6, 4
+    .word 0xfc729ce3  # bne x5, x7, -40
+    .word 0x02c0006f  # jal x0, 44
+    .word 0x0002ae03  # lw x28, 0(x5)
+    .word 0x01c32023  # sw x28, 0(x6)
+    .word 0x0042ae03  # lw x28, 4(x5)
+    .word 0x01c32223  # sw x28, 4(x6)
+    .word 0x0082ae03  # lw x28, 8(x5)
+    .word 0x01c32423  # sw x28, 8(x6)
+    .word 0x00c2ae03  # lw x28, 12(x5)
+    .word 0x01c32623  # sw x28, 12(x6)
+    .word 0x0102ae03  # lw x28, 16(x5)
+    .word 0x01c32823  # sw x28, 16(x6)
+    # the body
+    .word 0x00000593  # addi x11, x0, 0
+    .word 0x00000613  # addi x12, x0, 0
+    .word 0x00000693  # addi x13, x0, 0
+    .word 0x00000713  # addi x14, x0, 0
+    .word 0x01314283  # lbu x5, 19(x2)
+    .word 0x00f2f493  # andi x9, x5, 15
+    .word 0x00000513  # addi x10, x0, 0
+    .word 0x00000593  # addi x11, x0, 0
+    .word 0x002582b3  # add x5, x11, x2
+    .word 0x0002c283  # lbu x5, 0(x5)
+    .word 0x01829293  # slli x5, x5, 24
+    .word 0x00158313  # addi x6, x11, 1
+    .word 0x00230333  # add x6, x6, x2
+    .word 0x00034303  # lbu x6, 0(x6)
+    .word 0x01031313  # slli x6, x6, 16
+    .word 0x0062e633  # or x12, x5, x6
+    .word 0x00258313  # addi x6, x11, 2
+    .word 0x00230333  # add x6, x6, x2
+    .word 0x00034303  # lbu x6, 0(x6)
+    .word 0x00831313  # slli x6, x6, 8
+    .word 0x006662b3  # or x5, x12, x6
+    .word 0x00358313  # addi x6, x11, 3
+    .word 0x00230333  # add x6, x6, x2
+    .word 0x00034303  # lbu x6, 0(x6)
+    .word 0x0062e633  # or x12, x5, x6
+    .word 0x40b482b3  # sub x5, x9, x11
+    .word 0x005032b3  # sltu x5, x0, x5
+    .word 0x00161313  # slli x6, x12, 1
+    .word 0x00135313  # srli x6, x6, 1
+    .word 0xfff28293  # addi x5, x5, -1
+    .word 0x00a34333  # xor x6, x6, x10
+    .word 0x00537333  # and x6, x6, x5
+    .word 0x00654533  # xor x10, x10, x6
+    .word 0x00158593  # addi x11, x11, 1
+    .word 0x0105b293  # sltiu x5, x11, 16
+    .word 0xf8029ae3  # bne x5, x0, -108
+    .word 0xfff58593  # addi x11, x11, -1
+    .word 0x00000693  # addi x13, x0, 0
+    .word 0x000f42b7  # lui x5, 0x000f4
+    .word 0x24028293  # addi x5, x5, 576
+    .word 0x00b00313  # addi x6, x0, 11
+    .word 0x40d30333  # sub x6, x6, x13
+    .word 0x00629733  # sll x14, x5, x6
+    .word 0x00e53333  # sltu x6, x10, x14
+    .word 0xfff30313  # addi x6, x6, -1
+    .word 0x00677333  # and x6, x14, x6
+    .word 0x40650533  # sub x10, x10, x6
+    .word 0x00168693  # addi x13, x13, 1
+    .word 0x00c6b293  # sltiu x5, x13, 12
+    .word 0xfc029ae3  # bne x5, x0, -44
+    .word 0xfff68693  # addi x13, x13, -1
+    .word 0x00a12a23  # sw x10, 20(x2)
+    # the result
+    .word 0x01412503  # lw x10, 20(x2)
+    # above the frame
+    .word 0x02010293  # addi x5, x2, 32
+    # the caller's registers
+    .word 0x0002a483  # lw x9, 0(x5)
+    .cfi_restore 9
+    # the caller's x2
+    .word 0x01028293  # addi x5, x5, 16
+    .cfi_def_cfa 5, 0
+    # all the room, wiped upward
+    .word 0x00012023  # sw x0, 0(x2)
+    .word 0x00012223  # sw x0, 4(x2)
+    .word 0x00012423  # sw x0, 8(x2)
+    .word 0x00012623  # sw x0, 12(x2)
+    .word 0x00012823  # sw x0, 16(x2)
+    .word 0x00012a23  # sw x0, 20(x2)
+    .word 0x00012c23  # sw x0, 24(x2)
+    .word 0x00012e23  # sw x0, 28(x2)
+    .word 0x02012023  # sw x0, 32(x2)
+    .word 0x02012223  # sw x0, 36(x2)
+    .word 0x02012423  # sw x0, 40(x2)
+    .word 0x02012623  # sw x0, 44(x2)
+    .word 0x03010113  # addi x2, x2, 48
+    .cfi_def_cfa 2, 0
+    # temporaries, wiped
+    .word 0x00000293  # addi x5, x0, 0
+    .word 0x00000313  # addi x6, x0, 0
+    .word 0x00000393  # addi x7, x0, 0
+    .word 0x00000593  # addi x11, x0, 0
+    .word 0x00000613  # addi x12, x0, 0
+    .word 0x00000693  # addi x13, x0, 0
+    .word 0x00000713  # addi x14, x0, 0
+    .word 0x00000793  # addi x15, x0, 0
+    .word 0x00000813  # addi x16, x0, 0
+    .word 0x00000893  # addi x17, x0, 0
+    .word 0x00000e13  # addi x28, x0, 0
+    .word 0x00000e93  # addi x29, x0, 0
+    .word 0x00000f13  # addi x30, x0, 0
+    .word 0x00000f93  # addi x31, x0, 0
+    # back
+    .word 0x00008067  # jalr x0, 0(x1)
+    .cfi_endproc
+    .size hotp_digits, . - hotp_digits
+    .option pop

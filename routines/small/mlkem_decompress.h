@@ -1,0 +1,19 @@
+/* mlkem_decompress: made by factc function.
+   Arrays are aligned by their elements, lie outside the stack below the caller, and no two that are not const overlap.
+   For an observer of profile 1: neither the instructions that it executes, nor the addresses of its loads and stores,
+   nor the operands of its divisions depend on secret arguments. Nothing is proved of time. */
+#ifndef FACT_mlkem_decompress_H
+#define FACT_mlkem_decompress_H
+#include <stdbool.h>
+#include <stdint.h>
+#define mlkem_decompress_STACK_BYTES 544
+#ifdef __cplusplus
+extern "C" {
+#endif
+void mlkem_decompress(
+    uint16_t f[256] /* secret */,
+    uint32_t d /* public */);
+#ifdef __cplusplus
+}
+#endif
+#endif

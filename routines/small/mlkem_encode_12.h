@@ -1,0 +1,19 @@
+/* mlkem_encode_12: made by factc function.
+   Arrays are aligned by their elements, lie outside the stack below the caller, and no two that are not const overlap.
+   For an observer of profile 1: neither the instructions that it executes, nor the addresses of its loads and stores,
+   nor the operands of its divisions depend on secret arguments. Nothing is proved of time. */
+#ifndef FACT_mlkem_encode_12_H
+#define FACT_mlkem_encode_12_H
+#include <stdbool.h>
+#include <stdint.h>
+#define mlkem_encode_12_STACK_BYTES 928
+#ifdef __cplusplus
+extern "C" {
+#endif
+void mlkem_encode_12(
+    const uint16_t f[256] /* secret */,
+    uint8_t bytes[384] /* secret */);
+#ifdef __cplusplus
+}
+#endif
+#endif

@@ -1,0 +1,18 @@
+/* mlkem_inverse_ntt: made by factc function.
+   Arrays are aligned by their elements, lie outside the stack below the caller, and no two that are not const overlap.
+   For an observer of profile 1: neither the instructions that it executes, nor the addresses of its loads and stores,
+   nor the operands of its divisions depend on secret arguments. Nothing is proved of time. */
+#ifndef FACT_mlkem_inverse_ntt_H
+#define FACT_mlkem_inverse_ntt_H
+#include <stdbool.h>
+#include <stdint.h>
+#define mlkem_inverse_ntt_STACK_BYTES 1136
+#ifdef __cplusplus
+extern "C" {
+#endif
+void mlkem_inverse_ntt(
+    uint16_t f[256] /* secret */);
+#ifdef __cplusplus
+}
+#endif
+#endif

@@ -1,0 +1,471 @@
+# mlkem_multiply_ntts: made by factc function; 431 words, 1856 bytes of stack, profile 1
+    .option push
+    .option norvc
+    .option norelax
+    .cfi_sections .debug_frame
+    .section .text.mlkem_multiply_ntts, "ax", @progbits
+    .p2align 2
+    .globl mlkem_multiply_ntts
+    .type mlkem_multiply_ntts, @function
+mlkem_multiply_ntts:
+    .cfi_startproc
+    # room above the frame
+    .word 0xfe010113  # addi x2, x2, -32
+    .cfi_def_cfa_offset 32
+    # the caller's registers
+    .word 0x00812023  # sw x8, 0(x2)
+    .cfi_offset 8, -32
+    .word 0x00912223  # sw x9, 4(x2)
+    .cfi_offset 9, -28
+    .word 0x01212423  # sw x18, 8(x2)
+    .cfi_offset 18, -24
+    # arguments that are needed behind the body
+    .word 0x00a12a23  # sw x10, 20(x2)
+    .word 0x00b12c23  # sw x11, 24(x2)
+    .word 0x00c12e23  # sw x12, 28(x2)
+    # the frame's base
+    .word 0x8e010113  # addi x2, x2, -1824
+    .cfi_def_cfa 2, 1856
+    # parameter 0: an array
+    .word 0x00050293  # addi x5, x10, 0
+    .word 0x00010313  # addi x6, x2, 0
+    .word 0x0032fe13  # andi x28, x5, 3
+    .word 0x020e0e63  # beq x28, x0, 60
+    .word 0x20000393  # addi x7, x0, 512
+    .word 0x005383b3  # add x7, x7, x5
+    .word 0x0002de03  # lhu x28, 0(x5)
+    .word 0x01c31023  # sh x28, 0(x6)
+    .word 0x0022de03  # lhu x28, 2(x5)
+    .word 0x01c31123  # sh x28, 2(x6)
+    .word 0x0042de03  # lhu x28, 4(x5)
+    .word 0x01c31223  # sh x28, 4(x6)
+    .word 0x0062de03  # lhu x28, 6(x5)
+    .word 0x01c31323  # sh x28, 6(x6)
+    .word 0x00828293  # addi x5, x5, 8
+    .word 0x00830313  # addi x6, x6, 8
+    .word 0xfc729ce3  # bne x5, x7, -40
+    .word 0x0580006f  # jal x0, 88
+    .word 0x20000393  # addi x7, x0, 512
+    .word 0x005383b3  # add x7, x7, x5
+    .word 0x0002ae03  # lw x28, 0(x5)
+    .word 0x01c32023  # sw x28, 0(x6)
+    .word 0x0042ae03  # lw x28, 4(x5)
+    .word 0x01c32223  # sw x28, 4(x6)
+    .word 0x0082ae03  # lw x28, 8(x5)
+    .word 0x01c32423  # sw x28, 8(x6)
+    .word 0x00c2ae03  # lw x28, 12(x5)
+    .word 0x01c32623  # sw x28, 12(x6)
+    .word 0x0102ae03  # lw x28, 16(x5)
+    .word 0x01c32823  # sw x28, 16(x6)
+    .word 0x0142ae03  # lw x28, 20(x5)
+    .word 0x01c32a23  # sw x28, 20(x6)
+    .word 0x0182ae03  # lw x28, 24(x5)
+    .word 0x01c32c23  # sw x28, 24(x6)
+    .word 0x01c2ae03  # lw x28, 28(x5)
+    .word 0x01c32e23  # sw x28, 28(x6)
+    .word 0x02028293  # addi x5, x5, 32
+    .word 0x02030313  # addi x6, x6, 32
+    .word 0xfa729ce3  # bne x5, x7, -72
+    # parameter 1: an array
+    .word 0x00058293  # addi x5, x11, 0
+    .word 0x20010313  # addi x6, x2, 512
+    .word 0x0032fe13  # andi x28, x5, 3
+    .word 0x020e0e63  # beq x28, x0, 60
+    .word 0x20000393  # addi x7, x0, 512
+    .word 0x005383b3  # add x7, x7, x5
+    .word 0x0002de03  # lhu x28, 0(x5)
+    .word 0x01c31023  # sh x28, 0(x6)
+    .word 0x0022de03  # lhu x28, 2(x5)
+    .word 0x01c31123  # sh x28, 2(x6)
+    .word 0x0042de03  # lhu x28, 4(x5)
+    .word 0x01c31223  # sh x28, 4(x6)
+    .word 0x0062de03  # lhu x28, 6(x5)
+    .word 0x01c31323  # sh x28, 6(x6)
+    .word 0x00828293  # addi x5, x5, 8
+    .word 0x00830313  # addi x6, x6, 8
+    .word 0xfc729ce3  # bne x5, x7, -40
+    .word 0x0580006f  # jal x0, 88
+    .word 0x20000393  # addi x7, x0, 512
+    .word 0x005383b3  # add x7, x7, x5
+    .word 0x0002ae03  # lw x28, 0(x5)
+    .word 0x01c32023  # sw x28, 0(x6)
+    .word 0x0042ae03  # lw x28, 4(x5)
+    .word 0x01c32223  # sw x28, 4(x6)
+    .word 0x0082ae03  # lw x28, 8(x5)
+    .word 0x01c32423  # sw x28, 8(x6)
+    .word 0x00c2ae03  # lw x28, 12(x5)
+    .word 0x01c32623  # sw x28, 12(x6)
+    .word 0x0102ae03  # lw x28, 16(x5)
+    .word 0x01c32823  # sw x28, 16(x6)
+    .word 0x0142ae03  # lw x28, 20(x5)
+    .word 0x01c32a23  # sw x28, 20(x6)
+    .word 0x0182ae03  # lw x28, 24(x5)
+    .word 0x01c32c23  # sw x28, 24(x6)
+    .word 0x01c2ae03  # lw x28, 28(x5)
+    .word 0x01c32e23  # sw x28, 28(x6)
+    .word 0x02028293  # addi x5, x5, 32
+    .word 0x02030313  # addi x6, x6, 32
+    .word 0xfa729ce3  # bne x5, x7, -72
+    # parameter 2: an array
+    .word 0x00060293  # addi x5, x12, 0
+    .word 0x40010313  # addi x6, x2, 1024
+    .word 0x0032fe13  # andi x28, x5, 3
+    .word 0x020e0e63  # beq x28, x0, 60
+    .word 0x20000393  # addi x7, x0, 512
+    .word 0x005383b3  # add x7, x7, x5
+    .word 0x0002de03  # lhu x28, 0(x5)
+    .word 0x01c31023  # sh x28, 0(x6)
+    .word 0x0022de03  # lhu x28, 2(x5)
+    .word 0x01c31123  # sh x28, 2(x6)
+    .word 0x0042de03  # lhu x28, 4(x5)
+    .word 0x01c31223  # sh x28, 4(x6)
+    .word 0x0062de03  # lhu x28, 6(x5)
+    .word 0x01c31323  # sh x28, 6(x6)
+    .word 0x00828293  # addi x5, x5, 8
+    .word 0x00830313  # addi x6, x6, 8
+    .word 0xfc729ce3  # bne x5, x7, -40
+    .word 0x0580006f  # jal x0, 88
+    .word 0x20000393  # addi x7, x0, 512
+    .word 0x005383b3  # add x7, x7, x5
+    .word 0x0002ae03  # lw x28, 0(x5)
+    .word 0x01c32023  # sw x28, 0(x6)
+    .word 0x0042ae03  # lw x28, 4(x5)
+    .word 0x01c32223  # sw x28, 4(x6)
+    .word 0x0082ae03  # lw x28, 8(x5)
+    .word 0x01c32423  # sw x28, 8(x6)
+    .word 0x00c2ae03  # lw x28, 12(x5)
+    .word 0x01c32623  # sw x28, 12(x6)
+    .word 0x0102ae03  # lw x28, 16(x5)
+    .word 0x01c32823  # sw x28, 16(x6)
+    .word 0x0142ae03  # lw x28, 20(x5)
+    .word 0x01c32a23  # sw x28, 20(x6)
+    .word 0x0182ae03  # lw x28, 24(x5)
+    .word 0x01c32c23  # sw x28, 24(x6)
+    .word 0x01c2ae03  # lw x28, 28(x5)
+    .word 0x01c32e23  # sw x28, 28(x6)
+    .word 0x02028293  # addi x5, x5, 32
+    .word 0x02030313  # addi x6, x6, 32
+    .word 0xfa729ce3  # bne x5, x7, -72
+    # the body
+    .word 0x00000413  # addi x8, x0, 0
+    .word 0x00000493  # addi x9, x0, 0
+    .word 0x00000513  # addi x10, x0, 0
+    .word 0x00000593  # addi x11, x0, 0
+    .word 0x00000613  # addi x12, x0, 0
+    .word 0x00000693  # addi x13, x0, 0
+    .word 0x00000713  # addi x14, x0, 0
+    .word 0x00000793  # addi x15, x0, 0
+    .word 0x00000813  # addi x16, x0, 0
+    .word 0x9d7dc8b7  # lui x17, 0x9d7dc
+    .word 0xb4188893  # addi x17, x17, -1215
+    .word 0x00001937  # lui x18, 0x00001
+    .word 0xd0190913  # addi x18, x18, -767
+    .word 0x01100293  # addi x5, x0, 17
+    .word 0x60512023  # sw x5, 1536(x2)
+    .word 0x000012b7  # lui x5, 0x00001
+    .word 0xac928293  # addi x5, x5, -1335
+    .word 0x60512223  # sw x5, 1540(x2)
+    .word 0x24700293  # addi x5, x0, 583
+    .word 0x60512423  # sw x5, 1544(x2)
+    .word 0x000012b7  # lui x5, 0x00001
+    .word 0xa5928293  # addi x5, x5, -1447
+    .word 0x60512623  # sw x5, 1548(x2)
+    .word 0x66500293  # addi x5, x0, 1637
+    .word 0x60512823  # sw x5, 1552(x2)
+    .word 0x2d300293  # addi x5, x0, 723
+    .word 0x60512a23  # sw x5, 1556(x2)
+    .word 0x000012b7  # lui x5, 0x00001
+    .word 0x8f028293  # addi x5, x5, -1808
+    .word 0x60512c23  # sw x5, 1560(x2)
+    .word 0x44c00293  # addi x5, x0, 1100
+    .word 0x60512e23  # sw x5, 1564(x2)
+    .word 0x58100293  # addi x5, x0, 1409
+    .word 0x62512023  # sw x5, 1568(x2)
+    .word 0x000012b7  # lui x5, 0x00001
+    .word 0xa6628293  # addi x5, x5, -1434
+    .word 0x62512223  # sw x5, 1572(x2)
+    .word 0x000012b7  # lui x5, 0x00001
+    .word 0xcd128293  # addi x5, x5, -815
+    .word 0x62512423  # sw x5, 1576(x2)
+    .word 0x0e900293  # addi x5, x0, 233
+    .word 0x62512623  # sw x5, 1580(x2)
+    .word 0x2f400293  # addi x5, x0, 756
+    .word 0x62512823  # sw x5, 1584(x2)
+    .word 0x000012b7  # lui x5, 0x00001
+    .word 0x86c28293  # addi x5, x5, -1940
+    .word 0x62512a23  # sw x5, 1588(x2)
+    .word 0x000012b7  # lui x5, 0x00001
+    .word 0xbc728293  # addi x5, x5, -1081
+    .word 0x62512c23  # sw x5, 1592(x2)
+    .word 0x000012b7  # lui x5, 0x00001
+    .word 0xbea28293  # addi x5, x5, -1046
+    .word 0x62512e23  # sw x5, 1596(x2)
+    .word 0x6a700293  # addi x5, x0, 1703
+    .word 0x64512023  # sw x5, 1600(x2)
+    .word 0x67300293  # addi x5, x0, 1651
+    .word 0x64512223  # sw x5, 1604(x2)
+    .word 0x000012b7  # lui x5, 0x00001
+    .word 0xae528293  # addi x5, x5, -1307
+    .word 0x64512423  # sw x5, 1608(x2)
+    .word 0x6fd00293  # addi x5, x0, 1789
+    .word 0x64512623  # sw x5, 1612(x2)
+    .word 0x73700293  # addi x5, x0, 1847
+    .word 0x64512823  # sw x5, 1616(x2)
+    .word 0x3b800293  # addi x5, x0, 952
+    .word 0x64512a23  # sw x5, 1620(x2)
+    .word 0x5b500293  # addi x5, x0, 1461
+    .word 0x64512c23  # sw x5, 1624(x2)
+    .word 0x000012b7  # lui x5, 0x00001
+    .word 0xa7f28293  # addi x5, x5, -1409
+    .word 0x64512e23  # sw x5, 1628(x2)
+    .word 0x3ab00293  # addi x5, x0, 939
+    .word 0x66512023  # sw x5, 1632(x2)
+    .word 0x000012b7  # lui x5, 0x00001
+    .word 0x90428293  # addi x5, x5, -1788
+    .word 0x66512223  # sw x5, 1636(x2)
+    .word 0x000012b7  # lui x5, 0x00001
+    .word 0x98528293  # addi x5, x5, -1659
+    .word 0x66512423  # sw x5, 1640(x2)
+    .word 0x000012b7  # lui x5, 0x00001
+    .word 0x95428293  # addi x5, x5, -1708
+    .word 0x66512623  # sw x5, 1644(x2)
+    .word 0x2dd00293  # addi x5, x0, 733
+    .word 0x66512823  # sw x5, 1648(x2)
+    .word 0x000012b7  # lui x5, 0x00001
+    .word 0x92128293  # addi x5, x5, -1759
+    .word 0x66512a23  # sw x5, 1652(x2)
+    .word 0x10c00293  # addi x5, x0, 268
+    .word 0x66512c23  # sw x5, 1656(x2)
+    .word 0x28100293  # addi x5, x0, 641
+    .word 0x66512e23  # sw x5, 1660(x2)
+    .word 0x63000293  # addi x5, x0, 1584
+    .word 0x68512023  # sw x5, 1664(x2)
+    .word 0x000012b7  # lui x5, 0x00001
+    .word 0x8fa28293  # addi x5, x5, -1798
+    .word 0x68512223  # sw x5, 1668(x2)
+    .word 0x7f500293  # addi x5, x0, 2037
+    .word 0x68512423  # sw x5, 1672(x2)
+    .word 0x000012b7  # lui x5, 0x00001
+    .word 0xc9428293  # addi x5, x5, -876
+    .word 0x68512623  # sw x5, 1676(x2)
+    .word 0x17700293  # addi x5, x0, 375
+    .word 0x68512823  # sw x5, 1680(x2)
+    .word 0x000012b7  # lui x5, 0x00001
+    .word 0x9f528293  # addi x5, x5, -1547
+    .word 0x68512a23  # sw x5, 1684(x2)
+    .word 0x000012b7  # lui x5, 0x00001
+    .word 0x82a28293  # addi x5, x5, -2006
+    .word 0x68512c23  # sw x5, 1688(x2)
+    .word 0x66d00293  # addi x5, x0, 1645
+    .word 0x68512e23  # sw x5, 1692(x2)
+    .word 0x42700293  # addi x5, x0, 1063
+    .word 0x6a512023  # sw x5, 1696(x2)
+    .word 0x13f00293  # addi x5, x0, 319
+    .word 0x6a512223  # sw x5, 1700(x2)
+    .word 0x000012b7  # lui x5, 0x00001
+    .word 0xad528293  # addi x5, x5, -1323
+    .word 0x6a512423  # sw x5, 1704(x2)
+    .word 0x2f500293  # addi x5, x0, 757
+    .word 0x6a512623  # sw x5, 1708(x2)
+    .word 0x000012b7  # lui x5, 0x00001
+    .word 0x83328293  # addi x5, x5, -1997
+    .word 0x6a512823  # sw x5, 1712(x2)
+    .word 0x23100293  # addi x5, x0, 561
+    .word 0x6a512a23  # sw x5, 1716(x2)
+    .word 0x000012b7  # lui x5, 0x00001
+    .word 0x9a228293  # addi x5, x5, -1630
+    .word 0x6a512c23  # sw x5, 1720(x2)
+    .word 0x000012b7  # lui x5, 0x00001
+    .word 0xa2228293  # addi x5, x5, -1502
+    .word 0x6a512e23  # sw x5, 1724(x2)
+    .word 0x000012b7  # lui x5, 0x00001
+    .word 0xaf428293  # addi x5, x5, -1292
+    .word 0x6c512023  # sw x5, 1728(x2)
+    .word 0x44400293  # addi x5, x0, 1092
+    .word 0x6c512223  # sw x5, 1732(x2)
+    .word 0x19300293  # addi x5, x0, 403
+    .word 0x6c512423  # sw x5, 1736(x2)
+    .word 0x40200293  # addi x5, x0, 1026
+    .word 0x6c512623  # sw x5, 1740(x2)
+    .word 0x47700293  # addi x5, x0, 1143
+    .word 0x6c512823  # sw x5, 1744(x2)
+    .word 0x000012b7  # lui x5, 0x00001
+    .word 0x86628293  # addi x5, x5, -1946
+    .word 0x6c512a23  # sw x5, 1748(x2)
+    .word 0x000012b7  # lui x5, 0x00001
+    .word 0xad728293  # addi x5, x5, -1321
+    .word 0x6c512c23  # sw x5, 1752(x2)
+    .word 0x37600293  # addi x5, x0, 886
+    .word 0x6c512e23  # sw x5, 1756(x2)
+    .word 0x6ba00293  # addi x5, x0, 1722
+    .word 0x6e512023  # sw x5, 1760(x2)
+    .word 0x4bc00293  # addi x5, x0, 1212
+    .word 0x6e512223  # sw x5, 1764(x2)
+    .word 0x75200293  # addi x5, x0, 1874
+    .word 0x6e512423  # sw x5, 1768(x2)
+    .word 0x40500293  # addi x5, x0, 1029
+    .word 0x6e512623  # sw x5, 1772(x2)
+    .word 0x000012b7  # lui x5, 0x00001
+    .word 0x83e28293  # addi x5, x5, -1986
+    .word 0x6e512823  # sw x5, 1776(x2)
+    .word 0x000012b7  # lui x5, 0x00001
+    .word 0xb7728293  # addi x5, x5, -1161
+    .word 0x6e512a23  # sw x5, 1780(x2)
+    .word 0x37500293  # addi x5, x0, 885
+    .word 0x6e512c23  # sw x5, 1784(x2)
+    .word 0x000012b7  # lui x5, 0x00001
+    .word 0x86a28293  # addi x5, x5, -1942
+    .word 0x6e512e23  # sw x5, 1788(x2)
+    .word 0x00000413  # addi x8, x0, 0
+    .word 0x00000493  # addi x9, x0, 0
+    .word 0x00241293  # slli x5, x8, 2
+    .word 0x00149313  # slli x6, x9, 1
+    .word 0x00628533  # add x10, x5, x6
+    .word 0x00151593  # slli x11, x10, 1
+    .word 0x002585b3  # add x11, x11, x2
+    .word 0x0005d583  # lhu x11, 0(x11)
+    .word 0x00150293  # addi x5, x10, 1
+    .word 0x00129613  # slli x12, x5, 1
+    .word 0x00260633  # add x12, x12, x2
+    .word 0x00065603  # lhu x12, 0(x12)
+    .word 0x00151693  # slli x13, x10, 1
+    .word 0x002686b3  # add x13, x13, x2
+    .word 0x2006d683  # lhu x13, 512(x13)
+    .word 0x00150293  # addi x5, x10, 1
+    .word 0x00129713  # slli x14, x5, 1
+    .word 0x00270733  # add x14, x14, x2
+    .word 0x20075703  # lhu x14, 512(x14)
+    .word 0x02e607b3  # mul x15, x12, x14
+    .word 0x0317b833  # mulhu x16, x15, x17
+    .word 0x00b85313  # srli x6, x16, 11
+    .word 0x03230333  # mul x6, x6, x18
+    .word 0x406787b3  # sub x15, x15, x6
+    .word 0x00100313  # addi x6, x0, 1
+    .word 0x00649463  # bne x9, x6, 8
+    .word 0x40f907b3  # sub x15, x18, x15
+    .word 0x02d582b3  # mul x5, x11, x13
+    .word 0x00241393  # slli x7, x8, 2
+    .word 0x002383b3  # add x7, x7, x2
+    .word 0x6003a383  # lw x7, 1536(x7)
+    .word 0x02778333  # mul x6, x15, x7
+    .word 0x006287b3  # add x15, x5, x6
+    .word 0x0317b833  # mulhu x16, x15, x17
+    .word 0x00b85313  # srli x6, x16, 11
+    .word 0x03230333  # mul x6, x6, x18
+    .word 0x40678833  # sub x16, x15, x6
+    .word 0x02e582b3  # mul x5, x11, x14
+    .word 0x02d60333  # mul x6, x12, x13
+    .word 0x006287b3  # add x15, x5, x6
+    .word 0x0317b5b3  # mulhu x11, x15, x17
+    .word 0x00b5d313  # srli x6, x11, 11
+    .word 0x03230333  # mul x6, x6, x18
+    .word 0x406787b3  # sub x15, x15, x6
+    .word 0x00151293  # slli x5, x10, 1
+    .word 0x002282b3  # add x5, x5, x2
+    .word 0x41029023  # sh x16, 1024(x5)
+    .word 0x00150293  # addi x5, x10, 1
+    .word 0x00129293  # slli x5, x5, 1
+    .word 0x002282b3  # add x5, x5, x2
+    .word 0x40f29023  # sh x15, 1024(x5)
+    .word 0x00148493  # addi x9, x9, 1
+    .word 0x0024b293  # sltiu x5, x9, 2
+    .word 0xf2029ae3  # bne x5, x0, -204
+    .word 0xfff48493  # addi x9, x9, -1
+    .word 0x00140413  # addi x8, x8, 1
+    .word 0x04043293  # sltiu x5, x8, 64
+    .word 0xf20290e3  # bne x5, x0, -224
+    .word 0xfff40413  # addi x8, x8, -1
+    # the result
+    .word 0x00000513  # addi x10, x0, 0
+    # parameter 2: the array, back
+    .word 0x73c12283  # lw x5, 1852(x2)
+    .word 0x40010313  # addi x6, x2, 1024
+    .word 0x0032fe13  # andi x28, x5, 3
+    .word 0x020e0e63  # beq x28, x0, 60
+    .word 0x20000393  # addi x7, x0, 512
+    .word 0x005383b3  # add x7, x7, x5
+    .word 0x00035e03  # lhu x28, 0(x6)
+    .word 0x01c29023  # sh x28, 0(x5)
+    .word 0x00235e03  # lhu x28, 2(x6)
+    .word 0x01c29123  # sh x28, 2(x5)
+    .word 0x00435e03  # lhu x28, 4(x6)
+    .word 0x01c29223  # sh x28, 4(x5)
+    .word 0x00635e03  # lhu x28, 6(x6)
+    .word 0x01c29323  # sh x28, 6(x5)
+    .word 0x00828293  # addi x5, x5, 8
+    .word 0x00830313  # addi x6, x6, 8
+    .word 0xfc729ce3  # bne x5, x7, -40
+    .word 0x0580006f  # jal x0, 88
+    .word 0x20000393  # addi x7, x0, 512
+    .word 0x005383b3  # add x7, x7, x5
+    .word 0x00032e03  # lw x28, 0(x6)
+    .word 0x01c2a023  # sw x28, 0(x5)
+    .word 0x00432e03  # lw x28, 4(x6)
+    .word 0x01c2a223  # sw x28, 4(x5)
+    .word 0x00832e03  # lw x28, 8(x6)
+    .word 0x01c2a423  # sw x28, 8(x5)
+    .word 0x00c32e03  # lw x28, 12(x6)
+    .word 0x01c2a623  # sw x28, 12(x5)
+    .word 0x01032e03  # lw x28, 16(x6)
+    .word 0x01c2a823  # sw x28, 16(x5)
+    .word 0x01432e03  # lw x28, 20(x6)
+    .word 0x01c2aa23  # sw x28, 20(x5)
+    .word 0x01832e03  # lw x28, 24(x6)
+    .word 0x01c2ac23  # sw x28, 24(x5)
+    .word 0x01c32e03  # lw x28, 28(x6)
+    .word 0x01c2ae23  # sw x28, 28(x5)
+    .word 0x02028293  # addi x5, x5, 32
+    .word 0x02030313  # addi x6, x6, 32
+    .word 0xfa729ce3  # bne x5, x7, -72
+    # above the frame
+    .word 0x72010293  # addi x5, x2, 1824
+    # the caller's registers
+    .word 0x0002a403  # lw x8, 0(x5)
+    .cfi_restore 8
+    .word 0x0042a483  # lw x9, 4(x5)
+    .cfi_restore 9
+    .word 0x0082a903  # lw x18, 8(x5)
+    .cfi_restore 18
+    # the caller's x2
+    .word 0x02028293  # addi x5, x5, 32
+    .cfi_def_cfa 5, 0
+    # all the room, wiped upward
+    .word 0x00012023  # sw x0, 0(x2)
+    .word 0x00012223  # sw x0, 4(x2)
+    .word 0x00012423  # sw x0, 8(x2)
+    .word 0x00012623  # sw x0, 12(x2)
+    .word 0x00012823  # sw x0, 16(x2)
+    .word 0x00012a23  # sw x0, 20(x2)
+    .word 0x00012c23  # sw x0, 24(x2)
+    .word 0x00012e23  # sw x0, 28(x2)
+    .word 0x02012023  # sw x0, 32(x2)
+    .word 0x02012223  # sw x0, 36(x2)
+    .word 0x02012423  # sw x0, 40(x2)
+    .word 0x02012623  # sw x0, 44(x2)
+    .word 0x02012823  # sw x0, 48(x2)
+    .word 0x02012a23  # sw x0, 52(x2)
+    .word 0x02012c23  # sw x0, 56(x2)
+    .word 0x02012e23  # sw x0, 60(x2)
+    .word 0x04010113  # addi x2, x2, 64
+    .word 0xfa511ee3  # bne x2, x5, -68
+    .cfi_def_cfa 2, 0
+    # temporaries, wiped
+    .word 0x00000293  # addi x5, x0, 0
+    .word 0x00000313  # addi x6, x0, 0
+    .word 0x00000393  # addi x7, x0, 0
+    .word 0x00000593  # addi x11, x0, 0
+    .word 0x00000613  # addi x12, x0, 0
+    .word 0x00000693  # addi x13, x0, 0
+    .word 0x00000713  # addi x14, x0, 0
+    .word 0x00000793  # addi x15, x0, 0
+    .word 0x00000813  # addi x16, x0, 0
+    .word 0x00000893  # addi x17, x0, 0
+    .word 0x00000e13  # addi x28, x0, 0
+    .word 0x00000e93  # addi x29, x0, 0
+    .word 0x00000f13  # addi x30, x0, 0
+    .word 0x00000f93  # addi x31, x0, 0
+    # back
+    .word 0x00008067  # jalr x0, 0(x1)
+    .cfi_endproc
+    .size mlkem_multiply_ntts, . - mlkem_multiply_ntts
+    .option pop

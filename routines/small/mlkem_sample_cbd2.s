@@ -1,0 +1,209 @@
+# mlkem_sample_cbd2: made by factc function; 175 words, 688 bytes of stack, profile 1
+    .option push
+    .option norvc
+    .option norelax
+    .cfi_sections .debug_frame
+    .section .text.mlkem_sample_cbd2, "ax", @progbits
+    .p2align 2
+    .globl mlkem_sample_cbd2
+    .type mlkem_sample_cbd2, @function
+mlkem_sample_cbd2:
+    .cfi_startproc
+    # room above the frame
+    .word 0xff010113  # addi x2, x2, -16
+    .cfi_def_cfa_offset 16
+    # the caller's registers
+    .word 0x00812023  # sw x8, 0(x2)
+    .cfi_offset 8, -16
+    # arguments that are needed behind the body
+    .word 0x00a12423  # sw x10, 8(x2)
+    .word 0x00b12623  # sw x11, 12(x2)
+    # the frame's base
+    .word 0xd6010113  # addi x2, x2, -672
+    .cfi_def_cfa 2, 688
+    # parameter 0: an array
+    .word 0x00050293  # addi x5, x10, 0
+    .word 0x00010313  # addi x6, x2, 0
+    .word 0x0032fe13  # andi x28, x5, 3
+    .word 0x020e0e63  # beq x28, x0, 60
+    .word 0x08000393  # addi x7, x0, 128
+    .word 0x005383b3  # add x7, x7, x5
+    .word 0x0002ce03  # lbu x28, 0(x5)
+    .word 0x01c30023  # sb x28, 0(x6)
+    .word 0x0012ce03  # lbu x28, 1(x5)
+    .word 0x01c300a3  # sb x28, 1(x6)
+    .word 0x0022ce03  # lbu x28, 2(x5)
+    .word 0x01c30123  # sb x28, 2(x6)
+    .word 0x0032ce03  # lbu x28, 3(x5)
+    .word 0x01c301a3  # sb x28, 3(x6)
+    .word 0x00428293  # addi x5, x5, 4
+    .word 0x00430313  # addi x6, x6, 4
+    .word 0xfc729ce3  # bne x5, x7, -40
+    .word 0x0580006f  # jal x0, 88
+    .word 0x08000393  # addi x7, x0, 128
+    .word 0x005383b3  # add x7, x7, x5
+    .word 0x0002ae03  # lw x28, 0(x5)
+    .word 0x01c32023  # sw x28, 0(x6)
+    .word 0x0042ae03  # lw x28, 4(x5)
+    .word 0x01c32223  # sw x28, 4(x6)
+    .word 0x0082ae03  # lw x28, 8(x5)
+    .word 0x01c32423  # sw x28, 8(x6)
+    .word 0x00c2ae03  # lw x28, 12(x5)
+    .word 0x01c32623  # sw x28, 12(x6)
+    .word 0x0102ae03  # lw x28, 16(x5)
+    .word 0x01c32823  # sw x28, 16(x6)
+    .word 0x0142ae03  # lw x28, 20(x5)
+    .word 0x01c32a23  # sw x28, 20(x6)
+    .word 0x0182ae03  # lw x28, 24(x5)
+    .word 0x01c32c23  # sw x28, 24(x6)
+    .word 0x01c2ae03  # lw x28, 28(x5)
+    .word 0x01c32e23  # sw x28, 28(x6)
+    .word 0x02028293  # addi x5, x5, 32
+    .word 0x02030313  # addi x6, x6, 32
+    .word 0xfa729ce3  # bne x5, x7, -72
+    # the body
+    .word 0x00000513  # addi x10, x0, 0
+    .word 0x00000593  # addi x11, x0, 0
+    .word 0x00000613  # addi x12, x0, 0
+    .word 0x00000693  # addi x13, x0, 0
+    .word 0x00000713  # addi x14, x0, 0
+    .word 0x00000513  # addi x10, x0, 0
+    .word 0x000015b7  # lui x11, 0x00001
+    .word 0xd0158593  # addi x11, x11, -767
+    .word 0x00000613  # addi x12, x0, 0
+    .word 0x00251293  # slli x5, x10, 2
+    .word 0x00c286b3  # add x13, x5, x12
+    .word 0x0036d293  # srli x5, x13, 3
+    .word 0x002282b3  # add x5, x5, x2
+    .word 0x0002c283  # lbu x5, 0(x5)
+    .word 0x0076f313  # andi x6, x13, 7
+    .word 0x0062d2b3  # srl x5, x5, x6
+    .word 0x0ff2f293  # andi x5, x5, 255
+    .word 0x0012f713  # andi x14, x5, 1
+    .word 0x00200313  # addi x6, x0, 2
+    .word 0x00667663  # bgeu x12, x6, 12
+    .word 0x00e585b3  # add x11, x11, x14
+    .word 0x0080006f  # jal x0, 8
+    .word 0x40e585b3  # sub x11, x11, x14
+    .word 0x00160613  # addi x12, x12, 1
+    .word 0x00463293  # sltiu x5, x12, 4
+    .word 0xfc0290e3  # bne x5, x0, -64
+    .word 0xfff60613  # addi x12, x12, -1
+    .word 0x00001437  # lui x8, 0x00001
+    .word 0xd0140413  # addi x8, x8, -767
+    .word 0x0085b3b3  # sltu x7, x11, x8
+    .word 0x00001437  # lui x8, 0x00001
+    .word 0xd0140413  # addi x8, x8, -767
+    .word 0xfff38393  # addi x7, x7, -1
+    .word 0x007473b3  # and x7, x8, x7
+    .word 0x40758333  # sub x6, x11, x7
+    .word 0x00151293  # slli x5, x10, 1
+    .word 0x002282b3  # add x5, x5, x2
+    .word 0x08629023  # sh x6, 128(x5)
+    .word 0x00150513  # addi x10, x10, 1
+    .word 0x10053293  # sltiu x5, x10, 256
+    .word 0xf6029ce3  # bne x5, x0, -136
+    .word 0xfff50513  # addi x10, x10, -1
+    # the result
+    .word 0x00000513  # addi x10, x0, 0
+    # parameter 1: the array, back
+    .word 0x2ac12283  # lw x5, 684(x2)
+    .word 0x08010313  # addi x6, x2, 128
+    .word 0x0032fe13  # andi x28, x5, 3
+    .word 0x020e0e63  # beq x28, x0, 60
+    .word 0x20000393  # addi x7, x0, 512
+    .word 0x005383b3  # add x7, x7, x5
+    .word 0x00035e03  # lhu x28, 0(x6)
+    .word 0x01c29023  # sh x28, 0(x5)
+    .word 0x00235e03  # lhu x28, 2(x6)
+    .word 0x01c29123  # sh x28, 2(x5)
+    .word 0x00435e03  # lhu x28, 4(x6)
+    .word 0x01c29223  # sh x28, 4(x5)
+    .word 0x00635e03  # lhu x28, 6(x6)
+    .word 0x01c29323  # sh x28, 6(x5)
+    .word 0x00828293  # addi x5, x5, 8
+    .word 0x00830313  # addi x6, x6, 8
+    .word 0xfc729ce3  # bne x5, x7, -40
+    .word 0x0580006f  # jal x0, 88
+    .word 0x20000393  # addi x7, x0, 512
+    .word 0x005383b3  # add x7, x7, x5
+    .word 0x00032e03  # lw x28, 0(x6)
+    .word 0x01c2a023  # sw x28, 0(x5)
+    .word 0x00432e03  # lw x28, 4(x6)
+    .word 0x01c2a223  # sw x28, 4(x5)
+    .word 0x00832e03  # lw x28, 8(x6)
+    .word 0x01c2a423  # sw x28, 8(x5)
+    .word 0x00c32e03  # lw x28, 12(x6)
+    .word 0x01c2a623  # sw x28, 12(x5)
+    .word 0x01032e03  # lw x28, 16(x6)
+    .word 0x01c2a823  # sw x28, 16(x5)
+    .word 0x01432e03  # lw x28, 20(x6)
+    .word 0x01c2aa23  # sw x28, 20(x5)
+    .word 0x01832e03  # lw x28, 24(x6)
+    .word 0x01c2ac23  # sw x28, 24(x5)
+    .word 0x01c32e03  # lw x28, 28(x6)
+    .word 0x01c2ae23  # sw x28, 28(x5)
+    .word 0x02028293  # addi x5, x5, 32
+    .word 0x02030313  # addi x6, x6, 32
+    .word 0xfa729ce3  # bne x5, x7, -72
+    # above the frame
+    .word 0x2a010293  # addi x5, x2, 672
+    # the caller's registers
+    .word 0x0002a403  # lw x8, 0(x5)
+    .cfi_restore 8
+    # the caller's x2
+    .word 0x01028293  # addi x5, x5, 16
+    .cfi_def_cfa 5, 0
+    # all the room, wiped upward
+    .word 0x00012023  # sw x0, 0(x2)
+    .word 0x00012223  # sw x0, 4(x2)
+    .word 0x00012423  # sw x0, 8(x2)
+    .word 0x00012623  # sw x0, 12(x2)
+    .word 0x00012823  # sw x0, 16(x2)
+    .word 0x00012a23  # sw x0, 20(x2)
+    .word 0x00012c23  # sw x0, 24(x2)
+    .word 0x00012e23  # sw x0, 28(x2)
+    .word 0x02012023  # sw x0, 32(x2)
+    .word 0x02012223  # sw x0, 36(x2)
+    .word 0x02012423  # sw x0, 40(x2)
+    .word 0x02012623  # sw x0, 44(x2)
+    .word 0x03010113  # addi x2, x2, 48
+    .word 0x00012023  # sw x0, 0(x2)
+    .word 0x00012223  # sw x0, 4(x2)
+    .word 0x00012423  # sw x0, 8(x2)
+    .word 0x00012623  # sw x0, 12(x2)
+    .word 0x00012823  # sw x0, 16(x2)
+    .word 0x00012a23  # sw x0, 20(x2)
+    .word 0x00012c23  # sw x0, 24(x2)
+    .word 0x00012e23  # sw x0, 28(x2)
+    .word 0x02012023  # sw x0, 32(x2)
+    .word 0x02012223  # sw x0, 36(x2)
+    .word 0x02012423  # sw x0, 40(x2)
+    .word 0x02012623  # sw x0, 44(x2)
+    .word 0x02012823  # sw x0, 48(x2)
+    .word 0x02012a23  # sw x0, 52(x2)
+    .word 0x02012c23  # sw x0, 56(x2)
+    .word 0x02012e23  # sw x0, 60(x2)
+    .word 0x04010113  # addi x2, x2, 64
+    .word 0xfa511ee3  # bne x2, x5, -68
+    .cfi_def_cfa 2, 0
+    # temporaries, wiped
+    .word 0x00000293  # addi x5, x0, 0
+    .word 0x00000313  # addi x6, x0, 0
+    .word 0x00000393  # addi x7, x0, 0
+    .word 0x00000593  # addi x11, x0, 0
+    .word 0x00000613  # addi x12, x0, 0
+    .word 0x00000693  # addi x13, x0, 0
+    .word 0x00000713  # addi x14, x0, 0
+    .word 0x00000793  # addi x15, x0, 0
+    .word 0x00000813  # addi x16, x0, 0
+    .word 0x00000893  # addi x17, x0, 0
+    .word 0x00000e13  # addi x28, x0, 0
+    .word 0x00000e93  # addi x29, x0, 0
+    .word 0x00000f13  # addi x30, x0, 0
+    .word 0x00000f93  # addi x31, x0, 0
+    # back
+    .word 0x00008067  # jalr x0, 0(x1)
+    .cfi_endproc
+    .size mlkem_sample_cbd2, . - mlkem_sample_cbd2
+    .option pop

@@ -1,0 +1,19 @@
+/* pkcs7_pad: made by factc function.
+   Arrays are aligned by their elements, lie outside the stack below the caller, and no two that are not const overlap.
+   For an observer of profile 1: neither the instructions that it executes, nor the addresses of its loads and stores,
+   nor the operands of its divisions depend on secret arguments. Nothing is proved of time. */
+#ifndef FACT_pkcs7_pad_H
+#define FACT_pkcs7_pad_H
+#include <stdbool.h>
+#include <stdint.h>
+#define pkcs7_pad_STACK_BYTES 48
+#ifdef __cplusplus
+extern "C" {
+#endif
+void pkcs7_pad(
+    uint32_t length /* public */,
+    uint8_t block[16] /* secret */);
+#ifdef __cplusplus
+}
+#endif
+#endif

@@ -1,0 +1,19 @@
+/* sha512_block: made by factc function.
+   Arrays are aligned by their elements, lie outside the stack below the caller, and no two that are not const overlap.
+   For an observer of profile 1: neither the instructions that it executes, nor the addresses of its loads and stores,
+   nor the operands of its divisions depend on secret arguments. Nothing is proved of time. */
+#ifndef FACT_sha512_block_H
+#define FACT_sha512_block_H
+#include <stdbool.h>
+#include <stdint.h>
+#define sha512_block_STACK_BYTES 1568
+#ifdef __cplusplus
+extern "C" {
+#endif
+void sha512_block(
+    uint32_t state[16] /* secret */,
+    const uint8_t block[128] /* secret */);
+#ifdef __cplusplus
+}
+#endif
+#endif

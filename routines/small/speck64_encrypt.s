@@ -1,0 +1,202 @@
+# speck64_encrypt: made by factc function; 165 words, 176 bytes of stack, profile 1
+    .option push
+    .option norvc
+    .option norelax
+    .cfi_sections .debug_frame
+    .section .text.speck64_encrypt, "ax", @progbits
+    .p2align 2
+    .globl speck64_encrypt
+    .type speck64_encrypt, @function
+speck64_encrypt:
+    .cfi_startproc
+    # room above the frame
+    .word 0xff010113  # addi x2, x2, -16
+    .cfi_def_cfa_offset 16
+    # the caller's registers
+    .word 0x00812023  # sw x8, 0(x2)
+    .cfi_offset 8, -16
+    .word 0x00912223  # sw x9, 4(x2)
+    .cfi_offset 9, -12
+    # arguments that are needed behind the body
+    .word 0x00a12423  # sw x10, 8(x2)
+    .word 0x00b12623  # sw x11, 12(x2)
+    # the frame's base
+    .word 0xf6010113  # addi x2, x2, -160
+    .cfi_def_cfa 2, 176
+    # parameter 0: an array
+    .word 0x00050293  # addi x5, x10, 0
+    .word 0x00010313  # addi x6, x2, 0
+    .word 0x0002ae03  # lw x28, 0(x5)
+    .word 0x01c32023  # sw x28, 0(x6)
+    .word 0x0042ae03  # lw x28, 4(x5)
+    .word 0x01c32223  # sw x28, 4(x6)
+    .word 0x0082ae03  # lw x28, 8(x5)
+    .word 0x01c32423  # sw x28, 8(x6)
+    .word 0x00c2ae03  # lw x28, 12(x5)
+    .word 0x01c32623  # sw x28, 12(x6)
+    # parameter 1: an array
+    .word 0x00058293  # addi x5, x11, 0
+    .word 0x01010313  # addi x6, x2, 16
+    .word 0x0002ae03  # lw x28, 0(x5)
+    .word 0x01c32023  # sw x28, 0(x6)
+    .word 0x0042ae03  # lw x28, 4(x5)
+    .word 0x01c32223  # sw x28, 4(x6)
+    # the body
+    .word 0x00000593  # addi x11, x0, 0
+    .word 0x00000613  # addi x12, x0, 0
+    .word 0x00000693  # addi x13, x0, 0
+    .word 0x00000713  # addi x14, x0, 0
+    .word 0x01012403  # lw x8, 16(x2)
+    .word 0x01412483  # lw x9, 20(x2)
+    .word 0x01800313  # addi x6, x0, 24
+    .word 0x00230333  # add x6, x6, x2
+    .word 0x06c00393  # addi x7, x0, 108
+    .word 0x006383b3  # add x7, x7, x6
+    .word 0x406382b3  # sub x5, x7, x6
+    .word 0x00029463  # bne x5, x0, 8
+    .word 0x0100006f  # jal x0, 16
+    .word 0x00032023  # sw x0, 0(x6)
+    .word 0x00430313  # addi x6, x6, 4
+    .word 0xfedff06f  # jal x0, -20
+    .word 0x08400313  # addi x6, x0, 132
+    .word 0x00230333  # add x6, x6, x2
+    .word 0x00c00393  # addi x7, x0, 12
+    .word 0x006383b3  # add x7, x7, x6
+    .word 0x406382b3  # sub x5, x7, x6
+    .word 0x00029463  # bne x5, x0, 8
+    .word 0x0100006f  # jal x0, 16
+    .word 0x00032023  # sw x0, 0(x6)
+    .word 0x00430313  # addi x6, x6, 4
+    .word 0xfedff06f  # jal x0, -20
+    .word 0x00c12503  # lw x10, 12(x2)
+    .word 0x00000593  # addi x11, x0, 0
+    .word 0x00200313  # addi x6, x0, 2
+    .word 0x40b30333  # sub x6, x6, x11
+    .word 0x00231313  # slli x6, x6, 2
+    .word 0x00230333  # add x6, x6, x2
+    .word 0x00032303  # lw x6, 0(x6)
+    .word 0x00259293  # slli x5, x11, 2
+    .word 0x002282b3  # add x5, x5, x2
+    .word 0x0862a223  # sw x6, 132(x5)
+    .word 0x00158593  # addi x11, x11, 1
+    .word 0x0035b293  # sltiu x5, x11, 3
+    .word 0xfc029ce3  # bne x5, x0, -40
+    .word 0xfff58593  # addi x11, x11, -1
+    .word 0x00000613  # addi x12, x0, 0
+    .word 0x00261293  # slli x5, x12, 2
+    .word 0x002282b3  # add x5, x5, x2
+    .word 0x00a2ac23  # sw x10, 24(x5)
+    .word 0x00300313  # addi x6, x0, 3
+    .word 0x026672b3  # remu x5, x12, x6
+    .word 0x00229293  # slli x5, x5, 2
+    .word 0x002282b3  # add x5, x5, x2
+    .word 0x0842a283  # lw x5, 132(x5)
+    .word 0x01829f13  # slli x30, x5, 24
+    .word 0x0082d293  # srli x5, x5, 8
+    .word 0x005f02b3  # add x5, x30, x5
+    .word 0x00a282b3  # add x5, x5, x10
+    .word 0x00c2c6b3  # xor x13, x5, x12
+    .word 0x00300313  # addi x6, x0, 3
+    .word 0x026672b3  # remu x5, x12, x6
+    .word 0x00229293  # slli x5, x5, 2
+    .word 0x002282b3  # add x5, x5, x2
+    .word 0x08d2a223  # sw x13, 132(x5)
+    .word 0x00351f13  # slli x30, x10, 3
+    .word 0x01d55293  # srli x5, x10, 29
+    .word 0x005f02b3  # add x5, x30, x5
+    .word 0x00d2c533  # xor x10, x5, x13
+    .word 0x00160613  # addi x12, x12, 1
+    .word 0x01b63293  # sltiu x5, x12, 27
+    .word 0xfa0290e3  # bne x5, x0, -96
+    .word 0xfff60613  # addi x12, x12, -1
+    .word 0x00000713  # addi x14, x0, 0
+    .word 0x01841f13  # slli x30, x8, 24
+    .word 0x00845293  # srli x5, x8, 8
+    .word 0x005f02b3  # add x5, x30, x5
+    .word 0x009282b3  # add x5, x5, x9
+    .word 0x00271313  # slli x6, x14, 2
+    .word 0x00230333  # add x6, x6, x2
+    .word 0x01832303  # lw x6, 24(x6)
+    .word 0x0062c433  # xor x8, x5, x6
+    .word 0x00349f13  # slli x30, x9, 3
+    .word 0x01d4d293  # srli x5, x9, 29
+    .word 0x005f02b3  # add x5, x30, x5
+    .word 0x0082c4b3  # xor x9, x5, x8
+    .word 0x00170713  # addi x14, x14, 1
+    .word 0x01b73293  # sltiu x5, x14, 27
+    .word 0xfc0294e3  # bne x5, x0, -56
+    .word 0xfff70713  # addi x14, x14, -1
+    .word 0x00812823  # sw x8, 16(x2)
+    .word 0x00912a23  # sw x9, 20(x2)
+    # the result
+    .word 0x00000513  # addi x10, x0, 0
+    # parameter 1: the array, back
+    .word 0x0ac12283  # lw x5, 172(x2)
+    .word 0x01010313  # addi x6, x2, 16
+    .word 0x00032e03  # lw x28, 0(x6)
+    .word 0x01c2a023  # sw x28, 0(x5)
+    .word 0x00432e03  # lw x28, 4(x6)
+    .word 0x01c2a223  # sw x28, 4(x5)
+    # above the frame
+    .word 0x0a010293  # addi x5, x2, 160
+    # the caller's registers
+    .word 0x0002a403  # lw x8, 0(x5)
+    .cfi_restore 8
+    .word 0x0042a483  # lw x9, 4(x5)
+    .cfi_restore 9
+    # the caller's x2
+    .word 0x01028293  # addi x5, x5, 16
+    .cfi_def_cfa 5, 0
+    # all the room, wiped upward
+    .word 0x00012023  # sw x0, 0(x2)
+    .word 0x00012223  # sw x0, 4(x2)
+    .word 0x00012423  # sw x0, 8(x2)
+    .word 0x00012623  # sw x0, 12(x2)
+    .word 0x00012823  # sw x0, 16(x2)
+    .word 0x00012a23  # sw x0, 20(x2)
+    .word 0x00012c23  # sw x0, 24(x2)
+    .word 0x00012e23  # sw x0, 28(x2)
+    .word 0x02012023  # sw x0, 32(x2)
+    .word 0x02012223  # sw x0, 36(x2)
+    .word 0x02012423  # sw x0, 40(x2)
+    .word 0x02012623  # sw x0, 44(x2)
+    .word 0x03010113  # addi x2, x2, 48
+    .word 0x00012023  # sw x0, 0(x2)
+    .word 0x00012223  # sw x0, 4(x2)
+    .word 0x00012423  # sw x0, 8(x2)
+    .word 0x00012623  # sw x0, 12(x2)
+    .word 0x00012823  # sw x0, 16(x2)
+    .word 0x00012a23  # sw x0, 20(x2)
+    .word 0x00012c23  # sw x0, 24(x2)
+    .word 0x00012e23  # sw x0, 28(x2)
+    .word 0x02012023  # sw x0, 32(x2)
+    .word 0x02012223  # sw x0, 36(x2)
+    .word 0x02012423  # sw x0, 40(x2)
+    .word 0x02012623  # sw x0, 44(x2)
+    .word 0x02012823  # sw x0, 48(x2)
+    .word 0x02012a23  # sw x0, 52(x2)
+    .word 0x02012c23  # sw x0, 56(x2)
+    .word 0x02012e23  # sw x0, 60(x2)
+    .word 0x04010113  # addi x2, x2, 64
+    .word 0xfa511ee3  # bne x2, x5, -68
+    .cfi_def_cfa 2, 0
+    # temporaries, wiped
+    .word 0x00000293  # addi x5, x0, 0
+    .word 0x00000313  # addi x6, x0, 0
+    .word 0x00000393  # addi x7, x0, 0
+    .word 0x00000593  # addi x11, x0, 0
+    .word 0x00000613  # addi x12, x0, 0
+    .word 0x00000693  # addi x13, x0, 0
+    .word 0x00000713  # addi x14, x0, 0
+    .word 0x00000793  # addi x15, x0, 0
+    .word 0x00000813  # addi x16, x0, 0
+    .word 0x00000893  # addi x17, x0, 0
+    .word 0x00000e13  # addi x28, x0, 0
+    .word 0x00000e93  # addi x29, x0, 0
+    .word 0x00000f13  # addi x30, x0, 0
+    .word 0x00000f93  # addi x31, x0, 0
+    # back
+    .word 0x00008067  # jalr x0, 0(x1)
+    .cfi_endproc
+    .size speck64_encrypt, . - speck64_encrypt
+    .option pop

@@ -1,0 +1,107 @@
+# square_root_32: made by factc function; 70 words, 48 bytes of stack, profile 1
+    .option push
+    .option norvc
+    .option norelax
+    .cfi_sections .debug_frame
+    .section .text.square_root_32, "ax", @progbits
+    .p2align 2
+    .globl square_root_32
+    .type square_root_32, @function
+square_root_32:
+    .cfi_startproc
+    # room above the frame
+    .word 0xff010113  # addi x2, x2, -16
+    .cfi_def_cfa_offset 16
+    # the caller's registers
+    .word 0x00812023  # sw x8, 0(x2)
+    .cfi_offset 8, -16
+    .word 0x00912223  # sw x9, 4(x2)
+    .cfi_offset 9, -12
+    # arguments that are needed behind the body
+    # the frame's base
+    .word 0xfe010113  # addi x2, x2, -32
+    .cfi_def_cfa 2, 48
+    # the frame's word at 8, zeroed
+    .word 0x00012423  # sw x0, 8(x2)
+    # the frame's word at 12, zeroed
+    .word 0x00012623  # sw x0, 12(x2)
+    # parameter 0: a word
+    .word 0x00a12023  # sw x10, 0(x2)
+    # the body
+    .word 0x00012403  # lw x8, 0(x2)
+    .word 0x00000593  # addi x11, x0, 0
+    .word 0x00000613  # addi x12, x0, 0
+    .word 0x00000693  # addi x13, x0, 0
+    .word 0x00812783  # lw x15, 8(x2)
+    .word 0x40000737  # lui x14, 0x40000
+    .word 0x00070713  # addi x14, x14, 0
+    .word 0x00040493  # addi x9, x8, 0
+    .word 0x00000513  # addi x10, x0, 0
+    .word 0x00000593  # addi x11, x0, 0
+    .word 0x00159313  # slli x6, x11, 1
+    .word 0x00675633  # srl x12, x14, x6
+    .word 0x00c506b3  # add x13, x10, x12
+    .word 0x00155513  # srli x10, x10, 1
+    .word 0x00d4b2b3  # sltu x5, x9, x13
+    .word 0x0012b293  # sltiu x5, x5, 1
+    .word 0x405007b3  # sub x15, x0, x5
+    .word 0x40d482b3  # sub x5, x9, x13
+    .word 0x0092c2b3  # xor x5, x5, x9
+    .word 0x00f2f2b3  # and x5, x5, x15
+    .word 0x0054c4b3  # xor x9, x9, x5
+    .word 0x00c502b3  # add x5, x10, x12
+    .word 0x00a2c2b3  # xor x5, x5, x10
+    .word 0x00f2f2b3  # and x5, x5, x15
+    .word 0x00554533  # xor x10, x10, x5
+    .word 0x00158593  # addi x11, x11, 1
+    .word 0x0105b293  # sltiu x5, x11, 16
+    .word 0xfa029ee3  # bne x5, x0, -68
+    .word 0xfff58593  # addi x11, x11, -1
+    .word 0x00a12223  # sw x10, 4(x2)
+    # the result
+    .word 0x00412503  # lw x10, 4(x2)
+    # above the frame
+    .word 0x02010293  # addi x5, x2, 32
+    # the caller's registers
+    .word 0x0002a403  # lw x8, 0(x5)
+    .cfi_restore 8
+    .word 0x0042a483  # lw x9, 4(x5)
+    .cfi_restore 9
+    # the caller's x2
+    .word 0x01028293  # addi x5, x5, 16
+    .cfi_def_cfa 5, 0
+    # all the room, wiped upward
+    .word 0x00012023  # sw x0, 0(x2)
+    .word 0x00012223  # sw x0, 4(x2)
+    .word 0x00012423  # sw x0, 8(x2)
+    .word 0x00012623  # sw x0, 12(x2)
+    .word 0x00012823  # sw x0, 16(x2)
+    .word 0x00012a23  # sw x0, 20(x2)
+    .word 0x00012c23  # sw x0, 24(x2)
+    .word 0x00012e23  # sw x0, 28(x2)
+    .word 0x02012023  # sw x0, 32(x2)
+    .word 0x02012223  # sw x0, 36(x2)
+    .word 0x02012423  # sw x0, 40(x2)
+    .word 0x02012623  # sw x0, 44(x2)
+    .word 0x03010113  # addi x2, x2, 48
+    .cfi_def_cfa 2, 0
+    # temporaries, wiped
+    .word 0x00000293  # addi x5, x0, 0
+    .word 0x00000313  # addi x6, x0, 0
+    .word 0x00000393  # addi x7, x0, 0
+    .word 0x00000593  # addi x11, x0, 0
+    .word 0x00000613  # addi x12, x0, 0
+    .word 0x00000693  # addi x13, x0, 0
+    .word 0x00000713  # addi x14, x0, 0
+    .word 0x00000793  # addi x15, x0, 0
+    .word 0x00000813  # addi x16, x0, 0
+    .word 0x00000893  # addi x17, x0, 0
+    .word 0x00000e13  # addi x28, x0, 0
+    .word 0x00000e93  # addi x29, x0, 0
+    .word 0x00000f13  # addi x30, x0, 0
+    .word 0x00000f93  # addi x31, x0, 0
+    # back
+    .word 0x00008067  # jalr x0, 0(x1)
+    .cfi_endproc
+    .size square_root_32, . - square_root_32
+    .option pop

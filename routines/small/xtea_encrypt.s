@@ -1,0 +1,136 @@
+# xtea_encrypt: made by factc function; 101 words, 64 bytes of stack, profile 1
+    .option push
+    .option norvc
+    .option norelax
+    .cfi_sections .debug_frame
+    .section .text.xtea_encrypt, "ax", @progbits
+    .p2align 2
+    .globl xtea_encrypt
+    .type xtea_encrypt, @function
+xtea_encrypt:
+    .cfi_startproc
+    # room above the frame
+    .word 0xff010113  # addi x2, x2, -16
+    .cfi_def_cfa_offset 16
+    # the caller's registers
+    .word 0x00812023  # sw x8, 0(x2)
+    .cfi_offset 8, -16
+    # arguments that are needed behind the body
+    .word 0x00a12423  # sw x10, 8(x2)
+    .word 0x00b12623  # sw x11, 12(x2)
+    # the frame's base
+    .word 0xfd010113  # addi x2, x2, -48
+    .cfi_def_cfa 2, 64
+    # parameter 0: an array
+    .word 0x00050293  # addi x5, x10, 0
+    .word 0x00010313  # addi x6, x2, 0
+    .word 0x0002ae03  # lw x28, 0(x5)
+    .word 0x01c32023  # sw x28, 0(x6)
+    .word 0x0042ae03  # lw x28, 4(x5)
+    .word 0x01c32223  # sw x28, 4(x6)
+    .word 0x0082ae03  # lw x28, 8(x5)
+    .word 0x01c32423  # sw x28, 8(x6)
+    .word 0x00c2ae03  # lw x28, 12(x5)
+    .word 0x01c32623  # sw x28, 12(x6)
+    # parameter 1: an array
+    .word 0x00058293  # addi x5, x11, 0
+    .word 0x01010313  # addi x6, x2, 16
+    .word 0x0002ae03  # lw x28, 0(x5)
+    .word 0x01c32023  # sw x28, 0(x6)
+    .word 0x0042ae03  # lw x28, 4(x5)
+    .word 0x01c32223  # sw x28, 4(x6)
+    # the body
+    .word 0x00000693  # addi x13, x0, 0
+    .word 0x9e378737  # lui x14, 0x9e378
+    .word 0x9b970713  # addi x14, x14, -1607
+    .word 0x01012503  # lw x10, 16(x2)
+    .word 0x01412583  # lw x11, 20(x2)
+    .word 0x00000613  # addi x12, x0, 0
+    .word 0x00000693  # addi x13, x0, 0
+    .word 0x00459313  # slli x6, x11, 4
+    .word 0x0055d393  # srli x7, x11, 5
+    .word 0x00734333  # xor x6, x6, x7
+    .word 0x00b30333  # add x6, x6, x11
+    .word 0x00367413  # andi x8, x12, 3
+    .word 0x00241413  # slli x8, x8, 2
+    .word 0x00240433  # add x8, x8, x2
+    .word 0x00042403  # lw x8, 0(x8)
+    .word 0x008603b3  # add x7, x12, x8
+    .word 0x00734333  # xor x6, x6, x7
+    .word 0x00650533  # add x10, x10, x6
+    .word 0x00e60633  # add x12, x12, x14
+    .word 0x00451313  # slli x6, x10, 4
+    .word 0x00555393  # srli x7, x10, 5
+    .word 0x00734333  # xor x6, x6, x7
+    .word 0x00a30333  # add x6, x6, x10
+    .word 0x00b65413  # srli x8, x12, 11
+    .word 0x00347413  # andi x8, x8, 3
+    .word 0x00241413  # slli x8, x8, 2
+    .word 0x00240433  # add x8, x8, x2
+    .word 0x00042403  # lw x8, 0(x8)
+    .word 0x008603b3  # add x7, x12, x8
+    .word 0x00734333  # xor x6, x6, x7
+    .word 0x006585b3  # add x11, x11, x6
+    .word 0x00168693  # addi x13, x13, 1
+    .word 0x0206b293  # sltiu x5, x13, 32
+    .word 0xf8029ce3  # bne x5, x0, -104
+    .word 0xfff68693  # addi x13, x13, -1
+    .word 0x00a12823  # sw x10, 16(x2)
+    .word 0x00b12a23  # sw x11, 20(x2)
+    # the result
+    .word 0x00000513  # addi x10, x0, 0
+    # parameter 1: the array, back
+    .word 0x03c12283  # lw x5, 60(x2)
+    .word 0x01010313  # addi x6, x2, 16
+    .word 0x00032e03  # lw x28, 0(x6)
+    .word 0x01c2a023  # sw x28, 0(x5)
+    .word 0x00432e03  # lw x28, 4(x6)
+    .word 0x01c2a223  # sw x28, 4(x5)
+    # above the frame
+    .word 0x03010293  # addi x5, x2, 48
+    # the caller's registers
+    .word 0x0002a403  # lw x8, 0(x5)
+    .cfi_restore 8
+    # the caller's x2
+    .word 0x01028293  # addi x5, x5, 16
+    .cfi_def_cfa 5, 0
+    # all the room, wiped upward
+    .word 0x00012023  # sw x0, 0(x2)
+    .word 0x00012223  # sw x0, 4(x2)
+    .word 0x00012423  # sw x0, 8(x2)
+    .word 0x00012623  # sw x0, 12(x2)
+    .word 0x00012823  # sw x0, 16(x2)
+    .word 0x00012a23  # sw x0, 20(x2)
+    .word 0x00012c23  # sw x0, 24(x2)
+    .word 0x00012e23  # sw x0, 28(x2)
+    .word 0x02012023  # sw x0, 32(x2)
+    .word 0x02012223  # sw x0, 36(x2)
+    .word 0x02012423  # sw x0, 40(x2)
+    .word 0x02012623  # sw x0, 44(x2)
+    .word 0x02012823  # sw x0, 48(x2)
+    .word 0x02012a23  # sw x0, 52(x2)
+    .word 0x02012c23  # sw x0, 56(x2)
+    .word 0x02012e23  # sw x0, 60(x2)
+    .word 0x04010113  # addi x2, x2, 64
+    .word 0xfa511ee3  # bne x2, x5, -68
+    .cfi_def_cfa 2, 0
+    # temporaries, wiped
+    .word 0x00000293  # addi x5, x0, 0
+    .word 0x00000313  # addi x6, x0, 0
+    .word 0x00000393  # addi x7, x0, 0
+    .word 0x00000593  # addi x11, x0, 0
+    .word 0x00000613  # addi x12, x0, 0
+    .word 0x00000693  # addi x13, x0, 0
+    .word 0x00000713  # addi x14, x0, 0
+    .word 0x00000793  # addi x15, x0, 0
+    .word 0x00000813  # addi x16, x0, 0
+    .word 0x00000893  # addi x17, x0, 0
+    .word 0x00000e13  # addi x28, x0, 0
+    .word 0x00000e93  # addi x29, x0, 0
+    .word 0x00000f13  # addi x30, x0, 0
+    .word 0x00000f93  # addi x31, x0, 0
+    # back
+    .word 0x00008067  # jalr x0, 0(x1)
+    .cfi_endproc
+    .size xtea_encrypt, . - xtea_encrypt
+    .option pop
