@@ -1,4 +1,4 @@
-# base64_encode: made by factc function; 347 words, 144 bytes of stack, profile 1
+# base64_encode: made by factc function; 289 words, 144 bytes of stack, profile 1
     .option push
     .option norvc
     .option norelax
@@ -73,217 +73,159 @@ base64_encode:
     .word 0x00000593  # addi x11, x0, 0
     .word 0x00000613  # addi x12, x0, 0
     .word 0x00000693  # addi x13, x0, 0
+    .word 0x00000713  # addi x14, x0, 0
+    .word 0x00000793  # addi x15, x0, 0
     .word 0x00000513  # addi x10, x0, 0
-    .word 0x00000593  # addi x11, x0, 0
     .word 0x00300293  # addi x5, x0, 3
-    .word 0x02a282b3  # mul x5, x5, x10
+    .word 0x02a285b3  # mul x11, x5, x10
+    .word 0x00000613  # addi x12, x0, 0
+    .word 0x0095f663  # bgeu x11, x9, 12
+    .word 0x00258633  # add x12, x11, x2
+    .word 0x00064603  # lbu x12, 0(x12)
+    .word 0x00861613  # slli x12, x12, 8
+    .word 0x00158293  # addi x5, x11, 1
     .word 0x0092fa63  # bgeu x5, x9, 20
-    .word 0x00300293  # addi x5, x0, 3
-    .word 0x02a282b3  # mul x5, x5, x10
-    .word 0x002285b3  # add x11, x5, x2
-    .word 0x0005c583  # lbu x11, 0(x11)
-    .word 0x00859593  # slli x11, x11, 8
-    .word 0x00300293  # addi x5, x0, 3
-    .word 0x02a282b3  # mul x5, x5, x10
-    .word 0x00128293  # addi x5, x5, 1
-    .word 0x0092fe63  # bgeu x5, x9, 28
-    .word 0x00300313  # addi x6, x0, 3
-    .word 0x02a30333  # mul x6, x6, x10
-    .word 0x00130313  # addi x6, x6, 1
+    .word 0x00158313  # addi x6, x11, 1
     .word 0x00230333  # add x6, x6, x2
     .word 0x00034303  # lbu x6, 0(x6)
-    .word 0x0065e5b3  # or x11, x11, x6
-    .word 0x00859593  # slli x11, x11, 8
-    .word 0x00300293  # addi x5, x0, 3
-    .word 0x02a282b3  # mul x5, x5, x10
-    .word 0x00228293  # addi x5, x5, 2
-    .word 0x0092fe63  # bgeu x5, x9, 28
-    .word 0x00300313  # addi x6, x0, 3
-    .word 0x02a30333  # mul x6, x6, x10
-    .word 0x00230313  # addi x6, x6, 2
+    .word 0x00666633  # or x12, x12, x6
+    .word 0x00861613  # slli x12, x12, 8
+    .word 0x00258293  # addi x5, x11, 2
+    .word 0x0092fa63  # bgeu x5, x9, 20
+    .word 0x00258313  # addi x6, x11, 2
     .word 0x00230333  # add x6, x6, x2
     .word 0x00034303  # lbu x6, 0(x6)
-    .word 0x0065e5b3  # or x11, x11, x6
-    .word 0x0125d293  # srli x5, x11, 18
-    .word 0x03f2f293  # andi x5, x5, 63
-    .word 0x0ff2f613  # andi x12, x5, 255
-    .word 0x04160693  # addi x13, x12, 65
-    .word 0x0ff6f693  # andi x13, x13, 255
-    .word 0x01a63293  # sltiu x5, x12, 26
-    .word 0x04760393  # addi x7, x12, 71
-    .word 0x0ff3f393  # andi x7, x7, 255
-    .word 0x405002b3  # sub x5, x0, x5
-    .word 0x0076c333  # xor x6, x13, x7
-    .word 0x00537333  # and x6, x6, x5
-    .word 0x0063c6b3  # xor x13, x7, x6
-    .word 0x03463293  # sltiu x5, x12, 52
-    .word 0xffc60393  # addi x7, x12, -4
-    .word 0x0ff3f393  # andi x7, x7, 255
-    .word 0x405002b3  # sub x5, x0, x5
-    .word 0x0076c333  # xor x6, x13, x7
-    .word 0x00537333  # and x6, x6, x5
-    .word 0x0063c6b3  # xor x13, x7, x6
-    .word 0xfc260293  # addi x5, x12, -62
-    .word 0x005032b3  # sltu x5, x0, x5
-    .word 0x02b00313  # addi x6, x0, 43
-    .word 0xfff28293  # addi x5, x5, -1
-    .word 0x00d34333  # xor x6, x6, x13
-    .word 0x00537333  # and x6, x6, x5
-    .word 0x0066c6b3  # xor x13, x13, x6
-    .word 0xfc160293  # addi x5, x12, -63
-    .word 0x005032b3  # sltu x5, x0, x5
-    .word 0x02f00313  # addi x6, x0, 47
-    .word 0xfff28293  # addi x5, x5, -1
-    .word 0x00d34333  # xor x6, x6, x13
-    .word 0x00537333  # and x6, x6, x5
-    .word 0x0066c633  # xor x12, x13, x6
-    .word 0x00300313  # addi x6, x0, 3
-    .word 0x02a30333  # mul x6, x6, x10
-    .word 0x00936463  # bltu x6, x9, 8
-    .word 0x00000613  # addi x12, x0, 0
+    .word 0x00666633  # or x12, x12, x6
+    .word 0x01265293  # srli x5, x12, 18
+    .word 0x03f2f693  # andi x13, x5, 63
+    .word 0x04168713  # addi x14, x13, 65
+    .word 0x01a6b313  # sltiu x6, x13, 26
+    .word 0x00600393  # addi x7, x0, 6
+    .word 0xfff30313  # addi x6, x6, -1
+    .word 0x0063f333  # and x6, x7, x6
+    .word 0x00670733  # add x14, x14, x6
+    .word 0x0346b313  # sltiu x6, x13, 52
+    .word 0x04b00393  # addi x7, x0, 75
+    .word 0xfff30313  # addi x6, x6, -1
+    .word 0x0063f333  # and x6, x7, x6
+    .word 0x40670733  # sub x14, x14, x6
+    .word 0x03e6b313  # sltiu x6, x13, 62
+    .word 0x00f00393  # addi x7, x0, 15
+    .word 0xfff30313  # addi x6, x6, -1
+    .word 0x0063f333  # and x6, x7, x6
+    .word 0x40670733  # sub x14, x14, x6
+    .word 0x03f6b313  # sltiu x6, x13, 63
+    .word 0x00300393  # addi x7, x0, 3
+    .word 0xfff30313  # addi x6, x6, -1
+    .word 0x0063f333  # and x6, x7, x6
+    .word 0x006702b3  # add x5, x14, x6
+    .word 0x0ff2f793  # andi x15, x5, 255
+    .word 0x0095e463  # bltu x11, x9, 8
+    .word 0x00000793  # addi x15, x0, 0
     .word 0x00251293  # slli x5, x10, 2
     .word 0x002282b3  # add x5, x5, x2
-    .word 0x02c28a23  # sb x12, 52(x5)
-    .word 0x00c5d293  # srli x5, x11, 12
-    .word 0x03f2f293  # andi x5, x5, 63
-    .word 0x0ff2f613  # andi x12, x5, 255
-    .word 0x04160693  # addi x13, x12, 65
-    .word 0x0ff6f693  # andi x13, x13, 255
-    .word 0x01a63293  # sltiu x5, x12, 26
-    .word 0x04760393  # addi x7, x12, 71
-    .word 0x0ff3f393  # andi x7, x7, 255
-    .word 0x405002b3  # sub x5, x0, x5
-    .word 0x0076c333  # xor x6, x13, x7
-    .word 0x00537333  # and x6, x6, x5
-    .word 0x0063c6b3  # xor x13, x7, x6
-    .word 0x03463293  # sltiu x5, x12, 52
-    .word 0xffc60393  # addi x7, x12, -4
-    .word 0x0ff3f393  # andi x7, x7, 255
-    .word 0x405002b3  # sub x5, x0, x5
-    .word 0x0076c333  # xor x6, x13, x7
-    .word 0x00537333  # and x6, x6, x5
-    .word 0x0063c6b3  # xor x13, x7, x6
-    .word 0xfc260293  # addi x5, x12, -62
-    .word 0x005032b3  # sltu x5, x0, x5
-    .word 0x02b00313  # addi x6, x0, 43
-    .word 0xfff28293  # addi x5, x5, -1
-    .word 0x00d34333  # xor x6, x6, x13
-    .word 0x00537333  # and x6, x6, x5
-    .word 0x0066c6b3  # xor x13, x13, x6
-    .word 0xfc160293  # addi x5, x12, -63
-    .word 0x005032b3  # sltu x5, x0, x5
-    .word 0x02f00313  # addi x6, x0, 47
-    .word 0xfff28293  # addi x5, x5, -1
-    .word 0x00d34333  # xor x6, x6, x13
-    .word 0x00537333  # and x6, x6, x5
-    .word 0x0066c633  # xor x12, x13, x6
-    .word 0x00300313  # addi x6, x0, 3
-    .word 0x02a30333  # mul x6, x6, x10
-    .word 0x00130313  # addi x6, x6, 1
+    .word 0x02f28a23  # sb x15, 52(x5)
+    .word 0x00c65293  # srli x5, x12, 12
+    .word 0x03f2f693  # andi x13, x5, 63
+    .word 0x04168713  # addi x14, x13, 65
+    .word 0x01a6b313  # sltiu x6, x13, 26
+    .word 0x00600393  # addi x7, x0, 6
+    .word 0xfff30313  # addi x6, x6, -1
+    .word 0x0063f333  # and x6, x7, x6
+    .word 0x00670733  # add x14, x14, x6
+    .word 0x0346b313  # sltiu x6, x13, 52
+    .word 0x04b00393  # addi x7, x0, 75
+    .word 0xfff30313  # addi x6, x6, -1
+    .word 0x0063f333  # and x6, x7, x6
+    .word 0x40670733  # sub x14, x14, x6
+    .word 0x03e6b313  # sltiu x6, x13, 62
+    .word 0x00f00393  # addi x7, x0, 15
+    .word 0xfff30313  # addi x6, x6, -1
+    .word 0x0063f333  # and x6, x7, x6
+    .word 0x40670733  # sub x14, x14, x6
+    .word 0x03f6b313  # sltiu x6, x13, 63
+    .word 0x00300393  # addi x7, x0, 3
+    .word 0xfff30313  # addi x6, x6, -1
+    .word 0x0063f333  # and x6, x7, x6
+    .word 0x006702b3  # add x5, x14, x6
+    .word 0x0ff2f793  # andi x15, x5, 255
+    .word 0x00158313  # addi x6, x11, 1
     .word 0x0064f463  # bgeu x9, x6, 8
-    .word 0x03d00613  # addi x12, x0, 61
-    .word 0x00300313  # addi x6, x0, 3
-    .word 0x02a30333  # mul x6, x6, x10
-    .word 0x00936463  # bltu x6, x9, 8
-    .word 0x00000613  # addi x12, x0, 0
+    .word 0x03d00793  # addi x15, x0, 61
+    .word 0x0095e463  # bltu x11, x9, 8
+    .word 0x00000793  # addi x15, x0, 0
     .word 0x00251293  # slli x5, x10, 2
     .word 0x00128293  # addi x5, x5, 1
     .word 0x002282b3  # add x5, x5, x2
-    .word 0x02c28a23  # sb x12, 52(x5)
-    .word 0x0065d293  # srli x5, x11, 6
-    .word 0x03f2f293  # andi x5, x5, 63
-    .word 0x0ff2f613  # andi x12, x5, 255
-    .word 0x04160693  # addi x13, x12, 65
-    .word 0x0ff6f693  # andi x13, x13, 255
-    .word 0x01a63293  # sltiu x5, x12, 26
-    .word 0x04760393  # addi x7, x12, 71
-    .word 0x0ff3f393  # andi x7, x7, 255
-    .word 0x405002b3  # sub x5, x0, x5
-    .word 0x0076c333  # xor x6, x13, x7
-    .word 0x00537333  # and x6, x6, x5
-    .word 0x0063c6b3  # xor x13, x7, x6
-    .word 0x03463293  # sltiu x5, x12, 52
-    .word 0xffc60393  # addi x7, x12, -4
-    .word 0x0ff3f393  # andi x7, x7, 255
-    .word 0x405002b3  # sub x5, x0, x5
-    .word 0x0076c333  # xor x6, x13, x7
-    .word 0x00537333  # and x6, x6, x5
-    .word 0x0063c6b3  # xor x13, x7, x6
-    .word 0xfc260293  # addi x5, x12, -62
-    .word 0x005032b3  # sltu x5, x0, x5
-    .word 0x02b00313  # addi x6, x0, 43
-    .word 0xfff28293  # addi x5, x5, -1
-    .word 0x00d34333  # xor x6, x6, x13
-    .word 0x00537333  # and x6, x6, x5
-    .word 0x0066c6b3  # xor x13, x13, x6
-    .word 0xfc160293  # addi x5, x12, -63
-    .word 0x005032b3  # sltu x5, x0, x5
-    .word 0x02f00313  # addi x6, x0, 47
-    .word 0xfff28293  # addi x5, x5, -1
-    .word 0x00d34333  # xor x6, x6, x13
-    .word 0x00537333  # and x6, x6, x5
-    .word 0x0066c633  # xor x12, x13, x6
-    .word 0x00300313  # addi x6, x0, 3
-    .word 0x02a30333  # mul x6, x6, x10
-    .word 0x00230313  # addi x6, x6, 2
+    .word 0x02f28a23  # sb x15, 52(x5)
+    .word 0x00665293  # srli x5, x12, 6
+    .word 0x03f2f693  # andi x13, x5, 63
+    .word 0x04168713  # addi x14, x13, 65
+    .word 0x01a6b313  # sltiu x6, x13, 26
+    .word 0x00600393  # addi x7, x0, 6
+    .word 0xfff30313  # addi x6, x6, -1
+    .word 0x0063f333  # and x6, x7, x6
+    .word 0x00670733  # add x14, x14, x6
+    .word 0x0346b313  # sltiu x6, x13, 52
+    .word 0x04b00393  # addi x7, x0, 75
+    .word 0xfff30313  # addi x6, x6, -1
+    .word 0x0063f333  # and x6, x7, x6
+    .word 0x40670733  # sub x14, x14, x6
+    .word 0x03e6b313  # sltiu x6, x13, 62
+    .word 0x00f00393  # addi x7, x0, 15
+    .word 0xfff30313  # addi x6, x6, -1
+    .word 0x0063f333  # and x6, x7, x6
+    .word 0x40670733  # sub x14, x14, x6
+    .word 0x03f6b313  # sltiu x6, x13, 63
+    .word 0x00300393  # addi x7, x0, 3
+    .word 0xfff30313  # addi x6, x6, -1
+    .word 0x0063f333  # and x6, x7, x6
+    .word 0x006702b3  # add x5, x14, x6
+    .word 0x0ff2f793  # andi x15, x5, 255
+    .word 0x00258313  # addi x6, x11, 2
     .word 0x0064f463  # bgeu x9, x6, 8
-    .word 0x03d00613  # addi x12, x0, 61
-    .word 0x00300313  # addi x6, x0, 3
-    .word 0x02a30333  # mul x6, x6, x10
-    .word 0x00936463  # bltu x6, x9, 8
-    .word 0x00000613  # addi x12, x0, 0
+    .word 0x03d00793  # addi x15, x0, 61
+    .word 0x0095e463  # bltu x11, x9, 8
+    .word 0x00000793  # addi x15, x0, 0
     .word 0x00251293  # slli x5, x10, 2
     .word 0x00228293  # addi x5, x5, 2
     .word 0x002282b3  # add x5, x5, x2
-    .word 0x02c28a23  # sb x12, 52(x5)
-    .word 0x03f5f293  # andi x5, x11, 63
-    .word 0x0ff2f613  # andi x12, x5, 255
-    .word 0x04160693  # addi x13, x12, 65
-    .word 0x0ff6f693  # andi x13, x13, 255
-    .word 0x01a63293  # sltiu x5, x12, 26
-    .word 0x04760393  # addi x7, x12, 71
-    .word 0x0ff3f393  # andi x7, x7, 255
-    .word 0x405002b3  # sub x5, x0, x5
-    .word 0x0076c333  # xor x6, x13, x7
-    .word 0x00537333  # and x6, x6, x5
-    .word 0x0063c6b3  # xor x13, x7, x6
-    .word 0x03463293  # sltiu x5, x12, 52
-    .word 0xffc60393  # addi x7, x12, -4
-    .word 0x0ff3f393  # andi x7, x7, 255
-    .word 0x405002b3  # sub x5, x0, x5
-    .word 0x0076c333  # xor x6, x13, x7
-    .word 0x00537333  # and x6, x6, x5
-    .word 0x0063c6b3  # xor x13, x7, x6
-    .word 0xfc260293  # addi x5, x12, -62
-    .word 0x005032b3  # sltu x5, x0, x5
-    .word 0x02b00313  # addi x6, x0, 43
-    .word 0xfff28293  # addi x5, x5, -1
-    .word 0x00d34333  # xor x6, x6, x13
-    .word 0x00537333  # and x6, x6, x5
-    .word 0x0066c6b3  # xor x13, x13, x6
-    .word 0xfc160293  # addi x5, x12, -63
-    .word 0x005032b3  # sltu x5, x0, x5
-    .word 0x02f00313  # addi x6, x0, 47
-    .word 0xfff28293  # addi x5, x5, -1
-    .word 0x00d34333  # xor x6, x6, x13
-    .word 0x00537333  # and x6, x6, x5
-    .word 0x0066c633  # xor x12, x13, x6
-    .word 0x00300313  # addi x6, x0, 3
-    .word 0x02a30333  # mul x6, x6, x10
-    .word 0x00330313  # addi x6, x6, 3
+    .word 0x02f28a23  # sb x15, 52(x5)
+    .word 0x03f67693  # andi x13, x12, 63
+    .word 0x04168713  # addi x14, x13, 65
+    .word 0x01a6b313  # sltiu x6, x13, 26
+    .word 0x00600393  # addi x7, x0, 6
+    .word 0xfff30313  # addi x6, x6, -1
+    .word 0x0063f333  # and x6, x7, x6
+    .word 0x00670733  # add x14, x14, x6
+    .word 0x0346b313  # sltiu x6, x13, 52
+    .word 0x04b00393  # addi x7, x0, 75
+    .word 0xfff30313  # addi x6, x6, -1
+    .word 0x0063f333  # and x6, x7, x6
+    .word 0x40670733  # sub x14, x14, x6
+    .word 0x03e6b313  # sltiu x6, x13, 62
+    .word 0x00f00393  # addi x7, x0, 15
+    .word 0xfff30313  # addi x6, x6, -1
+    .word 0x0063f333  # and x6, x7, x6
+    .word 0x40670733  # sub x14, x14, x6
+    .word 0x03f6b313  # sltiu x6, x13, 63
+    .word 0x00300393  # addi x7, x0, 3
+    .word 0xfff30313  # addi x6, x6, -1
+    .word 0x0063f333  # and x6, x7, x6
+    .word 0x006702b3  # add x5, x14, x6
+    .word 0x0ff2f793  # andi x15, x5, 255
+    .word 0x00358313  # addi x6, x11, 3
     .word 0x0064f463  # bgeu x9, x6, 8
-    .word 0x03d00613  # addi x12, x0, 61
-    .word 0x00300313  # addi x6, x0, 3
-    .word 0x02a30333  # mul x6, x6, x10
-    .word 0x00936463  # bltu x6, x9, 8
-    .word 0x00000613  # addi x12, x0, 0
+    .word 0x03d00793  # addi x15, x0, 61
+    .word 0x0095e463  # bltu x11, x9, 8
+    .word 0x00000793  # addi x15, x0, 0
     .word 0x00251293  # slli x5, x10, 2
     .word 0x00328293  # addi x5, x5, 3
     .word 0x002282b3  # add x5, x5, x2
-    .word 0x02c28a23  # sb x12, 52(x5)
+    .word 0x02f28a23  # sb x15, 52(x5)
     .word 0x00150513  # addi x10, x10, 1
     .word 0x01053293  # sltiu x5, x10, 16
-    .word 0xca029ee3  # bne x5, x0, -836
+    .word 0xda0296e3  # bne x5, x0, -596
     .word 0xfff50513  # addi x10, x10, -1
     # the result
     .word 0x00000513  # addi x10, x0, 0

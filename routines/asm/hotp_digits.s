@@ -1,4 +1,4 @@
-# hotp_digits: made by factc function; 433 words, 48 bytes of stack, profile 1
+# hotp_digits: made by factc function; 312 words, 48 bytes of stack, profile 1
     .option push
     .option norvc
     .option norelax
@@ -49,376 +49,255 @@ hotp_digits:
     .word 0x0102ae03  # lw x28, 16(x5)
     .word 0x01c32823  # sw x28, 16(x6)
     # the body
-    .word 0x80000637  # lui x12, 0x80000
-    .word 0xfff60613  # addi x12, x12, -1
     .word 0x01314283  # lbu x5, 19(x2)
     .word 0x00f2f493  # andi x9, x5, 15
     .word 0x00014283  # lbu x5, 0(x2)
-    .word 0x01829293  # slli x5, x5, 24
+    .word 0x01029293  # slli x5, x5, 16
     .word 0x00114303  # lbu x6, 1(x2)
-    .word 0x01031313  # slli x6, x6, 16
-    .word 0x0062e5b3  # or x11, x5, x6
-    .word 0x00214303  # lbu x6, 2(x2)
     .word 0x00831313  # slli x6, x6, 8
-    .word 0x0065e2b3  # or x5, x11, x6
+    .word 0x0062e2b3  # or x5, x5, x6
+    .word 0x00214303  # lbu x6, 2(x2)
+    .word 0x0062e533  # or x10, x5, x6
+    .word 0x00851293  # slli x5, x10, 8
     .word 0x00314303  # lbu x6, 3(x2)
-    .word 0x0062e5b3  # or x11, x5, x6
+    .word 0x0062e533  # or x10, x5, x6
     .word 0x0014b293  # sltiu x5, x9, 1
-    .word 0x00c5f333  # and x6, x11, x12
     .word 0x405002b3  # sub x5, x0, x5
-    .word 0x00537533  # and x10, x6, x5
-    .word 0x00114283  # lbu x5, 1(x2)
-    .word 0x01829293  # slli x5, x5, 24
-    .word 0x00214303  # lbu x6, 2(x2)
-    .word 0x01031313  # slli x6, x6, 16
-    .word 0x0062e5b3  # or x11, x5, x6
-    .word 0x00314303  # lbu x6, 3(x2)
-    .word 0x00831313  # slli x6, x6, 8
-    .word 0x0065e2b3  # or x5, x11, x6
+    .word 0x005575b3  # and x11, x10, x5
+    .word 0x00851293  # slli x5, x10, 8
     .word 0x00414303  # lbu x6, 4(x2)
-    .word 0x0062e5b3  # or x11, x5, x6
+    .word 0x0062e533  # or x10, x5, x6
     .word 0xfff48293  # addi x5, x9, -1
     .word 0x005032b3  # sltu x5, x0, x5
-    .word 0x00c5f333  # and x6, x11, x12
     .word 0xfff28293  # addi x5, x5, -1
-    .word 0x00a34333  # xor x6, x6, x10
+    .word 0x00b54333  # xor x6, x10, x11
     .word 0x00537333  # and x6, x6, x5
-    .word 0x00654533  # xor x10, x10, x6
-    .word 0x00214283  # lbu x5, 2(x2)
-    .word 0x01829293  # slli x5, x5, 24
-    .word 0x00314303  # lbu x6, 3(x2)
-    .word 0x01031313  # slli x6, x6, 16
-    .word 0x0062e5b3  # or x11, x5, x6
-    .word 0x00414303  # lbu x6, 4(x2)
-    .word 0x00831313  # slli x6, x6, 8
-    .word 0x0065e2b3  # or x5, x11, x6
+    .word 0x0065c5b3  # xor x11, x11, x6
+    .word 0x00851293  # slli x5, x10, 8
     .word 0x00514303  # lbu x6, 5(x2)
-    .word 0x0062e5b3  # or x11, x5, x6
+    .word 0x0062e533  # or x10, x5, x6
     .word 0xffe48293  # addi x5, x9, -2
     .word 0x005032b3  # sltu x5, x0, x5
-    .word 0x00c5f333  # and x6, x11, x12
     .word 0xfff28293  # addi x5, x5, -1
-    .word 0x00a34333  # xor x6, x6, x10
+    .word 0x00b54333  # xor x6, x10, x11
     .word 0x00537333  # and x6, x6, x5
-    .word 0x00654533  # xor x10, x10, x6
-    .word 0x00314283  # lbu x5, 3(x2)
-    .word 0x01829293  # slli x5, x5, 24
-    .word 0x00414303  # lbu x6, 4(x2)
-    .word 0x01031313  # slli x6, x6, 16
-    .word 0x0062e5b3  # or x11, x5, x6
-    .word 0x00514303  # lbu x6, 5(x2)
-    .word 0x00831313  # slli x6, x6, 8
-    .word 0x0065e2b3  # or x5, x11, x6
+    .word 0x0065c5b3  # xor x11, x11, x6
+    .word 0x00851293  # slli x5, x10, 8
     .word 0x00614303  # lbu x6, 6(x2)
-    .word 0x0062e5b3  # or x11, x5, x6
+    .word 0x0062e533  # or x10, x5, x6
     .word 0xffd48293  # addi x5, x9, -3
     .word 0x005032b3  # sltu x5, x0, x5
-    .word 0x00c5f333  # and x6, x11, x12
     .word 0xfff28293  # addi x5, x5, -1
-    .word 0x00a34333  # xor x6, x6, x10
+    .word 0x00b54333  # xor x6, x10, x11
     .word 0x00537333  # and x6, x6, x5
-    .word 0x00654533  # xor x10, x10, x6
-    .word 0x00414283  # lbu x5, 4(x2)
-    .word 0x01829293  # slli x5, x5, 24
-    .word 0x00514303  # lbu x6, 5(x2)
-    .word 0x01031313  # slli x6, x6, 16
-    .word 0x0062e5b3  # or x11, x5, x6
-    .word 0x00614303  # lbu x6, 6(x2)
-    .word 0x00831313  # slli x6, x6, 8
-    .word 0x0065e2b3  # or x5, x11, x6
+    .word 0x0065c5b3  # xor x11, x11, x6
+    .word 0x00851293  # slli x5, x10, 8
     .word 0x00714303  # lbu x6, 7(x2)
-    .word 0x0062e5b3  # or x11, x5, x6
+    .word 0x0062e533  # or x10, x5, x6
     .word 0xffc48293  # addi x5, x9, -4
     .word 0x005032b3  # sltu x5, x0, x5
-    .word 0x00c5f333  # and x6, x11, x12
     .word 0xfff28293  # addi x5, x5, -1
-    .word 0x00a34333  # xor x6, x6, x10
+    .word 0x00b54333  # xor x6, x10, x11
     .word 0x00537333  # and x6, x6, x5
-    .word 0x00654533  # xor x10, x10, x6
-    .word 0x00514283  # lbu x5, 5(x2)
-    .word 0x01829293  # slli x5, x5, 24
-    .word 0x00614303  # lbu x6, 6(x2)
-    .word 0x01031313  # slli x6, x6, 16
-    .word 0x0062e5b3  # or x11, x5, x6
-    .word 0x00714303  # lbu x6, 7(x2)
-    .word 0x00831313  # slli x6, x6, 8
-    .word 0x0065e2b3  # or x5, x11, x6
+    .word 0x0065c5b3  # xor x11, x11, x6
+    .word 0x00851293  # slli x5, x10, 8
     .word 0x00814303  # lbu x6, 8(x2)
-    .word 0x0062e5b3  # or x11, x5, x6
+    .word 0x0062e533  # or x10, x5, x6
     .word 0xffb48293  # addi x5, x9, -5
     .word 0x005032b3  # sltu x5, x0, x5
-    .word 0x00c5f333  # and x6, x11, x12
     .word 0xfff28293  # addi x5, x5, -1
-    .word 0x00a34333  # xor x6, x6, x10
+    .word 0x00b54333  # xor x6, x10, x11
     .word 0x00537333  # and x6, x6, x5
-    .word 0x00654533  # xor x10, x10, x6
-    .word 0x00614283  # lbu x5, 6(x2)
-    .word 0x01829293  # slli x5, x5, 24
-    .word 0x00714303  # lbu x6, 7(x2)
-    .word 0x01031313  # slli x6, x6, 16
-    .word 0x0062e5b3  # or x11, x5, x6
-    .word 0x00814303  # lbu x6, 8(x2)
-    .word 0x00831313  # slli x6, x6, 8
-    .word 0x0065e2b3  # or x5, x11, x6
+    .word 0x0065c5b3  # xor x11, x11, x6
+    .word 0x00851293  # slli x5, x10, 8
     .word 0x00914303  # lbu x6, 9(x2)
-    .word 0x0062e5b3  # or x11, x5, x6
+    .word 0x0062e533  # or x10, x5, x6
     .word 0xffa48293  # addi x5, x9, -6
     .word 0x005032b3  # sltu x5, x0, x5
-    .word 0x00c5f333  # and x6, x11, x12
     .word 0xfff28293  # addi x5, x5, -1
-    .word 0x00a34333  # xor x6, x6, x10
+    .word 0x00b54333  # xor x6, x10, x11
     .word 0x00537333  # and x6, x6, x5
-    .word 0x00654533  # xor x10, x10, x6
-    .word 0x00714283  # lbu x5, 7(x2)
-    .word 0x01829293  # slli x5, x5, 24
-    .word 0x00814303  # lbu x6, 8(x2)
-    .word 0x01031313  # slli x6, x6, 16
-    .word 0x0062e5b3  # or x11, x5, x6
-    .word 0x00914303  # lbu x6, 9(x2)
-    .word 0x00831313  # slli x6, x6, 8
-    .word 0x0065e2b3  # or x5, x11, x6
+    .word 0x0065c5b3  # xor x11, x11, x6
+    .word 0x00851293  # slli x5, x10, 8
     .word 0x00a14303  # lbu x6, 10(x2)
-    .word 0x0062e5b3  # or x11, x5, x6
+    .word 0x0062e533  # or x10, x5, x6
     .word 0xff948293  # addi x5, x9, -7
     .word 0x005032b3  # sltu x5, x0, x5
-    .word 0x00c5f333  # and x6, x11, x12
     .word 0xfff28293  # addi x5, x5, -1
-    .word 0x00a34333  # xor x6, x6, x10
+    .word 0x00b54333  # xor x6, x10, x11
     .word 0x00537333  # and x6, x6, x5
-    .word 0x00654533  # xor x10, x10, x6
-    .word 0x00814283  # lbu x5, 8(x2)
-    .word 0x01829293  # slli x5, x5, 24
-    .word 0x00914303  # lbu x6, 9(x2)
-    .word 0x01031313  # slli x6, x6, 16
-    .word 0x0062e5b3  # or x11, x5, x6
-    .word 0x00a14303  # lbu x6, 10(x2)
-    .word 0x00831313  # slli x6, x6, 8
-    .word 0x0065e2b3  # or x5, x11, x6
+    .word 0x0065c5b3  # xor x11, x11, x6
+    .word 0x00851293  # slli x5, x10, 8
     .word 0x00b14303  # lbu x6, 11(x2)
-    .word 0x0062e5b3  # or x11, x5, x6
+    .word 0x0062e533  # or x10, x5, x6
     .word 0xff848293  # addi x5, x9, -8
     .word 0x005032b3  # sltu x5, x0, x5
-    .word 0x00c5f333  # and x6, x11, x12
     .word 0xfff28293  # addi x5, x5, -1
-    .word 0x00a34333  # xor x6, x6, x10
+    .word 0x00b54333  # xor x6, x10, x11
     .word 0x00537333  # and x6, x6, x5
-    .word 0x00654533  # xor x10, x10, x6
-    .word 0x00914283  # lbu x5, 9(x2)
-    .word 0x01829293  # slli x5, x5, 24
-    .word 0x00a14303  # lbu x6, 10(x2)
-    .word 0x01031313  # slli x6, x6, 16
-    .word 0x0062e5b3  # or x11, x5, x6
-    .word 0x00b14303  # lbu x6, 11(x2)
-    .word 0x00831313  # slli x6, x6, 8
-    .word 0x0065e2b3  # or x5, x11, x6
+    .word 0x0065c5b3  # xor x11, x11, x6
+    .word 0x00851293  # slli x5, x10, 8
     .word 0x00c14303  # lbu x6, 12(x2)
-    .word 0x0062e5b3  # or x11, x5, x6
+    .word 0x0062e533  # or x10, x5, x6
     .word 0xff748293  # addi x5, x9, -9
     .word 0x005032b3  # sltu x5, x0, x5
-    .word 0x00c5f333  # and x6, x11, x12
     .word 0xfff28293  # addi x5, x5, -1
-    .word 0x00a34333  # xor x6, x6, x10
+    .word 0x00b54333  # xor x6, x10, x11
     .word 0x00537333  # and x6, x6, x5
-    .word 0x00654533  # xor x10, x10, x6
-    .word 0x00a14283  # lbu x5, 10(x2)
-    .word 0x01829293  # slli x5, x5, 24
-    .word 0x00b14303  # lbu x6, 11(x2)
-    .word 0x01031313  # slli x6, x6, 16
-    .word 0x0062e5b3  # or x11, x5, x6
-    .word 0x00c14303  # lbu x6, 12(x2)
-    .word 0x00831313  # slli x6, x6, 8
-    .word 0x0065e2b3  # or x5, x11, x6
+    .word 0x0065c5b3  # xor x11, x11, x6
+    .word 0x00851293  # slli x5, x10, 8
     .word 0x00d14303  # lbu x6, 13(x2)
-    .word 0x0062e5b3  # or x11, x5, x6
+    .word 0x0062e533  # or x10, x5, x6
     .word 0xff648293  # addi x5, x9, -10
     .word 0x005032b3  # sltu x5, x0, x5
-    .word 0x00c5f333  # and x6, x11, x12
     .word 0xfff28293  # addi x5, x5, -1
-    .word 0x00a34333  # xor x6, x6, x10
+    .word 0x00b54333  # xor x6, x10, x11
     .word 0x00537333  # and x6, x6, x5
-    .word 0x00654533  # xor x10, x10, x6
-    .word 0x00b14283  # lbu x5, 11(x2)
-    .word 0x01829293  # slli x5, x5, 24
-    .word 0x00c14303  # lbu x6, 12(x2)
-    .word 0x01031313  # slli x6, x6, 16
-    .word 0x0062e5b3  # or x11, x5, x6
-    .word 0x00d14303  # lbu x6, 13(x2)
-    .word 0x00831313  # slli x6, x6, 8
-    .word 0x0065e2b3  # or x5, x11, x6
+    .word 0x0065c5b3  # xor x11, x11, x6
+    .word 0x00851293  # slli x5, x10, 8
     .word 0x00e14303  # lbu x6, 14(x2)
-    .word 0x0062e5b3  # or x11, x5, x6
+    .word 0x0062e533  # or x10, x5, x6
     .word 0xff548293  # addi x5, x9, -11
     .word 0x005032b3  # sltu x5, x0, x5
-    .word 0x00c5f333  # and x6, x11, x12
     .word 0xfff28293  # addi x5, x5, -1
-    .word 0x00a34333  # xor x6, x6, x10
+    .word 0x00b54333  # xor x6, x10, x11
     .word 0x00537333  # and x6, x6, x5
-    .word 0x00654533  # xor x10, x10, x6
-    .word 0x00c14283  # lbu x5, 12(x2)
-    .word 0x01829293  # slli x5, x5, 24
-    .word 0x00d14303  # lbu x6, 13(x2)
-    .word 0x01031313  # slli x6, x6, 16
-    .word 0x0062e5b3  # or x11, x5, x6
-    .word 0x00e14303  # lbu x6, 14(x2)
-    .word 0x00831313  # slli x6, x6, 8
-    .word 0x0065e2b3  # or x5, x11, x6
+    .word 0x0065c5b3  # xor x11, x11, x6
+    .word 0x00851293  # slli x5, x10, 8
     .word 0x00f14303  # lbu x6, 15(x2)
-    .word 0x0062e5b3  # or x11, x5, x6
+    .word 0x0062e533  # or x10, x5, x6
     .word 0xff448293  # addi x5, x9, -12
     .word 0x005032b3  # sltu x5, x0, x5
-    .word 0x00c5f333  # and x6, x11, x12
     .word 0xfff28293  # addi x5, x5, -1
-    .word 0x00a34333  # xor x6, x6, x10
+    .word 0x00b54333  # xor x6, x10, x11
     .word 0x00537333  # and x6, x6, x5
-    .word 0x00654533  # xor x10, x10, x6
-    .word 0x00d14283  # lbu x5, 13(x2)
-    .word 0x01829293  # slli x5, x5, 24
-    .word 0x00e14303  # lbu x6, 14(x2)
-    .word 0x01031313  # slli x6, x6, 16
-    .word 0x0062e5b3  # or x11, x5, x6
-    .word 0x00f14303  # lbu x6, 15(x2)
-    .word 0x00831313  # slli x6, x6, 8
-    .word 0x0065e2b3  # or x5, x11, x6
+    .word 0x0065c5b3  # xor x11, x11, x6
+    .word 0x00851293  # slli x5, x10, 8
     .word 0x01014303  # lbu x6, 16(x2)
-    .word 0x0062e5b3  # or x11, x5, x6
+    .word 0x0062e533  # or x10, x5, x6
     .word 0xff348293  # addi x5, x9, -13
     .word 0x005032b3  # sltu x5, x0, x5
-    .word 0x00c5f333  # and x6, x11, x12
     .word 0xfff28293  # addi x5, x5, -1
-    .word 0x00a34333  # xor x6, x6, x10
+    .word 0x00b54333  # xor x6, x10, x11
     .word 0x00537333  # and x6, x6, x5
-    .word 0x00654533  # xor x10, x10, x6
-    .word 0x00e14283  # lbu x5, 14(x2)
-    .word 0x01829293  # slli x5, x5, 24
-    .word 0x00f14303  # lbu x6, 15(x2)
-    .word 0x01031313  # slli x6, x6, 16
-    .word 0x0062e5b3  # or x11, x5, x6
-    .word 0x01014303  # lbu x6, 16(x2)
-    .word 0x00831313  # slli x6, x6, 8
-    .word 0x0065e2b3  # or x5, x11, x6
+    .word 0x0065c5b3  # xor x11, x11, x6
+    .word 0x00851293  # slli x5, x10, 8
     .word 0x01114303  # lbu x6, 17(x2)
-    .word 0x0062e5b3  # or x11, x5, x6
+    .word 0x0062e533  # or x10, x5, x6
     .word 0xff248293  # addi x5, x9, -14
     .word 0x005032b3  # sltu x5, x0, x5
-    .word 0x00c5f333  # and x6, x11, x12
     .word 0xfff28293  # addi x5, x5, -1
-    .word 0x00a34333  # xor x6, x6, x10
+    .word 0x00b54333  # xor x6, x10, x11
     .word 0x00537333  # and x6, x6, x5
-    .word 0x00654533  # xor x10, x10, x6
-    .word 0x00f14283  # lbu x5, 15(x2)
-    .word 0x01829293  # slli x5, x5, 24
-    .word 0x01014303  # lbu x6, 16(x2)
-    .word 0x01031313  # slli x6, x6, 16
-    .word 0x0062e5b3  # or x11, x5, x6
-    .word 0x01114303  # lbu x6, 17(x2)
-    .word 0x00831313  # slli x6, x6, 8
-    .word 0x0065e2b3  # or x5, x11, x6
+    .word 0x0065c5b3  # xor x11, x11, x6
+    .word 0x00851293  # slli x5, x10, 8
     .word 0x01214303  # lbu x6, 18(x2)
-    .word 0x0062e5b3  # or x11, x5, x6
+    .word 0x0062e533  # or x10, x5, x6
     .word 0xff148293  # addi x5, x9, -15
     .word 0x005032b3  # sltu x5, x0, x5
-    .word 0x00c5f333  # and x6, x11, x12
     .word 0xfff28293  # addi x5, x5, -1
-    .word 0x00a34333  # xor x6, x6, x10
+    .word 0x00b54333  # xor x6, x10, x11
     .word 0x00537333  # and x6, x6, x5
-    .word 0x00654533  # xor x10, x10, x6
+    .word 0x0065c5b3  # xor x11, x11, x6
+    .word 0x00159593  # slli x11, x11, 1
+    .word 0x0015d593  # srli x11, x11, 1
     .word 0x7a1203b7  # lui x7, 0x7a120
     .word 0x00038393  # addi x7, x7, 0
-    .word 0x00753333  # sltu x6, x10, x7
+    .word 0x0075b333  # sltu x6, x11, x7
     .word 0x7a1203b7  # lui x7, 0x7a120
     .word 0x00038393  # addi x7, x7, 0
     .word 0xfff30313  # addi x6, x6, -1
     .word 0x0063f333  # and x6, x7, x6
-    .word 0x40650533  # sub x10, x10, x6
+    .word 0x406585b3  # sub x11, x11, x6
     .word 0x3d0903b7  # lui x7, 0x3d090
     .word 0x00038393  # addi x7, x7, 0
-    .word 0x00753333  # sltu x6, x10, x7
+    .word 0x0075b333  # sltu x6, x11, x7
     .word 0x3d0903b7  # lui x7, 0x3d090
     .word 0x00038393  # addi x7, x7, 0
     .word 0xfff30313  # addi x6, x6, -1
     .word 0x0063f333  # and x6, x7, x6
-    .word 0x40650533  # sub x10, x10, x6
+    .word 0x406585b3  # sub x11, x11, x6
     .word 0x1e8483b7  # lui x7, 0x1e848
     .word 0x00038393  # addi x7, x7, 0
-    .word 0x00753333  # sltu x6, x10, x7
+    .word 0x0075b333  # sltu x6, x11, x7
     .word 0x1e8483b7  # lui x7, 0x1e848
     .word 0x00038393  # addi x7, x7, 0
     .word 0xfff30313  # addi x6, x6, -1
     .word 0x0063f333  # and x6, x7, x6
-    .word 0x40650533  # sub x10, x10, x6
+    .word 0x406585b3  # sub x11, x11, x6
     .word 0x0f4243b7  # lui x7, 0x0f424
     .word 0x00038393  # addi x7, x7, 0
-    .word 0x00753333  # sltu x6, x10, x7
+    .word 0x0075b333  # sltu x6, x11, x7
     .word 0x0f4243b7  # lui x7, 0x0f424
     .word 0x00038393  # addi x7, x7, 0
     .word 0xfff30313  # addi x6, x6, -1
     .word 0x0063f333  # and x6, x7, x6
-    .word 0x40650533  # sub x10, x10, x6
+    .word 0x406585b3  # sub x11, x11, x6
     .word 0x07a123b7  # lui x7, 0x07a12
     .word 0x00038393  # addi x7, x7, 0
-    .word 0x00753333  # sltu x6, x10, x7
+    .word 0x0075b333  # sltu x6, x11, x7
     .word 0x07a123b7  # lui x7, 0x07a12
     .word 0x00038393  # addi x7, x7, 0
     .word 0xfff30313  # addi x6, x6, -1
     .word 0x0063f333  # and x6, x7, x6
-    .word 0x40650533  # sub x10, x10, x6
+    .word 0x406585b3  # sub x11, x11, x6
     .word 0x03d093b7  # lui x7, 0x03d09
     .word 0x00038393  # addi x7, x7, 0
-    .word 0x00753333  # sltu x6, x10, x7
+    .word 0x0075b333  # sltu x6, x11, x7
     .word 0x03d093b7  # lui x7, 0x03d09
     .word 0x00038393  # addi x7, x7, 0
     .word 0xfff30313  # addi x6, x6, -1
     .word 0x0063f333  # and x6, x7, x6
-    .word 0x40650533  # sub x10, x10, x6
+    .word 0x406585b3  # sub x11, x11, x6
     .word 0x01e853b7  # lui x7, 0x01e85
     .word 0x80038393  # addi x7, x7, -2048
-    .word 0x00753333  # sltu x6, x10, x7
+    .word 0x0075b333  # sltu x6, x11, x7
     .word 0x01e853b7  # lui x7, 0x01e85
     .word 0x80038393  # addi x7, x7, -2048
     .word 0xfff30313  # addi x6, x6, -1
     .word 0x0063f333  # and x6, x7, x6
-    .word 0x40650533  # sub x10, x10, x6
+    .word 0x406585b3  # sub x11, x11, x6
     .word 0x00f423b7  # lui x7, 0x00f42
     .word 0x40038393  # addi x7, x7, 1024
-    .word 0x00753333  # sltu x6, x10, x7
+    .word 0x0075b333  # sltu x6, x11, x7
     .word 0x00f423b7  # lui x7, 0x00f42
     .word 0x40038393  # addi x7, x7, 1024
     .word 0xfff30313  # addi x6, x6, -1
     .word 0x0063f333  # and x6, x7, x6
-    .word 0x40650533  # sub x10, x10, x6
+    .word 0x406585b3  # sub x11, x11, x6
     .word 0x007a13b7  # lui x7, 0x007a1
     .word 0x20038393  # addi x7, x7, 512
-    .word 0x00753333  # sltu x6, x10, x7
+    .word 0x0075b333  # sltu x6, x11, x7
     .word 0x007a13b7  # lui x7, 0x007a1
     .word 0x20038393  # addi x7, x7, 512
     .word 0xfff30313  # addi x6, x6, -1
     .word 0x0063f333  # and x6, x7, x6
-    .word 0x40650533  # sub x10, x10, x6
+    .word 0x406585b3  # sub x11, x11, x6
     .word 0x003d13b7  # lui x7, 0x003d1
     .word 0x90038393  # addi x7, x7, -1792
-    .word 0x00753333  # sltu x6, x10, x7
+    .word 0x0075b333  # sltu x6, x11, x7
     .word 0x003d13b7  # lui x7, 0x003d1
     .word 0x90038393  # addi x7, x7, -1792
     .word 0xfff30313  # addi x6, x6, -1
     .word 0x0063f333  # and x6, x7, x6
-    .word 0x40650533  # sub x10, x10, x6
+    .word 0x406585b3  # sub x11, x11, x6
     .word 0x001e83b7  # lui x7, 0x001e8
     .word 0x48038393  # addi x7, x7, 1152
-    .word 0x00753333  # sltu x6, x10, x7
+    .word 0x0075b333  # sltu x6, x11, x7
     .word 0x001e83b7  # lui x7, 0x001e8
     .word 0x48038393  # addi x7, x7, 1152
     .word 0xfff30313  # addi x6, x6, -1
     .word 0x0063f333  # and x6, x7, x6
-    .word 0x40650533  # sub x10, x10, x6
+    .word 0x406585b3  # sub x11, x11, x6
     .word 0x000f43b7  # lui x7, 0x000f4
     .word 0x24038393  # addi x7, x7, 576
-    .word 0x00753333  # sltu x6, x10, x7
+    .word 0x0075b333  # sltu x6, x11, x7
     .word 0x000f43b7  # lui x7, 0x000f4
     .word 0x24038393  # addi x7, x7, 576
     .word 0xfff30313  # addi x6, x6, -1
     .word 0x0063f333  # and x6, x7, x6
-    .word 0x40650533  # sub x10, x10, x6
-    .word 0x00a12a23  # sw x10, 20(x2)
+    .word 0x406585b3  # sub x11, x11, x6
+    .word 0x00b12a23  # sw x11, 20(x2)
     # the result
     .word 0x01412503  # lw x10, 20(x2)
     # above the frame

@@ -1,4 +1,4 @@
-# mlkem_decompress: made by factc function; 152 words, 544 bytes of stack, profile 1
+# mlkem_decompress: made by factc function; 154 words, 544 bytes of stack, profile 1
     .option push
     .option norvc
     .option norelax
@@ -13,8 +13,10 @@ mlkem_decompress:
     .word 0xff010113  # addi x2, x2, -16
     .cfi_def_cfa_offset 16
     # the caller's registers
-    .word 0x00912023  # sw x9, 0(x2)
-    .cfi_offset 9, -16
+    .word 0x00812023  # sw x8, 0(x2)
+    .cfi_offset 8, -16
+    .word 0x00912223  # sw x9, 4(x2)
+    .cfi_offset 9, -12
     # arguments that are needed behind the body
     .word 0x00a12623  # sw x10, 12(x2)
     # the frame's base
@@ -63,10 +65,13 @@ mlkem_decompress:
     # parameter 1: a word
     .word 0x20b12023  # sw x11, 512(x2)
     # the body
-    .word 0x20012483  # lw x9, 512(x2)
+    .word 0x20012403  # lw x8, 512(x2)
     .word 0x00000593  # addi x11, x0, 0
     .word 0x00c00313  # addi x6, x0, 12
-    .word 0x0264f533  # remu x10, x9, x6
+    .word 0x026474b3  # remu x9, x8, x6
+    .word 0x00100293  # addi x5, x0, 1
+    .word 0x009292b3  # sll x5, x5, x9
+    .word 0x0012d513  # srli x10, x5, 1
     .word 0x00000593  # addi x11, x0, 0
     .word 0x00159313  # slli x6, x11, 1
     .word 0x00230333  # add x6, x6, x2
@@ -74,17 +79,14 @@ mlkem_decompress:
     .word 0x000013b7  # lui x7, 0x00001
     .word 0xd0138393  # addi x7, x7, -767
     .word 0x02730333  # mul x6, x6, x7
-    .word 0x00100393  # addi x7, x0, 1
-    .word 0x00a393b3  # sll x7, x7, x10
-    .word 0x0013d393  # srli x7, x7, 1
-    .word 0x00730333  # add x6, x6, x7
-    .word 0x00a35333  # srl x6, x6, x10
+    .word 0x00a30333  # add x6, x6, x10
+    .word 0x00935333  # srl x6, x6, x9
     .word 0x00159293  # slli x5, x11, 1
     .word 0x002282b3  # add x5, x5, x2
     .word 0x00629023  # sh x6, 0(x5)
     .word 0x00158593  # addi x11, x11, 1
     .word 0x1005b293  # sltiu x5, x11, 256
-    .word 0xfc0290e3  # bne x5, x0, -64
+    .word 0xfc0296e3  # bne x5, x0, -52
     .word 0xfff58593  # addi x11, x11, -1
     # the result
     .word 0x00000513  # addi x10, x0, 0
@@ -131,7 +133,9 @@ mlkem_decompress:
     # above the frame
     .word 0x21010293  # addi x5, x2, 528
     # the caller's registers
-    .word 0x0002a483  # lw x9, 0(x5)
+    .word 0x0002a403  # lw x8, 0(x5)
+    .cfi_restore 8
+    .word 0x0042a483  # lw x9, 4(x5)
     .cfi_restore 9
     # the caller's x2
     .word 0x01028293  # addi x5, x5, 16

@@ -1,4 +1,4 @@
-# mlkem_encode_12: made by factc function; 171 words, 928 bytes of stack, profile 1
+# mlkem_encode_12: made by factc function; 201 words, 928 bytes of stack, profile 1
     .option push
     .option norvc
     .option norelax
@@ -61,48 +61,79 @@ mlkem_encode_12:
     .word 0x02028293  # addi x5, x5, 32
     .word 0x02030313  # addi x6, x6, 32
     .word 0xfa729ce3  # bne x5, x7, -72
+    # parameter 1: an array
+    .word 0x00058293  # addi x5, x11, 0
+    .word 0x20010313  # addi x6, x2, 512
+    .word 0x0032fe13  # andi x28, x5, 3
+    .word 0x020e0e63  # beq x28, x0, 60
+    .word 0x18000393  # addi x7, x0, 384
+    .word 0x005383b3  # add x7, x7, x5
+    .word 0x0002ce03  # lbu x28, 0(x5)
+    .word 0x01c30023  # sb x28, 0(x6)
+    .word 0x0012ce03  # lbu x28, 1(x5)
+    .word 0x01c300a3  # sb x28, 1(x6)
+    .word 0x0022ce03  # lbu x28, 2(x5)
+    .word 0x01c30123  # sb x28, 2(x6)
+    .word 0x0032ce03  # lbu x28, 3(x5)
+    .word 0x01c301a3  # sb x28, 3(x6)
+    .word 0x00428293  # addi x5, x5, 4
+    .word 0x00430313  # addi x6, x6, 4
+    .word 0xfc729ce3  # bne x5, x7, -40
+    .word 0x0580006f  # jal x0, 88
+    .word 0x18000393  # addi x7, x0, 384
+    .word 0x005383b3  # add x7, x7, x5
+    .word 0x0002ae03  # lw x28, 0(x5)
+    .word 0x01c32023  # sw x28, 0(x6)
+    .word 0x0042ae03  # lw x28, 4(x5)
+    .word 0x01c32223  # sw x28, 4(x6)
+    .word 0x0082ae03  # lw x28, 8(x5)
+    .word 0x01c32423  # sw x28, 8(x6)
+    .word 0x00c2ae03  # lw x28, 12(x5)
+    .word 0x01c32623  # sw x28, 12(x6)
+    .word 0x0102ae03  # lw x28, 16(x5)
+    .word 0x01c32823  # sw x28, 16(x6)
+    .word 0x0142ae03  # lw x28, 20(x5)
+    .word 0x01c32a23  # sw x28, 20(x6)
+    .word 0x0182ae03  # lw x28, 24(x5)
+    .word 0x01c32c23  # sw x28, 24(x6)
+    .word 0x01c2ae03  # lw x28, 28(x5)
+    .word 0x01c32e23  # sw x28, 28(x6)
+    .word 0x02028293  # addi x5, x5, 32
+    .word 0x02030313  # addi x6, x6, 32
+    .word 0xfa729ce3  # bne x5, x7, -72
     # the body
     .word 0x00000493  # addi x9, x0, 0
     .word 0x00000513  # addi x10, x0, 0
     .word 0x00000593  # addi x11, x0, 0
+    .word 0x00000613  # addi x12, x0, 0
+    .word 0x00000693  # addi x13, x0, 0
     .word 0x00000493  # addi x9, x0, 0
-    .word 0x00149293  # slli x5, x9, 1
-    .word 0x00129513  # slli x10, x5, 1
-    .word 0x00250533  # add x10, x10, x2
-    .word 0x00055503  # lhu x10, 0(x10)
-    .word 0x00149293  # slli x5, x9, 1
-    .word 0x00128293  # addi x5, x5, 1
-    .word 0x00129593  # slli x11, x5, 1
-    .word 0x002585b3  # add x11, x11, x2
-    .word 0x0005d583  # lhu x11, 0(x11)
+    .word 0x00149513  # slli x10, x9, 1
     .word 0x00300293  # addi x5, x0, 3
-    .word 0x029282b3  # mul x5, x5, x9
-    .word 0x002282b3  # add x5, x5, x2
-    .word 0x20a28023  # sb x10, 512(x5)
-    .word 0x00300293  # addi x5, x0, 3
-    .word 0x029282b3  # mul x5, x5, x9
-    .word 0x00128293  # addi x5, x5, 1
-    .word 0x00855313  # srli x6, x10, 8
-    .word 0x01031313  # slli x6, x6, 16
-    .word 0x01035313  # srli x6, x6, 16
+    .word 0x029285b3  # mul x11, x5, x9
+    .word 0x00151613  # slli x12, x10, 1
+    .word 0x00260633  # add x12, x12, x2
+    .word 0x00065603  # lhu x12, 0(x12)
+    .word 0x00150293  # addi x5, x10, 1
+    .word 0x00129693  # slli x13, x5, 1
+    .word 0x002686b3  # add x13, x13, x2
+    .word 0x0006d683  # lhu x13, 0(x13)
+    .word 0x002582b3  # add x5, x11, x2
+    .word 0x20c28023  # sb x12, 512(x5)
+    .word 0x00158293  # addi x5, x11, 1
+    .word 0x00865313  # srli x6, x12, 8
     .word 0x00f37313  # andi x6, x6, 15
-    .word 0x00459393  # slli x7, x11, 4
-    .word 0x01039393  # slli x7, x7, 16
-    .word 0x0103d393  # srli x7, x7, 16
+    .word 0x00469393  # slli x7, x13, 4
     .word 0x00736333  # or x6, x6, x7
     .word 0x002282b3  # add x5, x5, x2
     .word 0x20628023  # sb x6, 512(x5)
-    .word 0x00300293  # addi x5, x0, 3
-    .word 0x029282b3  # mul x5, x5, x9
-    .word 0x00228293  # addi x5, x5, 2
-    .word 0x0045d313  # srli x6, x11, 4
-    .word 0x01031313  # slli x6, x6, 16
-    .word 0x01035313  # srli x6, x6, 16
+    .word 0x00258293  # addi x5, x11, 2
+    .word 0x0046d313  # srli x6, x13, 4
     .word 0x002282b3  # add x5, x5, x2
     .word 0x20628023  # sb x6, 512(x5)
     .word 0x00148493  # addi x9, x9, 1
     .word 0x0804b293  # sltiu x5, x9, 128
-    .word 0xf60298e3  # bne x5, x0, -144
+    .word 0xf8029ee3  # bne x5, x0, -100
     .word 0xfff48493  # addi x9, x9, -1
     # the result
     .word 0x00000513  # addi x10, x0, 0

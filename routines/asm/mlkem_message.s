@@ -1,4 +1,4 @@
-# mlkem_message: made by factc function; 137 words, 576 bytes of stack, profile 1
+# mlkem_message: made by factc function; 196 words, 576 bytes of stack, profile 1
     .option push
     .option norvc
     .option norelax
@@ -13,8 +13,10 @@ mlkem_message:
     .word 0xff010113  # addi x2, x2, -16
     .cfi_def_cfa_offset 16
     # the caller's registers
-    .word 0x00912023  # sw x9, 0(x2)
-    .cfi_offset 9, -16
+    .word 0x00812023  # sw x8, 0(x2)
+    .cfi_offset 8, -16
+    .word 0x00912223  # sw x9, 4(x2)
+    .cfi_offset 9, -12
     # arguments that are needed behind the body
     .word 0x00a12423  # sw x10, 8(x2)
     .word 0x00b12623  # sw x11, 12(x2)
@@ -57,28 +59,85 @@ mlkem_message:
     .word 0x01c2ae03  # lw x28, 28(x5)
     .word 0x01c32e23  # sw x28, 28(x6)
     # the body
+    .word 0x00000413  # addi x8, x0, 0
     .word 0x00000493  # addi x9, x0, 0
-    .word 0x00000493  # addi x9, x0, 0
-    .word 0x0034d313  # srli x6, x9, 3
-    .word 0x00230333  # add x6, x6, x2
-    .word 0x00034303  # lbu x6, 0(x6)
-    .word 0x0074f393  # andi x7, x9, 7
-    .word 0x00735333  # srl x6, x6, x7
-    .word 0x0ff37313  # andi x6, x6, 255
-    .word 0x00137313  # andi x6, x6, 1
-    .word 0x01031313  # slli x6, x6, 16
-    .word 0x01035313  # srli x6, x6, 16
+    .word 0x00000413  # addi x8, x0, 0
+    .word 0x002404b3  # add x9, x8, x2
+    .word 0x0004c483  # lbu x9, 0(x9)
+    .word 0x00341293  # slli x5, x8, 3
+    .word 0x0014f313  # andi x6, x9, 1
     .word 0x40600333  # sub x6, x0, x6
-    .word 0x01031313  # slli x6, x6, 16
-    .word 0x01035313  # srli x6, x6, 16
     .word 0x68137313  # andi x6, x6, 1665
-    .word 0x00149293  # slli x5, x9, 1
+    .word 0x00129293  # slli x5, x5, 1
     .word 0x002282b3  # add x5, x5, x2
     .word 0x02629023  # sh x6, 32(x5)
-    .word 0x00148493  # addi x9, x9, 1
-    .word 0x1004b293  # sltiu x5, x9, 256
-    .word 0xfa029ce3  # bne x5, x0, -72
-    .word 0xfff48493  # addi x9, x9, -1
+    .word 0x00341293  # slli x5, x8, 3
+    .word 0x00128293  # addi x5, x5, 1
+    .word 0x0014d313  # srli x6, x9, 1
+    .word 0x00137313  # andi x6, x6, 1
+    .word 0x40600333  # sub x6, x0, x6
+    .word 0x68137313  # andi x6, x6, 1665
+    .word 0x00129293  # slli x5, x5, 1
+    .word 0x002282b3  # add x5, x5, x2
+    .word 0x02629023  # sh x6, 32(x5)
+    .word 0x00341293  # slli x5, x8, 3
+    .word 0x00228293  # addi x5, x5, 2
+    .word 0x0024d313  # srli x6, x9, 2
+    .word 0x00137313  # andi x6, x6, 1
+    .word 0x40600333  # sub x6, x0, x6
+    .word 0x68137313  # andi x6, x6, 1665
+    .word 0x00129293  # slli x5, x5, 1
+    .word 0x002282b3  # add x5, x5, x2
+    .word 0x02629023  # sh x6, 32(x5)
+    .word 0x00341293  # slli x5, x8, 3
+    .word 0x00328293  # addi x5, x5, 3
+    .word 0x0034d313  # srli x6, x9, 3
+    .word 0x00137313  # andi x6, x6, 1
+    .word 0x40600333  # sub x6, x0, x6
+    .word 0x68137313  # andi x6, x6, 1665
+    .word 0x00129293  # slli x5, x5, 1
+    .word 0x002282b3  # add x5, x5, x2
+    .word 0x02629023  # sh x6, 32(x5)
+    .word 0x00341293  # slli x5, x8, 3
+    .word 0x00428293  # addi x5, x5, 4
+    .word 0x0044d313  # srli x6, x9, 4
+    .word 0x00137313  # andi x6, x6, 1
+    .word 0x40600333  # sub x6, x0, x6
+    .word 0x68137313  # andi x6, x6, 1665
+    .word 0x00129293  # slli x5, x5, 1
+    .word 0x002282b3  # add x5, x5, x2
+    .word 0x02629023  # sh x6, 32(x5)
+    .word 0x00341293  # slli x5, x8, 3
+    .word 0x00528293  # addi x5, x5, 5
+    .word 0x0054d313  # srli x6, x9, 5
+    .word 0x00137313  # andi x6, x6, 1
+    .word 0x40600333  # sub x6, x0, x6
+    .word 0x68137313  # andi x6, x6, 1665
+    .word 0x00129293  # slli x5, x5, 1
+    .word 0x002282b3  # add x5, x5, x2
+    .word 0x02629023  # sh x6, 32(x5)
+    .word 0x00341293  # slli x5, x8, 3
+    .word 0x00628293  # addi x5, x5, 6
+    .word 0x0064d313  # srli x6, x9, 6
+    .word 0x00137313  # andi x6, x6, 1
+    .word 0x40600333  # sub x6, x0, x6
+    .word 0x68137313  # andi x6, x6, 1665
+    .word 0x00129293  # slli x5, x5, 1
+    .word 0x002282b3  # add x5, x5, x2
+    .word 0x02629023  # sh x6, 32(x5)
+    .word 0x00341293  # slli x5, x8, 3
+    .word 0x00728293  # addi x5, x5, 7
+    .word 0x0074d313  # srli x6, x9, 7
+    .word 0x00137313  # andi x6, x6, 1
+    .word 0x40600333  # sub x6, x0, x6
+    .word 0x68137313  # andi x6, x6, 1665
+    .word 0x00129293  # slli x5, x5, 1
+    .word 0x002282b3  # add x5, x5, x2
+    .word 0x02629023  # sh x6, 32(x5)
+    .word 0x00140413  # addi x8, x8, 1
+    .word 0x02043293  # sltiu x5, x8, 32
+    .word 0xec029ce3  # bne x5, x0, -296
+    .word 0xfff40413  # addi x8, x8, -1
     # the result
     .word 0x00000513  # addi x10, x0, 0
     # parameter 1: the array, back
@@ -124,7 +183,9 @@ mlkem_message:
     # above the frame
     .word 0x23010293  # addi x5, x2, 560
     # the caller's registers
-    .word 0x0002a483  # lw x9, 0(x5)
+    .word 0x0002a403  # lw x8, 0(x5)
+    .cfi_restore 8
+    .word 0x0042a483  # lw x9, 4(x5)
     .cfi_restore 9
     # the caller's x2
     .word 0x01028293  # addi x5, x5, 16

@@ -1,4 +1,4 @@
-# base64_encode: made by factc function; 221 words, 160 bytes of stack, profile 1
+# base64_encode: made by factc function; 208 words, 160 bytes of stack, profile 1
     .option push
     .option norvc
     .option norelax
@@ -75,85 +75,72 @@ base64_encode:
     .word 0x00000693  # addi x13, x0, 0
     .word 0x00000713  # addi x14, x0, 0
     .word 0x00000793  # addi x15, x0, 0
+    .word 0x00000813  # addi x16, x0, 0
+    .word 0x00000893  # addi x17, x0, 0
     .word 0x00000513  # addi x10, x0, 0
-    .word 0x00000593  # addi x11, x0, 0
-    .word 0x00000613  # addi x12, x0, 0
-    .word 0x00859593  # slli x11, x11, 8
     .word 0x00300293  # addi x5, x0, 3
-    .word 0x02a282b3  # mul x5, x5, x10
-    .word 0x00c282b3  # add x5, x5, x12
-    .word 0x0092fe63  # bgeu x5, x9, 28
-    .word 0x00300313  # addi x6, x0, 3
-    .word 0x02a30333  # mul x6, x6, x10
-    .word 0x00c30333  # add x6, x6, x12
+    .word 0x02a285b3  # mul x11, x5, x10
+    .word 0x00000613  # addi x12, x0, 0
+    .word 0x00000693  # addi x13, x0, 0
+    .word 0x00861613  # slli x12, x12, 8
+    .word 0x00d582b3  # add x5, x11, x13
+    .word 0x0092fa63  # bgeu x5, x9, 20
+    .word 0x00d58333  # add x6, x11, x13
     .word 0x00230333  # add x6, x6, x2
     .word 0x00034303  # lbu x6, 0(x6)
-    .word 0x0065e5b3  # or x11, x11, x6
-    .word 0x00160613  # addi x12, x12, 1
-    .word 0x00363293  # sltiu x5, x12, 3
-    .word 0xfc0296e3  # bne x5, x0, -52
-    .word 0xfff60613  # addi x12, x12, -1
-    .word 0x00000693  # addi x13, x0, 0
+    .word 0x00666633  # or x12, x12, x6
+    .word 0x00168693  # addi x13, x13, 1
+    .word 0x0036b293  # sltiu x5, x13, 3
+    .word 0xfc029ee3  # bne x5, x0, -36
+    .word 0xfff68693  # addi x13, x13, -1
+    .word 0x00000713  # addi x14, x0, 0
     .word 0x01200313  # addi x6, x0, 18
     .word 0x00600393  # addi x7, x0, 6
-    .word 0x02d383b3  # mul x7, x7, x13
+    .word 0x02e383b3  # mul x7, x7, x14
     .word 0x40730333  # sub x6, x6, x7
-    .word 0x0065d2b3  # srl x5, x11, x6
-    .word 0x03f2f293  # andi x5, x5, 63
-    .word 0x0ff2f713  # andi x14, x5, 255
-    .word 0x04170793  # addi x15, x14, 65
-    .word 0x0ff7f793  # andi x15, x15, 255
-    .word 0x01a73293  # sltiu x5, x14, 26
-    .word 0x04770393  # addi x7, x14, 71
-    .word 0x0ff3f393  # andi x7, x7, 255
-    .word 0x405002b3  # sub x5, x0, x5
-    .word 0x0077c333  # xor x6, x15, x7
-    .word 0x00537333  # and x6, x6, x5
-    .word 0x0063c7b3  # xor x15, x7, x6
-    .word 0x03473293  # sltiu x5, x14, 52
-    .word 0xffc70393  # addi x7, x14, -4
-    .word 0x0ff3f393  # andi x7, x7, 255
-    .word 0x405002b3  # sub x5, x0, x5
-    .word 0x0077c333  # xor x6, x15, x7
-    .word 0x00537333  # and x6, x6, x5
-    .word 0x0063c7b3  # xor x15, x7, x6
-    .word 0xfc270293  # addi x5, x14, -62
-    .word 0x005032b3  # sltu x5, x0, x5
-    .word 0x02b00313  # addi x6, x0, 43
-    .word 0xfff28293  # addi x5, x5, -1
-    .word 0x00f34333  # xor x6, x6, x15
-    .word 0x00537333  # and x6, x6, x5
-    .word 0x0067c7b3  # xor x15, x15, x6
-    .word 0xfc170293  # addi x5, x14, -63
-    .word 0x005032b3  # sltu x5, x0, x5
-    .word 0x02f00313  # addi x6, x0, 47
-    .word 0xfff28293  # addi x5, x5, -1
-    .word 0x00f34333  # xor x6, x6, x15
-    .word 0x00537333  # and x6, x6, x5
-    .word 0x0067c733  # xor x14, x15, x6
-    .word 0x00d032b3  # sltu x5, x0, x13
+    .word 0x006652b3  # srl x5, x12, x6
+    .word 0x03f2f793  # andi x15, x5, 63
+    .word 0x04178813  # addi x16, x15, 65
+    .word 0x01a7b313  # sltiu x6, x15, 26
+    .word 0x00600393  # addi x7, x0, 6
+    .word 0xfff30313  # addi x6, x6, -1
+    .word 0x0063f333  # and x6, x7, x6
+    .word 0x00680833  # add x16, x16, x6
+    .word 0x0347b313  # sltiu x6, x15, 52
+    .word 0x04b00393  # addi x7, x0, 75
+    .word 0xfff30313  # addi x6, x6, -1
+    .word 0x0063f333  # and x6, x7, x6
+    .word 0x40680833  # sub x16, x16, x6
+    .word 0x03e7b313  # sltiu x6, x15, 62
+    .word 0x00f00393  # addi x7, x0, 15
+    .word 0xfff30313  # addi x6, x6, -1
+    .word 0x0063f333  # and x6, x7, x6
+    .word 0x40680833  # sub x16, x16, x6
+    .word 0x03f7b313  # sltiu x6, x15, 63
     .word 0x00300393  # addi x7, x0, 3
-    .word 0x02a383b3  # mul x7, x7, x10
-    .word 0x00d383b3  # add x7, x7, x13
+    .word 0xfff30313  # addi x6, x6, -1
+    .word 0x0063f333  # and x6, x7, x6
+    .word 0x006802b3  # add x5, x16, x6
+    .word 0x0ff2f893  # andi x17, x5, 255
+    .word 0x00e032b3  # sltu x5, x0, x14
+    .word 0x00e583b3  # add x7, x11, x14
     .word 0x0074b333  # sltu x6, x9, x7
     .word 0x0062f2b3  # and x5, x5, x6
     .word 0x00028463  # beq x5, x0, 8
-    .word 0x03d00713  # addi x14, x0, 61
-    .word 0x00300313  # addi x6, x0, 3
-    .word 0x02a30333  # mul x6, x6, x10
-    .word 0x00936463  # bltu x6, x9, 8
-    .word 0x00000713  # addi x14, x0, 0
+    .word 0x03d00893  # addi x17, x0, 61
+    .word 0x0095e463  # bltu x11, x9, 8
+    .word 0x00000893  # addi x17, x0, 0
     .word 0x00251293  # slli x5, x10, 2
-    .word 0x00d282b3  # add x5, x5, x13
+    .word 0x00e282b3  # add x5, x5, x14
     .word 0x002282b3  # add x5, x5, x2
-    .word 0x02e28a23  # sb x14, 52(x5)
-    .word 0x00168693  # addi x13, x13, 1
-    .word 0x0046b293  # sltiu x5, x13, 4
-    .word 0xf20292e3  # bne x5, x0, -220
-    .word 0xfff68693  # addi x13, x13, -1
+    .word 0x03128a23  # sb x17, 52(x5)
+    .word 0x00170713  # addi x14, x14, 1
+    .word 0x00473293  # sltiu x5, x14, 4
+    .word 0xf4029ce3  # bne x5, x0, -168
+    .word 0xfff70713  # addi x14, x14, -1
     .word 0x00150513  # addi x10, x10, 1
     .word 0x01053293  # sltiu x5, x10, 16
-    .word 0xec0296e3  # bne x5, x0, -308
+    .word 0xf00294e3  # bne x5, x0, -248
     .word 0xfff50513  # addi x10, x10, -1
     # the result
     .word 0x00000513  # addi x10, x0, 0

@@ -1,4 +1,4 @@
-# hex_encode: made by factc function; 145 words, 128 bytes of stack, profile 1
+# hex_encode: made by factc function; 186 words, 128 bytes of stack, profile 1
     .option push
     .option norvc
     .option norelax
@@ -15,8 +15,6 @@ hex_encode:
     # the caller's registers
     .word 0x00812023  # sw x8, 0(x2)
     .cfi_offset 8, -16
-    .word 0x00912223  # sw x9, 4(x2)
-    .cfi_offset 9, -12
     # arguments that are needed behind the body
     .word 0x00a12423  # sw x10, 8(x2)
     .word 0x00b12623  # sw x11, 12(x2)
@@ -58,34 +56,78 @@ hex_encode:
     .word 0x01c32c23  # sw x28, 24(x6)
     .word 0x01c2ae03  # lw x28, 28(x5)
     .word 0x01c32e23  # sw x28, 28(x6)
+    # parameter 1: an array
+    .word 0x00058293  # addi x5, x11, 0
+    .word 0x02010313  # addi x6, x2, 32
+    .word 0x0032fe13  # andi x28, x5, 3
+    .word 0x020e0e63  # beq x28, x0, 60
+    .word 0x04000393  # addi x7, x0, 64
+    .word 0x005383b3  # add x7, x7, x5
+    .word 0x0002ce03  # lbu x28, 0(x5)
+    .word 0x01c30023  # sb x28, 0(x6)
+    .word 0x0012ce03  # lbu x28, 1(x5)
+    .word 0x01c300a3  # sb x28, 1(x6)
+    .word 0x0022ce03  # lbu x28, 2(x5)
+    .word 0x01c30123  # sb x28, 2(x6)
+    .word 0x0032ce03  # lbu x28, 3(x5)
+    .word 0x01c301a3  # sb x28, 3(x6)
+    .word 0x00428293  # addi x5, x5, 4
+    .word 0x00430313  # addi x6, x6, 4
+    .word 0xfc729ce3  # bne x5, x7, -40
+    .word 0x0580006f  # jal x0, 88
+    .word 0x04000393  # addi x7, x0, 64
+    .word 0x005383b3  # add x7, x7, x5
+    .word 0x0002ae03  # lw x28, 0(x5)
+    .word 0x01c32023  # sw x28, 0(x6)
+    .word 0x0042ae03  # lw x28, 4(x5)
+    .word 0x01c32223  # sw x28, 4(x6)
+    .word 0x0082ae03  # lw x28, 8(x5)
+    .word 0x01c32423  # sw x28, 8(x6)
+    .word 0x00c2ae03  # lw x28, 12(x5)
+    .word 0x01c32623  # sw x28, 12(x6)
+    .word 0x0102ae03  # lw x28, 16(x5)
+    .word 0x01c32823  # sw x28, 16(x6)
+    .word 0x0142ae03  # lw x28, 20(x5)
+    .word 0x01c32a23  # sw x28, 20(x6)
+    .word 0x0182ae03  # lw x28, 24(x5)
+    .word 0x01c32c23  # sw x28, 24(x6)
+    .word 0x01c2ae03  # lw x28, 28(x5)
+    .word 0x01c32e23  # sw x28, 28(x6)
+    .word 0x02028293  # addi x5, x5, 32
+    .word 0x02030313  # addi x6, x6, 32
+    .word 0xfa729ce3  # bne x5, x7, -72
     # the body
     .word 0x00000513  # addi x10, x0, 0
     .word 0x00000593  # addi x11, x0, 0
+    .word 0x00000613  # addi x12, x0, 0
+    .word 0x00000693  # addi x13, x0, 0
     .word 0x00000513  # addi x10, x0, 0
-    .word 0x00155293  # srli x5, x10, 1
-    .word 0x002282b3  # add x5, x5, x2
-    .word 0x0002c283  # lbu x5, 0(x5)
-    .word 0x00100313  # addi x6, x0, 1
-    .word 0x00157393  # andi x7, x10, 1
-    .word 0x40730333  # sub x6, x6, x7
-    .word 0x00231313  # slli x6, x6, 2
-    .word 0x0062d2b3  # srl x5, x5, x6
-    .word 0x0ff2f293  # andi x5, x5, 255
-    .word 0x00f2f593  # andi x11, x5, 15
+    .word 0x00250633  # add x12, x10, x2
+    .word 0x00064603  # lbu x12, 0(x12)
+    .word 0x00465593  # srli x11, x12, 4
+    .word 0x00f67613  # andi x12, x12, 15
+    .word 0x00151693  # slli x13, x10, 1
+    .word 0x05758313  # addi x6, x11, 87
     .word 0x00a5b393  # sltiu x7, x11, 10
-    .word 0x03000413  # addi x8, x0, 48
-    .word 0x05700493  # addi x9, x0, 87
+    .word 0x02700413  # addi x8, x0, 39
     .word 0x407003b3  # sub x7, x0, x7
-    .word 0x00944433  # xor x8, x8, x9
-    .word 0x00747433  # and x8, x8, x7
-    .word 0x0084c3b3  # xor x7, x9, x8
-    .word 0x00758333  # add x6, x11, x7
-    .word 0x0ff37313  # andi x6, x6, 255
-    .word 0x002502b3  # add x5, x10, x2
+    .word 0x007473b3  # and x7, x8, x7
+    .word 0x40730333  # sub x6, x6, x7
+    .word 0x002682b3  # add x5, x13, x2
+    .word 0x02628023  # sb x6, 32(x5)
+    .word 0x00151293  # slli x5, x10, 1
+    .word 0x00128693  # addi x13, x5, 1
+    .word 0x05760313  # addi x6, x12, 87
+    .word 0x00a63393  # sltiu x7, x12, 10
+    .word 0x02700413  # addi x8, x0, 39
+    .word 0x407003b3  # sub x7, x0, x7
+    .word 0x007473b3  # and x7, x8, x7
+    .word 0x40730333  # sub x6, x6, x7
+    .word 0x002682b3  # add x5, x13, x2
     .word 0x02628023  # sb x6, 32(x5)
     .word 0x00150513  # addi x10, x10, 1
-    .word 0x04053293  # sltiu x5, x10, 64
-    .word 0xfa0292e3  # bne x5, x0, -92
+    .word 0x02053293  # sltiu x5, x10, 32
+    .word 0xf8029ee3  # bne x5, x0, -100
     .word 0xfff50513  # addi x10, x10, -1
     # the result
     .word 0x00000513  # addi x10, x0, 0
@@ -134,8 +176,6 @@ hex_encode:
     # the caller's registers
     .word 0x0002a403  # lw x8, 0(x5)
     .cfi_restore 8
-    .word 0x0042a483  # lw x9, 4(x5)
-    .cfi_restore 9
     # the caller's x2
     .word 0x01028293  # addi x5, x5, 16
     .cfi_def_cfa 5, 0

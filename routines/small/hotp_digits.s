@@ -1,4 +1,4 @@
-# hotp_digits: made by factc function; 115 words, 48 bytes of stack, profile 1
+# hotp_digits: made by factc function; 109 words, 48 bytes of stack, profile 1
     .option push
     .option norvc
     .option norelax
@@ -49,58 +49,52 @@ hotp_digits:
     .word 0x0102ae03  # lw x28, 16(x5)
     .word 0x01c32823  # sw x28, 16(x6)
     # the body
-    .word 0x00000593  # addi x11, x0, 0
     .word 0x00000613  # addi x12, x0, 0
     .word 0x00000693  # addi x13, x0, 0
     .word 0x00000713  # addi x14, x0, 0
+    .word 0x000f47b7  # lui x15, 0x000f4
+    .word 0x24078793  # addi x15, x15, 576
     .word 0x01314283  # lbu x5, 19(x2)
     .word 0x00f2f493  # andi x9, x5, 15
-    .word 0x00000513  # addi x10, x0, 0
-    .word 0x00000593  # addi x11, x0, 0
-    .word 0x002582b3  # add x5, x11, x2
-    .word 0x0002c283  # lbu x5, 0(x5)
-    .word 0x01829293  # slli x5, x5, 24
-    .word 0x00158313  # addi x6, x11, 1
-    .word 0x00230333  # add x6, x6, x2
-    .word 0x00034303  # lbu x6, 0(x6)
-    .word 0x01031313  # slli x6, x6, 16
-    .word 0x0062e633  # or x12, x5, x6
-    .word 0x00258313  # addi x6, x11, 2
-    .word 0x00230333  # add x6, x6, x2
-    .word 0x00034303  # lbu x6, 0(x6)
+    .word 0x00014283  # lbu x5, 0(x2)
+    .word 0x01029293  # slli x5, x5, 16
+    .word 0x00114303  # lbu x6, 1(x2)
     .word 0x00831313  # slli x6, x6, 8
-    .word 0x006662b3  # or x5, x12, x6
-    .word 0x00358313  # addi x6, x11, 3
+    .word 0x0062e2b3  # or x5, x5, x6
+    .word 0x00214303  # lbu x6, 2(x2)
+    .word 0x0062e533  # or x10, x5, x6
+    .word 0x00000593  # addi x11, x0, 0
+    .word 0x00000613  # addi x12, x0, 0
+    .word 0x00851293  # slli x5, x10, 8
+    .word 0x00360313  # addi x6, x12, 3
     .word 0x00230333  # add x6, x6, x2
     .word 0x00034303  # lbu x6, 0(x6)
-    .word 0x0062e633  # or x12, x5, x6
-    .word 0x40b482b3  # sub x5, x9, x11
+    .word 0x0062e533  # or x10, x5, x6
+    .word 0x40c482b3  # sub x5, x9, x12
     .word 0x005032b3  # sltu x5, x0, x5
-    .word 0x00161313  # slli x6, x12, 1
-    .word 0x00135313  # srli x6, x6, 1
     .word 0xfff28293  # addi x5, x5, -1
-    .word 0x00a34333  # xor x6, x6, x10
+    .word 0x00b54333  # xor x6, x10, x11
     .word 0x00537333  # and x6, x6, x5
-    .word 0x00654533  # xor x10, x10, x6
-    .word 0x00158593  # addi x11, x11, 1
-    .word 0x0105b293  # sltiu x5, x11, 16
-    .word 0xf8029ae3  # bne x5, x0, -108
-    .word 0xfff58593  # addi x11, x11, -1
+    .word 0x0065c5b3  # xor x11, x11, x6
+    .word 0x00160613  # addi x12, x12, 1
+    .word 0x01063293  # sltiu x5, x12, 16
+    .word 0xfc0296e3  # bne x5, x0, -52
+    .word 0xfff60613  # addi x12, x12, -1
+    .word 0x00159593  # slli x11, x11, 1
+    .word 0x0015d593  # srli x11, x11, 1
     .word 0x00000693  # addi x13, x0, 0
-    .word 0x000f42b7  # lui x5, 0x000f4
-    .word 0x24028293  # addi x5, x5, 576
     .word 0x00b00313  # addi x6, x0, 11
     .word 0x40d30333  # sub x6, x6, x13
-    .word 0x00629733  # sll x14, x5, x6
-    .word 0x00e53333  # sltu x6, x10, x14
+    .word 0x00679733  # sll x14, x15, x6
+    .word 0x00e5b333  # sltu x6, x11, x14
     .word 0xfff30313  # addi x6, x6, -1
     .word 0x00677333  # and x6, x14, x6
-    .word 0x40650533  # sub x10, x10, x6
+    .word 0x406585b3  # sub x11, x11, x6
     .word 0x00168693  # addi x13, x13, 1
     .word 0x00c6b293  # sltiu x5, x13, 12
-    .word 0xfc029ae3  # bne x5, x0, -44
+    .word 0xfc029ee3  # bne x5, x0, -36
     .word 0xfff68693  # addi x13, x13, -1
-    .word 0x00a12a23  # sw x10, 20(x2)
+    .word 0x00b12a23  # sw x11, 20(x2)
     # the result
     .word 0x01412503  # lw x10, 20(x2)
     # above the frame

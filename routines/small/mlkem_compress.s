@@ -1,4 +1,4 @@
-# mlkem_compress: made by factc function; 175 words, 544 bytes of stack, profile 1
+# mlkem_compress: made by factc function; 157 words, 544 bytes of stack, profile 1
     .option push
     .option norvc
     .option norelax
@@ -65,49 +65,31 @@ mlkem_compress:
     # parameter 1: a word
     .word 0x20b12023  # sw x11, 512(x2)
     # the body
-    .word 0x20012483  # lw x9, 512(x2)
+    .word 0x20012403  # lw x8, 512(x2)
     .word 0x00000593  # addi x11, x0, 0
     .word 0x00000613  # addi x12, x0, 0
-    .word 0x00000693  # addi x13, x0, 0
+    .word 0x9d7dc6b7  # lui x13, 0x9d7dc
+    .word 0xb4168693  # addi x13, x13, -1215
     .word 0x00c00313  # addi x6, x0, 12
-    .word 0x0264f533  # remu x10, x9, x6
+    .word 0x026474b3  # remu x9, x8, x6
+    .word 0x00100293  # addi x5, x0, 1
+    .word 0x009292b3  # sll x5, x5, x9
+    .word 0xfff28513  # addi x10, x5, -1
     .word 0x00000593  # addi x11, x0, 0
     .word 0x00159293  # slli x5, x11, 1
     .word 0x002282b3  # add x5, x5, x2
     .word 0x0002d283  # lhu x5, 0(x5)
-    .word 0x00a292b3  # sll x5, x5, x10
+    .word 0x009292b3  # sll x5, x5, x9
     .word 0x68028613  # addi x12, x5, 1664
-    .word 0x00c65293  # srli x5, x12, 12
-    .word 0x00001337  # lui x6, 0x00001
-    .word 0x3af30313  # addi x6, x6, 943
-    .word 0x026282b3  # mul x5, x5, x6
-    .word 0x01461313  # slli x6, x12, 20
-    .word 0x01435313  # srli x6, x6, 20
-    .word 0x000013b7  # lui x7, 0x00001
-    .word 0x3af38393  # addi x7, x7, 943
-    .word 0x02730333  # mul x6, x6, x7
-    .word 0x00c35313  # srli x6, x6, 12
-    .word 0x006282b3  # add x5, x5, x6
-    .word 0x00c2d693  # srli x13, x5, 12
-    .word 0x00001437  # lui x8, 0x00001
-    .word 0xd0140413  # addi x8, x8, -767
-    .word 0x028683b3  # mul x7, x13, x8
-    .word 0x40760333  # sub x6, x12, x7
-    .word 0x000013b7  # lui x7, 0x00001
-    .word 0xd0138393  # addi x7, x7, -767
-    .word 0x00733333  # sltu x6, x6, x7
-    .word 0x00133313  # sltiu x6, x6, 1
-    .word 0x006686b3  # add x13, x13, x6
-    .word 0x00100393  # addi x7, x0, 1
-    .word 0x00a393b3  # sll x7, x7, x10
-    .word 0xfff38393  # addi x7, x7, -1
-    .word 0x0076f333  # and x6, x13, x7
+    .word 0x02d63633  # mulhu x12, x12, x13
+    .word 0x00b65313  # srli x6, x12, 11
+    .word 0x00a37333  # and x6, x6, x10
     .word 0x00159293  # slli x5, x11, 1
     .word 0x002282b3  # add x5, x5, x2
     .word 0x00629023  # sh x6, 0(x5)
     .word 0x00158593  # addi x11, x11, 1
     .word 0x1005b293  # sltiu x5, x11, 256
-    .word 0xf6029ae3  # bne x5, x0, -140
+    .word 0xfc0296e3  # bne x5, x0, -52
     .word 0xfff58593  # addi x11, x11, -1
     # the result
     .word 0x00000513  # addi x10, x0, 0

@@ -6,7 +6,7 @@
 #define FACT_mlkem_message_H
 #include <stdbool.h>
 #include <stdint.h>
-#define mlkem_message_STACK_BYTES 576
+#define mlkem_message_STACK_BYTES 592
 #ifdef __cplusplus
 extern "C" {
 #endif

@@ -1,4 +1,4 @@
-# mlkem_message: made by factc function; 137 words, 576 bytes of stack, profile 1
+# mlkem_message: made by factc function; 146 words, 592 bytes of stack, profile 1
     .option push
     .option norvc
     .option norelax
@@ -13,14 +13,16 @@ mlkem_message:
     .word 0xff010113  # addi x2, x2, -16
     .cfi_def_cfa_offset 16
     # the caller's registers
-    .word 0x00912023  # sw x9, 0(x2)
-    .cfi_offset 9, -16
+    .word 0x00812023  # sw x8, 0(x2)
+    .cfi_offset 8, -16
+    .word 0x00912223  # sw x9, 4(x2)
+    .cfi_offset 9, -12
     # arguments that are needed behind the body
     .word 0x00a12423  # sw x10, 8(x2)
     .word 0x00b12623  # sw x11, 12(x2)
     # the frame's base
-    .word 0xdd010113  # addi x2, x2, -560
-    .cfi_def_cfa 2, 576
+    .word 0xdc010113  # addi x2, x2, -576
+    .cfi_def_cfa 2, 592
     # parameter 0: an array
     .word 0x00050293  # addi x5, x10, 0
     .word 0x00010313  # addi x6, x2, 0
@@ -57,32 +59,34 @@ mlkem_message:
     .word 0x01c2ae03  # lw x28, 28(x5)
     .word 0x01c32e23  # sw x28, 28(x6)
     # the body
+    .word 0x00000413  # addi x8, x0, 0
     .word 0x00000493  # addi x9, x0, 0
-    .word 0x00000493  # addi x9, x0, 0
-    .word 0x0034d313  # srli x6, x9, 3
-    .word 0x00230333  # add x6, x6, x2
-    .word 0x00034303  # lbu x6, 0(x6)
-    .word 0x0074f393  # andi x7, x9, 7
-    .word 0x00735333  # srl x6, x6, x7
-    .word 0x0ff37313  # andi x6, x6, 255
+    .word 0x00000513  # addi x10, x0, 0
+    .word 0x00000413  # addi x8, x0, 0
+    .word 0x002404b3  # add x9, x8, x2
+    .word 0x0004c483  # lbu x9, 0(x9)
+    .word 0x00000513  # addi x10, x0, 0
+    .word 0x00341293  # slli x5, x8, 3
+    .word 0x00a282b3  # add x5, x5, x10
+    .word 0x00a4d333  # srl x6, x9, x10
     .word 0x00137313  # andi x6, x6, 1
-    .word 0x01031313  # slli x6, x6, 16
-    .word 0x01035313  # srli x6, x6, 16
     .word 0x40600333  # sub x6, x0, x6
-    .word 0x01031313  # slli x6, x6, 16
-    .word 0x01035313  # srli x6, x6, 16
     .word 0x68137313  # andi x6, x6, 1665
-    .word 0x00149293  # slli x5, x9, 1
+    .word 0x00129293  # slli x5, x5, 1
     .word 0x002282b3  # add x5, x5, x2
     .word 0x02629023  # sh x6, 32(x5)
-    .word 0x00148493  # addi x9, x9, 1
-    .word 0x1004b293  # sltiu x5, x9, 256
+    .word 0x00150513  # addi x10, x10, 1
+    .word 0x00853293  # sltiu x5, x10, 8
+    .word 0xfc029ae3  # bne x5, x0, -44
+    .word 0xfff50513  # addi x10, x10, -1
+    .word 0x00140413  # addi x8, x8, 1
+    .word 0x02043293  # sltiu x5, x8, 32
     .word 0xfa029ce3  # bne x5, x0, -72
-    .word 0xfff48493  # addi x9, x9, -1
+    .word 0xfff40413  # addi x8, x8, -1
     # the result
     .word 0x00000513  # addi x10, x0, 0
     # parameter 1: the array, back
-    .word 0x23c12283  # lw x5, 572(x2)
+    .word 0x24c12283  # lw x5, 588(x2)
     .word 0x02010313  # addi x6, x2, 32
     .word 0x0032fe13  # andi x28, x5, 3
     .word 0x020e0e63  # beq x28, x0, 60
@@ -122,14 +126,21 @@ mlkem_message:
     .word 0x02030313  # addi x6, x6, 32
     .word 0xfa729ce3  # bne x5, x7, -72
     # above the frame
-    .word 0x23010293  # addi x5, x2, 560
+    .word 0x24010293  # addi x5, x2, 576
     # the caller's registers
-    .word 0x0002a483  # lw x9, 0(x5)
+    .word 0x0002a403  # lw x8, 0(x5)
+    .cfi_restore 8
+    .word 0x0042a483  # lw x9, 4(x5)
     .cfi_restore 9
     # the caller's x2
     .word 0x01028293  # addi x5, x5, 16
     .cfi_def_cfa 5, 0
     # all the room, wiped upward
+    .word 0x00012023  # sw x0, 0(x2)
+    .word 0x00012223  # sw x0, 4(x2)
+    .word 0x00012423  # sw x0, 8(x2)
+    .word 0x00012623  # sw x0, 12(x2)
+    .word 0x01010113  # addi x2, x2, 16
     .word 0x00012023  # sw x0, 0(x2)
     .word 0x00012223  # sw x0, 4(x2)
     .word 0x00012423  # sw x0, 8(x2)
