@@ -1,4 +1,4 @@
-# mlkem_sample_cbd2: made by factc function; 184 words, 672 bytes of stack, profile 1
+# mlkem_sample_cbd2: made by factc function; 170 words, 672 bytes of stack, profile 1
     .option push
     .option norvc
     .option norelax
@@ -67,55 +67,41 @@ mlkem_sample_cbd2:
     .word 0x00001737  # lui x14, 0x00001
     .word 0xd0170713  # addi x14, x14, -767
     .word 0x00000513  # addi x10, x0, 0
-    .word 0x00251613  # slli x12, x10, 2
-    .word 0x00365293  # srli x5, x12, 3
-    .word 0x002282b3  # add x5, x5, x2
-    .word 0x0002c283  # lbu x5, 0(x5)
-    .word 0x00767313  # andi x6, x12, 7
-    .word 0x0062d2b3  # srl x5, x5, x6
-    .word 0x0ff2f293  # andi x5, x5, 255
-    .word 0x0012f693  # andi x13, x5, 1
-    .word 0x00d705b3  # add x11, x14, x13
-    .word 0x00251293  # slli x5, x10, 2
-    .word 0x00128613  # addi x12, x5, 1
-    .word 0x00365293  # srli x5, x12, 3
-    .word 0x002282b3  # add x5, x5, x2
-    .word 0x0002c283  # lbu x5, 0(x5)
-    .word 0x00767313  # andi x6, x12, 7
-    .word 0x0062d2b3  # srl x5, x5, x6
-    .word 0x0ff2f293  # andi x5, x5, 255
-    .word 0x0012f693  # andi x13, x5, 1
-    .word 0x00d585b3  # add x11, x11, x13
-    .word 0x00251293  # slli x5, x10, 2
-    .word 0x00228613  # addi x12, x5, 2
-    .word 0x00365293  # srli x5, x12, 3
-    .word 0x002282b3  # add x5, x5, x2
-    .word 0x0002c283  # lbu x5, 0(x5)
-    .word 0x00767313  # andi x6, x12, 7
-    .word 0x0062d2b3  # srl x5, x5, x6
-    .word 0x0ff2f293  # andi x5, x5, 255
-    .word 0x0012f693  # andi x13, x5, 1
-    .word 0x40d585b3  # sub x11, x11, x13
-    .word 0x00251293  # slli x5, x10, 2
-    .word 0x00328613  # addi x12, x5, 3
-    .word 0x00365293  # srli x5, x12, 3
-    .word 0x002282b3  # add x5, x5, x2
-    .word 0x0002c283  # lbu x5, 0(x5)
-    .word 0x00767313  # andi x6, x12, 7
-    .word 0x0062d2b3  # srl x5, x5, x6
-    .word 0x0ff2f293  # andi x5, x5, 255
-    .word 0x0012f693  # andi x13, x5, 1
-    .word 0x40d585b3  # sub x11, x11, x13
-    .word 0x00e5b3b3  # sltu x7, x11, x14
-    .word 0xfff38393  # addi x7, x7, -1
-    .word 0x007773b3  # and x7, x14, x7
-    .word 0x40758333  # sub x6, x11, x7
+    .word 0x00250633  # add x12, x10, x2
+    .word 0x00064603  # lbu x12, 0(x12)
+    .word 0x05567293  # andi x5, x12, 85
+    .word 0x00165313  # srli x6, x12, 1
+    .word 0x05537313  # andi x6, x6, 85
+    .word 0x006285b3  # add x11, x5, x6
+    .word 0x0035f613  # andi x12, x11, 3
+    .word 0x0025d293  # srli x5, x11, 2
+    .word 0x0032f693  # andi x13, x5, 3
     .word 0x00151293  # slli x5, x10, 1
+    .word 0x40d60333  # sub x6, x12, x13
+    .word 0x00d633b3  # sltu x7, x12, x13
+    .word 0x407003b3  # sub x7, x0, x7
+    .word 0x007773b3  # and x7, x14, x7
+    .word 0x00730333  # add x6, x6, x7
+    .word 0x00129293  # slli x5, x5, 1
+    .word 0x002282b3  # add x5, x5, x2
+    .word 0x08629023  # sh x6, 128(x5)
+    .word 0x0045d293  # srli x5, x11, 4
+    .word 0x0032f613  # andi x12, x5, 3
+    .word 0x0065d293  # srli x5, x11, 6
+    .word 0x0032f693  # andi x13, x5, 3
+    .word 0x00151293  # slli x5, x10, 1
+    .word 0x00128293  # addi x5, x5, 1
+    .word 0x40d60333  # sub x6, x12, x13
+    .word 0x00d633b3  # sltu x7, x12, x13
+    .word 0x407003b3  # sub x7, x0, x7
+    .word 0x007773b3  # and x7, x14, x7
+    .word 0x00730333  # add x6, x6, x7
+    .word 0x00129293  # slli x5, x5, 1
     .word 0x002282b3  # add x5, x5, x2
     .word 0x08629023  # sh x6, 128(x5)
     .word 0x00150513  # addi x10, x10, 1
-    .word 0x10053293  # sltiu x5, x10, 256
-    .word 0xf40290e3  # bne x5, x0, -192
+    .word 0x08053293  # sltiu x5, x10, 128
+    .word 0xf6029ce3  # bne x5, x0, -136
     .word 0xfff50513  # addi x10, x10, -1
     # the result
     .word 0x00000513  # addi x10, x0, 0

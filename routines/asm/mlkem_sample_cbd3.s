@@ -1,4 +1,4 @@
-# mlkem_sample_cbd3: made by factc function; 210 words, 736 bytes of stack, profile 1
+# mlkem_sample_cbd3: made by factc function; 216 words, 736 bytes of stack, profile 1
     .option push
     .option norvc
     .option norelax
@@ -64,84 +64,90 @@ mlkem_sample_cbd3:
     .word 0x00000593  # addi x11, x0, 0
     .word 0x00000613  # addi x12, x0, 0
     .word 0x00000693  # addi x13, x0, 0
-    .word 0x00001737  # lui x14, 0x00001
-    .word 0xd0170713  # addi x14, x14, -767
+    .word 0x00000713  # addi x14, x0, 0
+    .word 0x002497b7  # lui x15, 0x00249
+    .word 0x24978793  # addi x15, x15, 585
+    .word 0x00001837  # lui x16, 0x00001
+    .word 0xd0180813  # addi x16, x16, -767
     .word 0x00000513  # addi x10, x0, 0
-    .word 0x00600293  # addi x5, x0, 6
-    .word 0x02a28633  # mul x12, x5, x10
-    .word 0x00365293  # srli x5, x12, 3
-    .word 0x002282b3  # add x5, x5, x2
+    .word 0x00300293  # addi x5, x0, 3
+    .word 0x02a285b3  # mul x11, x5, x10
+    .word 0x002582b3  # add x5, x11, x2
     .word 0x0002c283  # lbu x5, 0(x5)
-    .word 0x00767313  # andi x6, x12, 7
-    .word 0x0062d2b3  # srl x5, x5, x6
-    .word 0x0ff2f293  # andi x5, x5, 255
-    .word 0x0012f693  # andi x13, x5, 1
-    .word 0x00d705b3  # add x11, x14, x13
-    .word 0x00600293  # addi x5, x0, 6
-    .word 0x02a282b3  # mul x5, x5, x10
-    .word 0x00128613  # addi x12, x5, 1
+    .word 0x00158313  # addi x6, x11, 1
+    .word 0x00230333  # add x6, x6, x2
+    .word 0x00034303  # lbu x6, 0(x6)
+    .word 0x00831313  # slli x6, x6, 8
+    .word 0x0062e2b3  # or x5, x5, x6
+    .word 0x00258313  # addi x6, x11, 2
+    .word 0x00230333  # add x6, x6, x2
+    .word 0x00034303  # lbu x6, 0(x6)
+    .word 0x01031313  # slli x6, x6, 16
+    .word 0x0062e6b3  # or x13, x5, x6
+    .word 0x00f6f2b3  # and x5, x13, x15
+    .word 0x0016d313  # srli x6, x13, 1
+    .word 0x00f37333  # and x6, x6, x15
+    .word 0x006282b3  # add x5, x5, x6
+    .word 0x0026d313  # srli x6, x13, 2
+    .word 0x00f37333  # and x6, x6, x15
+    .word 0x00628633  # add x12, x5, x6
+    .word 0x00767693  # andi x13, x12, 7
     .word 0x00365293  # srli x5, x12, 3
+    .word 0x0072f713  # andi x14, x5, 7
+    .word 0x00251293  # slli x5, x10, 2
+    .word 0x40e68333  # sub x6, x13, x14
+    .word 0x00e6b3b3  # sltu x7, x13, x14
+    .word 0x407003b3  # sub x7, x0, x7
+    .word 0x007873b3  # and x7, x16, x7
+    .word 0x00730333  # add x6, x6, x7
+    .word 0x00129293  # slli x5, x5, 1
     .word 0x002282b3  # add x5, x5, x2
-    .word 0x0002c283  # lbu x5, 0(x5)
-    .word 0x00767313  # andi x6, x12, 7
-    .word 0x0062d2b3  # srl x5, x5, x6
-    .word 0x0ff2f293  # andi x5, x5, 255
-    .word 0x0012f693  # andi x13, x5, 1
-    .word 0x00d585b3  # add x11, x11, x13
-    .word 0x00600293  # addi x5, x0, 6
-    .word 0x02a282b3  # mul x5, x5, x10
-    .word 0x00228613  # addi x12, x5, 2
-    .word 0x00365293  # srli x5, x12, 3
+    .word 0x0c629023  # sh x6, 192(x5)
+    .word 0x00665293  # srli x5, x12, 6
+    .word 0x0072f693  # andi x13, x5, 7
+    .word 0x00965293  # srli x5, x12, 9
+    .word 0x0072f713  # andi x14, x5, 7
+    .word 0x00251293  # slli x5, x10, 2
+    .word 0x00128293  # addi x5, x5, 1
+    .word 0x40e68333  # sub x6, x13, x14
+    .word 0x00e6b3b3  # sltu x7, x13, x14
+    .word 0x407003b3  # sub x7, x0, x7
+    .word 0x007873b3  # and x7, x16, x7
+    .word 0x00730333  # add x6, x6, x7
+    .word 0x00129293  # slli x5, x5, 1
     .word 0x002282b3  # add x5, x5, x2
-    .word 0x0002c283  # lbu x5, 0(x5)
-    .word 0x00767313  # andi x6, x12, 7
-    .word 0x0062d2b3  # srl x5, x5, x6
-    .word 0x0ff2f293  # andi x5, x5, 255
-    .word 0x0012f693  # andi x13, x5, 1
-    .word 0x00d585b3  # add x11, x11, x13
-    .word 0x00600293  # addi x5, x0, 6
-    .word 0x02a282b3  # mul x5, x5, x10
-    .word 0x00328613  # addi x12, x5, 3
-    .word 0x00365293  # srli x5, x12, 3
+    .word 0x0c629023  # sh x6, 192(x5)
+    .word 0x00c65293  # srli x5, x12, 12
+    .word 0x0072f693  # andi x13, x5, 7
+    .word 0x00f65293  # srli x5, x12, 15
+    .word 0x0072f713  # andi x14, x5, 7
+    .word 0x00251293  # slli x5, x10, 2
+    .word 0x00228293  # addi x5, x5, 2
+    .word 0x40e68333  # sub x6, x13, x14
+    .word 0x00e6b3b3  # sltu x7, x13, x14
+    .word 0x407003b3  # sub x7, x0, x7
+    .word 0x007873b3  # and x7, x16, x7
+    .word 0x00730333  # add x6, x6, x7
+    .word 0x00129293  # slli x5, x5, 1
     .word 0x002282b3  # add x5, x5, x2
-    .word 0x0002c283  # lbu x5, 0(x5)
-    .word 0x00767313  # andi x6, x12, 7
-    .word 0x0062d2b3  # srl x5, x5, x6
-    .word 0x0ff2f293  # andi x5, x5, 255
-    .word 0x0012f693  # andi x13, x5, 1
-    .word 0x40d585b3  # sub x11, x11, x13
-    .word 0x00600293  # addi x5, x0, 6
-    .word 0x02a282b3  # mul x5, x5, x10
-    .word 0x00428613  # addi x12, x5, 4
-    .word 0x00365293  # srli x5, x12, 3
-    .word 0x002282b3  # add x5, x5, x2
-    .word 0x0002c283  # lbu x5, 0(x5)
-    .word 0x00767313  # andi x6, x12, 7
-    .word 0x0062d2b3  # srl x5, x5, x6
-    .word 0x0ff2f293  # andi x5, x5, 255
-    .word 0x0012f693  # andi x13, x5, 1
-    .word 0x40d585b3  # sub x11, x11, x13
-    .word 0x00600293  # addi x5, x0, 6
-    .word 0x02a282b3  # mul x5, x5, x10
-    .word 0x00528613  # addi x12, x5, 5
-    .word 0x00365293  # srli x5, x12, 3
-    .word 0x002282b3  # add x5, x5, x2
-    .word 0x0002c283  # lbu x5, 0(x5)
-    .word 0x00767313  # andi x6, x12, 7
-    .word 0x0062d2b3  # srl x5, x5, x6
-    .word 0x0ff2f293  # andi x5, x5, 255
-    .word 0x0012f693  # andi x13, x5, 1
-    .word 0x40d585b3  # sub x11, x11, x13
-    .word 0x00e5b3b3  # sltu x7, x11, x14
-    .word 0xfff38393  # addi x7, x7, -1
-    .word 0x007773b3  # and x7, x14, x7
-    .word 0x40758333  # sub x6, x11, x7
-    .word 0x00151293  # slli x5, x10, 1
+    .word 0x0c629023  # sh x6, 192(x5)
+    .word 0x01265293  # srli x5, x12, 18
+    .word 0x0072f693  # andi x13, x5, 7
+    .word 0x01565293  # srli x5, x12, 21
+    .word 0x0072f713  # andi x14, x5, 7
+    .word 0x00251293  # slli x5, x10, 2
+    .word 0x00328293  # addi x5, x5, 3
+    .word 0x40e68333  # sub x6, x13, x14
+    .word 0x00e6b3b3  # sltu x7, x13, x14
+    .word 0x407003b3  # sub x7, x0, x7
+    .word 0x007873b3  # and x7, x16, x7
+    .word 0x00730333  # add x6, x6, x7
+    .word 0x00129293  # slli x5, x5, 1
     .word 0x002282b3  # add x5, x5, x2
     .word 0x0c629023  # sh x6, 192(x5)
     .word 0x00150513  # addi x10, x10, 1
-    .word 0x10053293  # sltiu x5, x10, 256
-    .word 0xec029ce3  # bne x5, x0, -296
+    .word 0x04053293  # sltiu x5, x10, 64
+    .word 0xec0296e3  # bne x5, x0, -308
     .word 0xfff50513  # addi x10, x10, -1
     # the result
     .word 0x00000513  # addi x10, x0, 0

@@ -1,4 +1,4 @@
-# mlkem_sample_cbd2: made by factc function; 175 words, 688 bytes of stack, profile 1
+# mlkem_sample_cbd2: made by factc function; 173 words, 688 bytes of stack, profile 1
     .option push
     .option norvc
     .option norelax
@@ -68,41 +68,39 @@ mlkem_sample_cbd2:
     .word 0x00000693  # addi x13, x0, 0
     .word 0x00000713  # addi x14, x0, 0
     .word 0x00000513  # addi x10, x0, 0
-    .word 0x000015b7  # lui x11, 0x00001
-    .word 0xd0158593  # addi x11, x11, -767
+    .word 0x002506b3  # add x13, x10, x2
+    .word 0x0006c683  # lbu x13, 0(x13)
+    .word 0x0556f293  # andi x5, x13, 85
+    .word 0x0016d313  # srli x6, x13, 1
+    .word 0x05537313  # andi x6, x6, 85
+    .word 0x006285b3  # add x11, x5, x6
     .word 0x00000613  # addi x12, x0, 0
-    .word 0x00251293  # slli x5, x10, 2
-    .word 0x00c286b3  # add x13, x5, x12
-    .word 0x0036d293  # srli x5, x13, 3
-    .word 0x002282b3  # add x5, x5, x2
-    .word 0x0002c283  # lbu x5, 0(x5)
-    .word 0x0076f313  # andi x6, x13, 7
-    .word 0x0062d2b3  # srl x5, x5, x6
-    .word 0x0ff2f293  # andi x5, x5, 255
-    .word 0x0012f713  # andi x14, x5, 1
-    .word 0x00200313  # addi x6, x0, 2
-    .word 0x00667663  # bgeu x12, x6, 12
-    .word 0x00e585b3  # add x11, x11, x14
-    .word 0x0080006f  # jal x0, 8
-    .word 0x40e585b3  # sub x11, x11, x14
-    .word 0x00160613  # addi x12, x12, 1
-    .word 0x00463293  # sltiu x5, x12, 4
-    .word 0xfc0290e3  # bne x5, x0, -64
-    .word 0xfff60613  # addi x12, x12, -1
-    .word 0x00001437  # lui x8, 0x00001
-    .word 0xd0140413  # addi x8, x8, -767
-    .word 0x0085b3b3  # sltu x7, x11, x8
-    .word 0x00001437  # lui x8, 0x00001
-    .word 0xd0140413  # addi x8, x8, -767
-    .word 0xfff38393  # addi x7, x7, -1
-    .word 0x007473b3  # and x7, x8, x7
-    .word 0x40758333  # sub x6, x11, x7
+    .word 0x00261313  # slli x6, x12, 2
+    .word 0x0065d2b3  # srl x5, x11, x6
+    .word 0x0032f693  # andi x13, x5, 3
+    .word 0x00261313  # slli x6, x12, 2
+    .word 0x00230313  # addi x6, x6, 2
+    .word 0x0065d2b3  # srl x5, x11, x6
+    .word 0x0032f713  # andi x14, x5, 3
     .word 0x00151293  # slli x5, x10, 1
+    .word 0x00c282b3  # add x5, x5, x12
+    .word 0x40e68333  # sub x6, x13, x14
+    .word 0x00e6b3b3  # sltu x7, x13, x14
+    .word 0x00001437  # lui x8, 0x00001
+    .word 0xd0140413  # addi x8, x8, -767
+    .word 0x407003b3  # sub x7, x0, x7
+    .word 0x007473b3  # and x7, x8, x7
+    .word 0x00730333  # add x6, x6, x7
+    .word 0x00129293  # slli x5, x5, 1
     .word 0x002282b3  # add x5, x5, x2
     .word 0x08629023  # sh x6, 128(x5)
+    .word 0x00160613  # addi x12, x12, 1
+    .word 0x00263293  # sltiu x5, x12, 2
+    .word 0xfa0296e3  # bne x5, x0, -84
+    .word 0xfff60613  # addi x12, x12, -1
     .word 0x00150513  # addi x10, x10, 1
-    .word 0x10053293  # sltiu x5, x10, 256
-    .word 0xf6029ce3  # bne x5, x0, -136
+    .word 0x08053293  # sltiu x5, x10, 128
+    .word 0xf80290e3  # bne x5, x0, -128
     .word 0xfff50513  # addi x10, x10, -1
     # the result
     .word 0x00000513  # addi x10, x0, 0

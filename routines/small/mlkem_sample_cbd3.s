@@ -1,4 +1,4 @@
-# mlkem_sample_cbd3: made by factc function; 176 words, 752 bytes of stack, profile 1
+# mlkem_sample_cbd3: made by factc function; 197 words, 752 bytes of stack, profile 1
     .option push
     .option norvc
     .option norelax
@@ -67,43 +67,64 @@ mlkem_sample_cbd3:
     .word 0x00000613  # addi x12, x0, 0
     .word 0x00000693  # addi x13, x0, 0
     .word 0x00000713  # addi x14, x0, 0
+    .word 0x00000793  # addi x15, x0, 0
     .word 0x00000513  # addi x10, x0, 0
-    .word 0x000015b7  # lui x11, 0x00001
-    .word 0xd0158593  # addi x11, x11, -767
-    .word 0x00000613  # addi x12, x0, 0
-    .word 0x00600293  # addi x5, x0, 6
-    .word 0x02a282b3  # mul x5, x5, x10
-    .word 0x00c286b3  # add x13, x5, x12
-    .word 0x0036d293  # srli x5, x13, 3
-    .word 0x002282b3  # add x5, x5, x2
+    .word 0x00300293  # addi x5, x0, 3
+    .word 0x02a285b3  # mul x11, x5, x10
+    .word 0x002582b3  # add x5, x11, x2
     .word 0x0002c283  # lbu x5, 0(x5)
-    .word 0x0076f313  # andi x6, x13, 7
-    .word 0x0062d2b3  # srl x5, x5, x6
-    .word 0x0ff2f293  # andi x5, x5, 255
-    .word 0x0012f713  # andi x14, x5, 1
-    .word 0x00300313  # addi x6, x0, 3
-    .word 0x00667663  # bgeu x12, x6, 12
-    .word 0x00e585b3  # add x11, x11, x14
-    .word 0x0080006f  # jal x0, 8
-    .word 0x40e585b3  # sub x11, x11, x14
-    .word 0x00160613  # addi x12, x12, 1
-    .word 0x00663293  # sltiu x5, x12, 6
-    .word 0xfa029ee3  # bne x5, x0, -68
-    .word 0xfff60613  # addi x12, x12, -1
+    .word 0x00158313  # addi x6, x11, 1
+    .word 0x00230333  # add x6, x6, x2
+    .word 0x00034303  # lbu x6, 0(x6)
+    .word 0x00831313  # slli x6, x6, 8
+    .word 0x0062e2b3  # or x5, x5, x6
+    .word 0x00258313  # addi x6, x11, 2
+    .word 0x00230333  # add x6, x6, x2
+    .word 0x00034303  # lbu x6, 0(x6)
+    .word 0x01031313  # slli x6, x6, 16
+    .word 0x0062e733  # or x14, x5, x6
+    .word 0x00249337  # lui x6, 0x00249
+    .word 0x24930313  # addi x6, x6, 585
+    .word 0x006772b3  # and x5, x14, x6
+    .word 0x00175313  # srli x6, x14, 1
+    .word 0x002493b7  # lui x7, 0x00249
+    .word 0x24938393  # addi x7, x7, 585
+    .word 0x00737333  # and x6, x6, x7
+    .word 0x006282b3  # add x5, x5, x6
+    .word 0x00275313  # srli x6, x14, 2
+    .word 0x002493b7  # lui x7, 0x00249
+    .word 0x24938393  # addi x7, x7, 585
+    .word 0x00737333  # and x6, x6, x7
+    .word 0x00628633  # add x12, x5, x6
+    .word 0x00000693  # addi x13, x0, 0
+    .word 0x00600313  # addi x6, x0, 6
+    .word 0x02d30333  # mul x6, x6, x13
+    .word 0x006652b3  # srl x5, x12, x6
+    .word 0x0072f713  # andi x14, x5, 7
+    .word 0x00600313  # addi x6, x0, 6
+    .word 0x02d30333  # mul x6, x6, x13
+    .word 0x00330313  # addi x6, x6, 3
+    .word 0x006652b3  # srl x5, x12, x6
+    .word 0x0072f793  # andi x15, x5, 7
+    .word 0x00251293  # slli x5, x10, 2
+    .word 0x00d282b3  # add x5, x5, x13
+    .word 0x40f70333  # sub x6, x14, x15
+    .word 0x00f733b3  # sltu x7, x14, x15
     .word 0x00001437  # lui x8, 0x00001
     .word 0xd0140413  # addi x8, x8, -767
-    .word 0x0085b3b3  # sltu x7, x11, x8
-    .word 0x00001437  # lui x8, 0x00001
-    .word 0xd0140413  # addi x8, x8, -767
-    .word 0xfff38393  # addi x7, x7, -1
+    .word 0x407003b3  # sub x7, x0, x7
     .word 0x007473b3  # and x7, x8, x7
-    .word 0x40758333  # sub x6, x11, x7
-    .word 0x00151293  # slli x5, x10, 1
+    .word 0x00730333  # add x6, x6, x7
+    .word 0x00129293  # slli x5, x5, 1
     .word 0x002282b3  # add x5, x5, x2
     .word 0x0c629023  # sh x6, 192(x5)
+    .word 0x00168693  # addi x13, x13, 1
+    .word 0x0046b293  # sltiu x5, x13, 4
+    .word 0xfa0292e3  # bne x5, x0, -92
+    .word 0xfff68693  # addi x13, x13, -1
     .word 0x00150513  # addi x10, x10, 1
-    .word 0x10053293  # sltiu x5, x10, 256
-    .word 0xf6029ae3  # bne x5, x0, -140
+    .word 0x04053293  # sltiu x5, x10, 64
+    .word 0xf20292e3  # bne x5, x0, -220
     .word 0xfff50513  # addi x10, x10, -1
     # the result
     .word 0x00000513  # addi x10, x0, 0
