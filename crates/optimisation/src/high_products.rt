@@ -4,7 +4,7 @@
 // `branch_removal`.
 //
 // One expression is looked for, between any two variables: that in `specs/high_products/private/Shapes.antt`, as it
-// comes of the procedure that docs/LANGUAGE.md shows.
+// comes of the procedure that docs/COOKBOOK.md shows.
 
 mod finding;
 mod replacing;
