@@ -1,4 +1,4 @@
-# adler32: made by factc function; 439 words, 96 bytes of stack, profile 1
+# adler32: made by factc 1.0.0 function; 439 words, 96 bytes of stack, profile 1
     .option push
     .option norvc
     .option norelax

@@ -1,4 +1,4 @@
-# aes128_decrypt: made by factc function; 3096 words, 560 bytes of stack, profile 1
+# aes128_decrypt: made by factc 1.0.0 function; 3096 words, 560 bytes of stack, profile 1
     .option push
     .option norvc
     .option norelax

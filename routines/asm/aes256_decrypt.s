@@ -1,4 +1,4 @@
-# aes256_decrypt: made by factc function; 3823 words, 752 bytes of stack, profile 1
+# aes256_decrypt: made by factc 1.0.0 function; 3823 words, 752 bytes of stack, profile 1
     .option push
     .option norvc
     .option norelax

@@ -1,4 +1,4 @@
-# aes256_encrypt: made by factc function; 3682 words, 752 bytes of stack, profile 1
+# aes256_encrypt: made by factc 1.0.0 function; 3682 words, 752 bytes of stack, profile 1
     .option push
     .option norvc
     .option norelax

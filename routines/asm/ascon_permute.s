@@ -1,4 +1,4 @@
-# ascon_permute: made by factc function; 304 words, 112 bytes of stack, profile 1
+# ascon_permute: made by factc 1.0.0 function; 304 words, 112 bytes of stack, profile 1
     .option push
     .option norvc
     .option norelax

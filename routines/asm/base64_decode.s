@@ -1,4 +1,4 @@
-# base64_decode: made by factc function; 564 words, 176 bytes of stack, profile 1
+# base64_decode: made by factc 1.0.0 function; 564 words, 176 bytes of stack, profile 1
     .option push
     .option norvc
     .option norelax

@@ -1,4 +1,4 @@
-# base64_encode: made by factc function; 289 words, 144 bytes of stack, profile 1
+# base64_encode: made by factc 1.0.0 function; 289 words, 144 bytes of stack, profile 1
     .option push
     .option norvc
     .option norelax

@@ -1,4 +1,4 @@
-# count_bits_32: made by factc function; 59 words, 32 bytes of stack, profile 1
+# count_bits_32: made by factc 1.0.0 function; 59 words, 32 bytes of stack, profile 1
     .option push
     .option norvc
     .option norelax

@@ -1,4 +1,4 @@
-# equal_16: made by factc function; 157 words, 64 bytes of stack, profile 1
+# equal_16: made by factc 1.0.0 function; 157 words, 64 bytes of stack, profile 1
     .option push
     .option norvc
     .option norelax

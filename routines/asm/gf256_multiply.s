@@ -1,4 +1,4 @@
-# gf256_multiply: made by factc function; 221 words, 80 bytes of stack, profile 1
+# gf256_multiply: made by factc 1.0.0 function; 221 words, 80 bytes of stack, profile 1
     .option push
     .option norvc
     .option norelax

@@ -1,4 +1,4 @@
-# ghash_block: made by factc function; 448 words, 96 bytes of stack, profile 1
+# ghash_block: made by factc 1.0.0 function; 448 words, 96 bytes of stack, profile 1
     .option push
     .option norvc
     .option norelax

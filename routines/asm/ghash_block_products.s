@@ -1,4 +1,4 @@
-# ghash_block_products: made by factc function; 1397 words, 176 bytes of stack, profile 1
+# ghash_block_products: made by factc 1.0.0 function; 1397 words, 176 bytes of stack, profile 1
     .option push
     .option norvc
     .option norelax

@@ -1,4 +1,4 @@
-# hmac_sha256: made by factc function; 6351 words, 992 bytes of stack, profile 1
+# hmac_sha256: made by factc 1.0.0 function; 6351 words, 992 bytes of stack, profile 1
     .option push
     .option norvc
     .option norelax

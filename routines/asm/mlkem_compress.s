@@ -1,4 +1,4 @@
-# mlkem_compress: made by factc function; 157 words, 544 bytes of stack, profile 1
+# mlkem_compress: made by factc 1.0.0 function; 157 words, 544 bytes of stack, profile 1
     .option push
     .option norvc
     .option norelax

@@ -1,4 +1,4 @@
-# mlkem_encode_12: made by factc function; 201 words, 928 bytes of stack, profile 1
+# mlkem_encode_12: made by factc 1.0.0 function; 201 words, 928 bytes of stack, profile 1
     .option push
     .option norvc
     .option norelax

@@ -1,4 +1,4 @@
-# mlkem_inverse_ntt: made by factc function; 1316 words, 1136 bytes of stack, profile 1
+# mlkem_inverse_ntt: made by factc 1.0.0 function; 1316 words, 1136 bytes of stack, profile 1
     .option push
     .option norvc
     .option norelax

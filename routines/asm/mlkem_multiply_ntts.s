@@ -1,4 +1,4 @@
-# mlkem_multiply_ntts: made by factc function; 477 words, 1840 bytes of stack, profile 1
+# mlkem_multiply_ntts: made by factc 1.0.0 function; 477 words, 1840 bytes of stack, profile 1
     .option push
     .option norvc
     .option norelax

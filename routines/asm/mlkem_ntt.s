@@ -1,4 +1,4 @@
-# mlkem_ntt: made by factc function; 1328 words, 1120 bytes of stack, profile 1
+# mlkem_ntt: made by factc 1.0.0 function; 1328 words, 1120 bytes of stack, profile 1
     .option push
     .option norvc
     .option norelax

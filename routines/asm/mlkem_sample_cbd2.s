@@ -1,4 +1,4 @@
-# mlkem_sample_cbd2: made by factc function; 170 words, 672 bytes of stack, profile 1
+# mlkem_sample_cbd2: made by factc 1.0.0 function; 170 words, 672 bytes of stack, profile 1
     .option push
     .option norvc
     .option norelax

@@ -1,4 +1,4 @@
-# multiply_64: made by factc function; 59 words, 64 bytes of stack, profile 1
+# multiply_64: made by factc 1.0.0 function; 59 words, 64 bytes of stack, profile 1
     .option push
     .option norvc
     .option norelax

@@ -1,4 +1,4 @@
-# pkcs1_unpad: made by factc function; 2184 words, 224 bytes of stack, profile 1
+# pkcs1_unpad: made by factc 1.0.0 function; 2184 words, 224 bytes of stack, profile 1
     .option push
     .option norvc
     .option norelax

@@ -1,4 +1,4 @@
-# poly1305_finish: made by factc function; 448 words, 176 bytes of stack, profile 1
+# poly1305_finish: made by factc 1.0.0 function; 448 words, 176 bytes of stack, profile 1
     .option push
     .option norvc
     .option norelax

@@ -1,4 +1,4 @@
-# sha256_short: made by factc function; 5131 words, 768 bytes of stack, profile 1
+# sha256_short: made by factc 1.0.0 function; 5131 words, 768 bytes of stack, profile 1
     .option push
     .option norvc
     .option norelax

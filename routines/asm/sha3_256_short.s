@@ -1,4 +1,4 @@
-# sha3_256_short: made by factc function; 2462 words, 736 bytes of stack, profile 1
+# sha3_256_short: made by factc 1.0.0 function; 2462 words, 736 bytes of stack, profile 1
     .option push
     .option norvc
     .option norelax

@@ -1,4 +1,4 @@
-# sha512_block: made by factc function; 5980 words, 1568 bytes of stack, profile 1
+# sha512_block: made by factc 1.0.0 function; 5980 words, 1568 bytes of stack, profile 1
     .option push
     .option norvc
     .option norelax

@@ -1,4 +1,4 @@
-# square_root_32: made by factc function; 284 words, 32 bytes of stack, profile 1
+# square_root_32: made by factc 1.0.0 function; 284 words, 32 bytes of stack, profile 1
     .option push
     .option norvc
     .option norelax

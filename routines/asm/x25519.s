@@ -1,4 +1,4 @@
-# x25519: made by factc function; 2635 words, 1664 bytes of stack, profile 1
+# x25519: made by factc 1.0.0 function; 2635 words, 1664 bytes of stack, profile 1
     .option push
     .option norvc
     .option norelax

@@ -1,4 +1,4 @@
-# xtea_encrypt: made by factc function; 702 words, 48 bytes of stack, profile 1
+# xtea_encrypt: made by factc 1.0.0 function; 702 words, 48 bytes of stack, profile 1
     .option push
     .option norvc
     .option norelax

@@ -1,4 +1,4 @@
-# aes256_decrypt: made by factc function; 1377 words, 960 bytes of stack, profile 1
+# aes256_decrypt: made by factc 1.0.0 function; 1377 words, 960 bytes of stack, profile 1
     .option push
     .option norvc
     .option norelax

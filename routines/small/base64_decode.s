@@ -1,4 +1,4 @@
-# base64_decode: made by factc function; 331 words, 192 bytes of stack, profile 1
+# base64_decode: made by factc 1.0.0 function; 331 words, 192 bytes of stack, profile 1
     .option push
     .option norvc
     .option norelax

@@ -1,4 +1,4 @@
-# base64_encode: made by factc function; 208 words, 160 bytes of stack, profile 1
+# base64_encode: made by factc 1.0.0 function; 208 words, 160 bytes of stack, profile 1
     .option push
     .option norvc
     .option norelax

@@ -1,4 +1,4 @@
-# blake2s_block: made by factc function; 875 words, 400 bytes of stack, profile 1
+# blake2s_block: made by factc 1.0.0 function; 875 words, 400 bytes of stack, profile 1
     .option push
     .option norvc
     .option norelax

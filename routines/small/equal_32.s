@@ -1,4 +1,4 @@
-# equal_32: made by factc function; 134 words, 96 bytes of stack, profile 1
+# equal_32: made by factc 1.0.0 function; 134 words, 96 bytes of stack, profile 1
     .option push
     .option norvc
     .option norelax

@@ -1,4 +1,4 @@
-# gf256_multiply: made by factc function; 163 words, 96 bytes of stack, profile 1
+# gf256_multiply: made by factc 1.0.0 function; 163 words, 96 bytes of stack, profile 1
     .option push
     .option norvc
     .option norelax

@@ -1,4 +1,4 @@
-# ghash_block: made by factc function; 274 words, 128 bytes of stack, profile 1
+# ghash_block: made by factc 1.0.0 function; 274 words, 128 bytes of stack, profile 1
     .option push
     .option norvc
     .option norelax

@@ -1,4 +1,4 @@
-# ghash_block_products: made by factc function; 738 words, 352 bytes of stack, profile 1
+# ghash_block_products: made by factc 1.0.0 function; 738 words, 352 bytes of stack, profile 1
     .option push
     .option norvc
     .option norelax

@@ -1,4 +1,4 @@
-# hex_decode: made by factc function; 193 words, 128 bytes of stack, profile 1
+# hex_decode: made by factc 1.0.0 function; 193 words, 128 bytes of stack, profile 1
     .option push
     .option norvc
     .option norelax

@@ -1,4 +1,4 @@
-# hotp_digits: made by factc function; 109 words, 48 bytes of stack, profile 1
+# hotp_digits: made by factc 1.0.0 function; 109 words, 48 bytes of stack, profile 1
     .option push
     .option norvc
     .option norelax

@@ -1,4 +1,4 @@
-# hsalsa20: made by factc function; 474 words, 192 bytes of stack, profile 1
+# hsalsa20: made by factc 1.0.0 function; 474 words, 192 bytes of stack, profile 1
     .option push
     .option norvc
     .option norelax

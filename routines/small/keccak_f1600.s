@@ -1,4 +1,4 @@
-# keccak_f1600: made by factc function; 1161 words, 736 bytes of stack, profile 1
+# keccak_f1600: made by factc 1.0.0 function; 1161 words, 736 bytes of stack, profile 1
     .option push
     .option norvc
     .option norelax

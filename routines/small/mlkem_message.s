@@ -1,4 +1,4 @@
-# mlkem_message: made by factc function; 146 words, 592 bytes of stack, profile 1
+# mlkem_message: made by factc 1.0.0 function; 146 words, 592 bytes of stack, profile 1
     .option push
     .option norvc
     .option norelax

@@ -1,4 +1,4 @@
-# mlkem_multiply_ntts: made by factc function; 431 words, 1856 bytes of stack, profile 1
+# mlkem_multiply_ntts: made by factc 1.0.0 function; 431 words, 1856 bytes of stack, profile 1
     .option push
     .option norvc
     .option norelax

@@ -1,4 +1,4 @@
-# mlkem_ntt: made by factc function; 1000 words, 1136 bytes of stack, profile 1
+# mlkem_ntt: made by factc 1.0.0 function; 1000 words, 1136 bytes of stack, profile 1
     .option push
     .option norvc
     .option norelax

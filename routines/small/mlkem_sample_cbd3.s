@@ -1,4 +1,4 @@
-# mlkem_sample_cbd3: made by factc function; 197 words, 752 bytes of stack, profile 1
+# mlkem_sample_cbd3: made by factc 1.0.0 function; 197 words, 752 bytes of stack, profile 1
     .option push
     .option norvc
     .option norelax

@@ -1,4 +1,4 @@
-# poly1305: made by factc function; 607 words, 416 bytes of stack, profile 1
+# poly1305: made by factc 1.0.0 function; 607 words, 416 bytes of stack, profile 1
     .option push
     .option norvc
     .option norelax

@@ -1,4 +1,4 @@
-# sha256_short: made by factc function; 933 words, 1056 bytes of stack, profile 1
+# sha256_short: made by factc 1.0.0 function; 933 words, 1056 bytes of stack, profile 1
     .option push
     .option norvc
     .option norelax

@@ -1,4 +1,4 @@
-# sha3_256_short: made by factc function; 1302 words, 944 bytes of stack, profile 1
+# sha3_256_short: made by factc 1.0.0 function; 1302 words, 944 bytes of stack, profile 1
     .option push
     .option norvc
     .option norelax

@@ -1,4 +1,4 @@
-# siphash24: made by factc function; 424 words, 176 bytes of stack, profile 1
+# siphash24: made by factc 1.0.0 function; 424 words, 176 bytes of stack, profile 1
     .option push
     .option norvc
     .option norelax

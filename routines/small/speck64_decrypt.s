@@ -1,4 +1,4 @@
-# speck64_decrypt: made by factc function; 167 words, 176 bytes of stack, profile 1
+# speck64_decrypt: made by factc 1.0.0 function; 167 words, 176 bytes of stack, profile 1
     .option push
     .option norvc
     .option norelax

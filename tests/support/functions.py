@@ -3,7 +3,7 @@
 import re
 
 WORD = re.compile(r"^    \.word 0x([0-9a-f]{8})  # (.*)$")
-HEAD = re.compile(r"^# (\w+): made by factc function; (\d+) words, (\d+) bytes of stack, profile ([12])$")
+HEAD = re.compile(r"^# (\w+): made by factc [\d.]+ function; (\d+) words, (\d+) bytes of stack, profile ([12])$")
 ARRAY = re.compile(r"^parameter (\d+): an array$")
 SIZES = {"bool": 1, "uint8": 1, "uint16": 2, "uint32": 4}
 

@@ -9,7 +9,7 @@ use std::alloc::{AllocError, Global};
 /// The commands of `factc` and their words, as `clap` reads them.
 pub fn factc<'a>(alloc: Global) -> Result<Command<'a>, AllocError> {
     let mut factc = Command::new(alloc, "factc")
-        .version("0.1.0")
+        .version("1.0.0")
         .about(
             "Compiles a core of FaCT, a language for code that shows an observer no secrets, to RISC-V (RV32IM), runs \
              what it compiled, and shows what an observer sees of the run: addresses, and operands of divisions",

@@ -116,7 +116,7 @@ sizes_text f =
     ++ codes " bytes of stack, profile " ++ profile_text f.image.profile
 
 abbrev pub first_line : FunctionParts → List ℕ
-first_line f = codes "# " ++ f.name ++ codes ": made by factc function; " ++ sizes_text f ++ codes "\n"
+first_line f = codes "# " ++ f.name ++ codes ": made by factc 1.0.0 function; " ++ sizes_text f ++ codes "\n"
 
 -- its words stand as they are, in a section of their own
 abbrev pub place_lines : FunctionParts → List ℕ

@@ -55,7 +55,7 @@ result_text (Some slot) = type_text slot.kind ++ codes " " ++ label_text slot.la
 -- what is premised
 abbrev pub premise_lines : List ℕ → List ℕ
 premise_lines name =
-    codes "/* " ++ name ++ codes ": made by factc function.\n"
+    codes "/* " ++ name ++ codes ": made by factc 1.0.0 function.\n"
     ++ codes
     "   Arrays are aligned by their elements, lie outside the stack below the caller, and no two that are not const overlap.\n"
 

@@ -111,7 +111,7 @@ fn push_first(alloc: Global, text: &mut String, function: &Function) -> Result<(
 {
     text.push_str("# ")?;
     text.push_str(function.name.as_str())?;
-    text.push_str(": made by factc function; ")?;
+    text.push_str(": made by factc 1.0.0 function; ")?;
     push_sizes(alloc, text, function)?;
     text.push_str("\n")
 }

@@ -125,7 +125,7 @@ fn push_premise(text: &mut String, name: &str) -> Result<(), AllocError>
 {
     text.push_str("/* ")?;
     text.push_str(name)?;
-    text.push_str(": made by factc function.\n")?;
+    text.push_str(": made by factc 1.0.0 function.\n")?;
     text.push_str(
         "   Arrays are aligned by their elements, lie outside the stack below the caller, and no two that are not \
          const overlap.\n",
