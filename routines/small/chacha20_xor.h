@@ -6,7 +6,7 @@
 #define FACT_chacha20_xor_H
 #include <stdbool.h>
 #include <stdint.h>
-#define chacha20_xor_STACK_BYTES 352
+#define chacha20_xor_STACK_BYTES 320
 #ifdef __cplusplus
 extern "C" {
 #endif
