@@ -1,6 +1,7 @@
 -- What is told first where needs are joined, and where they are those of items one after another.
-use Rattle.std.proofs.Common.{◌≡◌, ℕ, ◌+◌, ◌∙◌, Bool, true, false, cond, List, [], ◌∷◌, ◌++◌, drop, Option, None, Some}
-use Rattle.std.proofs.Common.{Result, Ok, Err, IfErr, ap, refl}
+use Rattle.std.proofs.Common.{◌≡◌, ℕ, ◌+◌, ◌<◌, ◌∙◌, Bool, true, false, cond, List, [], ◌∷◌, ◌++◌, drop, get_or, length}
+use Rattle.std.proofs.Common.{Option, None, Some, Result, Ok, Err, IfErr, ap, refl, sym}
+use Rattle.std.proofs.lemmas.List.{drop_more}
 use Rattle.std.specs.Result.{IsErrAnd}
 use Rattle.elf_runs.specs.Needs.{Need, IsTold, Meets, each_from, first_unmet}
 use Rattle.elf_runs.specs.declared.fault.Unmet.{Unmet}
@@ -31,6 +32,11 @@ unmet_before [] back unmet h = cc
 unmet_before (one ∷ others) back unmet h =
     on_unmet one.holds (record { rule = one.rule; part = one.part }) (first_unmet others)
     (first_unmet (others ++ back)) unmet h (unmet_before others back unmet)
+
+-- what is left of items at a place: the item there, and those behind it
+pub item_there : {A : Type 0} (items : List A) (k : ℕ) (x : A) → k < length items → x ≡ get_or items k x
+    → drop k items ≡ x ∷ drop (k + 1) items
+item_there items k x h is = drop_more items k x h ∙ ap (λ first. first ∷ drop (k + 1) items) (sym is)
 
 -- what the needs of items come to, from one item on
 pub item_held : {A : Type 0} (needs : ℕ → A → List Need) (k : ℕ) (items : List A) (x : A)

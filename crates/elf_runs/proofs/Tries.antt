@@ -1,6 +1,7 @@
 -- Try after try.
 use Rattle.std.proofs.Common.{◌≡◌, ◌<◌, ◌+◌, ◌-◌, ◌∙◌, ℕ, suc, List, [], ◌∷◌, map, true, false, Option, None}
 use Rattle.std.proofs.Common.{Some, ap, arith, refl, sym}
+use Rattle.std.proofs.lemmas.Bool.{false≢true, true≢false}
 use Rattle.std.specs.Prelude.{IfSome, is_some}
 use Rattle.rand_core.specs.Stream.{Stream}
 use Rattle.elf_runs.specs.declared.asked.Asked.{Asked}
@@ -44,7 +45,7 @@ module _ {program : Executable} {asked same : Asked} {options : RunOptions} (set
       → IfSome found (IsWitness program same options)
       → IfSome found (λ witness. (witness.one.items ≡ one) × (witness.other.items ≡ other))
       → Finds program asked options (try_of one other) found
-  finds None some is given = cc
+  finds None some is given = absurd (false≢true some)
   finds (Some witness) some is given = (
     witness,
     refl,
@@ -77,4 +78,4 @@ same_shown seen seen' (Differ entry step) compares other = absurd (other entry s
 
 pub none_found : (found : Option Witness) → is_some found ≡ false → found ≡ None
 none_found None none = refl
-none_found (Some witness) none = cc
+none_found (Some witness) none = absurd (true≢false none)

@@ -1,8 +1,35 @@
-use Rattle.std.proofs.Common.{◌∙◌}
+use Rattle.std.proofs.Common.{◌≡◌, ◌∙◌, ◌++◌, ◌∷◌, ℕ, List, [], ap, ap₂, codes, map}
+use Rattle.std.specs.List.{fold}
+use Rattle.std.proofs.lemmas.List.{map-append}
+use Rattle.elf_runs.specs.Arguments.{pushed, words_of}
+use Rattle.elf_runs.specs.Begin.{global_pointer, register_by, register_of}
+use Rattle.elf_runs.specs.Below.{address_named, Executable}
+use Rattle.elf_runs.specs.Memory.{hide_in, loaded, memory_at_start, range_of, RangeState, set_in, stack_range}
 use Rattle.elf_runs.specs.Needs.{argument_needs, each_from, needs, secret_needs}
+use Rattle.elf_runs.specs.declared.asked.Asked.{Asked}
+use Rattle.elf_runs.specs.declared.words.Word.{Word}
 use Rattle.elf_runs.proofs.Answering.{argument_first, function_first, secret_first, setting_first, stack_last}
 use Rattle.elf_runs.proofs.Meeting.{told_of, told_on}
 use Rattle.elf_runs.proofs.starting.prepare.Goals as goal
+
+-- what the registers hold by the global pointer and the words that are found
+register_is : (program : Executable) (asked : Asked) (gp : Word) (words : List Word) (r : ℕ)
+    → gp ≡ global_pointer (address_named program (codes "__global_pointer$"))
+    → words ≡ words_of program asked.arguments.items → register_by gp words r ≡ register_of program asked r
+register_is program asked gp words r pointer arguments = ap₂ (λ at given. register_by at given r) pointer arguments
+
+-- the memory, from what is loaded over what is secret and what is set to the stack
+memory_is : (program : Executable) (asked : Asked) (first hidden set : List RangeState) (stack : RangeState)
+    (words : List Word) → first ≡ map loaded program.segments
+    → hidden ≡ fold (hide_in program) first asked.secrets.items
+    → set ≡ fold (set_in program) hidden asked.settings.items → stack ≡ stack_range asked.stack (pushed words)
+    → words ≡ words_of program asked.arguments.items → set ++ stack ∷ [] ≡ memory_at_start program asked
+memory_is program asked first hidden set stack words segments secrets settings last arguments =
+    ap₂ (λ front behind. front ++ behind ∷ [])
+    (settings
+    ∙ ap (λ ranges. fold (set_in program) ranges asked.settings.items)
+    (secrets ∙ ap (λ ranges. fold (hide_in program) ranges asked.secrets.items) segments))
+    (last ∙ ap (λ given. stack_range asked.stack (pushed given)) arguments)
 
 pub returns-in_err-pc-clause-fault : goal.returns-in_err-pc-clause-fault
 returns-in_err-pc-clause-fault c =
@@ -66,3 +93,34 @@ returns-clause-met c =
 
 pub returns-clause-pc : goal.returns-clause-pc
 returns-clause-pc c = rw c.deref.ensures.value at c.in_ok-pc.ensures.address
+
+pub returns-clause-registers : goal.returns-clause-registers
+returns-clause-registers c = λ r within.
+    let words = c.deref-6.ensures.value ∙ (rw c.deref-2.ensures.value at c.in_ok-words.ensures.words) in
+    c.new-registers.ensures.values r within
+    ∙ ap (λ (word : Word). word.value)
+    (register_is c.args.program.now c.args.asked.now c.global_pointer.result c.deref-6.result.now r
+    c.global_pointer.ensures words)
+
+pub returns-clause-unknown : goal.returns-clause-unknown
+returns-clause-unknown c = λ r within.
+    let words = c.deref-6.ensures.value ∙ (rw c.deref-2.ensures.value at c.in_ok-words.ensures.words) in
+    c.new-registers.ensures.unknown r within
+    ∙ ap (λ (word : Word). word.unknown)
+    (register_is c.args.program.now c.args.asked.now c.global_pointer.result c.deref-6.result.now r
+    c.global_pointer.ensures words)
+
+pub returns-clause-memory : goal.returns-clause-memory
+returns-clause-memory c =
+    let program = c.args.program.now in
+    let asked = c.args.asked.now in
+    let ranges = c.set_objects.new.ranges.items in
+    let range = c.in_ok-stack_range.field-0 in
+    ap (map range_of) c.in_ok-push.ensures.items ∙ map-append range_of ranges (range ∷ [])
+    ∙ memory_is program asked (map range_of c.in_ok-ranges.ranges.items) (map range_of c.hide_secrets.new.ranges.items)
+    (map range_of ranges) (range_of range) c.in_ok-words.words.items
+    (c.in_ok-ranges.ensures ∙ ap (map loaded) c.segments.ensures.segments)
+    (rw c.deref-3.ensures.value at c.in_ok-hide_secrets.ensures.memory)
+    (rw c.deref-4.ensures.value at c.in_ok-set_objects.ensures.memory)
+    (c.in_ok-stack_range.ensures ∙ ap (stack_range asked.stack) (c.pushed.ensures ∙ ap pushed c.deref-5.ensures.value))
+    (rw c.deref-2.ensures.value at c.in_ok-words.ensures.words)

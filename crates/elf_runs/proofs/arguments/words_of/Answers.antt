@@ -1,0 +1,33 @@
+use Rattle.std.proofs.Common.{◌≡◌, ◌∙◌, ◌+◌, ◌<◌, ◌++◌, ◌∷◌, ℕ, List, [], ap, ap₂, get_or, length, map, sym, take}
+use Rattle.std.proofs.lemmas.List.{map_more}
+use Rattle.elf_runs.specs.Arguments.{word_of}
+use Rattle.elf_runs.specs.Needs.{argument_needs}
+use Rattle.elf_runs.proofs.Meeting.{item_held, item_there}
+use Rattle.elf_runs.proofs.arguments.words_of.Goals as goal
+
+-- one word more, that of the next argument
+more_words : {A B : Type 0} (f : A → B) (xs : List A) (k : ℕ) (x : A) (made after : List B) (y : B) → k < length xs
+    → x ≡ get_or xs k x → made ≡ map f (take k xs) → y ≡ f x → after ≡ made ++ y ∷ []
+    → after ≡ map f (take (k + 1) xs)
+more_words f xs k x made after y within is before now appended =
+    appended
+    ∙ ap₂ (λ front last. front ++ last ∷ []) before (now ∙ ap f is)
+    ∙ sym (map_more f xs k x within)
+
+pub arguments-preserved : goal.arguments-preserved
+arguments-preserved c =
+    let program = c.args.program.now in
+    let arguments = c.args.arguments.now in
+    let k = c.arguments.k in
+    let argument = c.index-arguments-k.result in
+    let within = c.arguments-test.true in
+    let is = c.index-arguments-k.is in
+    record {
+      met =
+          c.arguments.invariant.met
+          ∙ item_held (argument_needs program) k arguments argument (item_there arguments k argument within is)
+          c.in_ok-check_argument.ensures;
+      words =
+          more_words (word_of program) arguments k argument c.arguments.words.items c.push.new.self.items c.word_of.result
+          within is c.arguments.invariant.words c.word_of.ensures c.in_ok-push.ensures.items;
+    }

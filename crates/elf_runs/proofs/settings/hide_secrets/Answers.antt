@@ -1,0 +1,23 @@
+use Rattle.std.proofs.Common.{◌≡◌, ◌∙◌, ◌+◌, ap, drop, map, sym}
+use Rattle.std.specs.List.{fold}
+use Rattle.elf_runs.specs.Memory.{hide_in, hide_object, range_of}
+use Rattle.elf_runs.specs.Needs.{secret_needs}
+use Rattle.elf_runs.proofs.Meeting.{item_held, item_there}
+use Rattle.elf_runs.proofs.settings.hide_secrets.Goals as goal
+
+pub secrets-preserved : goal.secrets-preserved
+secrets-preserved c =
+    let program = c.args.program.now in
+    let secrets = c.args.secrets.now in
+    let k = c.secrets.k in
+    let secret = c.index-secrets-k.result in
+    let ranges = map range_of c.secrets.ranges.items in
+    let next = item_there secrets k secret c.secrets-test.true c.index-secrets-k.is in
+    let hidden : map range_of c.hide_object.new.ranges.items ≡ hide_in program ranges secret =
+    c.in_ok-hide_object.ensures ∙ ap (hide_object ranges) (sym c.in_ok-object.ensures.object) in
+    record {
+      met = c.secrets.invariant.met ∙ item_held (secret_needs program) k secrets secret next c.in_ok-object.ensures.met;
+      hidden =
+          c.secrets.invariant.hidden ∙ ap (fold (hide_in program) ranges) next
+          ∙ ap (λ old. fold (hide_in program) old (drop (k + 1) secrets)) (sym hidden);
+    }
