@@ -1,8 +1,11 @@
 -- What is told first of a request, by which of its parts is broken first.
-use Rattle.std.proofs.Common.{◌≡◌, ◌++◌, ◌∙◌, true, List, None, Some, drop, take}
+use Rattle.std.specs.Prelude.{nat_le, ◌==◌}
+use Rattle.std.proofs.Common.{◌≡◌, ◌≤◌, ◌+◌, ◌-◌, ◌/◌, ◌%◌, ◌^◌, ◌++◌, ◌∙◌, true, List, None, Some}
+use Rattle.std.proofs.Common.{arith, drop, length, take}
+use Rattle.std.proofs.lemmas.Bool.{eqb-true, leb-true}
 use Rattle.std.specs.List.{list_all}
-use Rattle.elf_runs.specs.Below.{Executable}
-use Rattle.elf_runs.specs.Arguments.{stack_begin}
+use Rattle.elf_runs.specs.Below.{Executable, memory_of, most_memory}
+use Rattle.elf_runs.specs.Arguments.{pushed_size, stack_begin}
 use Rattle.elf_runs.specs.Needs.{Need, argument_needs, each_from, ends_by, first_unmet, function_needs, needs}
 use Rattle.elf_runs.specs.Needs.{secret_needs, setting_needs, stack_needs}
 use Rattle.elf_runs.specs.declared.asked.Asked.{Asked}
@@ -112,3 +115,18 @@ segments_below program asked h =
     let stack = stack_needs program asked in
     let last = met_behind (take 3 stack) (drop 3 stack) (met_behind front stack h) in
     (split (list_all (ends_by (stack_begin asked.stack)) program.segments) _ None last).0
+
+-- a stack as it has to be is not too large, and has room for the arguments behind the eighth
+pub stack_holds : (program : Executable) (asked : Asked) → first_unmet (stack_needs program asked) ≡ None
+    → (asked.stack ≤ 2 ^ 24) × (pushed_size (length asked.arguments.items) ≤ asked.stack)
+stack_holds program asked h =
+    let size = asked.stack in
+    let count = length asked.arguments.items - 8 in
+    let all = memory_of program.segments + size in
+    let multiple = split (size % 16 == 0) _ _ h in
+    let room = split (nat_le count (size / 4)) _ _ multiple.1 in
+    let few = split (nat_le all most_memory) _ _ room.1 in
+    let sixteen = eqb-true (size % 16) 0 multiple.0 in
+    let words = leb-true count (size / 4) room.0 in
+    let small = leb-true all most_memory few.0 in
+    (omega (arith, small), omega (arith, sixteen, words))

@@ -1,8 +1,8 @@
 use Rattle.std.proofs.Common.{◌≡◌, ◌∙◌, ◌+◌, ◌<◌, ◌++◌, ◌∷◌, ℕ, List, [], ap, ap₂, get_or, length, map, sym, take}
 use Rattle.std.proofs.lemmas.List.{map_more}
 use Rattle.elf_runs.specs.Arguments.{word_of}
-use Rattle.elf_runs.specs.Needs.{argument_needs}
-use Rattle.elf_runs.proofs.Meeting.{item_held, item_there}
+use Rattle.elf_runs.specs.Needs.{argument_needs, each_from}
+use Rattle.elf_runs.proofs.Meeting.{item_held, item_there, item_unmet, told_on}
 use Rattle.elf_runs.proofs.arguments.words_of.Goals as goal
 
 -- one word more, that of the next argument
@@ -13,6 +13,17 @@ more_words f xs k x made after y within is before now appended =
     appended
     ∙ ap₂ (λ front last. front ++ last ∷ []) before (now ∙ ap f is)
     ∙ sym (map_more f xs k x within)
+
+pub returns-in_err-check_argument-clause-fault : goal.returns-in_err-check_argument-clause-fault
+returns-in_err-check_argument-clause-fault c =
+    let needs = argument_needs c.args.program.now in
+    let arguments = c.args.arguments.now in
+    let k = c.arguments.k in
+    let argument = c.index-arguments-k.result in
+    let unmet = c.in_err-check_argument.field-0.0 in
+    let next = item_there arguments k argument c.arguments-test.true c.index-arguments-k.is in
+    told_on c.from_residual.result unmet (each_from needs 0 arguments) c.from_residual.ensures.1
+    (c.arguments.invariant.met ∙ item_unmet needs k arguments argument unmet next c.in_err-check_argument.ensures)
 
 pub arguments-preserved : goal.arguments-preserved
 arguments-preserved c =

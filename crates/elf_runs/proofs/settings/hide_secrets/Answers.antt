@@ -1,9 +1,20 @@
 use Rattle.std.proofs.Common.{◌≡◌, ◌∙◌, ◌+◌, ap, drop, map, sym}
 use Rattle.std.specs.List.{fold}
 use Rattle.elf_runs.specs.Memory.{hide_in, hide_object, range_of}
-use Rattle.elf_runs.specs.Needs.{secret_needs}
-use Rattle.elf_runs.proofs.Meeting.{item_held, item_there}
+use Rattle.elf_runs.specs.Needs.{each_from, secret_needs}
+use Rattle.elf_runs.proofs.Meeting.{item_held, item_there, item_unmet, told_on}
 use Rattle.elf_runs.proofs.settings.hide_secrets.Goals as goal
+
+pub returns-in_err-object-clause-fault : goal.returns-in_err-object-clause-fault
+returns-in_err-object-clause-fault c =
+    let needs = secret_needs c.args.program.now in
+    let secrets = c.args.secrets.now in
+    let k = c.secrets.k in
+    let secret = c.index-secrets-k.result in
+    let unmet = c.in_err-object.field-0.0 in
+    let next = item_there secrets k secret c.secrets-test.true c.index-secrets-k.is in
+    told_on c.from_residual.result unmet (each_from needs 0 secrets) c.from_residual.ensures.1
+    (c.secrets.invariant.met ∙ item_unmet needs k secrets secret unmet next c.in_err-object.ensures.met)
 
 pub secrets-preserved : goal.secrets-preserved
 secrets-preserved c =

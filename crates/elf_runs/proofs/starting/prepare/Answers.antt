@@ -1,14 +1,16 @@
-use Rattle.std.proofs.Common.{◌≡◌, ◌∙◌, ◌++◌, ◌∷◌, ℕ, List, [], ap, ap₂, codes, map}
+use Rattle.std.proofs.Common.{◌≡◌, ◌≤◌, ◌∙◌, ◌++◌, ◌∷◌, ◌*◌, ◌^◌, ℕ, List, [], None, ap, ap₂}
+use Rattle.std.proofs.Common.{arith, codes, length, length-drop, map}
 use Rattle.std.specs.List.{fold}
-use Rattle.std.proofs.lemmas.List.{map-append}
-use Rattle.elf_runs.specs.Arguments.{pushed, words_of}
+use Rattle.std.proofs.lemmas.List.{length-map, map-append}
+use Rattle.elf_runs.specs.Arguments.{pushed, pushed_size, rounded, word_of, words_of}
 use Rattle.elf_runs.specs.Begin.{global_pointer, register_by, register_of}
 use Rattle.elf_runs.specs.Below.{address_named, Executable}
 use Rattle.elf_runs.specs.Memory.{hide_in, loaded, memory_at_start, range_of, RangeState, set_in, stack_range}
-use Rattle.elf_runs.specs.Needs.{argument_needs, each_from, needs, secret_needs}
+use Rattle.elf_runs.specs.Needs.{argument_needs, each_from, first_unmet, needs, secret_needs, stack_needs}
 use Rattle.elf_runs.specs.declared.asked.Asked.{Asked}
 use Rattle.elf_runs.specs.declared.words.Word.{Word}
-use Rattle.elf_runs.proofs.Answering.{argument_first, function_first, secret_first, setting_first, stack_last}
+use Rattle.elf_runs.proofs.Answering.{argument_first, function_first, secret_first, setting_first, stack_holds}
+use Rattle.elf_runs.proofs.Answering.{stack_last}
 use Rattle.elf_runs.proofs.Meeting.{told_of, told_on}
 use Rattle.elf_runs.proofs.starting.prepare.Goals as goal
 
@@ -30,6 +32,24 @@ memory_is program asked first hidden set stack words segments secrets settings l
     ∙ ap (λ ranges. fold (set_in program) ranges asked.settings.items)
     (secrets ∙ ap (λ ranges. fold (hide_in program) ranges asked.secrets.items) segments))
     (last ∙ ap (λ given. stack_range asked.stack (pushed given)) arguments)
+
+-- the stack has room for the words behind the eighth, and is not too large
+room_is : (program : Executable) (asked : Asked) (words last : List Word)
+    → first_unmet (stack_needs program asked) ≡ None → words ≡ words_of program asked.arguments.items
+    → last ≡ pushed words → rounded (4 * length last) ≤ asked.stack
+room_is program asked words last met are behind =
+    rw (
+      ap length (behind ∙ ap pushed are),
+      length-drop 8 (words_of program asked.arguments.items),
+      length-map asked.arguments.items (word_of program),
+    ) (stack_holds program asked met).1
+
+few_are : (program : Executable) (asked : Asked) (words : List Word)
+    → first_unmet (stack_needs program asked) ≡ None → words ≡ words_of program asked.arguments.items
+    → pushed_size (length words) ≤ 2 ^ 24
+few_are program asked words met are =
+    let holds = stack_holds program asked met in
+    rw (ap length are, length-map asked.arguments.items (word_of program)) (omega (arith, holds.0, holds.1))
 
 pub returns-in_err-pc-clause-fault : goal.returns-in_err-pc-clause-fault
 returns-in_err-pc-clause-fault c =
@@ -82,6 +102,20 @@ returns-in_err-check_stack-clause-fault c =
     (rw c.deref-3.ensures.value at c.in_ok-hide_secrets.ensures.met)
     (rw c.deref-4.ensures.value at c.in_ok-set_objects.ensures.met)
     ∙ c.in_err-check_stack.ensures)
+
+pub stack_range-requires-clause-size : goal.stack_range-requires-clause-size
+stack_range-requires-clause-size c =
+    (stack_holds c.args.program.now c.args.asked.now c.in_ok-check_stack.ensures).0
+
+pub stack_range-requires-clause-room : goal.stack_range-requires-clause-room
+stack_range-requires-clause-room c =
+    room_is c.args.program.now c.args.asked.now c.deref-5.result.now c.pushed.result.now c.in_ok-check_stack.ensures
+    (c.deref-5.ensures.value ∙ (rw c.deref-2.ensures.value at c.in_ok-words.ensures.words)) c.pushed.ensures
+
+pub new-registers-requires : goal.new-registers-requires
+new-registers-requires c =
+    few_are c.args.program.now c.args.asked.now c.deref-6.result.now c.in_ok-check_stack.ensures
+    (c.deref-6.ensures.value ∙ (rw c.deref-2.ensures.value at c.in_ok-words.ensures.words))
 
 pub returns-clause-met : goal.returns-clause-met
 returns-clause-met c =
