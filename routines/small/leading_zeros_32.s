@@ -1,4 +1,4 @@
-# leading_zeros_32: made by factc 1.0.0 function; 60 words, 48 bytes of stack, profile 1
+# leading_zeros_32: made by factc function; 70 words, 32 bytes of stack, profile 1
     .option push
     .option norvc
     .option norelax
@@ -19,39 +19,51 @@ leading_zeros_32:
     .cfi_offset 9, -12
     # arguments that are needed behind the body
     # the frame's base
-    .word 0xfe010113  # addi x2, x2, -32
-    .cfi_def_cfa 2, 48
-    # the frame's word at 8, zeroed
-    .word 0x00012423  # sw x0, 8(x2)
-    # the frame's word at 12, zeroed
-    .word 0x00012623  # sw x0, 12(x2)
+    .word 0xff010113  # addi x2, x2, -16
+    .cfi_def_cfa 2, 32
     # parameter 0: a word
     .word 0x00a12023  # sw x10, 0(x2)
     # the body
     .word 0x00012403  # lw x8, 0(x2)
-    .word 0x00000513  # addi x10, x0, 0
-    .word 0x00812583  # lw x11, 8(x2)
-    .word 0x02000493  # addi x9, x0, 32
-    .word 0x00000513  # addi x10, x0, 0
-    .word 0x00a452b3  # srl x5, x8, x10
-    .word 0x0012f293  # andi x5, x5, 1
-    .word 0xfff28293  # addi x5, x5, -1
-    .word 0x0012b293  # sltiu x5, x5, 1
-    .word 0x405005b3  # sub x11, x0, x5
-    .word 0x01f00293  # addi x5, x0, 31
-    .word 0x40a282b3  # sub x5, x5, x10
-    .word 0x0092c2b3  # xor x5, x5, x9
-    .word 0x00b2f2b3  # and x5, x5, x11
-    .word 0x0054c4b3  # xor x9, x9, x5
-    .word 0x00150513  # addi x10, x10, 1
-    .word 0x02053293  # sltiu x5, x10, 32
-    .word 0xfc0298e3  # bne x5, x0, -48
-    .word 0xfff50513  # addi x10, x10, -1
-    .word 0x00912223  # sw x9, 4(x2)
+    .word 0x00145313  # srli x6, x8, 1
+    .word 0x006464b3  # or x9, x8, x6
+    .word 0x0024d313  # srli x6, x9, 2
+    .word 0x0064e4b3  # or x9, x9, x6
+    .word 0x0044d313  # srli x6, x9, 4
+    .word 0x0064e4b3  # or x9, x9, x6
+    .word 0x0084d313  # srli x6, x9, 8
+    .word 0x0064e4b3  # or x9, x9, x6
+    .word 0x0104d313  # srli x6, x9, 16
+    .word 0x0064e4b3  # or x9, x9, x6
+    .word 0xfff4c493  # xori x9, x9, -1
+    .word 0x0014d313  # srli x6, x9, 1
+    .word 0x555553b7  # lui x7, 0x55555
+    .word 0x55538393  # addi x7, x7, 1365
+    .word 0x00737333  # and x6, x6, x7
+    .word 0x406484b3  # sub x9, x9, x6
+    .word 0x33333337  # lui x6, 0x33333
+    .word 0x33330313  # addi x6, x6, 819
+    .word 0x0064f2b3  # and x5, x9, x6
+    .word 0x0024d313  # srli x6, x9, 2
+    .word 0x333333b7  # lui x7, 0x33333
+    .word 0x33338393  # addi x7, x7, 819
+    .word 0x00737333  # and x6, x6, x7
+    .word 0x006284b3  # add x9, x5, x6
+    .word 0x0044d313  # srli x6, x9, 4
+    .word 0x006482b3  # add x5, x9, x6
+    .word 0x0f0f1337  # lui x6, 0x0f0f1
+    .word 0xf0f30313  # addi x6, x6, -241
+    .word 0x0062f4b3  # and x9, x5, x6
+    .word 0x0084d313  # srli x6, x9, 8
+    .word 0x006484b3  # add x9, x9, x6
+    .word 0x0104d313  # srli x6, x9, 16
+    .word 0x006482b3  # add x5, x9, x6
+    .word 0x03f2f293  # andi x5, x5, 63
+    .word 0x00512223  # sw x5, 4(x2)
     # the result
     .word 0x00412503  # lw x10, 4(x2)
     # above the frame
-    .word 0x02010293  # addi x5, x2, 32
+    .word 0x01010293  # addi x5, x2, 16
     # the caller's registers
     .word 0x0002a403  # lw x8, 0(x5)
     .cfi_restore 8
@@ -69,11 +81,7 @@ leading_zeros_32:
     .word 0x00012a23  # sw x0, 20(x2)
     .word 0x00012c23  # sw x0, 24(x2)
     .word 0x00012e23  # sw x0, 28(x2)
-    .word 0x02012023  # sw x0, 32(x2)
-    .word 0x02012223  # sw x0, 36(x2)
-    .word 0x02012423  # sw x0, 40(x2)
-    .word 0x02012623  # sw x0, 44(x2)
-    .word 0x03010113  # addi x2, x2, 48
+    .word 0x02010113  # addi x2, x2, 32
     .cfi_def_cfa 2, 0
     # temporaries, wiped
     .word 0x00000293  # addi x5, x0, 0
