@@ -1,4 +1,4 @@
-# compare_32: made by factc 1.0.0 function; 158 words, 112 bytes of stack, profile 1
+# compare_32: made by factc function; 146 words, 96 bytes of stack, profile 1
     .option push
     .option norvc
     .option norelax
@@ -19,12 +19,8 @@ compare_32:
     .cfi_offset 9, -12
     # arguments that are needed behind the body
     # the frame's base
-    .word 0xfa010113  # addi x2, x2, -96
-    .cfi_def_cfa 2, 112
-    # the frame's word at 68, zeroed
-    .word 0x04012223  # sw x0, 68(x2)
-    # the frame's word at 72, zeroed
-    .word 0x04012423  # sw x0, 72(x2)
+    .word 0xfb010113  # addi x2, x2, -80
+    .cfi_def_cfa 2, 96
     # parameter 0: an array
     .word 0x00050293  # addi x5, x10, 0
     .word 0x00010313  # addi x6, x2, 0
@@ -96,43 +92,37 @@ compare_32:
     .word 0x01c2ae03  # lw x28, 28(x5)
     .word 0x01c32e23  # sw x28, 28(x6)
     # the body
-    .word 0x00000493  # addi x9, x0, 0
-    .word 0x04412503  # lw x10, 68(x2)
+    .word 0x00000513  # addi x10, x0, 0
+    .word 0x00000593  # addi x11, x0, 0
+    .word 0x00000613  # addi x12, x0, 0
+    .word 0x00000693  # addi x13, x0, 0
     .word 0x00000413  # addi x8, x0, 0
     .word 0x00000493  # addi x9, x0, 0
-    .word 0x00143293  # sltiu x5, x8, 1
-    .word 0x00248333  # add x6, x9, x2
-    .word 0x00034303  # lbu x6, 0(x6)
-    .word 0x002483b3  # add x7, x9, x2
-    .word 0x0203c383  # lbu x7, 32(x7)
-    .word 0x00733333  # sltu x6, x6, x7
-    .word 0x0062f2b3  # and x5, x5, x6
-    .word 0x40500533  # sub x10, x0, x5
-    .word 0x00100293  # addi x5, x0, 1
-    .word 0x0082c2b3  # xor x5, x5, x8
-    .word 0x00a2f2b3  # and x5, x5, x10
-    .word 0x00544433  # xor x8, x8, x5
-    .word 0x00143293  # sltiu x5, x8, 1
-    .word 0x00248333  # add x6, x9, x2
-    .word 0x02034303  # lbu x6, 32(x6)
-    .word 0x002483b3  # add x7, x9, x2
-    .word 0x0003c383  # lbu x7, 0(x7)
-    .word 0x00733333  # sltu x6, x6, x7
-    .word 0x0062f2b3  # and x5, x5, x6
-    .word 0x40500533  # sub x10, x0, x5
-    .word 0x00200293  # addi x5, x0, 2
-    .word 0x0082c2b3  # xor x5, x5, x8
-    .word 0x00a2f2b3  # and x5, x5, x10
-    .word 0x00544433  # xor x8, x8, x5
-    .word 0x00148493  # addi x9, x9, 1
-    .word 0x0204b293  # sltiu x5, x9, 32
-    .word 0xf8029ce3  # bne x5, x0, -104
-    .word 0xfff48493  # addi x9, x9, -1
-    .word 0x04812023  # sw x8, 64(x2)
+    .word 0x00000513  # addi x10, x0, 0
+    .word 0x01f00293  # addi x5, x0, 31
+    .word 0x40a285b3  # sub x11, x5, x10
+    .word 0x00258633  # add x12, x11, x2
+    .word 0x00064603  # lbu x12, 0(x12)
+    .word 0x002586b3  # add x13, x11, x2
+    .word 0x0206c683  # lbu x13, 32(x13)
+    .word 0x40d602b3  # sub x5, x12, x13
+    .word 0x408282b3  # sub x5, x5, x8
+    .word 0x01f2d413  # srli x8, x5, 31
+    .word 0x00d64333  # xor x6, x12, x13
+    .word 0x0064e4b3  # or x9, x9, x6
+    .word 0x00150513  # addi x10, x10, 1
+    .word 0x02053293  # sltiu x5, x10, 32
+    .word 0xfc0296e3  # bne x5, x0, -52
+    .word 0xfff50513  # addi x10, x10, -1
+    .word 0x00903633  # sltu x12, x0, x9
+    .word 0x00c602b3  # add x5, x12, x12
+    .word 0x408282b3  # sub x5, x5, x8
+    .word 0x0ff2f293  # andi x5, x5, 255
+    .word 0x04512023  # sw x5, 64(x2)
     # the result
     .word 0x04012503  # lw x10, 64(x2)
     # above the frame
-    .word 0x06010293  # addi x5, x2, 96
+    .word 0x05010293  # addi x5, x2, 80
     # the caller's registers
     .word 0x0002a403  # lw x8, 0(x5)
     .cfi_restore 8
@@ -150,11 +140,7 @@ compare_32:
     .word 0x00012a23  # sw x0, 20(x2)
     .word 0x00012c23  # sw x0, 24(x2)
     .word 0x00012e23  # sw x0, 28(x2)
-    .word 0x02012023  # sw x0, 32(x2)
-    .word 0x02012223  # sw x0, 36(x2)
-    .word 0x02012423  # sw x0, 40(x2)
-    .word 0x02012623  # sw x0, 44(x2)
-    .word 0x03010113  # addi x2, x2, 48
+    .word 0x02010113  # addi x2, x2, 32
     .word 0x00012023  # sw x0, 0(x2)
     .word 0x00012223  # sw x0, 4(x2)
     .word 0x00012423  # sw x0, 8(x2)
