@@ -1,4 +1,4 @@
-# minimum_maximum_16: made by factc 1.0.0 function; 382 words, 96 bytes of stack, profile 1
+# minimum_maximum_16: made by factc function; 251 words, 96 bytes of stack, profile 1
     .option push
     .option norvc
     .option norelax
@@ -13,6 +13,10 @@ minimum_maximum_16:
     .word 0xff010113  # addi x2, x2, -16
     .cfi_def_cfa_offset 16
     # the caller's registers
+    .word 0x00812023  # sw x8, 0(x2)
+    .cfi_offset 8, -16
+    .word 0x00912223  # sw x9, 4(x2)
+    .cfi_offset 9, -12
     # arguments that are needed behind the body
     .word 0x00a12423  # sw x10, 8(x2)
     .word 0x00b12623  # sw x11, 12(x2)
@@ -44,310 +48,175 @@ minimum_maximum_16:
     .word 0x02030313  # addi x6, x6, 32
     .word 0xfa729ce3  # bne x5, x7, -72
     # the body
-    .word 0x00012283  # lw x5, 0(x2)
-    .word 0x04512023  # sw x5, 64(x2)
-    .word 0x00012283  # lw x5, 0(x2)
-    .word 0x04512223  # sw x5, 68(x2)
-    .word 0x00412283  # lw x5, 4(x2)
-    .word 0x04012303  # lw x6, 64(x2)
-    .word 0x0062b2b3  # sltu x5, x5, x6
-    .word 0x00412303  # lw x6, 4(x2)
-    .word 0x04012383  # lw x7, 64(x2)
+    .word 0x00012403  # lw x8, 0(x2)
+    .word 0x00040493  # addi x9, x8, 0
+    .word 0x00412503  # lw x10, 4(x2)
+    .word 0x008532b3  # sltu x5, x10, x8
     .word 0x405002b3  # sub x5, x0, x5
-    .word 0x00734333  # xor x6, x6, x7
+    .word 0x00854333  # xor x6, x10, x8
     .word 0x00537333  # and x6, x6, x5
-    .word 0x0063c2b3  # xor x5, x7, x6
-    .word 0x04512023  # sw x5, 64(x2)
-    .word 0x04412283  # lw x5, 68(x2)
-    .word 0x00412303  # lw x6, 4(x2)
-    .word 0x0062b2b3  # sltu x5, x5, x6
-    .word 0x00412303  # lw x6, 4(x2)
-    .word 0x04412383  # lw x7, 68(x2)
+    .word 0x00644433  # xor x8, x8, x6
+    .word 0x00a4b2b3  # sltu x5, x9, x10
     .word 0x405002b3  # sub x5, x0, x5
-    .word 0x00734333  # xor x6, x6, x7
+    .word 0x00954333  # xor x6, x10, x9
     .word 0x00537333  # and x6, x6, x5
-    .word 0x0063c2b3  # xor x5, x7, x6
-    .word 0x04512223  # sw x5, 68(x2)
-    .word 0x00812283  # lw x5, 8(x2)
-    .word 0x04012303  # lw x6, 64(x2)
-    .word 0x0062b2b3  # sltu x5, x5, x6
-    .word 0x00812303  # lw x6, 8(x2)
-    .word 0x04012383  # lw x7, 64(x2)
+    .word 0x0064c4b3  # xor x9, x9, x6
+    .word 0x00812503  # lw x10, 8(x2)
+    .word 0x008532b3  # sltu x5, x10, x8
     .word 0x405002b3  # sub x5, x0, x5
-    .word 0x00734333  # xor x6, x6, x7
+    .word 0x00854333  # xor x6, x10, x8
     .word 0x00537333  # and x6, x6, x5
-    .word 0x0063c2b3  # xor x5, x7, x6
-    .word 0x04512023  # sw x5, 64(x2)
-    .word 0x04412283  # lw x5, 68(x2)
-    .word 0x00812303  # lw x6, 8(x2)
-    .word 0x0062b2b3  # sltu x5, x5, x6
-    .word 0x00812303  # lw x6, 8(x2)
-    .word 0x04412383  # lw x7, 68(x2)
+    .word 0x00644433  # xor x8, x8, x6
+    .word 0x00a4b2b3  # sltu x5, x9, x10
     .word 0x405002b3  # sub x5, x0, x5
-    .word 0x00734333  # xor x6, x6, x7
+    .word 0x00954333  # xor x6, x10, x9
     .word 0x00537333  # and x6, x6, x5
-    .word 0x0063c2b3  # xor x5, x7, x6
-    .word 0x04512223  # sw x5, 68(x2)
-    .word 0x00c12283  # lw x5, 12(x2)
-    .word 0x04012303  # lw x6, 64(x2)
-    .word 0x0062b2b3  # sltu x5, x5, x6
-    .word 0x00c12303  # lw x6, 12(x2)
-    .word 0x04012383  # lw x7, 64(x2)
+    .word 0x0064c4b3  # xor x9, x9, x6
+    .word 0x00c12503  # lw x10, 12(x2)
+    .word 0x008532b3  # sltu x5, x10, x8
     .word 0x405002b3  # sub x5, x0, x5
-    .word 0x00734333  # xor x6, x6, x7
+    .word 0x00854333  # xor x6, x10, x8
     .word 0x00537333  # and x6, x6, x5
-    .word 0x0063c2b3  # xor x5, x7, x6
-    .word 0x04512023  # sw x5, 64(x2)
-    .word 0x04412283  # lw x5, 68(x2)
-    .word 0x00c12303  # lw x6, 12(x2)
-    .word 0x0062b2b3  # sltu x5, x5, x6
-    .word 0x00c12303  # lw x6, 12(x2)
-    .word 0x04412383  # lw x7, 68(x2)
+    .word 0x00644433  # xor x8, x8, x6
+    .word 0x00a4b2b3  # sltu x5, x9, x10
     .word 0x405002b3  # sub x5, x0, x5
-    .word 0x00734333  # xor x6, x6, x7
+    .word 0x00954333  # xor x6, x10, x9
     .word 0x00537333  # and x6, x6, x5
-    .word 0x0063c2b3  # xor x5, x7, x6
-    .word 0x04512223  # sw x5, 68(x2)
-    .word 0x01012283  # lw x5, 16(x2)
-    .word 0x04012303  # lw x6, 64(x2)
-    .word 0x0062b2b3  # sltu x5, x5, x6
-    .word 0x01012303  # lw x6, 16(x2)
-    .word 0x04012383  # lw x7, 64(x2)
+    .word 0x0064c4b3  # xor x9, x9, x6
+    .word 0x01012503  # lw x10, 16(x2)
+    .word 0x008532b3  # sltu x5, x10, x8
     .word 0x405002b3  # sub x5, x0, x5
-    .word 0x00734333  # xor x6, x6, x7
+    .word 0x00854333  # xor x6, x10, x8
     .word 0x00537333  # and x6, x6, x5
-    .word 0x0063c2b3  # xor x5, x7, x6
-    .word 0x04512023  # sw x5, 64(x2)
-    .word 0x04412283  # lw x5, 68(x2)
-    .word 0x01012303  # lw x6, 16(x2)
-    .word 0x0062b2b3  # sltu x5, x5, x6
-    .word 0x01012303  # lw x6, 16(x2)
-    .word 0x04412383  # lw x7, 68(x2)
+    .word 0x00644433  # xor x8, x8, x6
+    .word 0x00a4b2b3  # sltu x5, x9, x10
     .word 0x405002b3  # sub x5, x0, x5
-    .word 0x00734333  # xor x6, x6, x7
+    .word 0x00954333  # xor x6, x10, x9
     .word 0x00537333  # and x6, x6, x5
-    .word 0x0063c2b3  # xor x5, x7, x6
-    .word 0x04512223  # sw x5, 68(x2)
-    .word 0x01412283  # lw x5, 20(x2)
-    .word 0x04012303  # lw x6, 64(x2)
-    .word 0x0062b2b3  # sltu x5, x5, x6
-    .word 0x01412303  # lw x6, 20(x2)
-    .word 0x04012383  # lw x7, 64(x2)
+    .word 0x0064c4b3  # xor x9, x9, x6
+    .word 0x01412503  # lw x10, 20(x2)
+    .word 0x008532b3  # sltu x5, x10, x8
     .word 0x405002b3  # sub x5, x0, x5
-    .word 0x00734333  # xor x6, x6, x7
+    .word 0x00854333  # xor x6, x10, x8
     .word 0x00537333  # and x6, x6, x5
-    .word 0x0063c2b3  # xor x5, x7, x6
-    .word 0x04512023  # sw x5, 64(x2)
-    .word 0x04412283  # lw x5, 68(x2)
-    .word 0x01412303  # lw x6, 20(x2)
-    .word 0x0062b2b3  # sltu x5, x5, x6
-    .word 0x01412303  # lw x6, 20(x2)
-    .word 0x04412383  # lw x7, 68(x2)
+    .word 0x00644433  # xor x8, x8, x6
+    .word 0x00a4b2b3  # sltu x5, x9, x10
     .word 0x405002b3  # sub x5, x0, x5
-    .word 0x00734333  # xor x6, x6, x7
+    .word 0x00954333  # xor x6, x10, x9
     .word 0x00537333  # and x6, x6, x5
-    .word 0x0063c2b3  # xor x5, x7, x6
-    .word 0x04512223  # sw x5, 68(x2)
-    .word 0x01812283  # lw x5, 24(x2)
-    .word 0x04012303  # lw x6, 64(x2)
-    .word 0x0062b2b3  # sltu x5, x5, x6
-    .word 0x01812303  # lw x6, 24(x2)
-    .word 0x04012383  # lw x7, 64(x2)
+    .word 0x0064c4b3  # xor x9, x9, x6
+    .word 0x01812503  # lw x10, 24(x2)
+    .word 0x008532b3  # sltu x5, x10, x8
     .word 0x405002b3  # sub x5, x0, x5
-    .word 0x00734333  # xor x6, x6, x7
+    .word 0x00854333  # xor x6, x10, x8
     .word 0x00537333  # and x6, x6, x5
-    .word 0x0063c2b3  # xor x5, x7, x6
-    .word 0x04512023  # sw x5, 64(x2)
-    .word 0x04412283  # lw x5, 68(x2)
-    .word 0x01812303  # lw x6, 24(x2)
-    .word 0x0062b2b3  # sltu x5, x5, x6
-    .word 0x01812303  # lw x6, 24(x2)
-    .word 0x04412383  # lw x7, 68(x2)
+    .word 0x00644433  # xor x8, x8, x6
+    .word 0x00a4b2b3  # sltu x5, x9, x10
     .word 0x405002b3  # sub x5, x0, x5
-    .word 0x00734333  # xor x6, x6, x7
+    .word 0x00954333  # xor x6, x10, x9
     .word 0x00537333  # and x6, x6, x5
-    .word 0x0063c2b3  # xor x5, x7, x6
-    .word 0x04512223  # sw x5, 68(x2)
-    .word 0x01c12283  # lw x5, 28(x2)
-    .word 0x04012303  # lw x6, 64(x2)
-    .word 0x0062b2b3  # sltu x5, x5, x6
-    .word 0x01c12303  # lw x6, 28(x2)
-    .word 0x04012383  # lw x7, 64(x2)
+    .word 0x0064c4b3  # xor x9, x9, x6
+    .word 0x01c12503  # lw x10, 28(x2)
+    .word 0x008532b3  # sltu x5, x10, x8
     .word 0x405002b3  # sub x5, x0, x5
-    .word 0x00734333  # xor x6, x6, x7
+    .word 0x00854333  # xor x6, x10, x8
     .word 0x00537333  # and x6, x6, x5
-    .word 0x0063c2b3  # xor x5, x7, x6
-    .word 0x04512023  # sw x5, 64(x2)
-    .word 0x04412283  # lw x5, 68(x2)
-    .word 0x01c12303  # lw x6, 28(x2)
-    .word 0x0062b2b3  # sltu x5, x5, x6
-    .word 0x01c12303  # lw x6, 28(x2)
-    .word 0x04412383  # lw x7, 68(x2)
+    .word 0x00644433  # xor x8, x8, x6
+    .word 0x00a4b2b3  # sltu x5, x9, x10
     .word 0x405002b3  # sub x5, x0, x5
-    .word 0x00734333  # xor x6, x6, x7
+    .word 0x00954333  # xor x6, x10, x9
     .word 0x00537333  # and x6, x6, x5
-    .word 0x0063c2b3  # xor x5, x7, x6
-    .word 0x04512223  # sw x5, 68(x2)
-    .word 0x02012283  # lw x5, 32(x2)
-    .word 0x04012303  # lw x6, 64(x2)
-    .word 0x0062b2b3  # sltu x5, x5, x6
-    .word 0x02012303  # lw x6, 32(x2)
-    .word 0x04012383  # lw x7, 64(x2)
+    .word 0x0064c4b3  # xor x9, x9, x6
+    .word 0x02012503  # lw x10, 32(x2)
+    .word 0x008532b3  # sltu x5, x10, x8
     .word 0x405002b3  # sub x5, x0, x5
-    .word 0x00734333  # xor x6, x6, x7
+    .word 0x00854333  # xor x6, x10, x8
     .word 0x00537333  # and x6, x6, x5
-    .word 0x0063c2b3  # xor x5, x7, x6
-    .word 0x04512023  # sw x5, 64(x2)
-    .word 0x04412283  # lw x5, 68(x2)
-    .word 0x02012303  # lw x6, 32(x2)
-    .word 0x0062b2b3  # sltu x5, x5, x6
-    .word 0x02012303  # lw x6, 32(x2)
-    .word 0x04412383  # lw x7, 68(x2)
+    .word 0x00644433  # xor x8, x8, x6
+    .word 0x00a4b2b3  # sltu x5, x9, x10
     .word 0x405002b3  # sub x5, x0, x5
-    .word 0x00734333  # xor x6, x6, x7
+    .word 0x00954333  # xor x6, x10, x9
     .word 0x00537333  # and x6, x6, x5
-    .word 0x0063c2b3  # xor x5, x7, x6
-    .word 0x04512223  # sw x5, 68(x2)
-    .word 0x02412283  # lw x5, 36(x2)
-    .word 0x04012303  # lw x6, 64(x2)
-    .word 0x0062b2b3  # sltu x5, x5, x6
-    .word 0x02412303  # lw x6, 36(x2)
-    .word 0x04012383  # lw x7, 64(x2)
+    .word 0x0064c4b3  # xor x9, x9, x6
+    .word 0x02412503  # lw x10, 36(x2)
+    .word 0x008532b3  # sltu x5, x10, x8
     .word 0x405002b3  # sub x5, x0, x5
-    .word 0x00734333  # xor x6, x6, x7
+    .word 0x00854333  # xor x6, x10, x8
     .word 0x00537333  # and x6, x6, x5
-    .word 0x0063c2b3  # xor x5, x7, x6
-    .word 0x04512023  # sw x5, 64(x2)
-    .word 0x04412283  # lw x5, 68(x2)
-    .word 0x02412303  # lw x6, 36(x2)
-    .word 0x0062b2b3  # sltu x5, x5, x6
-    .word 0x02412303  # lw x6, 36(x2)
-    .word 0x04412383  # lw x7, 68(x2)
+    .word 0x00644433  # xor x8, x8, x6
+    .word 0x00a4b2b3  # sltu x5, x9, x10
     .word 0x405002b3  # sub x5, x0, x5
-    .word 0x00734333  # xor x6, x6, x7
+    .word 0x00954333  # xor x6, x10, x9
     .word 0x00537333  # and x6, x6, x5
-    .word 0x0063c2b3  # xor x5, x7, x6
-    .word 0x04512223  # sw x5, 68(x2)
-    .word 0x02812283  # lw x5, 40(x2)
-    .word 0x04012303  # lw x6, 64(x2)
-    .word 0x0062b2b3  # sltu x5, x5, x6
-    .word 0x02812303  # lw x6, 40(x2)
-    .word 0x04012383  # lw x7, 64(x2)
+    .word 0x0064c4b3  # xor x9, x9, x6
+    .word 0x02812503  # lw x10, 40(x2)
+    .word 0x008532b3  # sltu x5, x10, x8
     .word 0x405002b3  # sub x5, x0, x5
-    .word 0x00734333  # xor x6, x6, x7
+    .word 0x00854333  # xor x6, x10, x8
     .word 0x00537333  # and x6, x6, x5
-    .word 0x0063c2b3  # xor x5, x7, x6
-    .word 0x04512023  # sw x5, 64(x2)
-    .word 0x04412283  # lw x5, 68(x2)
-    .word 0x02812303  # lw x6, 40(x2)
-    .word 0x0062b2b3  # sltu x5, x5, x6
-    .word 0x02812303  # lw x6, 40(x2)
-    .word 0x04412383  # lw x7, 68(x2)
+    .word 0x00644433  # xor x8, x8, x6
+    .word 0x00a4b2b3  # sltu x5, x9, x10
     .word 0x405002b3  # sub x5, x0, x5
-    .word 0x00734333  # xor x6, x6, x7
+    .word 0x00954333  # xor x6, x10, x9
     .word 0x00537333  # and x6, x6, x5
-    .word 0x0063c2b3  # xor x5, x7, x6
-    .word 0x04512223  # sw x5, 68(x2)
-    .word 0x02c12283  # lw x5, 44(x2)
-    .word 0x04012303  # lw x6, 64(x2)
-    .word 0x0062b2b3  # sltu x5, x5, x6
-    .word 0x02c12303  # lw x6, 44(x2)
-    .word 0x04012383  # lw x7, 64(x2)
+    .word 0x0064c4b3  # xor x9, x9, x6
+    .word 0x02c12503  # lw x10, 44(x2)
+    .word 0x008532b3  # sltu x5, x10, x8
     .word 0x405002b3  # sub x5, x0, x5
-    .word 0x00734333  # xor x6, x6, x7
+    .word 0x00854333  # xor x6, x10, x8
     .word 0x00537333  # and x6, x6, x5
-    .word 0x0063c2b3  # xor x5, x7, x6
-    .word 0x04512023  # sw x5, 64(x2)
-    .word 0x04412283  # lw x5, 68(x2)
-    .word 0x02c12303  # lw x6, 44(x2)
-    .word 0x0062b2b3  # sltu x5, x5, x6
-    .word 0x02c12303  # lw x6, 44(x2)
-    .word 0x04412383  # lw x7, 68(x2)
+    .word 0x00644433  # xor x8, x8, x6
+    .word 0x00a4b2b3  # sltu x5, x9, x10
     .word 0x405002b3  # sub x5, x0, x5
-    .word 0x00734333  # xor x6, x6, x7
+    .word 0x00954333  # xor x6, x10, x9
     .word 0x00537333  # and x6, x6, x5
-    .word 0x0063c2b3  # xor x5, x7, x6
-    .word 0x04512223  # sw x5, 68(x2)
-    .word 0x03012283  # lw x5, 48(x2)
-    .word 0x04012303  # lw x6, 64(x2)
-    .word 0x0062b2b3  # sltu x5, x5, x6
-    .word 0x03012303  # lw x6, 48(x2)
-    .word 0x04012383  # lw x7, 64(x2)
+    .word 0x0064c4b3  # xor x9, x9, x6
+    .word 0x03012503  # lw x10, 48(x2)
+    .word 0x008532b3  # sltu x5, x10, x8
     .word 0x405002b3  # sub x5, x0, x5
-    .word 0x00734333  # xor x6, x6, x7
+    .word 0x00854333  # xor x6, x10, x8
     .word 0x00537333  # and x6, x6, x5
-    .word 0x0063c2b3  # xor x5, x7, x6
-    .word 0x04512023  # sw x5, 64(x2)
-    .word 0x04412283  # lw x5, 68(x2)
-    .word 0x03012303  # lw x6, 48(x2)
-    .word 0x0062b2b3  # sltu x5, x5, x6
-    .word 0x03012303  # lw x6, 48(x2)
-    .word 0x04412383  # lw x7, 68(x2)
+    .word 0x00644433  # xor x8, x8, x6
+    .word 0x00a4b2b3  # sltu x5, x9, x10
     .word 0x405002b3  # sub x5, x0, x5
-    .word 0x00734333  # xor x6, x6, x7
+    .word 0x00954333  # xor x6, x10, x9
     .word 0x00537333  # and x6, x6, x5
-    .word 0x0063c2b3  # xor x5, x7, x6
-    .word 0x04512223  # sw x5, 68(x2)
-    .word 0x03412283  # lw x5, 52(x2)
-    .word 0x04012303  # lw x6, 64(x2)
-    .word 0x0062b2b3  # sltu x5, x5, x6
-    .word 0x03412303  # lw x6, 52(x2)
-    .word 0x04012383  # lw x7, 64(x2)
+    .word 0x0064c4b3  # xor x9, x9, x6
+    .word 0x03412503  # lw x10, 52(x2)
+    .word 0x008532b3  # sltu x5, x10, x8
     .word 0x405002b3  # sub x5, x0, x5
-    .word 0x00734333  # xor x6, x6, x7
+    .word 0x00854333  # xor x6, x10, x8
     .word 0x00537333  # and x6, x6, x5
-    .word 0x0063c2b3  # xor x5, x7, x6
-    .word 0x04512023  # sw x5, 64(x2)
-    .word 0x04412283  # lw x5, 68(x2)
-    .word 0x03412303  # lw x6, 52(x2)
-    .word 0x0062b2b3  # sltu x5, x5, x6
-    .word 0x03412303  # lw x6, 52(x2)
-    .word 0x04412383  # lw x7, 68(x2)
+    .word 0x00644433  # xor x8, x8, x6
+    .word 0x00a4b2b3  # sltu x5, x9, x10
     .word 0x405002b3  # sub x5, x0, x5
-    .word 0x00734333  # xor x6, x6, x7
+    .word 0x00954333  # xor x6, x10, x9
     .word 0x00537333  # and x6, x6, x5
-    .word 0x0063c2b3  # xor x5, x7, x6
-    .word 0x04512223  # sw x5, 68(x2)
-    .word 0x03812283  # lw x5, 56(x2)
-    .word 0x04012303  # lw x6, 64(x2)
-    .word 0x0062b2b3  # sltu x5, x5, x6
-    .word 0x03812303  # lw x6, 56(x2)
-    .word 0x04012383  # lw x7, 64(x2)
+    .word 0x0064c4b3  # xor x9, x9, x6
+    .word 0x03812503  # lw x10, 56(x2)
+    .word 0x008532b3  # sltu x5, x10, x8
     .word 0x405002b3  # sub x5, x0, x5
-    .word 0x00734333  # xor x6, x6, x7
+    .word 0x00854333  # xor x6, x10, x8
     .word 0x00537333  # and x6, x6, x5
-    .word 0x0063c2b3  # xor x5, x7, x6
-    .word 0x04512023  # sw x5, 64(x2)
-    .word 0x04412283  # lw x5, 68(x2)
-    .word 0x03812303  # lw x6, 56(x2)
-    .word 0x0062b2b3  # sltu x5, x5, x6
-    .word 0x03812303  # lw x6, 56(x2)
-    .word 0x04412383  # lw x7, 68(x2)
+    .word 0x00644433  # xor x8, x8, x6
+    .word 0x00a4b2b3  # sltu x5, x9, x10
     .word 0x405002b3  # sub x5, x0, x5
-    .word 0x00734333  # xor x6, x6, x7
+    .word 0x00954333  # xor x6, x10, x9
     .word 0x00537333  # and x6, x6, x5
-    .word 0x0063c2b3  # xor x5, x7, x6
-    .word 0x04512223  # sw x5, 68(x2)
-    .word 0x03c12283  # lw x5, 60(x2)
-    .word 0x04012303  # lw x6, 64(x2)
-    .word 0x0062b2b3  # sltu x5, x5, x6
-    .word 0x03c12303  # lw x6, 60(x2)
-    .word 0x04012383  # lw x7, 64(x2)
+    .word 0x0064c4b3  # xor x9, x9, x6
+    .word 0x03c12503  # lw x10, 60(x2)
+    .word 0x008532b3  # sltu x5, x10, x8
     .word 0x405002b3  # sub x5, x0, x5
-    .word 0x00734333  # xor x6, x6, x7
+    .word 0x00854333  # xor x6, x10, x8
     .word 0x00537333  # and x6, x6, x5
-    .word 0x0063c2b3  # xor x5, x7, x6
-    .word 0x04512023  # sw x5, 64(x2)
-    .word 0x04412283  # lw x5, 68(x2)
-    .word 0x03c12303  # lw x6, 60(x2)
-    .word 0x0062b2b3  # sltu x5, x5, x6
-    .word 0x03c12303  # lw x6, 60(x2)
-    .word 0x04412383  # lw x7, 68(x2)
+    .word 0x00644433  # xor x8, x8, x6
+    .word 0x00a4b2b3  # sltu x5, x9, x10
     .word 0x405002b3  # sub x5, x0, x5
-    .word 0x00734333  # xor x6, x6, x7
+    .word 0x00954333  # xor x6, x10, x9
     .word 0x00537333  # and x6, x6, x5
-    .word 0x0063c2b3  # xor x5, x7, x6
-    .word 0x04512223  # sw x5, 68(x2)
+    .word 0x0064c4b3  # xor x9, x9, x6
+    .word 0x04812023  # sw x8, 64(x2)
+    .word 0x04912223  # sw x9, 68(x2)
     # the result
     .word 0x00000513  # addi x10, x0, 0
     # parameter 1: the array, back
@@ -360,6 +229,10 @@ minimum_maximum_16:
     # above the frame
     .word 0x05010293  # addi x5, x2, 80
     # the caller's registers
+    .word 0x0002a403  # lw x8, 0(x5)
+    .cfi_restore 8
+    .word 0x0042a483  # lw x9, 4(x5)
+    .cfi_restore 9
     # the caller's x2
     .word 0x01028293  # addi x5, x5, 16
     .cfi_def_cfa 5, 0

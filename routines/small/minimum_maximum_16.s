@@ -1,4 +1,4 @@
-# minimum_maximum_16: made by factc 1.0.0 function; 122 words, 112 bytes of stack, profile 1
+# minimum_maximum_16: made by factc function; 110 words, 112 bytes of stack, profile 1
     .option push
     .option norvc
     .option norelax
@@ -13,8 +13,10 @@ minimum_maximum_16:
     .word 0xff010113  # addi x2, x2, -16
     .cfi_def_cfa_offset 16
     # the caller's registers
-    .word 0x00912023  # sw x9, 0(x2)
-    .cfi_offset 9, -16
+    .word 0x00812023  # sw x8, 0(x2)
+    .cfi_offset 8, -16
+    .word 0x00912223  # sw x9, 4(x2)
+    .cfi_offset 9, -12
     # arguments that are needed behind the body
     .word 0x00a12423  # sw x10, 8(x2)
     .word 0x00b12623  # sw x11, 12(x2)
@@ -46,44 +48,30 @@ minimum_maximum_16:
     .word 0x02030313  # addi x6, x6, 32
     .word 0xfa729ce3  # bne x5, x7, -72
     # the body
-    .word 0x00000493  # addi x9, x0, 0
-    .word 0x00012283  # lw x5, 0(x2)
-    .word 0x04512023  # sw x5, 64(x2)
-    .word 0x00012283  # lw x5, 0(x2)
-    .word 0x04512223  # sw x5, 68(x2)
-    .word 0x00100493  # addi x9, x0, 1
-    .word 0x00249293  # slli x5, x9, 2
-    .word 0x002282b3  # add x5, x5, x2
-    .word 0x0002a283  # lw x5, 0(x5)
-    .word 0x04012303  # lw x6, 64(x2)
-    .word 0x0062b2b3  # sltu x5, x5, x6
-    .word 0x00249313  # slli x6, x9, 2
-    .word 0x00230333  # add x6, x6, x2
-    .word 0x00032303  # lw x6, 0(x6)
-    .word 0x04012383  # lw x7, 64(x2)
+    .word 0x00000513  # addi x10, x0, 0
+    .word 0x00000593  # addi x11, x0, 0
+    .word 0x00012403  # lw x8, 0(x2)
+    .word 0x00040493  # addi x9, x8, 0
+    .word 0x00100513  # addi x10, x0, 1
+    .word 0x00251593  # slli x11, x10, 2
+    .word 0x002585b3  # add x11, x11, x2
+    .word 0x0005a583  # lw x11, 0(x11)
+    .word 0x0085b2b3  # sltu x5, x11, x8
     .word 0x405002b3  # sub x5, x0, x5
-    .word 0x00734333  # xor x6, x6, x7
+    .word 0x0085c333  # xor x6, x11, x8
     .word 0x00537333  # and x6, x6, x5
-    .word 0x0063c2b3  # xor x5, x7, x6
-    .word 0x04512023  # sw x5, 64(x2)
-    .word 0x04412283  # lw x5, 68(x2)
-    .word 0x00249313  # slli x6, x9, 2
-    .word 0x00230333  # add x6, x6, x2
-    .word 0x00032303  # lw x6, 0(x6)
-    .word 0x0062b2b3  # sltu x5, x5, x6
-    .word 0x00249313  # slli x6, x9, 2
-    .word 0x00230333  # add x6, x6, x2
-    .word 0x00032303  # lw x6, 0(x6)
-    .word 0x04412383  # lw x7, 68(x2)
+    .word 0x00644433  # xor x8, x8, x6
+    .word 0x00b4b2b3  # sltu x5, x9, x11
     .word 0x405002b3  # sub x5, x0, x5
-    .word 0x00734333  # xor x6, x6, x7
+    .word 0x0095c333  # xor x6, x11, x9
     .word 0x00537333  # and x6, x6, x5
-    .word 0x0063c2b3  # xor x5, x7, x6
-    .word 0x04512223  # sw x5, 68(x2)
-    .word 0x00148493  # addi x9, x9, 1
-    .word 0x0104b293  # sltiu x5, x9, 16
-    .word 0xf80294e3  # bne x5, x0, -120
-    .word 0xfff48493  # addi x9, x9, -1
+    .word 0x0064c4b3  # xor x9, x9, x6
+    .word 0x00150513  # addi x10, x10, 1
+    .word 0x01053293  # sltiu x5, x10, 16
+    .word 0xfc0292e3  # bne x5, x0, -60
+    .word 0xfff50513  # addi x10, x10, -1
+    .word 0x04812023  # sw x8, 64(x2)
+    .word 0x04912223  # sw x9, 68(x2)
     # the result
     .word 0x00000513  # addi x10, x0, 0
     # parameter 1: the array, back
@@ -96,7 +84,9 @@ minimum_maximum_16:
     # above the frame
     .word 0x06010293  # addi x5, x2, 96
     # the caller's registers
-    .word 0x0002a483  # lw x9, 0(x5)
+    .word 0x0002a403  # lw x8, 0(x5)
+    .cfi_restore 8
+    .word 0x0042a483  # lw x9, 4(x5)
     .cfi_restore 9
     # the caller's x2
     .word 0x01028293  # addi x5, x5, 16
