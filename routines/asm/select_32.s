@@ -1,4 +1,4 @@
-# select_32: made by factc 1.0.0 function; 378 words, 144 bytes of stack, profile 1
+# select_32: made by factc function; 349 words, 144 bytes of stack, profile 1
     .option push
     .option norvc
     .option norelax
@@ -13,8 +13,10 @@ select_32:
     .word 0xfe010113  # addi x2, x2, -32
     .cfi_def_cfa_offset 32
     # the caller's registers
-    .word 0x00912023  # sw x9, 0(x2)
-    .cfi_offset 9, -32
+    .word 0x00812023  # sw x8, 0(x2)
+    .cfi_offset 8, -32
+    .word 0x00912223  # sw x9, 4(x2)
+    .cfi_offset 9, -28
     # arguments that are needed behind the body
     .word 0x00a12823  # sw x10, 16(x2)
     .word 0x00b12a23  # sw x11, 20(x2)
@@ -97,230 +99,199 @@ select_32:
     .word 0x01c2ae03  # lw x28, 28(x5)
     .word 0x01c32e23  # sw x28, 28(x6)
     # the body
-    .word 0x00012483  # lw x9, 0(x2)
-    .word 0x00414303  # lbu x6, 4(x2)
-    .word 0x02414383  # lbu x7, 36(x2)
-    .word 0x409002b3  # sub x5, x0, x9
-    .word 0x00734333  # xor x6, x6, x7
-    .word 0x00537333  # and x6, x6, x5
-    .word 0x0063c2b3  # xor x5, x7, x6
+    .word 0x00012403  # lw x8, 0(x2)
+    .word 0x408004b3  # sub x9, x0, x8
+    .word 0x02414503  # lbu x10, 36(x2)
+    .word 0x00414283  # lbu x5, 4(x2)
+    .word 0x00a2c2b3  # xor x5, x5, x10
+    .word 0x0092f5b3  # and x11, x5, x9
+    .word 0x00b542b3  # xor x5, x10, x11
     .word 0x04510223  # sb x5, 68(x2)
-    .word 0x00514303  # lbu x6, 5(x2)
-    .word 0x02514383  # lbu x7, 37(x2)
-    .word 0x409002b3  # sub x5, x0, x9
-    .word 0x00734333  # xor x6, x6, x7
-    .word 0x00537333  # and x6, x6, x5
-    .word 0x0063c2b3  # xor x5, x7, x6
+    .word 0x02514503  # lbu x10, 37(x2)
+    .word 0x00514283  # lbu x5, 5(x2)
+    .word 0x00a2c2b3  # xor x5, x5, x10
+    .word 0x0092f5b3  # and x11, x5, x9
+    .word 0x00b542b3  # xor x5, x10, x11
     .word 0x045102a3  # sb x5, 69(x2)
-    .word 0x00614303  # lbu x6, 6(x2)
-    .word 0x02614383  # lbu x7, 38(x2)
-    .word 0x409002b3  # sub x5, x0, x9
-    .word 0x00734333  # xor x6, x6, x7
-    .word 0x00537333  # and x6, x6, x5
-    .word 0x0063c2b3  # xor x5, x7, x6
+    .word 0x02614503  # lbu x10, 38(x2)
+    .word 0x00614283  # lbu x5, 6(x2)
+    .word 0x00a2c2b3  # xor x5, x5, x10
+    .word 0x0092f5b3  # and x11, x5, x9
+    .word 0x00b542b3  # xor x5, x10, x11
     .word 0x04510323  # sb x5, 70(x2)
-    .word 0x00714303  # lbu x6, 7(x2)
-    .word 0x02714383  # lbu x7, 39(x2)
-    .word 0x409002b3  # sub x5, x0, x9
-    .word 0x00734333  # xor x6, x6, x7
-    .word 0x00537333  # and x6, x6, x5
-    .word 0x0063c2b3  # xor x5, x7, x6
+    .word 0x02714503  # lbu x10, 39(x2)
+    .word 0x00714283  # lbu x5, 7(x2)
+    .word 0x00a2c2b3  # xor x5, x5, x10
+    .word 0x0092f5b3  # and x11, x5, x9
+    .word 0x00b542b3  # xor x5, x10, x11
     .word 0x045103a3  # sb x5, 71(x2)
-    .word 0x00814303  # lbu x6, 8(x2)
-    .word 0x02814383  # lbu x7, 40(x2)
-    .word 0x409002b3  # sub x5, x0, x9
-    .word 0x00734333  # xor x6, x6, x7
-    .word 0x00537333  # and x6, x6, x5
-    .word 0x0063c2b3  # xor x5, x7, x6
+    .word 0x02814503  # lbu x10, 40(x2)
+    .word 0x00814283  # lbu x5, 8(x2)
+    .word 0x00a2c2b3  # xor x5, x5, x10
+    .word 0x0092f5b3  # and x11, x5, x9
+    .word 0x00b542b3  # xor x5, x10, x11
     .word 0x04510423  # sb x5, 72(x2)
-    .word 0x00914303  # lbu x6, 9(x2)
-    .word 0x02914383  # lbu x7, 41(x2)
-    .word 0x409002b3  # sub x5, x0, x9
-    .word 0x00734333  # xor x6, x6, x7
-    .word 0x00537333  # and x6, x6, x5
-    .word 0x0063c2b3  # xor x5, x7, x6
+    .word 0x02914503  # lbu x10, 41(x2)
+    .word 0x00914283  # lbu x5, 9(x2)
+    .word 0x00a2c2b3  # xor x5, x5, x10
+    .word 0x0092f5b3  # and x11, x5, x9
+    .word 0x00b542b3  # xor x5, x10, x11
     .word 0x045104a3  # sb x5, 73(x2)
-    .word 0x00a14303  # lbu x6, 10(x2)
-    .word 0x02a14383  # lbu x7, 42(x2)
-    .word 0x409002b3  # sub x5, x0, x9
-    .word 0x00734333  # xor x6, x6, x7
-    .word 0x00537333  # and x6, x6, x5
-    .word 0x0063c2b3  # xor x5, x7, x6
+    .word 0x02a14503  # lbu x10, 42(x2)
+    .word 0x00a14283  # lbu x5, 10(x2)
+    .word 0x00a2c2b3  # xor x5, x5, x10
+    .word 0x0092f5b3  # and x11, x5, x9
+    .word 0x00b542b3  # xor x5, x10, x11
     .word 0x04510523  # sb x5, 74(x2)
-    .word 0x00b14303  # lbu x6, 11(x2)
-    .word 0x02b14383  # lbu x7, 43(x2)
-    .word 0x409002b3  # sub x5, x0, x9
-    .word 0x00734333  # xor x6, x6, x7
-    .word 0x00537333  # and x6, x6, x5
-    .word 0x0063c2b3  # xor x5, x7, x6
+    .word 0x02b14503  # lbu x10, 43(x2)
+    .word 0x00b14283  # lbu x5, 11(x2)
+    .word 0x00a2c2b3  # xor x5, x5, x10
+    .word 0x0092f5b3  # and x11, x5, x9
+    .word 0x00b542b3  # xor x5, x10, x11
     .word 0x045105a3  # sb x5, 75(x2)
-    .word 0x00c14303  # lbu x6, 12(x2)
-    .word 0x02c14383  # lbu x7, 44(x2)
-    .word 0x409002b3  # sub x5, x0, x9
-    .word 0x00734333  # xor x6, x6, x7
-    .word 0x00537333  # and x6, x6, x5
-    .word 0x0063c2b3  # xor x5, x7, x6
+    .word 0x02c14503  # lbu x10, 44(x2)
+    .word 0x00c14283  # lbu x5, 12(x2)
+    .word 0x00a2c2b3  # xor x5, x5, x10
+    .word 0x0092f5b3  # and x11, x5, x9
+    .word 0x00b542b3  # xor x5, x10, x11
     .word 0x04510623  # sb x5, 76(x2)
-    .word 0x00d14303  # lbu x6, 13(x2)
-    .word 0x02d14383  # lbu x7, 45(x2)
-    .word 0x409002b3  # sub x5, x0, x9
-    .word 0x00734333  # xor x6, x6, x7
-    .word 0x00537333  # and x6, x6, x5
-    .word 0x0063c2b3  # xor x5, x7, x6
+    .word 0x02d14503  # lbu x10, 45(x2)
+    .word 0x00d14283  # lbu x5, 13(x2)
+    .word 0x00a2c2b3  # xor x5, x5, x10
+    .word 0x0092f5b3  # and x11, x5, x9
+    .word 0x00b542b3  # xor x5, x10, x11
     .word 0x045106a3  # sb x5, 77(x2)
-    .word 0x00e14303  # lbu x6, 14(x2)
-    .word 0x02e14383  # lbu x7, 46(x2)
-    .word 0x409002b3  # sub x5, x0, x9
-    .word 0x00734333  # xor x6, x6, x7
-    .word 0x00537333  # and x6, x6, x5
-    .word 0x0063c2b3  # xor x5, x7, x6
+    .word 0x02e14503  # lbu x10, 46(x2)
+    .word 0x00e14283  # lbu x5, 14(x2)
+    .word 0x00a2c2b3  # xor x5, x5, x10
+    .word 0x0092f5b3  # and x11, x5, x9
+    .word 0x00b542b3  # xor x5, x10, x11
     .word 0x04510723  # sb x5, 78(x2)
-    .word 0x00f14303  # lbu x6, 15(x2)
-    .word 0x02f14383  # lbu x7, 47(x2)
-    .word 0x409002b3  # sub x5, x0, x9
-    .word 0x00734333  # xor x6, x6, x7
-    .word 0x00537333  # and x6, x6, x5
-    .word 0x0063c2b3  # xor x5, x7, x6
+    .word 0x02f14503  # lbu x10, 47(x2)
+    .word 0x00f14283  # lbu x5, 15(x2)
+    .word 0x00a2c2b3  # xor x5, x5, x10
+    .word 0x0092f5b3  # and x11, x5, x9
+    .word 0x00b542b3  # xor x5, x10, x11
     .word 0x045107a3  # sb x5, 79(x2)
-    .word 0x01014303  # lbu x6, 16(x2)
-    .word 0x03014383  # lbu x7, 48(x2)
-    .word 0x409002b3  # sub x5, x0, x9
-    .word 0x00734333  # xor x6, x6, x7
-    .word 0x00537333  # and x6, x6, x5
-    .word 0x0063c2b3  # xor x5, x7, x6
+    .word 0x03014503  # lbu x10, 48(x2)
+    .word 0x01014283  # lbu x5, 16(x2)
+    .word 0x00a2c2b3  # xor x5, x5, x10
+    .word 0x0092f5b3  # and x11, x5, x9
+    .word 0x00b542b3  # xor x5, x10, x11
     .word 0x04510823  # sb x5, 80(x2)
-    .word 0x01114303  # lbu x6, 17(x2)
-    .word 0x03114383  # lbu x7, 49(x2)
-    .word 0x409002b3  # sub x5, x0, x9
-    .word 0x00734333  # xor x6, x6, x7
-    .word 0x00537333  # and x6, x6, x5
-    .word 0x0063c2b3  # xor x5, x7, x6
+    .word 0x03114503  # lbu x10, 49(x2)
+    .word 0x01114283  # lbu x5, 17(x2)
+    .word 0x00a2c2b3  # xor x5, x5, x10
+    .word 0x0092f5b3  # and x11, x5, x9
+    .word 0x00b542b3  # xor x5, x10, x11
     .word 0x045108a3  # sb x5, 81(x2)
-    .word 0x01214303  # lbu x6, 18(x2)
-    .word 0x03214383  # lbu x7, 50(x2)
-    .word 0x409002b3  # sub x5, x0, x9
-    .word 0x00734333  # xor x6, x6, x7
-    .word 0x00537333  # and x6, x6, x5
-    .word 0x0063c2b3  # xor x5, x7, x6
+    .word 0x03214503  # lbu x10, 50(x2)
+    .word 0x01214283  # lbu x5, 18(x2)
+    .word 0x00a2c2b3  # xor x5, x5, x10
+    .word 0x0092f5b3  # and x11, x5, x9
+    .word 0x00b542b3  # xor x5, x10, x11
     .word 0x04510923  # sb x5, 82(x2)
-    .word 0x01314303  # lbu x6, 19(x2)
-    .word 0x03314383  # lbu x7, 51(x2)
-    .word 0x409002b3  # sub x5, x0, x9
-    .word 0x00734333  # xor x6, x6, x7
-    .word 0x00537333  # and x6, x6, x5
-    .word 0x0063c2b3  # xor x5, x7, x6
+    .word 0x03314503  # lbu x10, 51(x2)
+    .word 0x01314283  # lbu x5, 19(x2)
+    .word 0x00a2c2b3  # xor x5, x5, x10
+    .word 0x0092f5b3  # and x11, x5, x9
+    .word 0x00b542b3  # xor x5, x10, x11
     .word 0x045109a3  # sb x5, 83(x2)
-    .word 0x01414303  # lbu x6, 20(x2)
-    .word 0x03414383  # lbu x7, 52(x2)
-    .word 0x409002b3  # sub x5, x0, x9
-    .word 0x00734333  # xor x6, x6, x7
-    .word 0x00537333  # and x6, x6, x5
-    .word 0x0063c2b3  # xor x5, x7, x6
+    .word 0x03414503  # lbu x10, 52(x2)
+    .word 0x01414283  # lbu x5, 20(x2)
+    .word 0x00a2c2b3  # xor x5, x5, x10
+    .word 0x0092f5b3  # and x11, x5, x9
+    .word 0x00b542b3  # xor x5, x10, x11
     .word 0x04510a23  # sb x5, 84(x2)
-    .word 0x01514303  # lbu x6, 21(x2)
-    .word 0x03514383  # lbu x7, 53(x2)
-    .word 0x409002b3  # sub x5, x0, x9
-    .word 0x00734333  # xor x6, x6, x7
-    .word 0x00537333  # and x6, x6, x5
-    .word 0x0063c2b3  # xor x5, x7, x6
+    .word 0x03514503  # lbu x10, 53(x2)
+    .word 0x01514283  # lbu x5, 21(x2)
+    .word 0x00a2c2b3  # xor x5, x5, x10
+    .word 0x0092f5b3  # and x11, x5, x9
+    .word 0x00b542b3  # xor x5, x10, x11
     .word 0x04510aa3  # sb x5, 85(x2)
-    .word 0x01614303  # lbu x6, 22(x2)
-    .word 0x03614383  # lbu x7, 54(x2)
-    .word 0x409002b3  # sub x5, x0, x9
-    .word 0x00734333  # xor x6, x6, x7
-    .word 0x00537333  # and x6, x6, x5
-    .word 0x0063c2b3  # xor x5, x7, x6
+    .word 0x03614503  # lbu x10, 54(x2)
+    .word 0x01614283  # lbu x5, 22(x2)
+    .word 0x00a2c2b3  # xor x5, x5, x10
+    .word 0x0092f5b3  # and x11, x5, x9
+    .word 0x00b542b3  # xor x5, x10, x11
     .word 0x04510b23  # sb x5, 86(x2)
-    .word 0x01714303  # lbu x6, 23(x2)
-    .word 0x03714383  # lbu x7, 55(x2)
-    .word 0x409002b3  # sub x5, x0, x9
-    .word 0x00734333  # xor x6, x6, x7
-    .word 0x00537333  # and x6, x6, x5
-    .word 0x0063c2b3  # xor x5, x7, x6
+    .word 0x03714503  # lbu x10, 55(x2)
+    .word 0x01714283  # lbu x5, 23(x2)
+    .word 0x00a2c2b3  # xor x5, x5, x10
+    .word 0x0092f5b3  # and x11, x5, x9
+    .word 0x00b542b3  # xor x5, x10, x11
     .word 0x04510ba3  # sb x5, 87(x2)
-    .word 0x01814303  # lbu x6, 24(x2)
-    .word 0x03814383  # lbu x7, 56(x2)
-    .word 0x409002b3  # sub x5, x0, x9
-    .word 0x00734333  # xor x6, x6, x7
-    .word 0x00537333  # and x6, x6, x5
-    .word 0x0063c2b3  # xor x5, x7, x6
+    .word 0x03814503  # lbu x10, 56(x2)
+    .word 0x01814283  # lbu x5, 24(x2)
+    .word 0x00a2c2b3  # xor x5, x5, x10
+    .word 0x0092f5b3  # and x11, x5, x9
+    .word 0x00b542b3  # xor x5, x10, x11
     .word 0x04510c23  # sb x5, 88(x2)
-    .word 0x01914303  # lbu x6, 25(x2)
-    .word 0x03914383  # lbu x7, 57(x2)
-    .word 0x409002b3  # sub x5, x0, x9
-    .word 0x00734333  # xor x6, x6, x7
-    .word 0x00537333  # and x6, x6, x5
-    .word 0x0063c2b3  # xor x5, x7, x6
+    .word 0x03914503  # lbu x10, 57(x2)
+    .word 0x01914283  # lbu x5, 25(x2)
+    .word 0x00a2c2b3  # xor x5, x5, x10
+    .word 0x0092f5b3  # and x11, x5, x9
+    .word 0x00b542b3  # xor x5, x10, x11
     .word 0x04510ca3  # sb x5, 89(x2)
-    .word 0x01a14303  # lbu x6, 26(x2)
-    .word 0x03a14383  # lbu x7, 58(x2)
-    .word 0x409002b3  # sub x5, x0, x9
-    .word 0x00734333  # xor x6, x6, x7
-    .word 0x00537333  # and x6, x6, x5
-    .word 0x0063c2b3  # xor x5, x7, x6
+    .word 0x03a14503  # lbu x10, 58(x2)
+    .word 0x01a14283  # lbu x5, 26(x2)
+    .word 0x00a2c2b3  # xor x5, x5, x10
+    .word 0x0092f5b3  # and x11, x5, x9
+    .word 0x00b542b3  # xor x5, x10, x11
     .word 0x04510d23  # sb x5, 90(x2)
-    .word 0x01b14303  # lbu x6, 27(x2)
-    .word 0x03b14383  # lbu x7, 59(x2)
-    .word 0x409002b3  # sub x5, x0, x9
-    .word 0x00734333  # xor x6, x6, x7
-    .word 0x00537333  # and x6, x6, x5
-    .word 0x0063c2b3  # xor x5, x7, x6
+    .word 0x03b14503  # lbu x10, 59(x2)
+    .word 0x01b14283  # lbu x5, 27(x2)
+    .word 0x00a2c2b3  # xor x5, x5, x10
+    .word 0x0092f5b3  # and x11, x5, x9
+    .word 0x00b542b3  # xor x5, x10, x11
     .word 0x04510da3  # sb x5, 91(x2)
-    .word 0x01c14303  # lbu x6, 28(x2)
-    .word 0x03c14383  # lbu x7, 60(x2)
-    .word 0x409002b3  # sub x5, x0, x9
-    .word 0x00734333  # xor x6, x6, x7
-    .word 0x00537333  # and x6, x6, x5
-    .word 0x0063c2b3  # xor x5, x7, x6
+    .word 0x03c14503  # lbu x10, 60(x2)
+    .word 0x01c14283  # lbu x5, 28(x2)
+    .word 0x00a2c2b3  # xor x5, x5, x10
+    .word 0x0092f5b3  # and x11, x5, x9
+    .word 0x00b542b3  # xor x5, x10, x11
     .word 0x04510e23  # sb x5, 92(x2)
-    .word 0x01d14303  # lbu x6, 29(x2)
-    .word 0x03d14383  # lbu x7, 61(x2)
-    .word 0x409002b3  # sub x5, x0, x9
-    .word 0x00734333  # xor x6, x6, x7
-    .word 0x00537333  # and x6, x6, x5
-    .word 0x0063c2b3  # xor x5, x7, x6
+    .word 0x03d14503  # lbu x10, 61(x2)
+    .word 0x01d14283  # lbu x5, 29(x2)
+    .word 0x00a2c2b3  # xor x5, x5, x10
+    .word 0x0092f5b3  # and x11, x5, x9
+    .word 0x00b542b3  # xor x5, x10, x11
     .word 0x04510ea3  # sb x5, 93(x2)
-    .word 0x01e14303  # lbu x6, 30(x2)
-    .word 0x03e14383  # lbu x7, 62(x2)
-    .word 0x409002b3  # sub x5, x0, x9
-    .word 0x00734333  # xor x6, x6, x7
-    .word 0x00537333  # and x6, x6, x5
-    .word 0x0063c2b3  # xor x5, x7, x6
+    .word 0x03e14503  # lbu x10, 62(x2)
+    .word 0x01e14283  # lbu x5, 30(x2)
+    .word 0x00a2c2b3  # xor x5, x5, x10
+    .word 0x0092f5b3  # and x11, x5, x9
+    .word 0x00b542b3  # xor x5, x10, x11
     .word 0x04510f23  # sb x5, 94(x2)
-    .word 0x01f14303  # lbu x6, 31(x2)
-    .word 0x03f14383  # lbu x7, 63(x2)
-    .word 0x409002b3  # sub x5, x0, x9
-    .word 0x00734333  # xor x6, x6, x7
-    .word 0x00537333  # and x6, x6, x5
-    .word 0x0063c2b3  # xor x5, x7, x6
+    .word 0x03f14503  # lbu x10, 63(x2)
+    .word 0x01f14283  # lbu x5, 31(x2)
+    .word 0x00a2c2b3  # xor x5, x5, x10
+    .word 0x0092f5b3  # and x11, x5, x9
+    .word 0x00b542b3  # xor x5, x10, x11
     .word 0x04510fa3  # sb x5, 95(x2)
-    .word 0x02014303  # lbu x6, 32(x2)
-    .word 0x04014383  # lbu x7, 64(x2)
-    .word 0x409002b3  # sub x5, x0, x9
-    .word 0x00734333  # xor x6, x6, x7
-    .word 0x00537333  # and x6, x6, x5
-    .word 0x0063c2b3  # xor x5, x7, x6
+    .word 0x04014503  # lbu x10, 64(x2)
+    .word 0x02014283  # lbu x5, 32(x2)
+    .word 0x00a2c2b3  # xor x5, x5, x10
+    .word 0x0092f5b3  # and x11, x5, x9
+    .word 0x00b542b3  # xor x5, x10, x11
     .word 0x06510023  # sb x5, 96(x2)
-    .word 0x02114303  # lbu x6, 33(x2)
-    .word 0x04114383  # lbu x7, 65(x2)
-    .word 0x409002b3  # sub x5, x0, x9
-    .word 0x00734333  # xor x6, x6, x7
-    .word 0x00537333  # and x6, x6, x5
-    .word 0x0063c2b3  # xor x5, x7, x6
+    .word 0x04114503  # lbu x10, 65(x2)
+    .word 0x02114283  # lbu x5, 33(x2)
+    .word 0x00a2c2b3  # xor x5, x5, x10
+    .word 0x0092f5b3  # and x11, x5, x9
+    .word 0x00b542b3  # xor x5, x10, x11
     .word 0x065100a3  # sb x5, 97(x2)
-    .word 0x02214303  # lbu x6, 34(x2)
-    .word 0x04214383  # lbu x7, 66(x2)
-    .word 0x409002b3  # sub x5, x0, x9
-    .word 0x00734333  # xor x6, x6, x7
-    .word 0x00537333  # and x6, x6, x5
-    .word 0x0063c2b3  # xor x5, x7, x6
+    .word 0x04214503  # lbu x10, 66(x2)
+    .word 0x02214283  # lbu x5, 34(x2)
+    .word 0x00a2c2b3  # xor x5, x5, x10
+    .word 0x0092f5b3  # and x11, x5, x9
+    .word 0x00b542b3  # xor x5, x10, x11
     .word 0x06510123  # sb x5, 98(x2)
-    .word 0x02314303  # lbu x6, 35(x2)
-    .word 0x04314383  # lbu x7, 67(x2)
-    .word 0x409002b3  # sub x5, x0, x9
-    .word 0x00734333  # xor x6, x6, x7
-    .word 0x00537333  # and x6, x6, x5
-    .word 0x0063c2b3  # xor x5, x7, x6
+    .word 0x04314503  # lbu x10, 67(x2)
+    .word 0x02314283  # lbu x5, 35(x2)
+    .word 0x00a2c2b3  # xor x5, x5, x10
+    .word 0x0092f5b3  # and x11, x5, x9
+    .word 0x00b542b3  # xor x5, x10, x11
     .word 0x065101a3  # sb x5, 99(x2)
     # the result
     .word 0x00000513  # addi x10, x0, 0
@@ -362,7 +333,9 @@ select_32:
     # above the frame
     .word 0x07010293  # addi x5, x2, 112
     # the caller's registers
-    .word 0x0002a483  # lw x9, 0(x5)
+    .word 0x0002a403  # lw x8, 0(x5)
+    .cfi_restore 8
+    .word 0x0042a483  # lw x9, 4(x5)
     .cfi_restore 9
     # the caller's x2
     .word 0x02028293  # addi x5, x5, 32

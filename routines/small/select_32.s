@@ -1,4 +1,4 @@
-# select_32: made by factc 1.0.0 function; 172 words, 144 bytes of stack, profile 1
+# select_32: made by factc function; 174 words, 144 bytes of stack, profile 1
     .option push
     .option norvc
     .option norelax
@@ -99,22 +99,24 @@ select_32:
     .word 0x01c2ae03  # lw x28, 28(x5)
     .word 0x01c32e23  # sw x28, 28(x6)
     # the body
-    .word 0x00012483  # lw x9, 0(x2)
+    .word 0x00012403  # lw x8, 0(x2)
     .word 0x00000513  # addi x10, x0, 0
+    .word 0x00000593  # addi x11, x0, 0
+    .word 0x00000613  # addi x12, x0, 0
+    .word 0x408004b3  # sub x9, x0, x8
     .word 0x00000513  # addi x10, x0, 0
-    .word 0x002503b3  # add x7, x10, x2
-    .word 0x0043c383  # lbu x7, 4(x7)
-    .word 0x00250433  # add x8, x10, x2
-    .word 0x02444403  # lbu x8, 36(x8)
-    .word 0x40900333  # sub x6, x0, x9
-    .word 0x0083c3b3  # xor x7, x7, x8
-    .word 0x0063f3b3  # and x7, x7, x6
-    .word 0x00744333  # xor x6, x8, x7
+    .word 0x002505b3  # add x11, x10, x2
+    .word 0x0245c583  # lbu x11, 36(x11)
+    .word 0x002502b3  # add x5, x10, x2
+    .word 0x0042c283  # lbu x5, 4(x5)
+    .word 0x00b2c2b3  # xor x5, x5, x11
+    .word 0x0092f633  # and x12, x5, x9
+    .word 0x00c5c333  # xor x6, x11, x12
     .word 0x002502b3  # add x5, x10, x2
     .word 0x04628223  # sb x6, 68(x5)
     .word 0x00150513  # addi x10, x10, 1
     .word 0x02053293  # sltiu x5, x10, 32
-    .word 0xfc0298e3  # bne x5, x0, -48
+    .word 0xfc029ae3  # bne x5, x0, -44
     .word 0xfff50513  # addi x10, x10, -1
     # the result
     .word 0x00000513  # addi x10, x0, 0

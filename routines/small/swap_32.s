@@ -1,4 +1,4 @@
-# swap_32: made by factc 1.0.0 function; 221 words, 112 bytes of stack, profile 1
+# swap_32: made by factc function; 219 words, 112 bytes of stack, profile 1
     .option push
     .option norvc
     .option norelax
@@ -99,30 +99,28 @@ swap_32:
     .word 0x01c32e23  # sw x28, 28(x6)
     # the body
     .word 0x00012403  # lw x8, 0(x2)
-    .word 0x00000493  # addi x9, x0, 0
     .word 0x00000513  # addi x10, x0, 0
-    .word 0x00000493  # addi x9, x0, 0
-    .word 0x00248333  # add x6, x9, x2
-    .word 0x00434303  # lbu x6, 4(x6)
-    .word 0x002483b3  # add x7, x9, x2
-    .word 0x0243c383  # lbu x7, 36(x7)
-    .word 0x00734333  # xor x6, x6, x7
-    .word 0x408002b3  # sub x5, x0, x8
-    .word 0x00537533  # and x10, x6, x5
-    .word 0x00248333  # add x6, x9, x2
-    .word 0x00434303  # lbu x6, 4(x6)
-    .word 0x00a34333  # xor x6, x6, x10
-    .word 0x002482b3  # add x5, x9, x2
+    .word 0x00000593  # addi x11, x0, 0
+    .word 0x00000613  # addi x12, x0, 0
+    .word 0x00000693  # addi x13, x0, 0
+    .word 0x408004b3  # sub x9, x0, x8
+    .word 0x00000513  # addi x10, x0, 0
+    .word 0x002505b3  # add x11, x10, x2
+    .word 0x0045c583  # lbu x11, 4(x11)
+    .word 0x00250633  # add x12, x10, x2
+    .word 0x02464603  # lbu x12, 36(x12)
+    .word 0x00c5c2b3  # xor x5, x11, x12
+    .word 0x0092f6b3  # and x13, x5, x9
+    .word 0x00d5c333  # xor x6, x11, x13
+    .word 0x002502b3  # add x5, x10, x2
     .word 0x00628223  # sb x6, 4(x5)
-    .word 0x00248333  # add x6, x9, x2
-    .word 0x02434303  # lbu x6, 36(x6)
-    .word 0x00a34333  # xor x6, x6, x10
-    .word 0x002482b3  # add x5, x9, x2
+    .word 0x00d64333  # xor x6, x12, x13
+    .word 0x002502b3  # add x5, x10, x2
     .word 0x02628223  # sb x6, 36(x5)
-    .word 0x00148493  # addi x9, x9, 1
-    .word 0x0204b293  # sltiu x5, x9, 32
-    .word 0xfa029ae3  # bne x5, x0, -76
-    .word 0xfff48493  # addi x9, x9, -1
+    .word 0x00150513  # addi x10, x10, 1
+    .word 0x02053293  # sltiu x5, x10, 32
+    .word 0xfc0294e3  # bne x5, x0, -56
+    .word 0xfff50513  # addi x10, x10, -1
     # the result
     .word 0x00000513  # addi x10, x0, 0
     # parameter 1: the array, back
