@@ -1,4 +1,4 @@
-# lookup_256: made by factc 1.0.0 function; 107 words, 288 bytes of stack, profile 1
+# lookup_256: made by factc function; 117 words, 288 bytes of stack, profile 1
     .option push
     .option norvc
     .option norelax
@@ -64,22 +64,32 @@ lookup_256:
     .word 0xfa729ce3  # bne x5, x7, -72
     # the body
     .word 0x00012483  # lw x9, 0(x2)
+    .word 0x00000613  # addi x12, x0, 0
+    .word 0x00000693  # addi x13, x0, 0
+    .word 0x00048513  # addi x10, x9, 0
     .word 0x00000593  # addi x11, x0, 0
-    .word 0x00000513  # addi x10, x0, 0
-    .word 0x00000593  # addi x11, x0, 0
-    .word 0x00258333  # add x6, x11, x2
+    .word 0x00000613  # addi x12, x0, 0
+    .word 0x08060693  # addi x13, x12, 128
+    .word 0x00260333  # add x6, x12, x2
     .word 0x00434303  # lbu x6, 4(x6)
-    .word 0x409583b3  # sub x7, x11, x9
-    .word 0x0013b393  # sltiu x7, x7, 1
-    .word 0x407003b3  # sub x7, x0, x7
-    .word 0x0ff3f393  # andi x7, x7, 255
+    .word 0x00c543b3  # xor x7, x10, x12
+    .word 0xfff38393  # addi x7, x7, -1
+    .word 0x0083d393  # srli x7, x7, 8
     .word 0x00737333  # and x6, x6, x7
-    .word 0x00656533  # or x10, x10, x6
-    .word 0x00158593  # addi x11, x11, 1
-    .word 0x1005b293  # sltiu x5, x11, 256
-    .word 0xfc029ce3  # bne x5, x0, -40
-    .word 0xfff58593  # addi x11, x11, -1
-    .word 0x10a12223  # sw x10, 260(x2)
+    .word 0x0065e5b3  # or x11, x11, x6
+    .word 0x00268333  # add x6, x13, x2
+    .word 0x00434303  # lbu x6, 4(x6)
+    .word 0x00d543b3  # xor x7, x10, x13
+    .word 0xfff38393  # addi x7, x7, -1
+    .word 0x0083d393  # srli x7, x7, 8
+    .word 0x00737333  # and x6, x6, x7
+    .word 0x0065e5b3  # or x11, x11, x6
+    .word 0x00160613  # addi x12, x12, 1
+    .word 0x08063293  # sltiu x5, x12, 128
+    .word 0xfa029ee3  # bne x5, x0, -68
+    .word 0xfff60613  # addi x12, x12, -1
+    .word 0x0ff5f293  # andi x5, x11, 255
+    .word 0x10512223  # sw x5, 260(x2)
     # the result
     .word 0x10412503  # lw x10, 260(x2)
     # above the frame
