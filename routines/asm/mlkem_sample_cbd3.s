@@ -1,4 +1,4 @@
-# mlkem_sample_cbd3: made by factc 1.0.0 function; 216 words, 736 bytes of stack, profile 1
+# mlkem_sample_cbd3: made by factc function; 252 words, 736 bytes of stack, profile 1
     .option push
     .option norvc
     .option norelax
@@ -13,6 +13,10 @@ mlkem_sample_cbd3:
     .word 0xff010113  # addi x2, x2, -16
     .cfi_def_cfa_offset 16
     # the caller's registers
+    .word 0x00812023  # sw x8, 0(x2)
+    .cfi_offset 8, -16
+    .word 0x00912223  # sw x9, 4(x2)
+    .cfi_offset 9, -12
     # arguments that are needed behind the body
     .word 0x00a12423  # sw x10, 8(x2)
     .word 0x00b12623  # sw x11, 12(x2)
@@ -59,19 +63,61 @@ mlkem_sample_cbd3:
     .word 0x02028293  # addi x5, x5, 32
     .word 0x02030313  # addi x6, x6, 32
     .word 0xfa729ce3  # bne x5, x7, -72
+    # parameter 1: an array
+    .word 0x00058293  # addi x5, x11, 0
+    .word 0x0c010313  # addi x6, x2, 192
+    .word 0x0032fe13  # andi x28, x5, 3
+    .word 0x020e0e63  # beq x28, x0, 60
+    .word 0x20000393  # addi x7, x0, 512
+    .word 0x005383b3  # add x7, x7, x5
+    .word 0x0002de03  # lhu x28, 0(x5)
+    .word 0x01c31023  # sh x28, 0(x6)
+    .word 0x0022de03  # lhu x28, 2(x5)
+    .word 0x01c31123  # sh x28, 2(x6)
+    .word 0x0042de03  # lhu x28, 4(x5)
+    .word 0x01c31223  # sh x28, 4(x6)
+    .word 0x0062de03  # lhu x28, 6(x5)
+    .word 0x01c31323  # sh x28, 6(x6)
+    .word 0x00828293  # addi x5, x5, 8
+    .word 0x00830313  # addi x6, x6, 8
+    .word 0xfc729ce3  # bne x5, x7, -40
+    .word 0x0580006f  # jal x0, 88
+    .word 0x20000393  # addi x7, x0, 512
+    .word 0x005383b3  # add x7, x7, x5
+    .word 0x0002ae03  # lw x28, 0(x5)
+    .word 0x01c32023  # sw x28, 0(x6)
+    .word 0x0042ae03  # lw x28, 4(x5)
+    .word 0x01c32223  # sw x28, 4(x6)
+    .word 0x0082ae03  # lw x28, 8(x5)
+    .word 0x01c32423  # sw x28, 8(x6)
+    .word 0x00c2ae03  # lw x28, 12(x5)
+    .word 0x01c32623  # sw x28, 12(x6)
+    .word 0x0102ae03  # lw x28, 16(x5)
+    .word 0x01c32823  # sw x28, 16(x6)
+    .word 0x0142ae03  # lw x28, 20(x5)
+    .word 0x01c32a23  # sw x28, 20(x6)
+    .word 0x0182ae03  # lw x28, 24(x5)
+    .word 0x01c32c23  # sw x28, 24(x6)
+    .word 0x01c2ae03  # lw x28, 28(x5)
+    .word 0x01c32e23  # sw x28, 28(x6)
+    .word 0x02028293  # addi x5, x5, 32
+    .word 0x02030313  # addi x6, x6, 32
+    .word 0xfa729ce3  # bne x5, x7, -72
     # the body
     .word 0x00000513  # addi x10, x0, 0
     .word 0x00000593  # addi x11, x0, 0
     .word 0x00000613  # addi x12, x0, 0
     .word 0x00000693  # addi x13, x0, 0
     .word 0x00000713  # addi x14, x0, 0
-    .word 0x002497b7  # lui x15, 0x00249
-    .word 0x24978793  # addi x15, x15, 585
-    .word 0x00001837  # lui x16, 0x00001
-    .word 0xd0180813  # addi x16, x16, -767
+    .word 0x00000793  # addi x15, x0, 0
+    .word 0x00001437  # lui x8, 0x00001
+    .word 0xd0140413  # addi x8, x8, -767
+    .word 0x002494b7  # lui x9, 0x00249
+    .word 0x24948493  # addi x9, x9, 585
     .word 0x00000513  # addi x10, x0, 0
-    .word 0x00300293  # addi x5, x0, 3
-    .word 0x02a285b3  # mul x11, x5, x10
+    .word 0x00151293  # slli x5, x10, 1
+    .word 0x00a285b3  # add x11, x5, x10
+    .word 0x00251613  # slli x12, x10, 2
     .word 0x002582b3  # add x5, x11, x2
     .word 0x0002c283  # lbu x5, 0(x5)
     .word 0x00158313  # addi x6, x11, 1
@@ -84,70 +130,61 @@ mlkem_sample_cbd3:
     .word 0x00034303  # lbu x6, 0(x6)
     .word 0x01031313  # slli x6, x6, 16
     .word 0x0062e6b3  # or x13, x5, x6
-    .word 0x00f6f2b3  # and x5, x13, x15
+    .word 0x0096f2b3  # and x5, x13, x9
     .word 0x0016d313  # srli x6, x13, 1
-    .word 0x00f37333  # and x6, x6, x15
+    .word 0x00937333  # and x6, x6, x9
     .word 0x006282b3  # add x5, x5, x6
     .word 0x0026d313  # srli x6, x13, 2
-    .word 0x00f37333  # and x6, x6, x15
-    .word 0x00628633  # add x12, x5, x6
-    .word 0x00767693  # andi x13, x12, 7
-    .word 0x00365293  # srli x5, x12, 3
+    .word 0x00937333  # and x6, x6, x9
+    .word 0x006286b3  # add x13, x5, x6
+    .word 0x0076f793  # andi x15, x13, 7
+    .word 0x0036d293  # srli x5, x13, 3
     .word 0x0072f713  # andi x14, x5, 7
-    .word 0x00251293  # slli x5, x10, 2
-    .word 0x40e68333  # sub x6, x13, x14
-    .word 0x00e6b3b3  # sltu x7, x13, x14
-    .word 0x407003b3  # sub x7, x0, x7
-    .word 0x007873b3  # and x7, x16, x7
-    .word 0x00730333  # add x6, x6, x7
-    .word 0x00129293  # slli x5, x5, 1
+    .word 0x40e787b3  # sub x15, x15, x14
+    .word 0x0107d293  # srli x5, x15, 16
+    .word 0x0082f733  # and x14, x5, x8
+    .word 0x00e78333  # add x6, x15, x14
+    .word 0x00161293  # slli x5, x12, 1
     .word 0x002282b3  # add x5, x5, x2
     .word 0x0c629023  # sh x6, 192(x5)
-    .word 0x00665293  # srli x5, x12, 6
-    .word 0x0072f693  # andi x13, x5, 7
-    .word 0x00965293  # srli x5, x12, 9
+    .word 0x00160593  # addi x11, x12, 1
+    .word 0x0066d293  # srli x5, x13, 6
+    .word 0x0072f793  # andi x15, x5, 7
+    .word 0x0096d293  # srli x5, x13, 9
     .word 0x0072f713  # andi x14, x5, 7
-    .word 0x00251293  # slli x5, x10, 2
-    .word 0x00128293  # addi x5, x5, 1
-    .word 0x40e68333  # sub x6, x13, x14
-    .word 0x00e6b3b3  # sltu x7, x13, x14
-    .word 0x407003b3  # sub x7, x0, x7
-    .word 0x007873b3  # and x7, x16, x7
-    .word 0x00730333  # add x6, x6, x7
-    .word 0x00129293  # slli x5, x5, 1
+    .word 0x40e787b3  # sub x15, x15, x14
+    .word 0x0107d293  # srli x5, x15, 16
+    .word 0x0082f733  # and x14, x5, x8
+    .word 0x00e78333  # add x6, x15, x14
+    .word 0x00159293  # slli x5, x11, 1
     .word 0x002282b3  # add x5, x5, x2
     .word 0x0c629023  # sh x6, 192(x5)
-    .word 0x00c65293  # srli x5, x12, 12
-    .word 0x0072f693  # andi x13, x5, 7
-    .word 0x00f65293  # srli x5, x12, 15
+    .word 0x00260593  # addi x11, x12, 2
+    .word 0x00c6d293  # srli x5, x13, 12
+    .word 0x0072f793  # andi x15, x5, 7
+    .word 0x00f6d293  # srli x5, x13, 15
     .word 0x0072f713  # andi x14, x5, 7
-    .word 0x00251293  # slli x5, x10, 2
-    .word 0x00228293  # addi x5, x5, 2
-    .word 0x40e68333  # sub x6, x13, x14
-    .word 0x00e6b3b3  # sltu x7, x13, x14
-    .word 0x407003b3  # sub x7, x0, x7
-    .word 0x007873b3  # and x7, x16, x7
-    .word 0x00730333  # add x6, x6, x7
-    .word 0x00129293  # slli x5, x5, 1
+    .word 0x40e787b3  # sub x15, x15, x14
+    .word 0x0107d293  # srli x5, x15, 16
+    .word 0x0082f733  # and x14, x5, x8
+    .word 0x00e78333  # add x6, x15, x14
+    .word 0x00159293  # slli x5, x11, 1
     .word 0x002282b3  # add x5, x5, x2
     .word 0x0c629023  # sh x6, 192(x5)
-    .word 0x01265293  # srli x5, x12, 18
-    .word 0x0072f693  # andi x13, x5, 7
-    .word 0x01565293  # srli x5, x12, 21
-    .word 0x0072f713  # andi x14, x5, 7
-    .word 0x00251293  # slli x5, x10, 2
-    .word 0x00328293  # addi x5, x5, 3
-    .word 0x40e68333  # sub x6, x13, x14
-    .word 0x00e6b3b3  # sltu x7, x13, x14
-    .word 0x407003b3  # sub x7, x0, x7
-    .word 0x007873b3  # and x7, x16, x7
-    .word 0x00730333  # add x6, x6, x7
-    .word 0x00129293  # slli x5, x5, 1
+    .word 0x00360613  # addi x12, x12, 3
+    .word 0x0126d293  # srli x5, x13, 18
+    .word 0x0072f793  # andi x15, x5, 7
+    .word 0x0156d693  # srli x13, x13, 21
+    .word 0x40d786b3  # sub x13, x15, x13
+    .word 0x0106d293  # srli x5, x13, 16
+    .word 0x0082f7b3  # and x15, x5, x8
+    .word 0x00f68333  # add x6, x13, x15
+    .word 0x00161293  # slli x5, x12, 1
     .word 0x002282b3  # add x5, x5, x2
     .word 0x0c629023  # sh x6, 192(x5)
     .word 0x00150513  # addi x10, x10, 1
     .word 0x04053293  # sltiu x5, x10, 64
-    .word 0xec0296e3  # bne x5, x0, -308
+    .word 0xee0296e3  # bne x5, x0, -276
     .word 0xfff50513  # addi x10, x10, -1
     # the result
     .word 0x00000513  # addi x10, x0, 0
@@ -194,6 +231,10 @@ mlkem_sample_cbd3:
     # above the frame
     .word 0x2d010293  # addi x5, x2, 720
     # the caller's registers
+    .word 0x0002a403  # lw x8, 0(x5)
+    .cfi_restore 8
+    .word 0x0042a483  # lw x9, 4(x5)
+    .cfi_restore 9
     # the caller's x2
     .word 0x01028293  # addi x5, x5, 16
     .cfi_def_cfa 5, 0

@@ -1,4 +1,4 @@
-# mlkem_sample_cbd2: made by factc 1.0.0 function; 173 words, 688 bytes of stack, profile 1
+# mlkem_sample_cbd2: made by factc function; 210 words, 672 bytes of stack, profile 1
     .option push
     .option norvc
     .option norelax
@@ -15,12 +15,14 @@ mlkem_sample_cbd2:
     # the caller's registers
     .word 0x00812023  # sw x8, 0(x2)
     .cfi_offset 8, -16
+    .word 0x00912223  # sw x9, 4(x2)
+    .cfi_offset 9, -12
     # arguments that are needed behind the body
     .word 0x00a12423  # sw x10, 8(x2)
     .word 0x00b12623  # sw x11, 12(x2)
     # the frame's base
-    .word 0xd6010113  # addi x2, x2, -672
-    .cfi_def_cfa 2, 688
+    .word 0xd7010113  # addi x2, x2, -656
+    .cfi_def_cfa 2, 672
     # parameter 0: an array
     .word 0x00050293  # addi x5, x10, 0
     .word 0x00010313  # addi x6, x2, 0
@@ -61,51 +63,91 @@ mlkem_sample_cbd2:
     .word 0x02028293  # addi x5, x5, 32
     .word 0x02030313  # addi x6, x6, 32
     .word 0xfa729ce3  # bne x5, x7, -72
+    # parameter 1: an array
+    .word 0x00058293  # addi x5, x11, 0
+    .word 0x08010313  # addi x6, x2, 128
+    .word 0x0032fe13  # andi x28, x5, 3
+    .word 0x020e0e63  # beq x28, x0, 60
+    .word 0x20000393  # addi x7, x0, 512
+    .word 0x005383b3  # add x7, x7, x5
+    .word 0x0002de03  # lhu x28, 0(x5)
+    .word 0x01c31023  # sh x28, 0(x6)
+    .word 0x0022de03  # lhu x28, 2(x5)
+    .word 0x01c31123  # sh x28, 2(x6)
+    .word 0x0042de03  # lhu x28, 4(x5)
+    .word 0x01c31223  # sh x28, 4(x6)
+    .word 0x0062de03  # lhu x28, 6(x5)
+    .word 0x01c31323  # sh x28, 6(x6)
+    .word 0x00828293  # addi x5, x5, 8
+    .word 0x00830313  # addi x6, x6, 8
+    .word 0xfc729ce3  # bne x5, x7, -40
+    .word 0x0580006f  # jal x0, 88
+    .word 0x20000393  # addi x7, x0, 512
+    .word 0x005383b3  # add x7, x7, x5
+    .word 0x0002ae03  # lw x28, 0(x5)
+    .word 0x01c32023  # sw x28, 0(x6)
+    .word 0x0042ae03  # lw x28, 4(x5)
+    .word 0x01c32223  # sw x28, 4(x6)
+    .word 0x0082ae03  # lw x28, 8(x5)
+    .word 0x01c32423  # sw x28, 8(x6)
+    .word 0x00c2ae03  # lw x28, 12(x5)
+    .word 0x01c32623  # sw x28, 12(x6)
+    .word 0x0102ae03  # lw x28, 16(x5)
+    .word 0x01c32823  # sw x28, 16(x6)
+    .word 0x0142ae03  # lw x28, 20(x5)
+    .word 0x01c32a23  # sw x28, 20(x6)
+    .word 0x0182ae03  # lw x28, 24(x5)
+    .word 0x01c32c23  # sw x28, 24(x6)
+    .word 0x01c2ae03  # lw x28, 28(x5)
+    .word 0x01c32e23  # sw x28, 28(x6)
+    .word 0x02028293  # addi x5, x5, 32
+    .word 0x02030313  # addi x6, x6, 32
+    .word 0xfa729ce3  # bne x5, x7, -72
     # the body
+    .word 0x00000493  # addi x9, x0, 0
     .word 0x00000513  # addi x10, x0, 0
     .word 0x00000593  # addi x11, x0, 0
     .word 0x00000613  # addi x12, x0, 0
     .word 0x00000693  # addi x13, x0, 0
-    .word 0x00000713  # addi x14, x0, 0
-    .word 0x00000513  # addi x10, x0, 0
-    .word 0x002506b3  # add x13, x10, x2
-    .word 0x0006c683  # lbu x13, 0(x13)
-    .word 0x0556f293  # andi x5, x13, 85
-    .word 0x0016d313  # srli x6, x13, 1
-    .word 0x05537313  # andi x6, x6, 85
-    .word 0x006285b3  # add x11, x5, x6
-    .word 0x00000613  # addi x12, x0, 0
-    .word 0x00261313  # slli x6, x12, 2
-    .word 0x0065d2b3  # srl x5, x11, x6
-    .word 0x0032f693  # andi x13, x5, 3
-    .word 0x00261313  # slli x6, x12, 2
-    .word 0x00230313  # addi x6, x6, 2
-    .word 0x0065d2b3  # srl x5, x11, x6
-    .word 0x0032f713  # andi x14, x5, 3
-    .word 0x00151293  # slli x5, x10, 1
-    .word 0x00c282b3  # add x5, x5, x12
-    .word 0x40e68333  # sub x6, x13, x14
-    .word 0x00e6b3b3  # sltu x7, x13, x14
     .word 0x00001437  # lui x8, 0x00001
     .word 0xd0140413  # addi x8, x8, -767
-    .word 0x407003b3  # sub x7, x0, x7
-    .word 0x007473b3  # and x7, x8, x7
-    .word 0x00730333  # add x6, x6, x7
+    .word 0x00000493  # addi x9, x0, 0
+    .word 0x00149513  # slli x10, x9, 1
+    .word 0x002485b3  # add x11, x9, x2
+    .word 0x0005c583  # lbu x11, 0(x11)
+    .word 0x0555f293  # andi x5, x11, 85
+    .word 0x0015d313  # srli x6, x11, 1
+    .word 0x05537313  # andi x6, x6, 85
+    .word 0x006285b3  # add x11, x5, x6
+    .word 0x0035f293  # andi x5, x11, 3
+    .word 0x0025d313  # srli x6, x11, 2
+    .word 0x00337313  # andi x6, x6, 3
+    .word 0x40628633  # sub x12, x5, x6
+    .word 0x01065293  # srli x5, x12, 16
+    .word 0x0082f6b3  # and x13, x5, x8
+    .word 0x00d60333  # add x6, x12, x13
+    .word 0x00151293  # slli x5, x10, 1
+    .word 0x002282b3  # add x5, x5, x2
+    .word 0x08629023  # sh x6, 128(x5)
+    .word 0x0045d293  # srli x5, x11, 4
+    .word 0x0032f293  # andi x5, x5, 3
+    .word 0x0065d313  # srli x6, x11, 6
+    .word 0x406285b3  # sub x11, x5, x6
+    .word 0x0105d293  # srli x5, x11, 16
+    .word 0x0082f633  # and x12, x5, x8
+    .word 0x00150293  # addi x5, x10, 1
+    .word 0x00c58333  # add x6, x11, x12
     .word 0x00129293  # slli x5, x5, 1
     .word 0x002282b3  # add x5, x5, x2
     .word 0x08629023  # sh x6, 128(x5)
-    .word 0x00160613  # addi x12, x12, 1
-    .word 0x00263293  # sltiu x5, x12, 2
-    .word 0xfa0296e3  # bne x5, x0, -84
-    .word 0xfff60613  # addi x12, x12, -1
-    .word 0x00150513  # addi x10, x10, 1
-    .word 0x08053293  # sltiu x5, x10, 128
-    .word 0xf80290e3  # bne x5, x0, -128
-    .word 0xfff50513  # addi x10, x10, -1
+    .word 0x00148493  # addi x9, x9, 1
+    .word 0x0804b293  # sltiu x5, x9, 128
+    .word 0xf80294e3  # bne x5, x0, -120
+    .word 0xfff48493  # addi x9, x9, -1
     # the result
     .word 0x00000513  # addi x10, x0, 0
     # parameter 1: the array, back
-    .word 0x2ac12283  # lw x5, 684(x2)
+    .word 0x29c12283  # lw x5, 668(x2)
     .word 0x08010313  # addi x6, x2, 128
     .word 0x0032fe13  # andi x28, x5, 3
     .word 0x020e0e63  # beq x28, x0, 60
@@ -145,10 +187,12 @@ mlkem_sample_cbd2:
     .word 0x02030313  # addi x6, x6, 32
     .word 0xfa729ce3  # bne x5, x7, -72
     # above the frame
-    .word 0x2a010293  # addi x5, x2, 672
+    .word 0x29010293  # addi x5, x2, 656
     # the caller's registers
     .word 0x0002a403  # lw x8, 0(x5)
     .cfi_restore 8
+    .word 0x0042a483  # lw x9, 4(x5)
+    .cfi_restore 9
     # the caller's x2
     .word 0x01028293  # addi x5, x5, 16
     .cfi_def_cfa 5, 0
@@ -161,11 +205,7 @@ mlkem_sample_cbd2:
     .word 0x00012a23  # sw x0, 20(x2)
     .word 0x00012c23  # sw x0, 24(x2)
     .word 0x00012e23  # sw x0, 28(x2)
-    .word 0x02012023  # sw x0, 32(x2)
-    .word 0x02012223  # sw x0, 36(x2)
-    .word 0x02012423  # sw x0, 40(x2)
-    .word 0x02012623  # sw x0, 44(x2)
-    .word 0x03010113  # addi x2, x2, 48
+    .word 0x02010113  # addi x2, x2, 32
     .word 0x00012023  # sw x0, 0(x2)
     .word 0x00012223  # sw x0, 4(x2)
     .word 0x00012423  # sw x0, 8(x2)
