@@ -1,4 +1,4 @@
-# mlkem_decompress: made by factc 1.0.0 function; 154 words, 544 bytes of stack, profile 1
+# mlkem_decompress: made by factc function; 155 words, 544 bytes of stack, profile 1
     .option push
     .option norvc
     .option norelax
@@ -66,28 +66,29 @@ mlkem_decompress:
     .word 0x20b12023  # sw x11, 512(x2)
     # the body
     .word 0x20012403  # lw x8, 512(x2)
-    .word 0x00000593  # addi x11, x0, 0
+    .word 0x00000613  # addi x12, x0, 0
+    .word 0x00000693  # addi x13, x0, 0
     .word 0x00c00313  # addi x6, x0, 12
     .word 0x026474b3  # remu x9, x8, x6
     .word 0x00100293  # addi x5, x0, 1
     .word 0x009292b3  # sll x5, x5, x9
     .word 0x0012d513  # srli x10, x5, 1
-    .word 0x00000593  # addi x11, x0, 0
-    .word 0x00159313  # slli x6, x11, 1
-    .word 0x00230333  # add x6, x6, x2
-    .word 0x00035303  # lhu x6, 0(x6)
-    .word 0x000013b7  # lui x7, 0x00001
-    .word 0xd0138393  # addi x7, x7, -767
-    .word 0x02730333  # mul x6, x6, x7
-    .word 0x00a30333  # add x6, x6, x10
-    .word 0x00935333  # srl x6, x6, x9
-    .word 0x00159293  # slli x5, x11, 1
+    .word 0x000015b7  # lui x11, 0x00001
+    .word 0xd0158593  # addi x11, x11, -767
+    .word 0x00000613  # addi x12, x0, 0
+    .word 0x00161293  # slli x5, x12, 1
+    .word 0x002282b3  # add x5, x5, x2
+    .word 0x0002d283  # lhu x5, 0(x5)
+    .word 0x02b282b3  # mul x5, x5, x11
+    .word 0x00a286b3  # add x13, x5, x10
+    .word 0x0096d333  # srl x6, x13, x9
+    .word 0x00161293  # slli x5, x12, 1
     .word 0x002282b3  # add x5, x5, x2
     .word 0x00629023  # sh x6, 0(x5)
-    .word 0x00158593  # addi x11, x11, 1
-    .word 0x1005b293  # sltiu x5, x11, 256
-    .word 0xfc0296e3  # bne x5, x0, -52
-    .word 0xfff58593  # addi x11, x11, -1
+    .word 0x00160613  # addi x12, x12, 1
+    .word 0x10063293  # sltiu x5, x12, 256
+    .word 0xfc029ae3  # bne x5, x0, -44
+    .word 0xfff60613  # addi x12, x12, -1
     # the result
     .word 0x00000513  # addi x10, x0, 0
     # parameter 0: the array, back
