@@ -1,4 +1,4 @@
-# crc32: made by factc 1.0.0 function; 153 words, 112 bytes of stack, profile 1
+# crc32: made by factc function; 151 words, 112 bytes of stack, profile 1
     .option push
     .option norvc
     .option norelax
@@ -69,8 +69,7 @@ crc32:
     .word 0x00000613  # addi x12, x0, 0
     .word 0xedb886b7  # lui x13, 0xedb88
     .word 0x32068693  # addi x13, x13, 800
-    .word 0x409005b3  # sub x11, x0, x9
-    .word 0xfff58593  # addi x11, x11, -1
+    .word 0xfff4c593  # xori x11, x9, -1
     .word 0x00000613  # addi x12, x0, 0
     .word 0x0aa67863  # bgeu x12, x10, 176
     .word 0x00260333  # add x6, x12, x2
@@ -120,8 +119,7 @@ crc32:
     .word 0x04063293  # sltiu x5, x12, 64
     .word 0xf40294e3  # bne x5, x0, -184
     .word 0xfff60613  # addi x12, x12, -1
-    .word 0x40b002b3  # sub x5, x0, x11
-    .word 0xfff28293  # addi x5, x5, -1
+    .word 0xfff5c293  # xori x5, x11, -1
     .word 0x04512423  # sw x5, 72(x2)
     # the result
     .word 0x04812503  # lw x10, 72(x2)
