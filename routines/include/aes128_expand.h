@@ -1,0 +1,19 @@
+/* aes128_expand: made by factc function.
+   Arrays are aligned by their elements, lie outside the stack below the caller, and no two that are not const overlap.
+   For an observer of profile 1: neither the instructions that it executes, nor the addresses of its loads and stores,
+   nor the operands of its divisions depend on secret arguments. Nothing is proved of time. */
+#ifndef FACT_aes128_expand_H
+#define FACT_aes128_expand_H
+#include <stdbool.h>
+#include <stdint.h>
+#define aes128_expand_STACK_BYTES 560
+#ifdef __cplusplus
+extern "C" {
+#endif
+void aes128_expand(
+    const uint8_t key[16] /* secret */,
+    uint32_t keys[88] /* secret */);
+#ifdef __cplusplus
+}
+#endif
+#endif

@@ -1,0 +1,19 @@
+/* aes256_expand: made by factc function.
+   Arrays are aligned by their elements, lie outside the stack below the caller, and no two that are not const overlap.
+   For an observer of profile 1: neither the instructions that it executes, nor the addresses of its loads and stores,
+   nor the operands of its divisions depend on secret arguments. Nothing is proved of time. */
+#ifndef FACT_aes256_expand_H
+#define FACT_aes256_expand_H
+#include <stdbool.h>
+#include <stdint.h>
+#define aes256_expand_STACK_BYTES 656
+#ifdef __cplusplus
+extern "C" {
+#endif
+void aes256_expand(
+    const uint8_t key[32] /* secret */,
+    uint32_t keys[120] /* secret */);
+#ifdef __cplusplus
+}
+#endif
+#endif
