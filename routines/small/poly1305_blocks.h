@@ -1,0 +1,21 @@
+/* poly1305_blocks: made by factc function.
+   Arrays are aligned by their elements, lie outside the stack below the caller, and no two that are not const overlap.
+   For an observer of profile 1: neither the instructions that it executes, nor the addresses of its loads and stores,
+   nor the operands of its divisions depend on secret arguments. Nothing is proved of time. */
+#ifndef FACT_poly1305_blocks_H
+#define FACT_poly1305_blocks_H
+#include <stdbool.h>
+#include <stdint.h>
+#define poly1305_blocks_STACK_BYTES 560
+#ifdef __cplusplus
+extern "C" {
+#endif
+void poly1305_blocks(
+    const uint8_t key[32] /* secret */,
+    const uint8_t message[256] /* secret */,
+    uint32_t length /* public */,
+    uint32_t sum[10] /* secret */);
+#ifdef __cplusplus
+}
+#endif
+#endif
