@@ -1,8 +1,8 @@
 # For a CMakeLists.txt of your own, in a project with the languages C and ASM:
 #     include(hepurita/routines/routines.cmake)
-#     target_routines(firmware chacha20_xor poly1305_block)
-# adds the texts for the assembler to the target's sources, and the folder of their headers. Set ROUTINES_CODE to small before
-# that for the code of fewer words. Neither Rattle nor factc is needed.
+#     target_routines(firmware chacha20_xor sha256_block sha sha_256)
+# adds the texts for the assembler, and the C files of routines/c, to the target's sources, and the folders of their headers. Set
+# ROUTINES_CODE to small before that for the code of fewer words. Neither Rattle nor factc is needed.
 set(ROUTINES_FOLDER ${CMAKE_CURRENT_LIST_DIR})
 
 function(target_routines target)
@@ -15,11 +15,14 @@ function(target_routines target)
   endif()
   foreach(name IN LISTS ARGN)
     set(source ${texts}/${name}.s)
-    if(NOT EXISTS ${source})
+    if(EXISTS ${source})
+      set_source_files_properties(${source} PROPERTIES LANGUAGE ASM)
+    elseif(EXISTS ${ROUTINES_FOLDER}/c/${name}.c)
+      set(source ${ROUTINES_FOLDER}/c/${name}.c)
+    else()
       message(FATAL_ERROR "there is no routine ${name} in ${ROUTINES_FOLDER}")
     endif()
-    set_source_files_properties(${source} PROPERTIES LANGUAGE ASM)
     target_sources(${target} PRIVATE ${source})
   endforeach()
-  target_include_directories(${target} PRIVATE ${headers})
+  target_include_directories(${target} PRIVATE ${headers} ${ROUTINES_FOLDER}/c)
 endfunction()

@@ -3,14 +3,20 @@
 #     include hepurita/routines/routines.mk
 #     firmware.elf: main.o $(ROUTINES_OBJECTS)
 # and $(ROUTINES_FLAGS) among the flags of what includes their headers. ROUTINES_CODE = small takes the code of fewer words,
-# ROUTINES_BUILD is the folder for the objects, and ROUTINES_AS what assembles them. Neither Rattle nor factc is needed.
+# ROUTINES_C_USED = sha sha_256 adds these files of routines/c, ROUTINES_BUILD is the folder for the objects, ROUTINES_AS what
+# assembles them, and ROUTINES_CC what compiles the C files. Neither Rattle nor factc is needed.
 ROUTINES_FOLDER := $(dir $(lastword $(MAKEFILE_LIST)))
 ROUTINES_BUILD ?= routine_objects
 ROUTINES_AS ?= riscv64-unknown-elf-gcc -march=rv32im -mabi=ilp32
+ROUTINES_CC ?= $(ROUTINES_AS) -O2 -ffreestanding
 ROUTINES_CODE ?= asm
-ROUTINES_FLAGS = -I$(ROUTINES_FOLDER)$(if $(filter small,$(ROUTINES_CODE)),small,include)
-ROUTINES_OBJECTS = $(ROUTINES_USED:%=$(ROUTINES_BUILD)/%.o)
+ROUTINES_FLAGS = -I$(ROUTINES_FOLDER)$(if $(filter small,$(ROUTINES_CODE)),small,include) -I$(ROUTINES_FOLDER)c
+ROUTINES_OBJECTS = $(ROUTINES_USED:%=$(ROUTINES_BUILD)/%.o) $(ROUTINES_C_USED:%=$(ROUTINES_BUILD)/c/%.o)
 
 $(ROUTINES_BUILD)/%.o: $(ROUTINES_FOLDER)$(ROUTINES_CODE)/%.s
 	@mkdir -p $(@D)
 	$(ROUTINES_AS) -c $< -o $@
+
+$(ROUTINES_BUILD)/c/%.o: $(ROUTINES_FOLDER)c/%.c
+	@mkdir -p $(@D)
+	$(ROUTINES_CC) $(ROUTINES_FLAGS) -c $< -o $@
