@@ -1,4 +1,4 @@
-# aes256_decrypt_2: made by factc function; 1109 words, 864 bytes of stack, profile 1
+# aes256_decrypt_2: made by factc function; 1094 words, 848 bytes of stack, profile 1
     .option push
     .option norvc
     .option norelax
@@ -13,36 +13,34 @@ aes256_decrypt_2:
     .word 0xfc010113  # addi x2, x2, -64
     .cfi_def_cfa_offset 64
     # the caller's registers
-    .word 0x00812023  # sw x8, 0(x2)
-    .cfi_offset 8, -64
-    .word 0x00912223  # sw x9, 4(x2)
-    .cfi_offset 9, -60
-    .word 0x01212423  # sw x18, 8(x2)
-    .cfi_offset 18, -56
-    .word 0x01312623  # sw x19, 12(x2)
-    .cfi_offset 19, -52
-    .word 0x01412823  # sw x20, 16(x2)
-    .cfi_offset 20, -48
-    .word 0x01512a23  # sw x21, 20(x2)
-    .cfi_offset 21, -44
-    .word 0x01612c23  # sw x22, 24(x2)
-    .cfi_offset 22, -40
-    .word 0x01712e23  # sw x23, 28(x2)
-    .cfi_offset 23, -36
-    .word 0x03812023  # sw x24, 32(x2)
-    .cfi_offset 24, -32
-    .word 0x03912223  # sw x25, 36(x2)
-    .cfi_offset 25, -28
-    .word 0x03a12423  # sw x26, 40(x2)
-    .cfi_offset 26, -24
-    .word 0x03b12623  # sw x27, 44(x2)
-    .cfi_offset 27, -20
+    .word 0x00912023  # sw x9, 0(x2)
+    .cfi_offset 9, -64
+    .word 0x01212223  # sw x18, 4(x2)
+    .cfi_offset 18, -60
+    .word 0x01312423  # sw x19, 8(x2)
+    .cfi_offset 19, -56
+    .word 0x01412623  # sw x20, 12(x2)
+    .cfi_offset 20, -52
+    .word 0x01512823  # sw x21, 16(x2)
+    .cfi_offset 21, -48
+    .word 0x01612a23  # sw x22, 20(x2)
+    .cfi_offset 22, -44
+    .word 0x01712c23  # sw x23, 24(x2)
+    .cfi_offset 23, -40
+    .word 0x01812e23  # sw x24, 28(x2)
+    .cfi_offset 24, -36
+    .word 0x03912023  # sw x25, 32(x2)
+    .cfi_offset 25, -32
+    .word 0x03a12223  # sw x26, 36(x2)
+    .cfi_offset 26, -28
+    .word 0x03b12423  # sw x27, 40(x2)
+    .cfi_offset 27, -24
     # arguments that are needed behind the body
     .word 0x02a12c23  # sw x10, 56(x2)
     .word 0x02b12e23  # sw x11, 60(x2)
     # the frame's base
-    .word 0xce010113  # addi x2, x2, -800
-    .cfi_def_cfa 2, 864
+    .word 0xcf010113  # addi x2, x2, -784
+    .cfi_def_cfa 2, 848
     # parameter 0: an array
     .word 0x00050293  # addi x5, x10, 0
     .word 0x00010313  # addi x6, x2, 0
@@ -131,18 +129,12 @@ aes256_decrypt_2:
     .word 0x0f0f12b7  # lui x5, 0x0f0f1
     .word 0xf0f28293  # addi x5, x5, -241
     .word 0x2e512823  # sw x5, 752(x2)
-    .word 0x0f0f02b7  # lui x5, 0x0f0f0
-    .word 0x00028293  # addi x5, x5, 0
-    .word 0x2e512a23  # sw x5, 756(x2)
-    .word 0x00ff02b7  # lui x5, 0x00ff0
-    .word 0x0ff28293  # addi x5, x5, 255
-    .word 0x2e512c23  # sw x5, 760(x2)
-    .word 0xfc0102b7  # lui x5, 0xfc010
+    .word 0x030f12b7  # lui x5, 0x030f1
     .word 0xc0028293  # addi x5, x5, -1024
-    .word 0x2e512e23  # sw x5, 764(x2)
-    .word 0x030002b7  # lui x5, 0x03000
+    .word 0x2e512a23  # sw x5, 756(x2)
+    .word 0x330032b7  # lui x5, 0x33003
     .word 0x30028293  # addi x5, x5, 768
-    .word 0x30512023  # sw x5, 768(x2)
+    .word 0x2e512c23  # sw x5, 760(x2)
     .word 0x20000313  # addi x6, x0, 512
     .word 0x00230333  # add x6, x6, x2
     .word 0x02000393  # addi x7, x0, 32
@@ -153,17 +145,17 @@ aes256_decrypt_2:
     .word 0x00032023  # sw x0, 0(x6)
     .word 0x00430313  # addi x6, x6, 4
     .word 0xfedff06f  # jal x0, -20
-    .word 0x30012423  # sw x0, 776(x2)
+    .word 0x30012023  # sw x0, 768(x2)
     .word 0x00800293  # addi x5, x0, 8
-    .word 0x30512623  # sw x5, 780(x2)
-    .word 0x30812303  # lw x6, 776(x2)
-    .word 0x30c12283  # lw x5, 780(x2)
+    .word 0x30512223  # sw x5, 772(x2)
+    .word 0x30012303  # lw x6, 768(x2)
+    .word 0x30412283  # lw x5, 772(x2)
     .word 0x005332b3  # sltu x5, x6, x5
     .word 0x00029463  # bne x5, x0, 8
     .word 0x0840006f  # jal x0, 132
     .word 0x22612023  # sw x6, 544(x2)
     .word 0x00130313  # addi x6, x6, 1
-    .word 0x30612423  # sw x6, 776(x2)
+    .word 0x30612023  # sw x6, 768(x2)
     .word 0x22012283  # lw x5, 544(x2)
     .word 0x0012f293  # andi x5, x5, 1
     .word 0x00429293  # slli x5, x5, 4
@@ -193,17 +185,17 @@ aes256_decrypt_2:
     .word 0x002282b3  # add x5, x5, x2
     .word 0x2062a023  # sw x6, 512(x5)
     .word 0xf71ff06f  # jal x0, -144
-    .word 0x30012423  # sw x0, 776(x2)
+    .word 0x30012023  # sw x0, 768(x2)
     .word 0x00400293  # addi x5, x0, 4
-    .word 0x30512623  # sw x5, 780(x2)
-    .word 0x30812303  # lw x6, 776(x2)
-    .word 0x30c12283  # lw x5, 780(x2)
+    .word 0x30512223  # sw x5, 772(x2)
+    .word 0x30012303  # lw x6, 768(x2)
+    .word 0x30412283  # lw x5, 772(x2)
     .word 0x005332b3  # sltu x5, x6, x5
     .word 0x00029463  # bne x5, x0, 8
     .word 0x08c0006f  # jal x0, 140
     .word 0x22612223  # sw x6, 548(x2)
     .word 0x00130313  # addi x6, x6, 1
-    .word 0x30612423  # sw x6, 776(x2)
+    .word 0x30612023  # sw x6, 768(x2)
     .word 0x22412283  # lw x5, 548(x2)
     .word 0x00129b93  # slli x23, x5, 1
     .word 0x002b9293  # slli x5, x23, 2
@@ -235,17 +227,17 @@ aes256_decrypt_2:
     .word 0x002282b3  # add x5, x5, x2
     .word 0x2062a023  # sw x6, 512(x5)
     .word 0xf69ff06f  # jal x0, -152
-    .word 0x30012423  # sw x0, 776(x2)
+    .word 0x30012023  # sw x0, 768(x2)
     .word 0x00400293  # addi x5, x0, 4
-    .word 0x30512623  # sw x5, 780(x2)
-    .word 0x30812303  # lw x6, 776(x2)
-    .word 0x30c12283  # lw x5, 780(x2)
+    .word 0x30512223  # sw x5, 772(x2)
+    .word 0x30012303  # lw x6, 768(x2)
+    .word 0x30412283  # lw x5, 772(x2)
     .word 0x005332b3  # sltu x5, x6, x5
     .word 0x00029463  # bne x5, x0, 8
     .word 0x0940006f  # jal x0, 148
     .word 0x22612423  # sw x6, 552(x2)
     .word 0x00130313  # addi x6, x6, 1
-    .word 0x30612423  # sw x6, 776(x2)
+    .word 0x30612023  # sw x6, 768(x2)
     .word 0x22812283  # lw x5, 552(x2)
     .word 0x22812303  # lw x6, 552(x2)
     .word 0x00237313  # andi x6, x6, 2
@@ -279,17 +271,17 @@ aes256_decrypt_2:
     .word 0x002282b3  # add x5, x5, x2
     .word 0x2062a023  # sw x6, 512(x5)
     .word 0xf61ff06f  # jal x0, -160
-    .word 0x30012423  # sw x0, 776(x2)
+    .word 0x30012023  # sw x0, 768(x2)
     .word 0x00400293  # addi x5, x0, 4
-    .word 0x30512623  # sw x5, 780(x2)
-    .word 0x30812303  # lw x6, 776(x2)
-    .word 0x30c12283  # lw x5, 780(x2)
+    .word 0x30512223  # sw x5, 772(x2)
+    .word 0x30012303  # lw x6, 768(x2)
+    .word 0x30412283  # lw x5, 772(x2)
     .word 0x005332b3  # sltu x5, x6, x5
     .word 0x00029463  # bne x5, x0, 8
     .word 0x09c0006f  # jal x0, 156
     .word 0x22612623  # sw x6, 556(x2)
     .word 0x00130313  # addi x6, x6, 1
-    .word 0x30612423  # sw x6, 776(x2)
+    .word 0x30612023  # sw x6, 768(x2)
     .word 0x22c12283  # lw x5, 556(x2)
     .word 0x00229293  # slli x5, x5, 2
     .word 0x002282b3  # add x5, x5, x2
@@ -325,17 +317,17 @@ aes256_decrypt_2:
     .word 0x002282b3  # add x5, x5, x2
     .word 0x2062a023  # sw x6, 512(x5)
     .word 0xf59ff06f  # jal x0, -168
-    .word 0x30012423  # sw x0, 776(x2)
+    .word 0x30012023  # sw x0, 768(x2)
     .word 0x00800293  # addi x5, x0, 8
-    .word 0x30512623  # sw x5, 780(x2)
-    .word 0x30812303  # lw x6, 776(x2)
-    .word 0x30c12283  # lw x5, 780(x2)
+    .word 0x30512223  # sw x5, 772(x2)
+    .word 0x30012303  # lw x6, 768(x2)
+    .word 0x30412283  # lw x5, 772(x2)
     .word 0x005332b3  # sltu x5, x6, x5
     .word 0x00029463  # bne x5, x0, 8
     .word 0x04c0006f  # jal x0, 76
     .word 0x22612823  # sw x6, 560(x2)
     .word 0x00130313  # addi x6, x6, 1
-    .word 0x30612423  # sw x6, 776(x2)
+    .word 0x30612023  # sw x6, 768(x2)
     .word 0x23012283  # lw x5, 560(x2)
     .word 0x23012303  # lw x6, 560(x2)
     .word 0x00231313  # slli x6, x6, 2
@@ -351,17 +343,17 @@ aes256_decrypt_2:
     .word 0x002282b3  # add x5, x5, x2
     .word 0x2062a023  # sw x6, 512(x5)
     .word 0xfa9ff06f  # jal x0, -88
-    .word 0x30012423  # sw x0, 776(x2)
+    .word 0x30012023  # sw x0, 768(x2)
     .word 0x00e00293  # addi x5, x0, 14
-    .word 0x30512623  # sw x5, 780(x2)
-    .word 0x30812303  # lw x6, 776(x2)
-    .word 0x30c12283  # lw x5, 780(x2)
+    .word 0x30512223  # sw x5, 772(x2)
+    .word 0x30012303  # lw x6, 768(x2)
+    .word 0x30412283  # lw x5, 772(x2)
     .word 0x005332b3  # sltu x5, x6, x5
     .word 0x00029463  # bne x5, x0, 8
-    .word 0x0450006f  # jal x0, 2116
+    .word 0x0390006f  # jal x0, 2104
     .word 0x22612a23  # sw x6, 564(x2)
     .word 0x00130313  # addi x6, x6, 1
-    .word 0x30612423  # sw x6, 776(x2)
+    .word 0x30612023  # sw x6, 768(x2)
     .word 0x00000493  # addi x9, x0, 0
     .word 0x00249513  # slli x10, x9, 2
     .word 0x00250533  # add x10, x10, x2
@@ -373,22 +365,19 @@ aes256_decrypt_2:
     .word 0x00b542b3  # xor x5, x10, x11
     .word 0x00459313  # slli x6, x11, 4
     .word 0x0062c533  # xor x10, x5, x6
-    .word 0x2f812383  # lw x7, 760(x2)
-    .word 0x00757333  # and x6, x10, x7
-    .word 0x00251393  # slli x7, x10, 2
-    .word 0x2fc12403  # lw x8, 764(x2)
-    .word 0x0083f3b3  # and x7, x7, x8
-    .word 0x00736333  # or x6, x6, x7
-    .word 0x00655393  # srli x7, x10, 6
-    .word 0x30012403  # lw x8, 768(x2)
-    .word 0x0083f3b3  # and x7, x7, x8
-    .word 0x00736333  # or x6, x6, x7
+    .word 0x00255313  # srli x6, x10, 2
+    .word 0x006542b3  # xor x5, x10, x6
+    .word 0x2f812303  # lw x6, 760(x2)
+    .word 0x0062f5b3  # and x11, x5, x6
+    .word 0x00b54333  # xor x6, x10, x11
+    .word 0x00259393  # slli x7, x11, 2
+    .word 0x00734333  # xor x6, x6, x7
     .word 0x00249293  # slli x5, x9, 2
     .word 0x002282b3  # add x5, x5, x2
     .word 0x2062a023  # sw x6, 512(x5)
     .word 0x00148493  # addi x9, x9, 1
     .word 0x0084b293  # sltiu x5, x9, 8
-    .word 0xf8029ee3  # bne x5, x0, -100
+    .word 0xfa0294e3  # bne x5, x0, -88
     .word 0xfff48493  # addi x9, x9, -1
     .word 0x20012283  # lw x5, 512(x2)
     .word 0x40500533  # sub x10, x0, x5
@@ -704,15 +693,15 @@ aes256_decrypt_2:
     .word 0x00c742b3  # xor x5, x14, x12
     .word 0x00f2c2b3  # xor x5, x5, x15
     .word 0x20512023  # sw x5, 512(x2)
-    .word 0x00d00293  # addi x5, x0, 13
+    .word 0x06800293  # addi x5, x0, 104
     .word 0x23412303  # lw x6, 564(x2)
+    .word 0x00331313  # slli x6, x6, 3
     .word 0x40628bb3  # sub x23, x5, x6
     .word 0x00000c13  # addi x24, x0, 0
     .word 0x002c1313  # slli x6, x24, 2
     .word 0x00230333  # add x6, x6, x2
     .word 0x20032303  # lw x6, 512(x6)
-    .word 0x003b9393  # slli x7, x23, 3
-    .word 0x018383b3  # add x7, x7, x24
+    .word 0x018b83b3  # add x7, x23, x24
     .word 0x00239393  # slli x7, x7, 2
     .word 0x002383b3  # add x7, x7, x2
     .word 0x0003a383  # lw x7, 0(x7)
@@ -722,7 +711,7 @@ aes256_decrypt_2:
     .word 0x2062a023  # sw x6, 512(x5)
     .word 0x001c0c13  # addi x24, x24, 1
     .word 0x008c3293  # sltiu x5, x24, 8
-    .word 0xfc0294e3  # bne x5, x0, -56
+    .word 0xfc0296e3  # bne x5, x0, -52
     .word 0xfffc0c13  # addi x24, x24, -1
     .word 0x23412283  # lw x5, 564(x2)
     .word 0x00d00313  # addi x6, x0, 13
@@ -886,18 +875,18 @@ aes256_decrypt_2:
     .word 0x008db293  # sltiu x5, x27, 8
     .word 0xfc0296e3  # bne x5, x0, -52
     .word 0xfffd8d93  # addi x27, x27, -1
-    .word 0xfb0ff06f  # jal x0, -2128
-    .word 0x30012423  # sw x0, 776(x2)
+    .word 0xfbcff06f  # jal x0, -2116
+    .word 0x30012023  # sw x0, 768(x2)
     .word 0x00400293  # addi x5, x0, 4
-    .word 0x30512623  # sw x5, 780(x2)
-    .word 0x30812303  # lw x6, 776(x2)
-    .word 0x30c12283  # lw x5, 780(x2)
+    .word 0x30512223  # sw x5, 772(x2)
+    .word 0x30012303  # lw x6, 768(x2)
+    .word 0x30412283  # lw x5, 772(x2)
     .word 0x005332b3  # sltu x5, x6, x5
     .word 0x00029463  # bne x5, x0, 8
     .word 0x08c0006f  # jal x0, 140
     .word 0x2c612c23  # sw x6, 728(x2)
     .word 0x00130313  # addi x6, x6, 1
-    .word 0x30612423  # sw x6, 776(x2)
+    .word 0x30612023  # sw x6, 768(x2)
     .word 0x2d812283  # lw x5, 728(x2)
     .word 0x00129b93  # slli x23, x5, 1
     .word 0x002b9293  # slli x5, x23, 2
@@ -929,17 +918,17 @@ aes256_decrypt_2:
     .word 0x002282b3  # add x5, x5, x2
     .word 0x2062a023  # sw x6, 512(x5)
     .word 0xf69ff06f  # jal x0, -152
-    .word 0x30012423  # sw x0, 776(x2)
+    .word 0x30012023  # sw x0, 768(x2)
     .word 0x00400293  # addi x5, x0, 4
-    .word 0x30512623  # sw x5, 780(x2)
-    .word 0x30812303  # lw x6, 776(x2)
-    .word 0x30c12283  # lw x5, 780(x2)
+    .word 0x30512223  # sw x5, 772(x2)
+    .word 0x30012303  # lw x6, 768(x2)
+    .word 0x30412283  # lw x5, 772(x2)
     .word 0x005332b3  # sltu x5, x6, x5
     .word 0x00029463  # bne x5, x0, 8
     .word 0x0940006f  # jal x0, 148
     .word 0x2c612e23  # sw x6, 732(x2)
     .word 0x00130313  # addi x6, x6, 1
-    .word 0x30612423  # sw x6, 776(x2)
+    .word 0x30612023  # sw x6, 768(x2)
     .word 0x2dc12283  # lw x5, 732(x2)
     .word 0x2dc12303  # lw x6, 732(x2)
     .word 0x00237313  # andi x6, x6, 2
@@ -973,17 +962,17 @@ aes256_decrypt_2:
     .word 0x002282b3  # add x5, x5, x2
     .word 0x2062a023  # sw x6, 512(x5)
     .word 0xf61ff06f  # jal x0, -160
-    .word 0x30012423  # sw x0, 776(x2)
+    .word 0x30012023  # sw x0, 768(x2)
     .word 0x00400293  # addi x5, x0, 4
-    .word 0x30512623  # sw x5, 780(x2)
-    .word 0x30812303  # lw x6, 776(x2)
-    .word 0x30c12283  # lw x5, 780(x2)
+    .word 0x30512223  # sw x5, 772(x2)
+    .word 0x30012303  # lw x6, 768(x2)
+    .word 0x30412283  # lw x5, 772(x2)
     .word 0x005332b3  # sltu x5, x6, x5
     .word 0x00029463  # bne x5, x0, 8
     .word 0x09c0006f  # jal x0, 156
     .word 0x2e612023  # sw x6, 736(x2)
     .word 0x00130313  # addi x6, x6, 1
-    .word 0x30612423  # sw x6, 776(x2)
+    .word 0x30612023  # sw x6, 768(x2)
     .word 0x2e012283  # lw x5, 736(x2)
     .word 0x00229293  # slli x5, x5, 2
     .word 0x002282b3  # add x5, x5, x2
@@ -1019,17 +1008,17 @@ aes256_decrypt_2:
     .word 0x002282b3  # add x5, x5, x2
     .word 0x2062a023  # sw x6, 512(x5)
     .word 0xf59ff06f  # jal x0, -168
-    .word 0x30012423  # sw x0, 776(x2)
+    .word 0x30012023  # sw x0, 768(x2)
     .word 0x02000293  # addi x5, x0, 32
-    .word 0x30512623  # sw x5, 780(x2)
-    .word 0x30812303  # lw x6, 776(x2)
-    .word 0x30c12283  # lw x5, 780(x2)
+    .word 0x30512223  # sw x5, 772(x2)
+    .word 0x30012303  # lw x6, 768(x2)
+    .word 0x30412283  # lw x5, 772(x2)
     .word 0x005332b3  # sltu x5, x6, x5
     .word 0x00029463  # bne x5, x0, 8
     .word 0x0580006f  # jal x0, 88
     .word 0x2e612223  # sw x6, 740(x2)
     .word 0x00130313  # addi x6, x6, 1
-    .word 0x30612423  # sw x6, 776(x2)
+    .word 0x30612023  # sw x6, 768(x2)
     .word 0x2e412283  # lw x5, 740(x2)
     .word 0x2e412303  # lw x6, 740(x2)
     .word 0x00435313  # srli x6, x6, 4
@@ -1051,7 +1040,7 @@ aes256_decrypt_2:
     # the result
     .word 0x00000513  # addi x10, x0, 0
     # parameter 1: the array, back
-    .word 0x35c12283  # lw x5, 860(x2)
+    .word 0x34c12283  # lw x5, 844(x2)
     .word 0x1e010313  # addi x6, x2, 480
     .word 0x0032fe13  # andi x28, x5, 3
     .word 0x020e0e63  # beq x28, x0, 60
@@ -1086,31 +1075,29 @@ aes256_decrypt_2:
     .word 0x01c32e03  # lw x28, 28(x6)
     .word 0x01c2ae23  # sw x28, 28(x5)
     # above the frame
-    .word 0x32010293  # addi x5, x2, 800
+    .word 0x31010293  # addi x5, x2, 784
     # the caller's registers
-    .word 0x0002a403  # lw x8, 0(x5)
-    .cfi_restore 8
-    .word 0x0042a483  # lw x9, 4(x5)
+    .word 0x0002a483  # lw x9, 0(x5)
     .cfi_restore 9
-    .word 0x0082a903  # lw x18, 8(x5)
+    .word 0x0042a903  # lw x18, 4(x5)
     .cfi_restore 18
-    .word 0x00c2a983  # lw x19, 12(x5)
+    .word 0x0082a983  # lw x19, 8(x5)
     .cfi_restore 19
-    .word 0x0102aa03  # lw x20, 16(x5)
+    .word 0x00c2aa03  # lw x20, 12(x5)
     .cfi_restore 20
-    .word 0x0142aa83  # lw x21, 20(x5)
+    .word 0x0102aa83  # lw x21, 16(x5)
     .cfi_restore 21
-    .word 0x0182ab03  # lw x22, 24(x5)
+    .word 0x0142ab03  # lw x22, 20(x5)
     .cfi_restore 22
-    .word 0x01c2ab83  # lw x23, 28(x5)
+    .word 0x0182ab83  # lw x23, 24(x5)
     .cfi_restore 23
-    .word 0x0202ac03  # lw x24, 32(x5)
+    .word 0x01c2ac03  # lw x24, 28(x5)
     .cfi_restore 24
-    .word 0x0242ac83  # lw x25, 36(x5)
+    .word 0x0202ac83  # lw x25, 32(x5)
     .cfi_restore 25
-    .word 0x0282ad03  # lw x26, 40(x5)
+    .word 0x0242ad03  # lw x26, 36(x5)
     .cfi_restore 26
-    .word 0x02c2ad83  # lw x27, 44(x5)
+    .word 0x0282ad83  # lw x27, 40(x5)
     .cfi_restore 27
     # the caller's x2
     .word 0x04028293  # addi x5, x5, 64
@@ -1120,11 +1107,7 @@ aes256_decrypt_2:
     .word 0x00012223  # sw x0, 4(x2)
     .word 0x00012423  # sw x0, 8(x2)
     .word 0x00012623  # sw x0, 12(x2)
-    .word 0x00012823  # sw x0, 16(x2)
-    .word 0x00012a23  # sw x0, 20(x2)
-    .word 0x00012c23  # sw x0, 24(x2)
-    .word 0x00012e23  # sw x0, 28(x2)
-    .word 0x02010113  # addi x2, x2, 32
+    .word 0x01010113  # addi x2, x2, 16
     .word 0x00012023  # sw x0, 0(x2)
     .word 0x00012223  # sw x0, 4(x2)
     .word 0x00012423  # sw x0, 8(x2)
