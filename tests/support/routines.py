@@ -16,6 +16,15 @@ C = [*TARGET, *FREE, "-std=c99", "-O1", "-Wall", "-Wextra", "-Werror"]
 TYPES = {"bool": "bool", "uint8": "uint8_t", "uint16": "uint16_t", "uint32": "uint32_t"}
 # Those whose runs take long: a test runs their first vector alone.
 SLOW = ("x25519", "modular_power_128")
+# Those that take several blocks a call: which argument says how many, what it counts, the bytes of a block, and the most of it.
+SEVERAL = {
+    "aes128_ctr": ("length", "bytes", 16, 256),
+    "aes256_ctr": ("length", "bytes", 16, 256),
+    "chacha20_blocks": ("length", "bytes", 64, 256),
+    "ghash_blocks": ("length", "bytes", 16, 256),
+    "poly1305_blocks": ("length", "bytes", 16, 256),
+    "siphash24_blocks": ("count", "blocks", 8, 8),
+}
 # The codes that are kept, by the option that asks for one, each with the folders of its texts for an assembler and its headers.
 KEPT = {"-O": {".s": "asm", ".h": "include"}, "-Os": {".s": "small", ".h": "small"}}
 MOST_SECONDS = 1_000
