@@ -2,9 +2,8 @@
 -- code is of.
 use Rattle.std.proofs.Common.{◌≡◌, Option, None, Some, IfSome, ap, option_map, subst, sym, ◌∙◌}
 use Rattle.std.specs.Prelude.{unwrap_or}
-use Rattle.hepurita.specs.Below.{IsRemoved, RangedProgram, simplified_of, StraightProgram}
-use Rattle.hepurita.specs.Exact.{after, finished_of, fitted_where_shared, fitted_with_words}
-use Rattle.optimisation.specs.element_words.Exact.{split_of}
+use Rattle.hepurita.specs.Below.{IsRemoved, RangedProgram, StraightProgram}
+use Rattle.hepurita.specs.Exact.{after, fitted_where_shared, fitted_with_words}
 use Rattle.optimisation.specs.live_words.Exact.{shared_of}
 use Rattle.branch_removal.specs.Replaced.{IsReplaced}
 
@@ -23,12 +22,10 @@ after_pass pass made given before result is from same =
     is ∙ (ap (λ (o : Option StraightProgram). unwrap_or o given) from ∙ ap (after pass) same)
 
 -- the end of the passes, where words share variables
-module _ (straight simpler : StraightProgram) (is : simpler ≡ after simplified_of (after split_of straight)) where
-  pub finished_shared : (shared : StraightProgram) → shared_of simpler ≡ Some shared
-      → finished_of straight ≡ fitted_with_words shared
-  finished_shared shared found =
-      ap (after fitted_where_shared) (sym is)
-      ∙ ap (λ (o : Option StraightProgram). unwrap_or (option_map fitted_with_words o) simpler) found
+pub shared_found : (straight shared : StraightProgram) → shared_of straight ≡ Some shared
+    → after fitted_where_shared straight ≡ fitted_with_words shared
+shared_found straight shared found =
+    ap (λ (o : Option StraightProgram). unwrap_or (option_map fitted_with_words o) straight) found
 
 -- a pass that made code
 pub after_made : (pass : StraightProgram → Option StraightProgram) (given made : StraightProgram)

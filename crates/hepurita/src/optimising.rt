@@ -5,7 +5,7 @@ ghost use Rattle.std.specs.Option.{option_map};
 ghost use Rattle.hepurita.specs.Below.{IsImage, IsWantOfMemory, optimised_fields_of};
 ghost use Rattle.hepurita.specs.Needs.{needs_as, optimised_needs};
 ghost use Rattle.hepurita.specs.CodeFor.{IsCodeFor};
-ghost use Rattle.hepurita.specs.Exact.{finished_of, fitted_with_words, small_of, fast_of};
+ghost use Rattle.hepurita.specs.Exact.{after, finished_of, fitted_where_shared, fitted_with_words, small_of, fast_of};
 ghost use Rattle.optimisation.specs.needed_variables.Exact.{fitted_of};
 
 use crate::generated::Generated;
@@ -90,9 +90,27 @@ fn fitted_with_words(
     }
 }
 
-/// The optimised code of a program whose loops are as they stay, where it is within the limit on words: short arrays
-/// become words, what is known then is a number, words share variables, numbers that are used much become words, and a
-/// variable that nothing names has no room. Only memory refuses it.
+/// The optimised code of a program whose loops and arrays are as they stay, where it is within the limit on words: words
+/// share variables, numbers that are used much become words, and a variable that nothing names has no room. Only memory
+/// refuses it.
+fn shared_code(alloc: Global, straight: &StraightCode<'_>) -> Result<Option<Generated>, Refusal>
+    ensures generated { IfOk result (λ made. IfSome made (IsCodeFor straight.now)) }
+    ensures exact { IfOk result (λ made.
+        option_map (λ made. made.code) made ≡ optimised_fields_of (after fitted_where_shared straight.now)) }
+    ensures needs { IfOk result (λ made. IfSome made
+        (λ made. needs_as made.needs ≡ optimised_needs (after fitted_where_shared straight.now))) }
+    ensures allowed { IfOk result (λ made. IfSome made (λ made. IsImage made.code)) }
+    ensures memory { IfErr result (λ refusal. IsWantOfMemory refusal.rule refusal.place) }
+{
+    replaced_is_removed();
+    match share_words(alloc, straight)? {
+        Some(shared) => fitted_with_words(alloc, shared),
+        None => optimised_code(alloc, straight),
+    }
+}
+
+/// The same of a program whose loops are as they stay: first short arrays become words, and what is known then is a
+/// number.
 fn finished(alloc: Global, straight: &StraightCode<'_>) -> Result<Option<Generated>, Refusal>
     ensures generated { IfOk result (λ made. IfSome made (IsCodeFor straight.now)) }
     ensures exact { IfOk result (λ made.
@@ -108,10 +126,7 @@ fn finished(alloc: Global, straight: &StraightCode<'_>) -> Result<Option<Generat
     let with_numbers = simplify(alloc, split)?;
     let simpler = made_or_given(&with_numbers, split);
     replaced_is_removed();
-    match share_words(alloc, simpler)? {
-        Some(shared) => fitted_with_words(alloc, shared),
-        None => optimised_code(alloc, simpler),
-    }
+    shared_code(alloc, simpler)
 }
 
 /// The optimised code of a program in which loops become their iterations, where it is within the limit on words. What
