@@ -1,11 +1,11 @@
 -- How long the code of statements is. And well-typed statements that the frame has room for have their places.
 use Rattle.std.proofs.Common.{ℕ, ◌+◌, ◌*◌, ◌≤◌, nat_lt, List, [], ◌∷◌, ◌++◌, length, Option, None, Some, arith}
-use Rattle.std.proofs.Common.{length-append, ◌≡◌, ◌<◌, ◌==◌, Bool, true, false, slice_get, subst, sym}
+use Rattle.std.proofs.Common.{is_some, length-append, ◌≡◌, ◌<◌, ◌==◌, Bool, true, false, slice_get, subst, sym}
 use Rattle.codegen.proofs.Language.{statement_nodes, block_nodes, StraightTree, set, array, put, take, branch, repeats}
 use Rattle.codegen.proofs.Language.{FlatVariable, StraightBlock, nothing, first, TermTree, array_as, term_nodes}
 use Rattle.codegen.proofs.Language.{terms_nodes, declared_words, Kind, element_bytes, array_words, IsTyped, AreTyped}
 use Rattle.codegen.proofs.Language.{types_but, types_of, AllSuit, HasCount, TermHasType, Boolean, WordType, Profile}
-use Rattle.codegen.proofs.Choices.{when_not}
+use Rattle.codegen.proofs.Choices.{of_choice, when_not}
 use Rattle.codegen.proofs.BranchLengths.{branching_spans}
 use Rattle.codegen.proofs.LoopLengths.{repeat_spans}
 pub use Rattle.codegen.proofs.WordLengths.{assign_length}
@@ -19,7 +19,9 @@ use Rattle.codegen.specs.private.Emitted.{put_under_near_code}
 use Rattle.codegen.specs.private.Erased.{erase_under_code}
 use Rattle.codegen.specs.Below.{depth_in, depth_in_all, height_in, height_in_all, height_of_all}
 use Rattle.codegen.proofs.Machine.{ArePlacedTerms, control_location, HasPlace, HavePlaces, register_of, variable_offset}
-use Rattle.codegen.proofs.Machine.{Frame, IsAmong}
+use Rattle.codegen.proofs.Machine.{access_offset, Allocation, computed_index, Frame, IsAmong}
+use Rattle.codegen.specs.expression_code.TermCode.{sum_offset}
+use Rattle.codegen.specs.Below.{binary}
 use Rattle.codegen.proofs.Slotted.{first_words}
 use Rattle.codegen.proofs.Machine.{temporaries_offset, kind_at, near_element, height_of, Instr, slots_to}
 use Rattle.codegen.proofs.Machine.{InRegister, InSlot, Location, variable_location, unless_unread}
@@ -67,6 +69,14 @@ into_element_length layout kind o e =
       element_store_length (stored_register layout.allocation e) kind o,
     ))
 
+-- what is computed of an index is no longer than the index
+part_nodes : (declared : List FlatVariable) (a : Allocation) (x : ℕ) (index : TermTree)
+    → term_nodes (computed_index declared a x index) ≤ term_nodes index
+part_nodes declared a x (binary source operator width left right) =
+    of_choice (λ part. term_nodes part ≤ 1 + term_nodes left + term_nodes right)
+    (is_some (sum_offset declared a x operator right)) (omega arith) (omega arith)
+part_nodes declared a x index = omega arith
+
 -- a value into an element, at an index or at the offset that the store holds
 put_length : (layout : Frame) (within : Option ℕ) (x : ℕ)
     (index value : TermTree) → length (put_element_code layout within x index value)
@@ -75,20 +85,24 @@ put_length layout None x index value =
     let kind = kind_at layout.declared x in
     let other = stored_value layout.allocation kind value in
     let nodes = stored_nodes layout.allocation kind value in
+    let part = computed_index layout.declared layout.allocation x index in
+    let few = part_nodes layout.declared layout.allocation x index in
     code_length (near_element layout.declared layout.allocation x index)
     (λ o. into_element_code layout kind o other)
-    (index_code layout index other
-    ++ put_code (read_register layout.allocation 5 index) (read_register layout.allocation 6 other) kind
-    (variable_offset layout.declared x)) _
+    (index_code layout part other
+    ++ put_code (read_register layout.allocation 5 part) (read_register layout.allocation 6 other) kind
+    (access_offset layout.declared layout.allocation x index)) _
     (λ o. omega (arith, nodes, into_element_length layout kind o other))
-    (omega (arith, nodes, length-append {A = Instr}, read_length, address_length))
+    (omega (arith, nodes, few, length-append {A = Instr}, read_length, address_length))
 put_length layout (Some c) x index value =
     let control = control_location layout c in
+    let part = computed_index layout.declared layout.allocation x index in
+    let few = part_nodes layout.declared layout.allocation x index in
     code_length (near_element layout.declared layout.allocation x index)
     (λ o. put_under_near_code layout control (kind_at layout.declared x) o value)
-    (index_code layout index value
-    ++ put_under_code (read_register layout.allocation 5 index) (read_register layout.allocation 6 value) control
-    (kind_at layout.declared x) (variable_offset layout.declared x)) _
+    (index_code layout part value
+    ++ put_under_code (read_register layout.allocation 5 part) (read_register layout.allocation 6 value) control
+    (kind_at layout.declared x) (access_offset layout.declared layout.allocation x index)) _
     (λ o. omega (
       arith,
       length-append {A = Instr},
@@ -96,7 +110,7 @@ put_length layout (Some c) x index value =
       fetch_length control 7,
       element_store_length 5 (kind_at layout.declared x) o,
     ))
-    (omega (arith, length-append {A = Instr}, read_length, fetch_length, address_length))
+    (omega (arith, few, length-append {A = Instr}, read_length, fetch_length, address_length))
 
 set_under_length : (r : ℕ) (l control : Location) → length (set_under_code r l control) ≤ 12
 set_under_length r (InRegister home) control = simp length-append (omega (arith, fetch_length))

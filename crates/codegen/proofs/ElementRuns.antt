@@ -107,7 +107,7 @@ module _ (z : Setting) (depth : ℕ) (place : Place) (x size : ℕ) (index value
 
   -- where the index and the value are
   abbrev index_register : ℕ
-  index_register = read_register z.allocation 5 index
+  index_register = read_register z.allocation 5 access.part
 
   abbrev value_register : ℕ
   value_register = read_register z.allocation 6 put_value
@@ -116,8 +116,8 @@ module _ (z : Setting) (depth : ℕ) (place : Place) (x size : ℕ) (index value
   nodes = stored_nodes z.allocation kind value
 
   -- where the index is in a register
-  put_far : Puts z access None value (index_code (layout_of z) index put_value
-      ++ put_code index_register value_register kind (variable_offset z.laid x))
+  put_far : Puts z access None value (index_code (layout_of z) access.part put_value
+      ++ put_code index_register value_register kind access.offset)
   put_far =
       along (λ env. ap (λ p. path_in env.variables index ++ indexed place size (number env) ∷ p)
       (sym (stored_path z.allocation kind value env.variables)))

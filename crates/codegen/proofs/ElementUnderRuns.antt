@@ -8,7 +8,7 @@ use Rattle.codegen.proofs.Logic.{layout_of}
 use Rattle.codegen.proofs.Logic.{place_even, place_ends, Setting, base_of, none, Runs, gives, cheaper, as_code}
 use Rattle.codegen.proofs.Logic.{number_or_zero, Ready, Wrote, near_address, Fetched, free_from, weaken}
 use Rattle.codegen.proofs.Machine.{code_by, near_element, slots_to, load_by, number_at, sign_extended, sum_of}
-use Rattle.codegen.proofs.Machine.{put_under_code, put_under_near_code, statement_code, variable_offset}
+use Rattle.codegen.proofs.Machine.{put_under_code, put_under_near_code, statement_code}
 use Rattle.codegen.proofs.Machine.{control_location, is_unread, Location, lower_part, address_of, index_code}
 use Rattle.codegen.proofs.Machine.{read_register, height_of_put}
 use Rattle.rv_code.specs.declared.instructions.Instr.TheVariants as instr
@@ -36,7 +36,7 @@ module _ (z : Setting) (depth : ℕ) (place : Place) (x size : ℕ) (index value
   array = array_as typed.word typed.mutable size
 
   abbrev offset : ℕ
-  offset = variable_offset z.laid x
+  offset = access.offset
 
   -- where an element lies
   abbrev place_at : ℕ → ℕ
@@ -75,8 +75,8 @@ module _ (z : Setting) (depth : ℕ) (place : Place) (x size : ℕ) (index value
       (omega (arith, place_ends z x array i (lies z access) below)))
 
   -- at an index in a register
-  under_far : Puts z access (Some c) value (index_code (layout_of z) index value
-      ++ put_under_code (read_register z.allocation 5 index) (read_register z.allocation 6 value) control_at kind
+  under_far : Puts z access (Some c) value (index_code (layout_of z) access.part value
+      ++ put_under_code (read_register z.allocation 5 access.part) (read_register z.allocation 6 value) control_at kind
       offset)
   under_far =
       let r = read_register z.allocation 6 value in
@@ -160,8 +160,8 @@ module _ (z : Setting) (depth : ℕ) (place : Place) (x size : ℕ) (index value
       as_code
       (ap (λ k. code_by (near_element z.laid z.allocation x index)
       (λ o. put_under_near_code (layout_of z) control_at k o value)
-      (index_code (layout_of z) index value
-      ++ put_under_code (read_register z.allocation 5 index) (read_register z.allocation 6 value) control_at k offset))
+      (index_code (layout_of z) access.part value
+      ++ put_under_code (read_register z.allocation 5 access.part) (read_register z.allocation 6 value) control_at k offset))
       (kind_is z access))
       (put_by z access (Some c) value (omega arith)
       (λ o. put_under_near_code (layout_of z) control_at kind o value) under_near under_far)

@@ -3,17 +3,17 @@ use Rattle.std.proofs.Common.{◌≡◌, ℕ, ◌+◌, ◌*◌, ◌%◌, ◌^◌
 use Rattle.std.proofs.Common.{None, Some, slice_get, refl, sym, ap, ap₂, subst, ◌∙◌, arith, ◌≢◌, append_assoc}
 use Rattle.codegen.proofs.Language.{FlatVariable, StraightState, with_element, element_bytes, TermTree, array_as}
 use Rattle.codegen.proofs.Language.{term_nodes, value_in, path_in, indexed, WordType, Kind, Boolean, bits_of, Place}
-use Rattle.codegen.proofs.Language.{TermHasType, counter_type, holds, path_at, put, IsElementSet, types_of}
+use Rattle.codegen.proofs.Language.{TermHasType, holds, path_at, put, IsElementSet, types_of}
 use Rattle.codegen.proofs.Logic.{register-at, lower_fits, Addressed, address_runs, array_lies, steps_of, kind_known}
 use Rattle.codegen.proofs.Logic.{HomesKept}
 use Rattle.codegen.proofs.Logic.{layout_of}
 use Rattle.codegen.proofs.Logic.{homes_by, HeldAt, free_from, storing, place_of, place_even, place_before, place_ends}
 use Rattle.codegen.proofs.Logic.{Setting, setting, base_of, MarkKnown, by_index, by_known_index, by_option, none, Runs}
 use Rattle.codegen.proofs.Logic.{quiet, weaken, gives, as_code, Ready, Wrote, NearElement, near_known, known, along}
-use Rattle.codegen.proofs.Logic.{cheaper}
+use Rattle.codegen.proofs.Logic.{cheaper, computed_part, IsPart}
 use Rattle.codegen.proofs.Machine.{store_by, slots_to, kind_at, Instr, variable_offset, home_of, lower_part, store_size}
 use Rattle.codegen.proofs.Machine.{address_of, byte_count, index_code, read_code, read_register, height_of_put}
-use Rattle.codegen.proofs.Machine.{address_code, with_number, code_by, near_element}
+use Rattle.codegen.proofs.Machine.{access_offset, address_code, code_by, computed_index, near_element, with_number}
 use Rattle.rv_code.specs.declared.instructions.Instr.TheVariants as instr
 use Rattle.rv_machine.specs.Machine as machine
 use Rattle.codegen.proofs.PairRuns.{FirstRead, read_then, second_runs}
@@ -37,7 +37,9 @@ pub record ElementAccess (z : Setting) : Type 0 where
   pub mutable : Bool
   pub known : slice_get z.declared x ≡ Some (array_as word mutable size)
   pub index : TermTree
-  pub index_type : TermHasType (types_of z.code.profile z.declared) index counter_type
+  pub part : TermTree
+  pub offset : ℕ
+  pub computed : IsPart z x size word mutable index part offset
   pub value : TermTree
   pub own : WordType
   pub value_type : TermHasType (types_of z.code.profile z.declared) value own
@@ -58,7 +60,9 @@ put_access z depth within place x size index typed e own has room = record {
   mutable = typed.mutable;
   known = typed.known;
   index = index;
-  index_type = typed.index_type;
+  part = computed_index z.laid z.allocation x index;
+  offset = access_offset z.laid z.allocation x index;
+  computed = computed_part z x size typed.word typed.mutable typed.known typed.index_type refl;
   value = e;
   own = own;
   value_type = has;
@@ -76,7 +80,7 @@ module _ (z : Setting) (access : ElementAccess z) where
   lies = array_lies z access.x access.size access.word access.mutable access.known
 
   abbrev pub offset : ℕ
-  offset = variable_offset z.laid access.x
+  offset = access.offset
 
   -- no array has a home
   pub away : home_of z.allocation.homes access.x ≡ None
@@ -89,18 +93,22 @@ module _ (z : Setting) (access : ElementAccess z) where
   abbrev pub number_of : StraightState → ℕ
   number_of env = value_in env.variables access.index
 
+  -- and what of it is computed
+  abbrev pub part_of : StraightState → ℕ
+  part_of env = value_in env.variables access.part
+
   abbrev pub value_of : StraightState → ℕ
   value_of env = value_in env.variables access.value
 
   -- where they are: at home, or in the registers of the first two temporaries
   abbrev pub index_register : ℕ
-  index_register = read_register z.allocation 5 access.index
+  index_register = read_register z.allocation 5 access.part
 
   abbrev pub value_register : ℕ
   value_register = read_register z.allocation 6 access.value
 
   pub index_source : IsSourceRegister z 5 index_register
-  index_source = read_source z access.index 5 (omega arith) (omega arith)
+  index_source = read_source z access.part 5 (omega arith) (omega arith)
 
   pub value_source : IsSourceRegister z 6 value_register
   value_source = read_source z access.value 6 (omega arith) (omega arith)
@@ -109,10 +117,11 @@ module _ (z : Setting) (access : ElementAccess z) where
   pub value_beside : value_register ≢ 5
   value_beside = source_apart z value_source 5 (omega arith) (omega arith)
 
-  -- an index and a value are in their registers
+  -- what is computed of an index and a value are in their registers
   pub record Aimed (i : ℕ) (env : StraightState) (s : machine.State) : Type 0 where
     pub ready : Ready z env s
-    pub five : s.regs index_register ≡ i
+    pub is : number_of env ≡ i
+    pub five : s.regs index_register ≡ part_of env
     pub six : s.regs value_register ≡ value_of env
 
   pub addressed_at : (i : ℕ) → i < access.size
@@ -121,11 +130,12 @@ module _ (z : Setting) (access : ElementAccess z) where
   addressed_at i below =
       weaken
       (λ env s fine aimed.
-      (aimed.ready.held, aimed.five, omega (arith, place_ends z access.x array i lies below)))
+      let at = access.computed.at i below env.variables aimed.is in
+      (aimed.ready.held, aimed.five, at, omega (arith, place_ends z access.x array i lies below)))
       (λ env s t fine aimed done. done)
       (address_runs z 5 index_register (free_from 5 (omega arith) (omega arith))
       (free_from index_register index_source.low (omega (arith, index_source.high))) (omega arith)
-      kind offset (λ env. i))
+      kind offset part_of (λ env. element_at i))
 
   -- a register into an element
   pub stores : (r : ℕ) → r < 32 → r ≢ 0 → (i : ℕ) → i < access.size
@@ -163,14 +173,14 @@ module _ (z : Setting) (access : ElementAccess z) where
   value_piece : (i : ℕ)
       → Runs z (16 * term_nodes access.value) (steps_of access.value)
       (read_code (layout_of z) 6 1 access.value)
-      (MarkKnown (setting z) ℕ (λ j. j < access.size) (FirstRead z access.index) number_of i)
+      (MarkKnown (setting z) ℕ (λ j. j < access.size) (FirstRead z access.part) number_of i)
       (λ env s t. Aimed i env t × Hidden z access.depth s t)
   value_piece i =
-      weaken {P' = MarkKnown (setting z) ℕ (λ j. j < access.size) (FirstRead z access.index) number_of i}
+      weaken {P' = MarkKnown (setting z) ℕ (λ j. j < access.size) (FirstRead z access.part) number_of i}
       (λ env s fine given. given.given)
       (λ env s t fine given both.
-      assumption (both.first_there ∙ given.is, hidden_kept z access.depth s t access.within both.kept))
-      (second_runs z access.index access.value access.value_type (omega arith))
+      assumption (both.first_there, given.is, hidden_kept z access.depth s t access.within both.kept))
+      (second_runs z access.part access.value access.value_type (omega arith))
 
   -- The index, and behind its mark what is done at it.
   pub at_element : {n : ℕ} {tail : List Instr} (change : StraightState → StraightState)
@@ -180,20 +190,23 @@ module _ (z : Setting) (access : ElementAccess z) where
       → Runs z (16 * term_nodes access.index + (16 * term_nodes access.value + n))
       (λ env. path_in env.variables access.index ++ indexed access.place access.size (number_of env)
       ∷ path_in env.variables access.value)
-      (index_code (layout_of z) access.index access.value ++ tail) (Ready z)
+      (index_code (layout_of z) access.part access.value ++ tail) (Ready z)
       (StateShown z access.depth change)
   at_element {tail = tail} change act =
-      as_code (append_assoc (read_code (layout_of z) 5 0 access.index)
+      along (λ env. ap (λ p. p ++ indexed access.place access.size (number_of env) ∷ path_in env.variables access.value)
+      (access.computed.path env.variables))
+      (cheaper (omega (arith, access.computed.nodes))
+      (as_code (append_assoc (read_code (layout_of z) 5 0 access.part)
       (read_code (layout_of z) 6 1 access.value) tail)
-      (read_then z access.depth access.within access.index_type (omega arith)
-      (by_index z {P = FirstRead z access.index} access.place access.size number_of
+      (read_then z access.depth access.within access.computed.has_type (omega (arith, access.computed.height))
+      (by_index z {P = FirstRead z access.part} access.place access.size number_of
       (λ i below.
       gives {R = StateShown z access.depth change}
       (λ env s t fine given done. record {
         ready = done.second.1 given.is;
         hidden = hidden_then z access.depth s done.middle t done.first.1 done.second.0;
       })
-      (quiet (value_piece i) (act i below) (λ env s t given done. done.0)))))
+      (quiet (value_piece i) (act i below) (λ env s t given done. done.0)))))))
 
   pub kind_is : kind_at z.laid access.x ≡ kind
   kind_is = kind_known z.laid access.x array lies

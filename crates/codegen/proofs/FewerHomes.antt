@@ -1,7 +1,7 @@
 -- The code of what does not name some variables is the same where these have no homes.
 use Rattle.std.proofs.Common.{◌≡◌, ℕ, zero, suc, ◌+◌, ◌<◌, ◌≤◌, ◌==◌, ◌||◌, Bool, true, false, List, [], ◌∷◌, ◌++◌}
 use Rattle.std.proofs.Common.{length, Option, None, Some, refl, sym, ap, ap₂, ◌∙◌, arith, eq-eqb, if◌then◌else◌}
-use Rattle.std.proofs.Common.{is_some}
+use Rattle.std.proofs.Common.{is_some, unwrap_or}
 use Rattle.std.proofs.lemmas.Bool.{false_from_ne_true, or_parts, true≢false}
 use Rattle.codegen.proofs.Choices.{of_choice, when_not}
 use Rattle.codegen.proofs.Language.{array, branch, first, FlatVariable, nothing, put, repeats, set, element_bytes}
@@ -18,7 +18,10 @@ use Rattle.codegen.proofs.StoredValues.{stored_alike}
 use Rattle.codegen.specs.private.Emitted.{into_element_code, stored_value}
 use Rattle.codegen.specs.private.Loops.{any_sets, counting_home, loop_from, short_number}
 use Rattle.codegen.specs.expression_code.Allocation.{temporary, working_register}
-use Rattle.codegen.specs.expression_code.TermCode.{into_by, is_at_home, keeps_words, operand, opposite_in}
+use Rattle.codegen.specs.expression_code.TermCode.{access_offset, computed_index, into_by, is_at_home, keeps_words}
+use Rattle.codegen.specs.expression_code.TermCode.{code_by, indexed_code, near_code, near_element, operand}
+use Rattle.codegen.specs.expression_code.TermCode.{opposite_in, reached_code, sum_offset}
+use Rattle.language.specs.declared.operators.BinaryOperator.TheVariants as operators
 use Rattle.inline.specs.Flat as flat
 use Rattle.codegen.specs.Below.{BinaryOperator, Kind}
 use Rattle.codegen.specs.expression_code.Layout.{term_layout}
@@ -150,44 +153,77 @@ module _ (layout : Frame) (left_out : ℕ → Bool)
   opposite_same (flat.binary source operator width left right) = refl
   opposite_same e = refl
 
-  by_same : (other : Option BinaryOperator) (d place : ℕ) (e : TermTree) → Spares (λ y. names_in y e)
-      → into_by (term_layout fewer) other d place e ≡ into_by (term_layout layout) other d place e
-  by_same other d place (flat.number value kind) spares = refl
-  by_same other d place (flat.truth value) spares = refl
-  by_same other d place (flat.variable x) spares = rw (location_same x spares) refl
-  by_same other d place (flat.prefix operator width e) spares =
-      rw (at_home_same e spares, operand_same place e spares, by_same None (own place) place e spares) refl
-  by_same other d place (flat.rotate width e amount) spares =
-      rw (at_home_same e spares, operand_same place e spares, by_same None (own place) place e spares) refl
-  by_same other d place (flat.convert kind e) spares =
-      simp (at_home_same, operand_same, by_same None (own place) place e spares, by_same None d place e spares)
-  by_same other d place (flat.element source x size index) spares =
-      let one = λ (y : ℕ) (out : left_out y ≡ true). (or_parts _ _ (spares y out)).1 in
-      rw (at_home_same index one, operand_same place index one, by_same None (own place) place index one) refl
-  by_same other d place (flat.binary source operator width left right) spares =
-      let parts = λ (y : ℕ) (out : left_out y ≡ true). or_parts _ _ (spares y out) in
-      let one : Spares (λ y. names_in y left) = λ y out. (parts y out).0 in
-      let two : Spares (λ y. names_in y right) = λ y out. (parts y out).1 in
-      simp (
-        at_home_same,
-        operand_same,
-        by_same None (own place) place left one,
-        by_same None (own place) place right two,
-        by_same None (own (place + 1)) (place + 1) right two,
-      )
-  by_same other d place (flat.select condition accepted otherwise) spares =
-      let parts = λ (y : ℕ) (out : left_out y ≡ true). neither_of_three _ _ _ (spares y out) in
-      let one : Spares (λ y. names_in y condition) = λ y out. (parts y out).0 in
-      let two : Spares (λ y. names_in y accepted) = λ y out. (parts y out).1 in
-      let three : Spares (λ y. names_in y otherwise) = λ y out. (parts y out).2 in
-      simp (
-        at_home_same,
-        operand_same,
-        opposite_same,
-        by_same (opposite_in a condition) (own place) place condition one,
-        by_same None (own (place + 1)) (place + 1) accepted two,
-        by_same None (own (place + 2)) (place + 2) otherwise three,
-      )
+  offset_same : (x : ℕ) (operator : BinaryOperator) (right : TermTree)
+      → sum_offset declared b x operator right ≡ sum_offset declared a x operator right
+  offset_same x operators.Add right = refl
+  offset_same x operator right = refl
+
+  -- code for what there may be
+  code_same : {T : Type 0} (o : Option T) (f g : T → List Instr) {xs ys : List Instr} → ((t : T) → f t ≡ g t)
+      → xs ≡ ys → code_by o f xs ≡ code_by o g ys
+  code_same None f g some none = none
+  code_same (Some t) f g some none = some t
+
+  indexed_same : (d place x : ℕ) (index : TermTree) → Spares (λ y. names_in y index) → (o : ℕ) (into into' : List Instr)
+      → into ≡ into' → indexed_code (term_layout fewer) d place x index into o
+      ≡ indexed_code (term_layout layout) d place x index into' o
+  indexed_same d place x index spares o into into' same =
+      rw (at_home_same index spares, operand_same place index spares, same) refl
+
+  mutual
+    by_same : (other : Option BinaryOperator) (d place : ℕ) (e : TermTree) → Spares (λ y. names_in y e)
+        → into_by (term_layout fewer) other d place e ≡ into_by (term_layout layout) other d place e
+    by_same other d place (flat.number value kind) spares = refl
+    by_same other d place (flat.truth value) spares = refl
+    by_same other d place (flat.variable x) spares = rw (location_same x spares) refl
+    by_same other d place (flat.prefix operator width e) spares =
+        rw (at_home_same e spares, operand_same place e spares, by_same None (own place) place e spares) refl
+    by_same other d place (flat.rotate width e amount) spares =
+        rw (at_home_same e spares, operand_same place e spares, by_same None (own place) place e spares) refl
+    by_same other d place (flat.convert kind e) spares =
+        simp (at_home_same, operand_same, by_same None (own place) place e spares, by_same None d place e spares)
+    by_same other d place (flat.element source x size index) spares =
+        let one = λ (y : ℕ) (out : left_out y ≡ true). (or_parts _ _ (spares y out)).1 in
+        code_same (near_element declared a x index) (near_code d (kind_at declared x)) (near_code d (kind_at declared x))
+        (λ o. refl) (reached_same d place x index one _ _ (by_same None (own place) place index one))
+    by_same other d place (flat.binary source operator width left right) spares =
+        let parts = λ (y : ℕ) (out : left_out y ≡ true). or_parts _ _ (spares y out) in
+        let one : Spares (λ y. names_in y left) = λ y out. (parts y out).0 in
+        let two : Spares (λ y. names_in y right) = λ y out. (parts y out).1 in
+        simp (
+          at_home_same,
+          operand_same,
+          by_same None (own place) place left one,
+          by_same None (own place) place right two,
+          by_same None (own (place + 1)) (place + 1) right two,
+        )
+    by_same other d place (flat.select condition accepted otherwise) spares =
+        let parts = λ (y : ℕ) (out : left_out y ≡ true). neither_of_three _ _ _ (spares y out) in
+        let one : Spares (λ y. names_in y condition) = λ y out. (parts y out).0 in
+        let two : Spares (λ y. names_in y accepted) = λ y out. (parts y out).1 in
+        let three : Spares (λ y. names_in y otherwise) = λ y out. (parts y out).2 in
+        simp (
+          at_home_same,
+          operand_same,
+          opposite_same,
+          by_same (opposite_in a condition) (own place) place condition one,
+          by_same None (own (place + 1)) (place + 1) accepted two,
+          by_same None (own (place + 2)) (place + 2) otherwise three,
+        )
+
+    reached_same : (d place x : ℕ) (index : TermTree) → Spares (λ y. names_in y index) → (into into' : List Instr)
+        → into ≡ into' → reached_code (term_layout fewer) d place x index into
+        ≡ reached_code (term_layout layout) d place x index into'
+    reached_same d place x (flat.binary sum operator width left right) spares into into' same =
+        let one = λ (y : ℕ) (out : left_out y ≡ true). (or_parts _ _ (spares y out)).0 in
+        let index = flat.binary sum operator width left right in
+        let left_same = by_same None (own place) place left one in
+        rw (offset_same x operator right)
+        (code_same (sum_offset declared a x operator right) _ _
+        (λ o. indexed_same d place x left one o _ _ left_same)
+        (indexed_same d place x index spares (variable_offset declared x) into into' same))
+    reached_same d place x index spares into into' same =
+        indexed_same d place x index spares (variable_offset declared x) into into' same
 
   pub into_same : (d place : ℕ) (e : TermTree) → Spares (λ y. names_in y e)
       → into_code (term_layout fewer) d place e ≡ into_code (term_layout layout) d place e
@@ -236,15 +272,35 @@ module _ (layout : Frame) (left_out : ℕ → Bool)
       ap₂ ◌++◌ (into_element_same kind o (stored_value a kind e) (stored_spares kind e one))
       (fill_same kind (o + element_bytes kind) es two)
 
+  -- nor does what is computed of an index, which goes by no home
+  part_spares : (x : ℕ) (index : TermTree) → Spares (λ y. names_in y index)
+      → Spares (λ y. names_in y (computed_index declared a x index))
+  part_spares x (flat.binary sum operator width left right) spares =
+      of_choice (λ part. Spares (λ y. names_in y part)) (is_some (sum_offset declared a x operator right))
+      (λ y out. (or_parts _ _ (spares y out)).0) spares
+  part_spares x index spares = spares
+
+  part_same : (x : ℕ) (index : TermTree)
+      → (computed_index declared b x index ≡ computed_index declared a x index)
+      × (access_offset declared b x index ≡ access_offset declared a x index)
+  part_same x (flat.binary sum operator width left right) =
+      let same = offset_same x operator right in (
+        ap (λ (o : Option ℕ). if is_some o then left else flat.binary sum operator width left right) same,
+        ap (λ (o : Option ℕ). unwrap_or o (variable_offset declared x)) same,
+      )
+  part_same x index = (refl, refl)
+
   put_same : (within : Option ℕ) (x : ℕ) (index value : TermTree) → Spares (λ y. names_in y index)
       → Spares (λ y. names_in y value)
       → put_element_code fewer within x index value ≡ put_element_code layout within x index value
   put_same None x index value one two =
       let other = stored_value a (kind_at declared x) value in
       let three : Spares (λ y. names_in y other) = stored_spares (kind_at declared x) value two in
-      simp (read_same, register_same)
+      let part = part_same x index in
+      simp (part.0, part.1, read_same, register_same, part_spares x index one)
   put_same (Some c) x index value one two =
-      simp (control_same, read_same, register_same)
+      let part = part_same x index in
+      simp (part.0, part.1, control_same, read_same, register_same, part_spares x index one)
 
   taken_same : (x y : Bool) (p q r : ℕ) (within : Option ℕ)
       → taken_code fewer x y p q r within ≡ taken_code layout x y p q r within

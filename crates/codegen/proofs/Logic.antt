@@ -17,6 +17,7 @@ pub use Rattle.codegen.proofs.expression_code_lemmas.Frame.{After, base_of, Befo
 pub use Rattle.codegen.proofs.expression_code_lemmas.Frame.{Held, held_regs, HeldAt, layout_of, Runs, seen_by}
 pub use Rattle.codegen.proofs.expression_code_lemmas.Frame.{Setting, setting, Steps, terms_at}
 pub use Rattle.codegen.proofs.expression_code_lemmas.Homes.{home_there}
+pub use Rattle.codegen.proofs.expression_code_lemmas.Indices.{computed_part, IsPart}
 pub use Rattle.codegen.proofs.expression_code_lemmas.Moves.{computing_within, does, is_free, loading, move_runs}
 pub use Rattle.codegen.proofs.expression_code_lemmas.Moves.{moves_run, none_low, put, register-at, storing, take}
 pub use Rattle.codegen.proofs.expression_code_lemmas.Moves.{unwritten, written}

@@ -29,7 +29,7 @@ pub use Rattle.codegen.specs.expression_code.Allocation.{is_unread}
 pub use Rattle.codegen.specs.private.Reads.{AllReadKept, IsKeptWithin, ReadsKept}
 pub use Rattle.codegen.specs.expression_code.TermCode.{IsAmong, address_code, code_by, constant_code, fetch_code}
 pub use Rattle.codegen.specs.expression_code.TermCode.{into_code, kind_at, load_by, load_code, lower_part, near_element}
-pub use Rattle.codegen.specs.expression_code.TermCode.{store_code}
+pub use Rattle.codegen.specs.expression_code.TermCode.{access_offset, computed_index, store_code}
 pub use Rattle.codegen.specs.declared.expression_code.locations.Location.{Location}
 pub use Rattle.codegen.specs.declared.expression_code.locations.Location.TheVariants.{InRegister, InSlot}
 pub use Rattle.codegen.specs.image_fields.Fields.{AreSlots, Fields, IsImage, IsResultSlot, is_length, result_end}

@@ -16,6 +16,7 @@ pub mod NumberCode
 pub mod BoolCode
 pub mod WorkedCode
 pub mod OperandRuns
+pub mod Indices
 pub mod Elements
 pub mod ExpressionRuns
 pub mod SiteRuns

@@ -226,18 +226,20 @@ pub fn put(
 {
     let kind = layout.kind(array);
     let known = layout.near_element(array, place);
+    let part = layout.computed_index(array, place);
+    let offset = layout.access_offset(array, place);
     let Some(control) = within else {
         let value = stored_value(layout, kind, value);
         if let Some(offset) = known {
             return into_element(code, layout, kind, offset, value);
         }
-        let (index, value) = index(code, layout, place, value)?;
-        return put_at(code, index, value, kind, layout.variable(array));
+        let (index, value) = index(code, layout, part, value)?;
+        return put_at(code, index, value, kind, offset);
     };
     let control = layout.control_location(control);
     if let Some(offset) = known {
         return put_under_near(code, layout, &control, kind, offset, value);
     }
-    let (index, value) = index(code, layout, place, value)?;
-    put_under_at(code, index, value, &control, kind, layout.variable(array))
+    let (index, value) = index(code, layout, part, value)?;
+    put_under_at(code, index, value, &control, kind, offset)
 }

@@ -22,6 +22,7 @@ use Rattle.codegen.proofs.expression_code_lemmas.WorkRegisters.{IsFree, ArePair,
 use Rattle.codegen.proofs.expression_code_lemmas.WorkRegisters.{target_works, spare_works, not_written}
 use Rattle.codegen.proofs.expression_code_lemmas.Moves.{register-at, computing_within, is_written, is_left, loading}
 use Rattle.codegen.proofs.expression_code_lemmas.Events.{by_known_index}
+use Rattle.codegen.proofs.expression_code_lemmas.Indices.{IsPart}
 use Rattle.codegen.proofs.expression_code_lemmas.NumberCode.{known, near_known}
 use Rattle.codegen.proofs.expression_code_lemmas.Operands.{RegisterOutcome}
 use Rattle.codegen.proofs.expression_code_lemmas.Places.{place_of, place_even, kind_known}
@@ -39,9 +40,9 @@ pub record Addressed (z : Setting) (r o a : ℕ) (env : StraightState) (s t : St
 abbrev raised : Bool → ℕ → ℕ → ℕ
 raised near o v = cond near v (sum_of v (upper_part o * 2 ^ 12))
 
-element_address : (frame o i : ℕ) → frame + (o + i) < 2 ^ 32
-    → sum_of (raised (nat_lt o 2048) o (sum_of i frame)) (sign_extended 12 (lower_part o)) ≡ frame + (o + i)
-element_address frame o i below = grind (arith, nat_tests)
+element_address : (frame o i a : ℕ) → (o + i) % 2 ^ 32 ≡ a → frame + a < 2 ^ 32
+    → sum_of (raised (nat_lt o 2048) o (sum_of i frame)) (sign_extended 12 (lower_part o)) ≡ frame + a
+element_address frame o i a is below = grind (arith, nat_tests)
 
 -- an element's load takes the element's bytes, as they are
 pub load_bytes : (kind : Kind) → byte_count (load_size (load_by kind)) ≡ element_bytes kind
@@ -62,16 +63,15 @@ module _ (z : Setting) (d r : ℕ) (target : IsFree d) (source : IsFree r) (apar
 
   -- an index times the bytes of an element, on the base
   scaled : (kind : Kind) → (only_computes (either_of d 28) (scale_code d r kind) ≡ true)
-      × ((regs : ℕ → ℕ) → element_bytes kind * regs r < 2 ^ 32
+      × ((regs : ℕ → ℕ)
       → registers_after (scale_code d r kind) regs d ≡ sum_of (element_bytes kind * regs r) (regs 2))
   scaled Uint16 = (
     simp (dd pair, d32 pair, q32 pair source),
-    λ regs below.
-        simp (dd pair, d0 pair, q0 pair source, d2) (omega arith),
+    λ regs. simp (dd pair, d0 pair, q0 pair source, d2) (omega arith),
   )
   scaled kind = (
     simp (dd pair, d32 pair, q32 pair source),
-    λ regs below. simp (dd pair, d0 pair, q0 pair source, d2) (omega arith),
+    λ regs. simp (dd pair, d0 pair, q0 pair source, d2) (omega arith),
   )
 
   -- the upper part of an offset
@@ -86,12 +86,13 @@ module _ (z : Setting) (d r : ℕ) (target : IsFree d) (source : IsFree r) (apar
     λ regs. simp (dd pair, d0 pair, ne_eqb d 28 apart),
   )
 
-  -- An index becomes its element's address.
-  pub address_runs : (kind : Kind) (o : ℕ) (index : StraightState → ℕ)
+  -- An index becomes its element's address, modulo 2^32.
+  pub address_runs : (kind : Kind) (o : ℕ) (index at : StraightState → ℕ)
       → Runs z 4 none (address_code d r kind o)
-      (λ env s. HeldAt z s × (s.regs r ≡ index env) × (z.frame + (o + element_bytes kind * index env) < 2 ^ 32))
-      (λ env s t. Addressed z d o (o + element_bytes kind * index env) env s t)
-  address_runs kind o index =
+      (λ env s. HeldAt z s × (s.regs r ≡ index env) × ((o + element_bytes kind * index env) % 2 ^ 32 ≡ at env)
+      × (z.frame + at env < 2 ^ 32))
+      (λ env s t. Addressed z d o (at env) env s t)
+  address_runs kind o index at =
       let near = nat_lt o 2048 in
       let scale = scale_code d r kind in
       let plain = plain_append (either_of d 28) scale (raise_by near o) (scaled kind).0 (raises near o).0 in
@@ -104,11 +105,11 @@ module _ (z : Setting) (d r : ℕ) (target : IsFree d) (source : IsFree r) (apar
       let all : t.regs d ≡ raised near o (sum_of i z.frame) =
       ap (λ (regs : ℕ → ℕ). regs d) (done.registers ∙ after_append scale (raise_by near o) s.regs)
       ∙ ((raises near o).1 (registers_after scale s.regs)
-      ∙ ap (raised near o) ((scaled kind).1 s.regs (omega arith) ∙ ap₂ sum_of is fit.0.base)) in
+      ∙ ap (raised near o) ((scaled kind).1 s.regs ∙ ap₂ sum_of is fit.0.base)) in
       record {
         held = done.held;
         address = ap (λ x. sum_of x (sign_extended 12 (lower_part o))) (register-at t.regs d target.nonzero ∙ all)
-            ∙ element_address z.frame o i fit.2;
+            ∙ element_address z.frame o i (at env) fit.2 fit.3;
         others = λ q other another. ap (λ (regs : ℕ → ℕ). regs q) done.registers
             ∙ kept_beside pair (scale ++ raise_by near o) plain s.regs q other another;
         same = done.same;
@@ -160,16 +161,16 @@ module _ (slots : Slots) (place d : ℕ) (target : IsTarget slots.z.allocation.c
             (array_lies z x size word mutable known) below,
       )))
 
-  -- and that at an index that is in a register
+  -- and that at an index of which a part is in a register, where an offset makes up for the rest
   pub picked : (r : ℕ) → IsFree r
-      → (source : Place) (x size : ℕ) (word : WordType) (mutable : Bool) (i : ℕ) (index : TermTree)
+      → (source : Place) (x size : ℕ) (word : WordType) (mutable : Bool) (i : ℕ) (index part : TermTree) (o : ℕ)
       → slice_get z.declared x ≡ Some (array_as word mutable size) → i < size
-      → Runs z 5 none (element_code d r word.kind (variable_offset z.laid x))
-      (MarkKnown (setting z) ℕ (λ j. j < size) (λ env s. Ready z env s × (s.regs r ≡ value_in env.variables index))
+      → IsPart z x size word mutable index part o
+      → Runs z 5 none (element_code d r word.kind o)
+      (MarkKnown (setting z) ℕ (λ j. j < size) (λ env s. Ready z env s × (s.regs r ≡ value_in env.variables part))
       (λ env. value_in env.variables index) i)
       (λ env s t. RegisterOutcome z works d (value_in env.variables (element source x size index)) s t)
-  picked r at source x size word mutable i index known below =
-      let o = variable_offset z.laid x in
+  picked r at source x size word mutable i index part o known below computed =
       let array = array_as word mutable size in
       let a = place_of z.laid x array i in
       let away = z.allocated.words x array size known refl in
@@ -186,9 +187,11 @@ module _ (slots : Slots) (place d : ℕ) (target : IsTarget slots.z.allocation.c
       (quiet
       (weaken
       (λ env s fine given.
-      (given.given.0.held, given.given.1 ∙ given.is, omega (arith, place_ends z x array i lies below)))
+      let at = computed.at i below env.variables given.is in
+      (given.given.0.held, given.given.1, at, omega (arith, place_ends z x array i lies below)))
       (λ env s t fine given done. done)
-      (address_runs z d r target.free at target.no_address word.kind o (λ env. i)))
+      (address_runs z d r target.free at target.no_address word.kind o (λ env. value_in env.variables part)
+      (λ env. a)))
       (loaded source x size word mutable i index known below d (lower_part o) target.free.small (lower_fits o))
       (λ env s t given done. assumption (
       ap (λ (b : ByteMap). number_at b (element_bytes word.kind) (z.frame + a)) done.same

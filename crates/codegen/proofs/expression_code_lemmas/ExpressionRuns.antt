@@ -1,7 +1,7 @@
 -- The code of an expression puts the expression's value where it is found.
 use Rattle.std.proofs.Common.{◌≡◌, ℕ, ◌+◌, ◌-◌, ◌*◌, ◌%◌, ◌^◌, ◌<◌, ◌≤◌, true, List, [], ◌++◌, length, Option, None}
 use Rattle.std.proofs.Common.{Some, slice_get, slice_index, refl, sym, ap, ap₂, ◌∙◌, arith, Bool, append-nil, false}
-use Rattle.std.proofs.Common.{inl, if◌then◌else◌, ◌==◌, IfSome, is_some, length-append, subst}
+use Rattle.std.proofs.Common.{inl, if◌then◌else◌, ◌==◌, IfSome, is_some, length-append, subst, ◌∷◌}
 use Rattle.codegen.proofs.expression_code_lemmas.Below.{along, at_home, array_as, as_code, binary, BinaryOperator}
 use Rattle.codegen.proofs.expression_code_lemmas.Below.{by_test, near_element, Profile, State, StraightState, cheaper}
 use Rattle.codegen.proofs.expression_code_lemmas.Below.{Boolean, choice_code, choice_or_zero_code, chooses_zero, Label}
@@ -46,6 +46,11 @@ use Rattle.codegen.proofs.expression_code_lemmas.OperandRuns.{found, found_apart
 use Rattle.codegen.proofs.expression_code_lemmas.OperandRuns.{made, OperandsFetched, none_yet, one_fetched, one_more}
 use Rattle.codegen.proofs.expression_code_lemmas.OperandRuns.{operands, placed, Slots, steps_of, still_ready, Typed}
 use Rattle.codegen.specs.Below.{Makes, operation_of}
+use Rattle.codegen.specs.Below.{Uint32}
+use Rattle.codegen.proofs.expression_code_lemmas.Below.{code_by, element, indexed, near_code, reached_code}
+use Rattle.codegen.proofs.expression_code_lemmas.Below.{sum_offset, kind_at}
+use Rattle.codegen.proofs.expression_code_lemmas.Indices.{IsPart, sum_part, whole_part}
+use Rattle.codegen.proofs.expression_code_lemmas.NumberCode.{sum_known}
 
 module _ (z : Setting) (free : ℕ) (aligned : free % 4 ≡ 0) (above : base_of z ≤ free) where
   abbrev slots : Slots
@@ -392,6 +397,44 @@ module _ (z : Setting) (free : ℕ) (aligned : free % 4 ≡ 0) (above : base_of 
         (λ v. (if_not (value_in v condition == 0) (value_in v accepted) (value_in v otherwise), refl))
         room (first operator makes) second third)
 
+    -- An element at an index of which a part is computed.
+
+    reached : (source : Place) {x size : ℕ} {word : WordType} {mutable : Bool}
+        → slice_get z.declared x ≡ Some (array_as word mutable size) → {index part : TermTree} {o : ℕ}
+        → IsPart z x size word mutable index part o → HasSlot slots place → Lies slots part place
+        → Comes (element source x size index) (16 * (1 + term_nodes index) - 3)
+        (placed_at place part ++ fetched place part 29
+        ++ element_code d (found slots place part 29) (kind_at z.laid x) o)
+    reached source {x = x} {size = size} {word = word} {mutable = mutable} is {index = index} {part = part} {o = o}
+        computed room runs =
+        let e = λ (j : ℕ). part in
+        let r = found slots place part 29 in
+        let kind = kind_known z.laid x (array_as word mutable size) (array_lies z x size word mutable is) in
+        as_code (ap (λ kind. placed_at place part ++ fetched place part 29 ++ element_code d r kind o) kind)
+        (along (λ env. ap (λ (p : Path). p ++ indexed source size (value_in env.variables index) ∷ [])
+        (computed.path env.variables))
+        (cheaper (omega (arith, height part, computed.nodes))
+        (made slots place e d (one_fetched slots place e 0 (omega arith) (omega arith) room
+        (one_more slots place e 0 (none_yet slots place e) runs))
+        (by_index z source size (λ env. value_in env.variables index)
+        (λ i below. picked slots place d target r (found_free slots place 0 part (omega arith)) source x size word
+        mutable i index part o is below computed))
+        (λ env s t ready done. (
+          still_ready slots place env s t ready done.held done.kept done.lower,
+          done.fetched 0 (omega arith),
+        )))))
+
+    -- and at any index, where the access may hold the element's offset
+    near_or : (source : Place) {x size : ℕ} {word : WordType} {mutable : Bool}
+        → slice_get z.declared x ≡ Some (array_as word mutable size) → (index : TermTree) {far : List Instr}
+        → Comes (element source x size index) (16 * (1 + term_nodes index) - 3) far
+        → Comes (element source x size index) (16 * (1 + term_nodes index) - 3)
+        (code_by (near_element z.laid z.allocation x index) (near_code d (kind_at z.laid x)) far)
+    near_or source {x = x} is index far =
+        by_option (near_element z.laid z.allocation x index)
+        (λ o near. cheaper (omega (arith, height index)) (near_runs slots place d target source is o near))
+        (λ none. far)
+
   -- an expression whose value can come into any register comes into its place
   lies : {e : TermTree} {word : WordType} → Typed slots e word → (place : ℕ)
       → free + 4 * slots_to count (height_of e + place) ≤ z.size
@@ -401,99 +444,107 @@ module _ (z : Setting) (free : ℕ) (aligned : free % 4 ≡ 0) (above : base_of 
       → Lies slots e place
   lies has place room into = placed slots has place room (into _ (own_target count place few) room)
 
-  -- Each well-typed expression, into any register that its value may come into.
-  pub into_runs : {e : TermTree} {word : WordType} → TermHasType (types_of z.code.profile z.declared) e word
-      → (place d : ℕ) → IsTarget count place d → free + 4 * slots_to count (height_of e + place) ≤ z.size
-      → Runs z (16 * term_nodes e - 3) (steps_of e) (into_code (terms_at z free) d place e) (Ready z)
-      (ValuedIn z e free d place)
-  into_runs (of_number {value = value} {kind = kind} below) place d target room =
-      constant place d target value (λ m. refl) (kind_fits kind value below)
-  into_runs (of_truth {value = value}) place d target room =
-      constant place d target (word_of value) (λ m. refl) (truth_fits value)
-  into_runs (of_variable {x = x} {word = word} {mutable = mutable} is) place d target room =
-      cheaper (omega arith)
-      (made slots place (λ j. variable x) d (none_yet slots place (λ j. variable x))
-      (copied place d target is (home_of z.allocation.homes x) refl)
-      (λ env s t ready done. still_ready slots place env s t ready done.held done.kept done.lower))
-  into_runs (of_prefix {operator = operator} {width = width} {operand = operand} has takes same) place d target room =
-      let r = found slots place operand 29 in
-      let source = found_free slots place 0 operand (omega arith) in
-      let pair = spare place d target in
-      applied place d target has (omega arith) (omega (arith, prefix_length d r operator width))
-      (prefix_applies pair (works_at count place d) (own place d target) (spare_own place d target) source
-      operator width)
-      (λ m. refl)
-      (lies has place room (into_runs has place))
-  into_runs (of_binary {place = source} {operator = operator} {width = width} has more makes same) place d target room =
-      operated_runs place d target source operator width has more makes (omega arith)
-      (lies has place (omega arith) (into_runs has place))
-      (lies more place (omega arith) (into_runs more place))
-      (lies more (place + 1) (omega arith) (into_runs more (place + 1)))
-  into_runs (of_rotation {width = width} {operand = operand} {amount = amount} has numeric low high same) place d
-      target room =
-      let r = found slots place operand 29 in
-      let source = found_free slots place 0 operand (omega arith) in
-      let pair = spare place d target in
-      let apart = operand_not count place 29 30 r few (omega arith) (omega arith)
-      (found_is slots place operand 29) in
-      applied place d target has (omega arith) (rotate_length d r width amount)
-      (rotate_applies pair (works_at count place d) (own place d target) (spare_own place d target) source apart
-      width amount)
-      (λ m. refl)
-      (lies has place room (into_runs has place))
-  into_runs (of_conversion {kind = kind} {operand = operand} has numeric) place d target room =
-      let r = found slots place operand 29 in
-      let source = found_free slots place 0 operand (omega arith) in
-      let pair = spare place d target in
-      by_test (keeps_words z.allocation kind)
-      (λ keeps. cheaper (omega arith)
-      (gives
-      (λ env s t fine ready done. assumption (done.there ∙ conversion_kept z kind keeps has env s ready))
-      (into_runs has place d target room)))
-      (λ cuts. applied place d target has (omega arith) (omega (arith, convert_length d r (width_of kind)))
-      (convert_applies pair (works_at count place d) (own place d target) (spare_own place d target) source
-      (width_of kind))
-      (λ m. refl)
-      (lies has place room (into_runs has place)))
-  into_runs (of_selection (of_binary {place = source} {operator = operator} {width = width} has other makes same)
-      chooses more) place d target room =
-      compared_runs place d target source operator width has other makes same chooses more (omega arith)
-      (λ o kept.
-      lies (of_binary {place = source} {operator = o} has other kept same) place (omega arith)
-      (λ d target room.
-      operated_runs place d target source o width has other kept (omega arith)
-      (lies has place (omega arith) (into_runs has place))
-      (lies other place (omega arith) (into_runs other place))
-      (lies other (place + 1) (omega arith) (into_runs other (place + 1)))))
-      (lies chooses (place + 1) (omega arith) (into_runs chooses (place + 1)))
-      (lies more (place + 2) (omega arith) (into_runs more (place + 2)))
-  into_runs (of_selection {condition = condition} {accepted = accepted} {otherwise = otherwise} has chooses more) place d
-      target room =
-      chosen_runs place d target false has chooses more
-      (λ v. (if_not (value_in v condition == 0) (value_in v accepted) (value_in v otherwise), refl)) (omega arith)
-      (lies has place (omega arith) (into_runs has place))
-      (lies chooses (place + 1) (omega arith) (into_runs chooses (place + 1)))
-      (lies more (place + 2) (omega arith) (into_runs more (place + 2)))
-  into_runs (of_element {place = source} {x = x} {size = size} {index = index} {word = word} {mutable =
-      mutable} is has) place d target room =
-      let e = λ (j : ℕ). index in
-      let array = array_as word mutable size in
-      let r = found slots place index 29 in
-      let kind = kind_known z.laid x array (array_lies z x size word mutable is) in
-      by_option (near_element z.laid z.allocation x index)
-      (λ o near. cheaper (omega arith) (near_runs slots place d target source is o near))
-      (λ far. as_code (ap (λ kind. placed_at place index ++ fetched place index 29
-      ++ element_code d r kind (variable_offset z.laid x)) kind)
-      (cheaper (omega (arith, height index))
-      (made slots place e d (one_fetched slots place e 0 (omega arith) (omega arith) (omega arith)
-      (one_more slots place e 0 (none_yet slots place e) (lies has place room (into_runs has place))))
-      (by_index z source size (λ env. value_in env.variables index)
-      (λ i below. picked slots place d target r (found_free slots place 0 index (omega arith)) source x size word
-      mutable i index is below))
-      (λ env s t ready done. (
-        still_ready slots place env s t ready done.held done.kept done.lower,
-        done.fetched 0 (omega arith),
-      )))))
+  mutual
+    -- Each well-typed expression, into any register that its value may come into.
+    pub into_runs : {e : TermTree} {word : WordType} → TermHasType (types_of z.code.profile z.declared) e word
+        → (place d : ℕ) → IsTarget count place d → free + 4 * slots_to count (height_of e + place) ≤ z.size
+        → Runs z (16 * term_nodes e - 3) (steps_of e) (into_code (terms_at z free) d place e) (Ready z)
+        (ValuedIn z e free d place)
+    into_runs (of_number {value = value} {kind = kind} below) place d target room =
+        constant place d target value (λ m. refl) (kind_fits kind value below)
+    into_runs (of_truth {value = value}) place d target room =
+        constant place d target (word_of value) (λ m. refl) (truth_fits value)
+    into_runs (of_variable {x = x} {word = word} {mutable = mutable} is) place d target room =
+        cheaper (omega arith)
+        (made slots place (λ j. variable x) d (none_yet slots place (λ j. variable x))
+        (copied place d target is (home_of z.allocation.homes x) refl)
+        (λ env s t ready done. still_ready slots place env s t ready done.held done.kept done.lower))
+    into_runs (of_prefix {operator = operator} {width = width} {operand = operand} has takes same) place d target room =
+        let r = found slots place operand 29 in
+        let source = found_free slots place 0 operand (omega arith) in
+        let pair = spare place d target in
+        applied place d target has (omega arith) (omega (arith, prefix_length d r operator width))
+        (prefix_applies pair (works_at count place d) (own place d target) (spare_own place d target) source
+        operator width)
+        (λ m. refl)
+        (lies has place room (into_runs has place))
+    into_runs (of_binary {place = source} {operator = operator} {width = width} has more makes same) place d target room =
+        operated_runs place d target source operator width has more makes (omega arith)
+        (lies has place (omega arith) (into_runs has place))
+        (lies more place (omega arith) (into_runs more place))
+        (lies more (place + 1) (omega arith) (into_runs more (place + 1)))
+    into_runs (of_rotation {width = width} {operand = operand} {amount = amount} has numeric low high same) place d
+        target room =
+        let r = found slots place operand 29 in
+        let source = found_free slots place 0 operand (omega arith) in
+        let pair = spare place d target in
+        let apart = operand_not count place 29 30 r few (omega arith) (omega arith)
+        (found_is slots place operand 29) in
+        applied place d target has (omega arith) (rotate_length d r width amount)
+        (rotate_applies pair (works_at count place d) (own place d target) (spare_own place d target) source apart
+        width amount)
+        (λ m. refl)
+        (lies has place room (into_runs has place))
+    into_runs (of_conversion {kind = kind} {operand = operand} has numeric) place d target room =
+        let r = found slots place operand 29 in
+        let source = found_free slots place 0 operand (omega arith) in
+        let pair = spare place d target in
+        by_test (keeps_words z.allocation kind)
+        (λ keeps. cheaper (omega arith)
+        (gives
+        (λ env s t fine ready done. assumption (done.there ∙ conversion_kept z kind keeps has env s ready))
+        (into_runs has place d target room)))
+        (λ cuts. applied place d target has (omega arith) (omega (arith, convert_length d r (width_of kind)))
+        (convert_applies pair (works_at count place d) (own place d target) (spare_own place d target) source
+        (width_of kind))
+        (λ m. refl)
+        (lies has place room (into_runs has place)))
+    into_runs (of_selection (of_binary {place = source} {operator = operator} {width = width} has other makes same)
+        chooses more) place d target room =
+        compared_runs place d target source operator width has other makes same chooses more (omega arith)
+        (λ o kept.
+        lies (of_binary {place = source} {operator = o} has other kept same) place (omega arith)
+        (λ d target room.
+        operated_runs place d target source o width has other kept (omega arith)
+        (lies has place (omega arith) (into_runs has place))
+        (lies other place (omega arith) (into_runs other place))
+        (lies other (place + 1) (omega arith) (into_runs other (place + 1)))))
+        (lies chooses (place + 1) (omega arith) (into_runs chooses (place + 1)))
+        (lies more (place + 2) (omega arith) (into_runs more (place + 2)))
+    into_runs (of_selection {condition = condition} {accepted = accepted} {otherwise = otherwise} has chooses more) place d
+        target room =
+        chosen_runs place d target false has chooses more
+        (λ v. (if_not (value_in v condition == 0) (value_in v accepted) (value_in v otherwise), refl)) (omega arith)
+        (lies has place (omega arith) (into_runs has place))
+        (lies chooses (place + 1) (omega arith) (into_runs chooses (place + 1)))
+        (lies more (place + 2) (omega arith) (into_runs more (place + 2)))
+    into_runs (of_element {place = source} {x = x} {index = index} is has) place d target room =
+        near_or place d target source is index
+        (reached_runs has refl source is place d target room (lies has place room (into_runs has place)))
+
+    -- the element at an index that is not near, whose value comes into its place
+    reached_runs : {index : TermTree} {type : WordType} → Typed slots index type → type.kind ≡ Uint32
+        → (source : Place) {x size : ℕ} {word : WordType} {mutable : Bool}
+        → slice_get z.declared x ≡ Some (array_as word mutable size)
+        → (place d : ℕ) → IsTarget count place d → free + 4 * slots_to count (height_of index + place) ≤ z.size
+        → Lies slots index place
+        → Runs z (16 * (1 + term_nodes index) - 3) (steps_of (element source x size index))
+        (reached_code (terms_at z free) d place x index
+        (into_code (terms_at z free) (working_register count place 29) place index)) (Ready z)
+        (ValuedIn z (element source x size index) free d place)
+    reached_runs (of_binary {place = sum} {operator = operator} {width = width} {right = right} has more makes same)
+        uint source {x = x} {size = size} {word = word} {mutable = mutable} is place d target room runs =
+        by_option (sum_offset z.laid z.allocation x operator right)
+        (λ o near.
+        let number = sum_known z.laid z.allocation x operator right o near in
+        reached place d target source is (sum_part z x size word mutable is sum width has makes uint same number)
+        (omega arith) (lies has place (omega arith) (into_runs has place)))
+        (λ far.
+        reached place d target source is
+        (whole_part z x size word mutable is (of_binary {place = sum} {operator = operator} has more makes same))
+        (omega arith) runs)
+    reached_runs has uint source {x = x} {size = size} {word = word} {mutable = mutable} is place d target room runs =
+        reached place d target source is (whole_part z x size word mutable is has) (omega arith) runs
 
   -- and into any place
   pub expr_runs : {e : TermTree} {word : WordType} → TermHasType (types_of z.code.profile z.declared) e word →

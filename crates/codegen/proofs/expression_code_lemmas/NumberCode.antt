@@ -17,7 +17,7 @@ use Rattle.codegen.proofs.expression_code_lemmas.Below.{both_right, only_compute
 use Rattle.codegen.proofs.expression_code_lemmas.Below.{registers_after, chooses_zero, false≢true, is_known_zero}
 use Rattle.codegen.proofs.expression_code_lemmas.Below.{right_row, shift_value, sign_extended, TermTree, swapped_of}
 use Rattle.codegen.proofs.expression_code_lemmas.Below.{Types, value_in, Values, variable_offset, Width, word_of}
-use Rattle.codegen.proofs.expression_code_lemmas.Below.{immediate_value}
+use Rattle.codegen.proofs.expression_code_lemmas.Below.{immediate_value, sum_offset}
 use Rattle.codegen.proofs.expression_code_lemmas.OperatorCode.{cut_composed, cut_plain, cut_value, cut_whole, d0, d32}
 use Rattle.codegen.proofs.expression_code_lemmas.OperatorCode.{dd, Applies, q0, q32, truth_fits}
 use Rattle.codegen.proofs.expression_code_lemmas.Values.{kind_fits}
@@ -157,6 +157,18 @@ near_known declared a x index o is = by_number (number_of index) refl (when_some
         let both = cond_some _ _ o same in
         record { i = i; is = f; at = both.1; near = subst (λ n. n < 2048) both.1 (ltb-true _ 2048 both.0) }
     by_number None f same = absurd (none-some o same)
+
+-- what an operator and a right operand are whose number an access holds: a sum, and that number
+pub record NearSum (declared : List FlatVariable) (x : ℕ) (operator : BinaryOperator) (right : TermTree) (o : ℕ)
+    : Type 0 where
+  pub sum : operator ≡ Add
+  pub near : NearElement declared x right o
+
+pub sum_known : (declared : List FlatVariable) (a : Allocation) (x : ℕ) (operator : BinaryOperator)
+    (right : TermTree) (o : ℕ) → sum_offset declared a x operator right ≡ Some o
+    → NearSum declared x operator right o
+sum_known declared a x Add right o is = record { sum = refl; near = near_known declared a x right o is }
+sum_known declared a x operator right o is = absurd (none-some o is)
 
 -- Operators whose operands are swapped.
 

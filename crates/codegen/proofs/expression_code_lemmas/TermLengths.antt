@@ -19,7 +19,7 @@ use Rattle.codegen.proofs.expression_code_lemmas.Below.{prefix_code, PrefixOpera
 use Rattle.codegen.proofs.expression_code_lemmas.Below.{right_row, rotate, rotate_code, row_of, scale_code, select}
 use Rattle.codegen.proofs.expression_code_lemmas.Below.{step_code, store_code, temporary, term_nodes, TermTree, Types}
 use Rattle.codegen.proofs.expression_code_lemmas.Below.{types_of, variable, variable_location, Width, WordType}
-use Rattle.codegen.proofs.expression_code_lemmas.Below.{working_register}
+use Rattle.codegen.proofs.expression_code_lemmas.Below.{working_register, sum_offset}
 use Rattle.codegen.specs.Below.{Boolean, LogicalAnd, LogicalOr, Multiply, W8}
 use Rattle.codegen.specs.declared.expression_code.numbers.Finish.TheVariants.{Narrowed}
 use Rattle.codegen.specs.declared.expression_code.numbers.NumberStep.TheVariants.{KeepsLow}
@@ -202,6 +202,14 @@ module _ (layout : TermLayout) where
       one_of (chooses_zero layout.allocation otherwise) _ _ _
       (omega (arith, length-append {A = Instr}, first, second, fetch_length, mask_length))
       (omega (arith, length-append {A = Instr}, first, second, third, fetch_length, mask_length))
+  into_short other d place (element source x size (binary sum operator width one two)) =
+      let index = binary sum operator width one two in
+      let left = placed_length None place one (into_short None (own place) place one) in
+      let whole = placed_length None place index (into_short None (own place) place (binary sum operator width one two)) in
+      code_length (near_element layout.declared layout.allocation x index) _ _ _ (λ o. omega arith)
+      (code_length (sum_offset layout.declared layout.allocation x operator two) _ _ _
+      (λ o. omega (arith, length-append {A = Instr}, left, fetch_length, address_length))
+      (omega (arith, length-append {A = Instr}, whole, fetch_length, address_length)))
   into_short other d place (element source x size index) =
       let placed = placed_length None place index (into_short None (own place) place index) in
       code_length (near_element layout.declared layout.allocation x index) _ _ _ (λ o. omega arith)

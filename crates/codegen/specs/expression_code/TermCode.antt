@@ -304,6 +304,23 @@ near_element declared allocation x index =
     if allocation.immediates then near_offset (variable_offset declared x) (kind_at declared x) (number_of index)
     else None
 
+-- the offset that an access at an index e + n adds where only e is computed, of an operator and a right operand: the
+-- array's own and n elements', where the access holds that. Addresses are modulo 2^32, so e alone may be any word.
+abbrev pub sum_offset : List FlatVariable → Allocation → ℕ → BinaryOperator → TermTree → Option ℕ
+sum_offset declared allocation x operators.Add right = near_element declared allocation x right
+sum_offset declared allocation x operator right = None
+
+-- the part of an index that is computed, and the offset that the access adds then
+abbrev pub computed_index : List FlatVariable → Allocation → ℕ → TermTree → TermTree
+computed_index declared allocation x (binary source operator width left right) =
+    if is_some (sum_offset declared allocation x operator right) then left else binary source operator width left right
+computed_index declared allocation x index = index
+
+abbrev pub access_offset : List FlatVariable → Allocation → ℕ → TermTree → ℕ
+access_offset declared allocation x (binary source operator width left right) =
+    unwrap_or (sum_offset declared allocation x operator right) (variable_offset declared x)
+access_offset declared allocation x index = variable_offset declared x
+
 -- the element at an offset that is near
 abbrev pub near_code : ℕ → Kind → ℕ → List Instr
 near_code d kind offset = Load (load_by kind) d frame_register offset ∷ []
@@ -362,61 +379,75 @@ module _ (layout : TermLayout) where
       if is_at_home layout.allocation e then []
       else into ++ keep_code (temporary layout.allocation.count layout.free place)
 
+  -- the element at an index in its place, to which this code brings it, of an array at an offset
+  abbrev pub indexed_code : ℕ → ℕ → ℕ → TermTree → List Instr → ℕ → List Instr
+  indexed_code d place x index into offset =
+      placed_code place index into ++ fetch_operand place index first_spare
+      ++ element_code d (operand_register place index first_spare) (kind_at layout.declared x) offset
+
   -- An expression into a register, with its operands in the places from this one on. None is fetched before the code
   -- of all of them is through. Where the instruction holds an operand that is a number, the other one is the only
   -- operand, and a choice between a value and 0 has two. Another operator, where one is given, stands for the
   -- expression's own.
-  abbrev pub into_by : Option BinaryOperator → ℕ → ℕ → TermTree → List Instr
-  into_by other d place (number value kind) = constant_code d value
-  into_by other d place (truth value) = constant_code d (word_of value)
-  into_by other d place (variable x) = copy_code d (variable_location layout.declared layout.allocation x)
-  into_by other d place (prefix operator width e) =
-      placed_code place e (into_by None (own_register place) place e) ++ fetch_operand place e first_spare
-      ++ prefix_code d (operand_register place e first_spare) operator width
-  into_by other d place (binary source own width left right) =
-      let operator = unwrap_or other own in
-      code_by (right_row layout.allocation operator right)
-      (λ row.
-      placed_code place left (into_by None (own_register place) place left) ++ fetch_operand place left first_spare
-      ++ number_code d (operand_register place left first_spare) width row)
-      (code_by (left_row layout.allocation operator left)
-      (λ row.
-      placed_code place right (into_by None (own_register place) place right) ++ fetch_operand place right first_spare
-      ++ number_code d (operand_register place right first_spare) width row)
-      (placed_code place left (into_by None (own_register place) place left)
-      ++ placed_code (place + 1) right (into_by None (own_register (place + 1)) (place + 1) right)
-      ++ fetch_operand place left first_spare ++ fetch_operand (place + 1) right second_spare
-      ++ operator_code d (next_register place)
-      (operand_register place left first_spare) (operand_register (place + 1) right second_spare)
-      (emitted_operator layout.allocation operator) width))
-  into_by other d place (rotate width e amount) =
-      placed_code place e (into_by None (own_register place) place e) ++ fetch_operand place e first_spare
-      ++ rotate_code d (operand_register place e first_spare) width amount
-  into_by other d place (convert kind e) =
-      if keeps_words layout.allocation kind then into_by None d place e else
-      placed_code place e (into_by None (own_register place) place e) ++ fetch_operand place e first_spare
-      ++ convert_code d (operand_register place e first_spare) (width_of kind)
-  into_by other d place (select condition accepted otherwise) =
-      let opposite = opposite_in layout.allocation condition in
-      if chooses_zero layout.allocation otherwise
-      then placed_code place condition (into_by opposite (own_register place) place condition)
-      ++ placed_code (place + 1) accepted (into_by None (own_register (place + 1)) (place + 1) accepted)
-      ++ fetch_operand place condition first_spare ++ fetch_operand (place + 1) accepted second_spare
-      ++ choice_or_zero_code (is_some opposite) d (own_register place) (operand_register place condition first_spare)
-      (operand_register (place + 1) accepted second_spare)
-      else placed_code place condition (into_by opposite (own_register place) place condition)
-      ++ placed_code (place + 1) accepted (into_by None (own_register (place + 1)) (place + 1) accepted)
-      ++ placed_code (place + 2) otherwise (into_by None (own_register (place + 2)) (place + 2) otherwise)
-      ++ fetch_operand place condition first_spare ++ fetch_operand (place + 1) accepted second_spare
-      ++ fetch_operand (place + 2) otherwise third_spare
-      ++ choice_code (is_some opposite) d (own_register place) (next_register place)
-      (operand_register place condition first_spare) (operand_register (place + 1) accepted second_spare)
-      (operand_register (place + 2) otherwise third_spare)
-  into_by other d place (element source x size index) =
-      code_by (near_element layout.declared layout.allocation x index) (near_code d (kind_at layout.declared x))
-      (placed_code place index (into_by None (own_register place) place index) ++ fetch_operand place index first_spare
-      ++ element_code d (operand_register place index first_spare) (kind_at layout.declared x)
-      (variable_offset layout.declared x))
+  abbrev mutual
+    pub into_by : Option BinaryOperator → ℕ → ℕ → TermTree → List Instr
+    into_by other d place (number value kind) = constant_code d value
+    into_by other d place (truth value) = constant_code d (word_of value)
+    into_by other d place (variable x) = copy_code d (variable_location layout.declared layout.allocation x)
+    into_by other d place (prefix operator width e) =
+        placed_code place e (into_by None (own_register place) place e) ++ fetch_operand place e first_spare
+        ++ prefix_code d (operand_register place e first_spare) operator width
+    into_by other d place (binary source own width left right) =
+        let operator = unwrap_or other own in
+        code_by (right_row layout.allocation operator right)
+        (λ row.
+        placed_code place left (into_by None (own_register place) place left) ++ fetch_operand place left first_spare
+        ++ number_code d (operand_register place left first_spare) width row)
+        (code_by (left_row layout.allocation operator left)
+        (λ row.
+        placed_code place right (into_by None (own_register place) place right) ++ fetch_operand place right first_spare
+        ++ number_code d (operand_register place right first_spare) width row)
+        (placed_code place left (into_by None (own_register place) place left)
+        ++ placed_code (place + 1) right (into_by None (own_register (place + 1)) (place + 1) right)
+        ++ fetch_operand place left first_spare ++ fetch_operand (place + 1) right second_spare
+        ++ operator_code d (next_register place)
+        (operand_register place left first_spare) (operand_register (place + 1) right second_spare)
+        (emitted_operator layout.allocation operator) width))
+    into_by other d place (rotate width e amount) =
+        placed_code place e (into_by None (own_register place) place e) ++ fetch_operand place e first_spare
+        ++ rotate_code d (operand_register place e first_spare) width amount
+    into_by other d place (convert kind e) =
+        if keeps_words layout.allocation kind then into_by None d place e else
+        placed_code place e (into_by None (own_register place) place e) ++ fetch_operand place e first_spare
+        ++ convert_code d (operand_register place e first_spare) (width_of kind)
+    into_by other d place (select condition accepted otherwise) =
+        let opposite = opposite_in layout.allocation condition in
+        if chooses_zero layout.allocation otherwise
+        then placed_code place condition (into_by opposite (own_register place) place condition)
+        ++ placed_code (place + 1) accepted (into_by None (own_register (place + 1)) (place + 1) accepted)
+        ++ fetch_operand place condition first_spare ++ fetch_operand (place + 1) accepted second_spare
+        ++ choice_or_zero_code (is_some opposite) d (own_register place) (operand_register place condition first_spare)
+        (operand_register (place + 1) accepted second_spare)
+        else placed_code place condition (into_by opposite (own_register place) place condition)
+        ++ placed_code (place + 1) accepted (into_by None (own_register (place + 1)) (place + 1) accepted)
+        ++ placed_code (place + 2) otherwise (into_by None (own_register (place + 2)) (place + 2) otherwise)
+        ++ fetch_operand place condition first_spare ++ fetch_operand (place + 1) accepted second_spare
+        ++ fetch_operand (place + 2) otherwise third_spare
+        ++ choice_code (is_some opposite) d (own_register place) (next_register place)
+        (operand_register place condition first_spare) (operand_register (place + 1) accepted second_spare)
+        (operand_register (place + 2) otherwise third_spare)
+    into_by other d place (element source x size index) =
+        code_by (near_element layout.declared layout.allocation x index) (near_code d (kind_at layout.declared x))
+        (reached_code d place x index (into_by None (own_register place) place index))
+
+    -- the element at an index that is not near, whose own code this is; of a sum with a number that the access holds
+    -- only the left operand is computed
+    pub reached_code : ℕ → ℕ → ℕ → TermTree → List Instr → List Instr
+    reached_code d place x (binary source operator width left right) into =
+        code_by (sum_offset layout.declared layout.allocation x operator right)
+        (indexed_code d place x left (into_by None (own_register place) place left))
+        (indexed_code d place x (binary source operator width left right) into (variable_offset layout.declared x))
+    reached_code d place x index into = indexed_code d place x index into (variable_offset layout.declared x)
 
   -- an expression into a register
   abbrev pub into_code : ℕ → ℕ → TermTree → List Instr

@@ -21,7 +21,7 @@ use Rattle.codegen.specs.expression_code.Registers.{third_register, address_regi
 use Rattle.codegen.specs.expression_code.TermCode.{is_near, upper_part, lower_part, load_code, store_code}
 use Rattle.codegen.specs.expression_code.TermCode.{constant_code}
 use Rattle.codegen.specs.expression_code.TermCode.{address_code, load_by, kind_at, near_element, near_code, code_by}
-use Rattle.codegen.specs.expression_code.TermCode.{fetch_code, into_code}
+use Rattle.codegen.specs.expression_code.TermCode.{fetch_code, into_code, computed_index, access_offset}
 use Rattle.codegen.specs.declared.expression_code.locations.Location.{Location}
 use Rattle.codegen.specs.declared.expression_code.locations.Location.TheVariants.{InRegister, InSlot}
 
@@ -156,9 +156,11 @@ abbrev pub put_value_code : Frame → Kind → ℕ → TermTree → TermTree →
 put_value_code layout kind x index value =
     code_by (near_element layout.declared layout.allocation x index)
     (λ offset. into_element_code layout kind offset value)
-    (index_code layout index value
-    ++ put_code (read_register layout.allocation value_register index)
-    (read_register layout.allocation second_register value) kind (variable_offset layout.declared x))
+    (let part = computed_index layout.declared layout.allocation x index in
+    index_code layout part value
+    ++ put_code (read_register layout.allocation value_register part)
+    (read_register layout.allocation second_register value) kind
+    (access_offset layout.declared layout.allocation x index))
 
 -- the value where the control value is true, and else the old one, into the element
 abbrev pub put_under_code : ℕ → ℕ → Location → Kind → ℕ → List Instr
@@ -187,10 +189,11 @@ put_element_code layout None x index value =
 put_element_code layout (Some control) x index value =
     code_by (near_element layout.declared layout.allocation x index)
     (λ offset. put_under_near_code layout (control_location layout control) (kind_at layout.declared x) offset value)
-    (index_code layout index value
-    ++ put_under_code (read_register layout.allocation value_register index)
+    (let part = computed_index layout.declared layout.allocation x index in
+    index_code layout part value
+    ++ put_under_code (read_register layout.allocation value_register part)
     (read_register layout.allocation second_register value) (control_location layout control)
-    (kind_at layout.declared x) (variable_offset layout.declared x))
+    (kind_at layout.declared x) (access_offset layout.declared layout.allocation x index))
 
 -- Statements of a program that is laid out so.
 module _ (layout : Frame) where

@@ -1,12 +1,12 @@
 // An expression's code, and how many temporaries it has at once.
 
-ghost use Rattle.std.specs.Prelude.{◌≡◌, ◌++◌, ◌+◌, ◌*◌, ◌≤◌, is_some, length, OnOk, IfOk};
+ghost use Rattle.std.specs.Prelude.{◌≡◌, ◌++◌, ◌+◌, ◌*◌, ◌≤◌, ◌<◌, is_some, length, OnOk, IfOk};
 ghost use Rattle.codegen.specs.expression_code.Layout.{temporaries_offset, term_layout};
 ghost use Rattle.codegen.specs.expression_code.Allocation.{register_of, slots_to, working_register};
 ghost use Rattle.codegen.specs.expression_code.Registers.{first_spare, second_spare, third_spare};
 ghost use Rattle.codegen.specs.expression_code.TermCode.{into_code, expr_code, operand, fetch_code};
 ghost use Rattle.codegen.specs.expression_code.TermCode.{choice_or_zero_code, into_by, IsAmong, opposite_in};
-ghost use Rattle.codegen.specs.expression_code.TermCode.{own_register, placed_code};
+ghost use Rattle.codegen.specs.expression_code.TermCode.{own_register, placed_code, reached_code, indexed_code};
 ghost use Rattle.codegen.specs.Below.{height_of, term_tree};
 
 use crate::expression_code::layout::Layout;
@@ -259,16 +259,69 @@ fn into_by(
             if let Some(offset) = layout.near_element(*array, index) {
                 return emit::near(code, target, layout.kind(*array), offset);
             }
-            let register = evaluated(layout, code, place, index)?;
-            emit::element(
-                code,
-                target,
-                register,
-                layout.kind(*array),
-                layout.variable(*array),
-            )
+            reached(layout, code, target, place, *array, index)
         }
     }
+}
+
+/// The element of an array at an index that is not near, into a register. Of a sum with a number that the access holds
+/// only the left operand is computed.
+#[cycle(expressions)]
+fn reached(
+    layout: &Layout<'_>,
+    code: &mut Vec<Instr>,
+    target: Reg,
+    place: u32,
+    array: u32,
+    index: &Term,
+) -> Result<(), AllocError>
+    requires array { array < length layout.now.declared }
+    requires among { IsAmong (length layout.now.declared) (term_tree index.now) }
+    requires room { temporaries_offset layout.now
+        + 4 * slots_to layout.now.allocation.count (height_of (term_tree index.now) + place) ≤ 65536 }
+    ensures { let terms = term_layout layout.now in
+        OnOk result (code.new.items ≡ code.old.items
+        ++ reached_code terms target place array (term_tree index.now)
+        (into_by terms None (own_register terms place) place (term_tree index.now))) }
+{
+    if let Term::Binary(_, operator, _, left, right) = index {
+        if let Some(offset) = layout.sum_offset(array, *operator, right) {
+            return indexed(layout, code, target, place, array, left, offset);
+        }
+    }
+    indexed(
+        layout,
+        code,
+        target,
+        place,
+        array,
+        index,
+        layout.variable(array),
+    )
+}
+
+/// The element at an index, of an array as if at an offset, into a register.
+#[cycle(expressions)]
+fn indexed(
+    layout: &Layout<'_>,
+    code: &mut Vec<Instr>,
+    target: Reg,
+    place: u32,
+    array: u32,
+    index: &Term,
+    offset: u32,
+) -> Result<(), AllocError>
+    requires array { array < length layout.now.declared }
+    requires among { IsAmong (length layout.now.declared) (term_tree index.now) }
+    requires room { temporaries_offset layout.now
+        + 4 * slots_to layout.now.allocation.count (height_of (term_tree index.now) + place) ≤ 65536 }
+    ensures { let terms = term_layout layout.now in
+        OnOk result (code.new.items ≡ code.old.items
+        ++ indexed_code terms target place array (term_tree index.now)
+        (into_by terms None (own_register terms place) place (term_tree index.now)) offset) }
+{
+    let register = evaluated(layout, code, place, index)?;
+    emit::element(code, target, register, layout.kind(array), offset)
 }
 
 /// An expression into a place, where temporaries live in all lower ones, with another operator for its own where one is

@@ -1,6 +1,6 @@
 // Where a program's words lie in the frame.
 
-ghost use Rattle.std.specs.Prelude.{◌≡◌, ◌≤◌, ◌<◌, ◌+◌, ◌*◌, length, map, slice_get, unwrap_or, if◌then◌else◌};
+ghost use Rattle.std.specs.Prelude.{◌≡◌, ℕ, ◌≤◌, ◌<◌, ◌+◌, ◌*◌, length, map, slice_get, unwrap_or, if◌then◌else◌};
 ghost use Rattle.std.specs.Prelude.{IfOk};
 ghost use Rattle.codegen.specs.expression_code.Layout.{variable_offset, variable_location, result_offset};
 ghost use Rattle.codegen.specs.expression_code.Layout.{control_offset, control_location, word_offset, next_offset};
@@ -9,8 +9,9 @@ ghost use Rattle.codegen.specs.expression_code.Layout.{has_slot, slotted, withou
 ghost use Rattle.codegen.specs.expression_code.Allocation.{is_unread, slots_to, temporary, working_register};
 ghost use Rattle.codegen.specs.expression_code.Registers.{value_register};
 ghost use Rattle.codegen.specs.expression_code.TermCode.{kind_at, near_offset, near_element, is_word, keeps_words};
+ghost use Rattle.codegen.specs.expression_code.TermCode.{sum_offset, computed_index, access_offset, IsAmong};
 ghost use Rattle.codegen.specs.expression_code.TermCode.{home_of_term, is_at_home, operand};
-ghost use Rattle.codegen.specs.Below.{declaration_of, declared_words, term_tree, words_of};
+ghost use Rattle.codegen.specs.Below.{declaration_of, declared_words, height_of, term_tree, words_of};
 
 use crate::expression_code::allocation::Allocation;
 use crate::expression_code::emit::NEAR;
@@ -18,7 +19,7 @@ use crate::expression_code::locations::Location;
 use crate::expression_code::numbers::number;
 use crate::image_fields::Slot;
 use inline::{FlatVariable, Term};
-use language::{Kind, Param};
+use language::{BinaryOperator, Kind, Param};
 use rv_code::Reg;
 use std::alloc::{AllocError, Global};
 use std::marker::Model;
@@ -204,6 +205,48 @@ impl<'f> Layout<'f> {
             near_offset(self.variable(array), self.kind(array), number(index))
         } else {
             None
+        }
+    }
+
+    /// The offset that an access at an index e + n adds where only e is computed, of an operator and a right operand:
+    /// the array's own and n elements', where the access holds that.
+    pub fn sum_offset(&self, array: u32, operator: BinaryOperator, right: &Term) -> Option<u32>
+        requires { array < length self.now.declared }
+        ensures { result ≡ sum_offset self.now.declared self.now.allocation array operator (term_tree right.now) }
+    {
+        match operator {
+            BinaryOperator::Add => self.near_element(array, right),
+            _ => None,
+        }
+    }
+
+    /// The part of an index that is computed.
+    pub fn computed_index<'t>(&self, array: u32, index: &'t Term) -> &'t Term
+        requires { array < length self.now.declared }
+        ensures part { term_tree result.now
+            ≡ computed_index self.now.declared self.now.allocation array (term_tree index.now) }
+        ensures among { (count : ℕ) → IsAmong count (term_tree index.now) → IsAmong count (term_tree result.now) }
+        ensures height { height_of (term_tree result.now) ≤ height_of (term_tree index.now) }
+    {
+        if let Term::Binary(_, operator, _, left, right) = index {
+            if self.sum_offset(array, *operator, right).is_some() {
+                return left;
+            }
+        }
+        index
+    }
+
+    /// The offset that the access adds then.
+    pub fn access_offset(&self, array: u32, index: &Term) -> u32
+        requires { array < length self.now.declared }
+        ensures { result ≡ access_offset self.now.declared self.now.allocation array (term_tree index.now) }
+    {
+        let own = self.variable(array);
+        match index {
+            Term::Binary(_, operator, _, _, right) => {
+                self.sum_offset(array, *operator, right).unwrap_or(own)
+            }
+            _ => own,
         }
     }
 

@@ -1,4 +1,11 @@
-use Rattle.std.proofs.Common.{◌≡◌, ℕ, length, Some, sym, ap, subst, ◌∙◌, arith}
+use Rattle.std.proofs.Common.{◌≡◌, ℕ, length, None, Some, sym, ap, subst, ◌∙◌, arith, List, [], ◌∷◌, ◌++◌, append-nil}
+use Rattle.std.proofs.Common.{append_assoc, Option, refl}
+use Rattle.codegen.proofs.Machine.{Instr}
+use Rattle.codegen.specs.Below.{Ecall}
+use Rattle.codegen.specs.private.Emitted.{assign_code, block_code}
+use Rattle.codegen.specs.private.Fresh.{homes_but, starts_fresh}
+use Rattle.codegen.specs.private.Generated.{entry_code, result_code}
+use Rattle.codegen.proofs.generator.program_code.Goals.{in-Some+in_ok-assign, in_default}
 use Rattle.codegen.proofs.Language.{term_tree}
 use Rattle.codegen.proofs.Logic.{option_map}
 use Rattle.codegen.proofs.ImageLemmas.{result_among, body_placed, laid_length, room_frame}
@@ -43,3 +50,43 @@ assign-requires-clause-room c =
     let is : p.value ≡ Some e = sym c.value.ensures ∙ ap (option_map (λ term. term_tree term.now)) c.in-Some.is in
     let height : result_height p.value ≡ height_of e = ap result_height is in
     omega (arith, height, ap temporaries_offset c.requires.frame, room_frame a p c.requires.room)
+
+-- the pieces one behind the other
+joined : (entry body result : List Instr) {one two three four : List Instr} → one ≡ entry → two ≡ one ++ body
+    → three ≡ two ++ result → four ≡ three ++ Ecall ∷ [] → four ≡ (entry ++ (body ++ result)) ++ Ecall ∷ []
+joined entry body result first second third fourth =
+    fourth
+    ∙ ap (λ (l : List Instr). l ++ Ecall ∷ [])
+    (third ∙ (ap (λ (l : List Instr). l ++ result) (second ∙ ap (λ (l : List Instr). l ++ body) first)
+    ∙ append_assoc entry body result))
+
+none_there : {A : Type 0} (o : Option A) → ((x : A) → o ≡ Some x → ⊥) → o ≡ None
+none_there None denied = refl
+none_there (Some x) denied = absurd (denied x refl)
+
+pub returns-clause-code : goal.returns-clause-code
+returns-clause-code c =
+    let p = c.args.straight.now in
+    let l = c.args.layout.now in
+    let before = c.statements.new.code.items in
+    let all : c.end.new.code.items ≡ (entry_code l.declared 0 (homes_but (starts_fresh p) 0 l.allocation.homes)
+    ++ (block_code l 0 p.body ++ result_code l p.value)) ++ Ecall ∷ [] =
+    joined (entry_code l.declared 0 (homes_but (starts_fresh p) 0 l.allocation.homes)) (block_code l 0 p.body)
+    (result_code l p.value)
+    (c.in_ok-enter.ensures ∙ ap (λ (code : List Instr). code ++ entry_code l.declared 0
+    (homes_but (starts_fresh p) 0 l.allocation.homes)) c.new-code.ensures.items)
+    (c.in_ok-statements.ensures.code ∙ ap (λ b. c.enter.new.code.items ++ block_code l 0 b) c.body.ensures.body)
+    (elim c.match-value.branch [
+      | in-Some+in_ok-assign w ↦
+          ap (λ code. code.items) w.code-is ∙ (w.in_ok-assign.ensures
+          ∙ (ap (λ o. before ++ assign_code l (term_tree w.in-Some.value.now) o) w.result.ensures.place
+          ∙ ap (λ v. before ++ result_code l v) (sym (ap (option_map (λ term. term_tree term.now)) w.in-Some.is)
+          ∙ c.value.ensures)))
+      | in_default w ↦
+          ap (λ code. code.items) w.code-is ∙ (sym (append-nil before)
+          ∙ ap (λ v. before ++ result_code l v) (sym (ap (option_map (λ term. term_tree term.now))
+          (none_there c.value.result w.in_default.not-Some)) ∙ c.value.ensures))
+    ])
+    c.in_ok-end.ensures in
+    all ∙ ap (λ (f : Frame). (entry_code f.declared 0 (homes_but (starts_fresh p) 0 l.allocation.homes)
+    ++ (block_code f 0 p.body ++ result_code f p.value)) ++ Ecall ∷ []) c.requires.frame
