@@ -90,9 +90,9 @@ fn fitted_with_words(
     }
 }
 
-/// The optimised code of a program whose loops and arrays are as they stay, where it is within the limit on words: words
-/// share variables, numbers that are used much become words, and a variable that nothing names has no room. Only memory
-/// refuses it.
+/// The optimised code of a program whose loops and arrays are as they stay, where it is within the limit on words:
+/// words share variables, numbers that are used much become words, and a variable that nothing names has no room. Only
+/// memory refuses it.
 fn shared_code(alloc: Global, straight: &StraightCode<'_>) -> Result<Option<Generated>, Refusal>
     ensures generated { IfOk result (λ made. IfSome made (IsCodeFor straight.now)) }
     ensures exact { IfOk result (λ made.
