@@ -1,7 +1,7 @@
 -- The code of what does not name some variables is the same where these have no homes.
 use Rattle.std.proofs.Common.{◌≡◌, ℕ, zero, suc, ◌+◌, ◌<◌, ◌≤◌, ◌==◌, ◌||◌, Bool, true, false, List, [], ◌∷◌, ◌++◌}
 use Rattle.std.proofs.Common.{length, Option, None, Some, refl, sym, ap, ap₂, ◌∙◌, arith, eq-eqb, if◌then◌else◌}
-use Rattle.std.proofs.Common.{is_some, unwrap_or}
+use Rattle.std.proofs.Common.{is_some}
 use Rattle.std.proofs.lemmas.Bool.{false_from_ne_true, or_parts, true≢false}
 use Rattle.codegen.proofs.Choices.{of_choice, when_not}
 use Rattle.codegen.proofs.Language.{array, branch, first, FlatVariable, nothing, put, repeats, set, element_bytes}
@@ -21,7 +21,6 @@ use Rattle.codegen.specs.expression_code.Allocation.{temporary, working_register
 use Rattle.codegen.specs.expression_code.TermCode.{access_offset, computed_index, into_by, is_at_home, keeps_words}
 use Rattle.codegen.specs.expression_code.TermCode.{code_by, indexed_code, near_code, near_element, operand}
 use Rattle.codegen.specs.expression_code.TermCode.{opposite_in, reached_code, sum_offset}
-use Rattle.language.specs.declared.operators.BinaryOperator.TheVariants as operators
 use Rattle.inline.specs.Flat as flat
 use Rattle.codegen.specs.Below.{BinaryOperator, Kind}
 use Rattle.codegen.specs.expression_code.Layout.{term_layout}
@@ -153,11 +152,6 @@ module _ (layout : Frame) (left_out : ℕ → Bool)
   opposite_same (flat.binary source operator width left right) = refl
   opposite_same e = refl
 
-  offset_same : (x : ℕ) (operator : BinaryOperator) (right : TermTree)
-      → sum_offset declared b x operator right ≡ sum_offset declared a x operator right
-  offset_same x operators.Add right = refl
-  offset_same x operator right = refl
-
   -- code for what there may be
   code_same : {T : Type 0} (o : Option T) (f g : T → List Instr) {xs ys : List Instr} → ((t : T) → f t ≡ g t)
       → xs ≡ ys → code_by o f xs ≡ code_by o g ys
@@ -218,10 +212,9 @@ module _ (layout : Frame) (left_out : ℕ → Bool)
         let one = λ (y : ℕ) (out : left_out y ≡ true). (or_parts _ _ (spares y out)).0 in
         let index = flat.binary sum operator width left right in
         let left_same = by_same None (own place) place left one in
-        rw (offset_same x operator right)
-        (code_same (sum_offset declared a x operator right) _ _
+        code_same (sum_offset declared a x operator right) _ _
         (λ o. indexed_same d place x left one o _ _ left_same)
-        (indexed_same d place x index spares (variable_offset declared x) into into' same))
+        (indexed_same d place x index spares (variable_offset declared x) into into' same)
     reached_same d place x index spares into into' same =
         indexed_same d place x index spares (variable_offset declared x) into into' same
 
@@ -283,11 +276,7 @@ module _ (layout : Frame) (left_out : ℕ → Bool)
   part_same : (x : ℕ) (index : TermTree)
       → (computed_index declared b x index ≡ computed_index declared a x index)
       × (access_offset declared b x index ≡ access_offset declared a x index)
-  part_same x (flat.binary sum operator width left right) =
-      let same = offset_same x operator right in (
-        ap (λ (o : Option ℕ). if is_some o then left else flat.binary sum operator width left right) same,
-        ap (λ (o : Option ℕ). unwrap_or o (variable_offset declared x)) same,
-      )
+  part_same x (flat.binary sum operator width left right) = (refl, refl)
   part_same x index = (refl, refl)
 
   put_same : (within : Option ℕ) (x : ℕ) (index value : TermTree) → Spares (λ y. names_in y index)

@@ -25,7 +25,7 @@ pub use Rattle.codegen.specs.expression_code.TermCode.{RowStep, lower_part, move
 pub use Rattle.codegen.specs.expression_code.TermCode.{upper_part, choice_or_zero_code, emitted_operator, kind_at}
 pub use Rattle.codegen.specs.expression_code.TermCode.{into_by, mask_code, number_step_code, of_bits, opposite_by}
 pub use Rattle.codegen.specs.expression_code.TermCode.{opposite_in, placed_code, sum_offset, reached_code}
-pub use Rattle.codegen.specs.expression_code.TermCode.{access_offset, computed_index}
+pub use Rattle.codegen.specs.expression_code.TermCode.{access_offset, added, computed_index, near_sum}
 pub use Rattle.branch_removal.specs.Heights.{height_of}
 pub use Rattle.codegen.specs.declared.expression_code.locations.Location.{Location}
 pub use Rattle.codegen.specs.declared.expression_code.locations.Location.TheVariants.{InRegister, InSlot}

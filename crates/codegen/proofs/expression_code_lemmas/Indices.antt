@@ -3,7 +3,7 @@ use Rattle.std.proofs.Common.{◌≡◌, ℕ, ◌+◌, ◌*◌, ◌%◌, ◌^◌
 use Rattle.std.proofs.Common.{slice_get, refl, sym, ap, ap₂, subst, ◌∙◌, arith, append-nil, is_some, unwrap_or}
 use Rattle.codegen.proofs.expression_code_lemmas.Below.{access_offset, array_as, binary, BinaryOperator, Boolean}
 use Rattle.codegen.proofs.expression_code_lemmas.Below.{computed_index, element_bytes, height_of, Kind, of_binary}
-use Rattle.codegen.proofs.expression_code_lemmas.Below.{operated, Path, path_in, Place, Profile, sum_offset}
+use Rattle.codegen.proofs.expression_code_lemmas.Below.{marks_of, operated, Path, path_in, Place, Profile, sum_offset}
 use Rattle.codegen.proofs.expression_code_lemmas.Below.{TermHasType, term_nodes, TermTree, types_of, value_in, Values}
 use Rattle.codegen.proofs.expression_code_lemmas.Below.{variable_offset, Width, width_of, WordType}
 use Rattle.codegen.proofs.expression_code_lemmas.Frame.{Setting}
@@ -20,10 +20,11 @@ sum_kind : {profile : Profile} {one other whole : WordType} → Makes profile Ar
 sum_kind (arithmetic numeric) = refl
 
 -- the address of an element at a sum, modulo 2^32, of which one operand is in the offset
-sum_scaled : (kind : Kind) (o base v n i : ℕ) → (v + n) % 2 ^ 32 ≡ i → base + element_bytes kind * i < 2 ^ 32
-    → base + element_bytes kind * n ≡ o → (o + element_bytes kind * v) % 2 ^ 32 ≡ base + element_bytes kind * i
-sum_scaled Boolean o base v n i is below at = omega arith
-sum_scaled kind o base v n i is below at = omega arith
+sum_scaled : (kind : Kind) (o base v m i : ℕ) → (v + m) % 2 ^ 32 ≡ i → base + element_bytes kind * i < 2 ^ 32
+    → (base + element_bytes kind * m) % 2 ^ 32 ≡ o
+    → (o + element_bytes kind * v) % 2 ^ 32 ≡ base + element_bytes kind * i
+sum_scaled Boolean o base v m i is below at = omega arith
+sum_scaled kind o base v m i is below at = omega arith
 
 -- the computed part has a type and the index's path, and with the offset it gives the element's place, modulo 2^32
 pub record IsPart (z : Setting) (x size : ℕ) (word : WordType) (mutable : Bool) (index part : TermTree) (o : ℕ)
@@ -62,17 +63,18 @@ module _ (z : Setting) (x size : ℕ) (word : WordType) (mutable : Bool)
       (near : NearSum z.laid x operator right o) where
     sum_path : (m : Values) → path_in m (binary sum operator width left right) ≡ path_in m left
     sum_path m =
-        subst (λ p. path_in m (binary sum p width left right) ≡ path_in m left) (sym near.sum)
-        (ap (λ (p : Path). path_in m left ++ p ++ []) (known right near.near.i near.near.is m).1
-        ∙ (append-nil (path_in m left ++ []) ∙ append-nil (path_in m left)))
+        let k = known right near.adds.n near.adds.is m in
+        ap₂ (λ (p q : Path). path_in m left ++ p ++ q) k.1
+        (ap (marks_of sum operator (value_in m left)) k.0 ∙ near.adds.quiet sum (value_in m left))
+        ∙ (append-nil (path_in m left ++ []) ∙ append-nil (path_in m left))
 
     sum_value : (m : Values)
-        → value_in m (binary sum operator width left right) ≡ (value_in m left + near.near.i) % 2 ^ 32
+        → value_in m (binary sum operator width left right) ≡ (value_in m left + near.m) % 2 ^ 32
     sum_value m =
-        let whole = sum_kind (subst (λ p. Makes z.code.profile (operation_of p) one other type) near.sum makes) in
-        ap₂ (λ p w. operated p w (value_in m left) (value_in m right)) near.sum
-        (same ∙ ap width_of (whole ∙ uint))
-        ∙ ap (λ k. (value_in m left + k) % 2 ^ 32) (known right near.near.i near.near.is m).0
+        let whole = sum_kind (subst (λ p. Makes z.code.profile p one other type) near.adds.makes makes) in
+        ap₂ (λ w k. operated operator w (value_in m left) k) (same ∙ ap width_of (whole ∙ uint))
+        (known right near.adds.n near.adds.is m).0
+        ∙ near.adds.same (value_in m left)
 
     pub sum_part : IsPart z x size word mutable (binary sum operator width left right) left o
     sum_part = record {
@@ -83,9 +85,9 @@ module _ (z : Setting) (x size : ℕ) (word : WordType) (mutable : Bool)
           let lies = array_lies z x size word mutable is in
           let array = array_as word mutable size in
           let kind = kind_known z.laid x array lies in
-          sum_scaled word.kind o (variable_offset z.laid x) (value_in m left) near.near.i i (sym (sum_value m) ∙ at)
+          sum_scaled word.kind o (variable_offset z.laid x) (value_in m left) near.m i (sym (sum_value m) ∙ at)
           (omega (arith, place_ends z x array i lies below))
-          (ap (λ k. variable_offset z.laid x + element_bytes k * near.near.i) (sym kind) ∙ near.near.at);
+          (ap (λ k. (variable_offset z.laid x + element_bytes k * near.m) % 2 ^ 32) (sym kind) ∙ near.at);
       height = omega arith;
       nodes = omega arith;
     }

@@ -17,7 +17,7 @@ use Rattle.codegen.proofs.expression_code_lemmas.Below.{both_right, only_compute
 use Rattle.codegen.proofs.expression_code_lemmas.Below.{registers_after, chooses_zero, false≢true, is_known_zero}
 use Rattle.codegen.proofs.expression_code_lemmas.Below.{right_row, shift_value, sign_extended, TermTree, swapped_of}
 use Rattle.codegen.proofs.expression_code_lemmas.Below.{Types, value_in, Values, variable_offset, Width, word_of}
-use Rattle.codegen.proofs.expression_code_lemmas.Below.{immediate_value, sum_offset}
+use Rattle.codegen.proofs.expression_code_lemmas.Below.{added, immediate_value, near_sum, sum_offset}
 use Rattle.codegen.proofs.expression_code_lemmas.OperatorCode.{cut_composed, cut_plain, cut_value, cut_whole, d0, d32}
 use Rattle.codegen.proofs.expression_code_lemmas.OperatorCode.{dd, Applies, q0, q32, truth_fits}
 use Rattle.codegen.proofs.expression_code_lemmas.Values.{kind_fits}
@@ -29,6 +29,8 @@ use Rattle.codegen.specs.Below.{Addi, Andi, BitAnd, BitOr, BitXor, Equal, Greate
 use Rattle.codegen.specs.Below.{HighProduct, Less, LessOrEqual, Multiply, negated, number, Ori, ShiftLeft}
 use Rattle.codegen.specs.Below.{ShiftOperation}
 use Rattle.codegen.specs.Below.{ShiftRight, Slli, Sltiu, Srli, Subtract, truth, Unequal, W32, W8, Xori}
+use Rattle.codegen.specs.Below.{operation_of}
+use Rattle.language.specs.declared.operation.Operation.TheVariants.{Arithmetic}
 use Rattle.language.specs.declared.operators.BinaryOperator.TheVariants.{Add}
 
 -- Numbers.
@@ -158,17 +160,51 @@ near_known declared a x index o is = by_number (number_of index) refl (when_some
         record { i = i; is = f; at = both.1; near = subst (λ n. n < 2048) both.1 (ltb-true _ 2048 both.0) }
     by_number None f same = absurd (none-some o same)
 
--- what an operator and a right operand are whose number an access holds: a sum, and that number
+-- an operator that adds a number to its left operand, modulo 2^32, as its right operand says
+pub record Adds (operator : BinaryOperator) (right : TermTree) (m : ℕ) : Type 0 where
+  pub n : ℕ
+  pub is : number_of right ≡ Some n
+  pub same : (v : ℕ) → operated operator W32 v n ≡ (v + m) % 2 ^ 32
+  pub quiet : (source : Place) (v : ℕ) → marks_of source operator v n ≡ []
+  pub makes : operation_of operator ≡ Arithmetic
+
+adds_by : (operator : BinaryOperator) (right : TermTree) (p : Option ℕ) (m : ℕ) → number_of right ≡ p
+    → added operator p ≡ Some m → Adds operator right m
+adds_by Add right (Some n) m f is = record {
+  n = n;
+  is = f;
+  same = λ v. ap (λ k. (v + k) % 2 ^ 32) (same_Some n m is);
+  quiet = λ source v. refl;
+  makes = refl;
+}
+adds_by Subtract right (Some n) m f is = record {
+  n = n;
+  is = f;
+  same = λ v. let less : operated Subtract W32 v n ≡ (v + negated W32 n) % 2 ^ 32 = omega arith in
+      less ∙ ap (λ k. (v + k) % 2 ^ 32) (same_Some (negated W32 n) m is);
+  quiet = λ source v. refl;
+  makes = refl;
+}
+adds_by operator right p m f is = absurd (none-some m is)
+
+-- and the offset that an access with that number on top holds
 pub record NearSum (declared : List FlatVariable) (x : ℕ) (operator : BinaryOperator) (right : TermTree) (o : ℕ)
     : Type 0 where
-  pub sum : operator ≡ Add
-  pub near : NearElement declared x right o
+  pub m : ℕ
+  pub adds : Adds operator right m
+  pub at : (variable_offset declared x + element_bytes (kind_at declared x) * m) % 2 ^ 32 ≡ o
 
 pub sum_known : (declared : List FlatVariable) (a : Allocation) (x : ℕ) (operator : BinaryOperator)
     (right : TermTree) (o : ℕ) → sum_offset declared a x operator right ≡ Some o
     → NearSum declared x operator right o
-sum_known declared a x Add right o is = record { sum = refl; near = near_known declared a x right o is }
-sum_known declared a x operator right o is = absurd (none-some o is)
+sum_known declared a x operator right o is =
+    by_number (added operator (number_of right)) refl (when_some a.immediates _ o is).1
+  where
+    by_number : (p : Option ℕ) → added operator (number_of right) ≡ p
+        → near_sum (variable_offset declared x) (kind_at declared x) p ≡ Some o → NearSum declared x operator right o
+    by_number (Some m) f same =
+        record { m = m; adds = adds_by operator right (number_of right) m refl f; at = (cond_some _ _ o same).1 }
+    by_number None f same = absurd (none-some o same)
 
 -- Operators whose operands are swapped.
 

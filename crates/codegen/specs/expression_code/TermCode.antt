@@ -18,7 +18,7 @@ use Rattle.codegen.specs.expression_code.Registers.{second_spare, third_spare}
 use Rattle.codegen.specs.Below.{Add, Addi, And, Andi, binary, BinaryOperator, bits, Boolean, convert, Divu, element}
 use Rattle.codegen.specs.Below.{element_bytes, FlatVariable, Immediate, Instr, Kind, Lbu, Lhu, Load, LoadOperation, Lui}
 use Rattle.codegen.specs.Below.{Lw, Mul, Mulhu, number, opposite_of, Or, prefix, Register, Remu, rotate, select, Shift}
-use Rattle.codegen.specs.Below.{Sll, Slli, Sltiu}
+use Rattle.codegen.specs.Below.{negated, Sll, Slli, Sltiu}
 use Rattle.codegen.specs.Below.{Sltu, Srl, Srli, Store, Sub, Sw, TermTree, truth, Uint16, Uint32, Uint8, Upper}
 use Rattle.codegen.specs.Below.{variable, W16, W32, W8, Width, width_of, Xor}
 use Rattle.rv_code.specs.declared.instructions.Instr.TheVariants.{Multiply, Divide}
@@ -304,11 +304,25 @@ near_element declared allocation x index =
     if allocation.immediates then near_offset (variable_offset declared x) (kind_at declared x) (number_of index)
     else None
 
--- the offset that an access at an index e + n adds where only e is computed, of an operator and a right operand: the
--- array's own and n elements', where the access holds that. Addresses are modulo 2^32, so e alone may be any word.
+-- the number that an operator adds to its left operand, modulo 2^32
+abbrev pub added : BinaryOperator → Option ℕ → Option ℕ
+added operators.Add (Some n) = Some n
+added operators.Subtract (Some n) = Some (negated W32 n)
+added operator n = None
+
+-- an offset with so many elements on top, modulo 2^32, where an access holds that
+abbrev pub near_sum : ℕ → Kind → Option ℕ → Option ℕ
+near_sum base kind None = None
+near_sum base kind (Some n) =
+    let offset = (base + element_bytes kind * n) % 2 ^ 32 in
+    if is_near offset then Some offset else None
+
+-- the offset that an access at an index e + n or e - n adds where only e is computed, of the operator and its right
+-- operand, where numbers go into instructions. Addresses are modulo 2^32, so e alone may be any word.
 abbrev pub sum_offset : List FlatVariable → Allocation → ℕ → BinaryOperator → TermTree → Option ℕ
-sum_offset declared allocation x operators.Add right = near_element declared allocation x right
-sum_offset declared allocation x operator right = None
+sum_offset declared allocation x operator right =
+    if allocation.immediates
+    then near_sum (variable_offset declared x) (kind_at declared x) (added operator (number_of right)) else None
 
 -- the part of an index that is computed, and the offset that the access adds then
 abbrev pub computed_index : List FlatVariable → Allocation → ℕ → TermTree → TermTree

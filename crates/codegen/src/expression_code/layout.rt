@@ -10,6 +10,7 @@ ghost use Rattle.codegen.specs.expression_code.Allocation.{is_unread, slots_to, 
 ghost use Rattle.codegen.specs.expression_code.Registers.{value_register};
 ghost use Rattle.codegen.specs.expression_code.TermCode.{kind_at, near_offset, near_element, is_word, keeps_words};
 ghost use Rattle.codegen.specs.expression_code.TermCode.{sum_offset, computed_index, access_offset, IsAmong};
+ghost use Rattle.codegen.specs.expression_code.TermCode.{added, near_sum};
 ghost use Rattle.codegen.specs.expression_code.TermCode.{home_of_term, is_at_home, operand};
 ghost use Rattle.codegen.specs.Below.{declaration_of, declared_words, height_of, term_tree, words_of};
 
@@ -23,6 +24,7 @@ use language::{BinaryOperator, Kind, Param};
 use rv_code::Reg;
 use std::alloc::{AllocError, Global};
 use std::marker::Model;
+use word::{Width, negate};
 
 /// The bytes of a slot that holds a word.
 pub const WORD_BYTES: u32 = 4;
@@ -208,15 +210,17 @@ impl<'f> Layout<'f> {
         }
     }
 
-    /// The offset that an access at an index e + n adds where only e is computed, of an operator and a right operand:
-    /// the array's own and n elements', where the access holds that.
+    /// The offset that an access at an index e + n or e - n adds where only e is computed, of the operator and its
+    /// right operand, where numbers go into instructions.
     pub fn sum_offset(&self, array: u32, operator: BinaryOperator, right: &Term) -> Option<u32>
         requires { array < length self.now.declared }
         ensures { result ≡ sum_offset self.now.declared self.now.allocation array operator (term_tree right.now) }
     {
-        match operator {
-            BinaryOperator::Add => self.near_element(array, right),
-            _ => None,
+        if self.allocation.immediates() {
+            let number = added(operator, number(right));
+            near_sum(self.variable(array), self.kind(array), number)
+        } else {
+            None
         }
     }
 
@@ -370,6 +374,30 @@ fn near_offset(base: u32, kind: Kind, index: Option<u32>) -> Option<u32>
     ensures { result ≡ near_offset base kind index }
 {
     let offset = u64::from(base) + u64::from(kind.element_bytes()) * u64::from(index?);
+    if offset < u64::from(NEAR) {
+        Some(offset as u32)
+    } else {
+        None
+    }
+}
+
+/// The number that an operator adds to its left operand, modulo 2^32.
+fn added(operator: BinaryOperator, right: Option<u32>) -> Option<u32>
+    ensures { result ≡ added operator right }
+{
+    match operator {
+        BinaryOperator::Add => right,
+        BinaryOperator::Subtract => Some(negate(Width::W32, right?)),
+        _ => None,
+    }
+}
+
+/// An offset with so many elements on top, modulo 2^32, where an access holds that.
+fn near_sum(base: u32, kind: Kind, number: Option<u32>) -> Option<u32>
+    ensures { result ≡ near_sum base kind number }
+{
+    let past = u64::from(kind.element_bytes()) * u64::from(number?);
+    let offset = (u64::from(base) + past) % (1_u64 << 32);
     if offset < u64::from(NEAR) {
         Some(offset as u32)
     } else {
