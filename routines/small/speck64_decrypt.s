@@ -1,4 +1,4 @@
-# speck64_decrypt: made by factc 1.0.0 function; 167 words, 176 bytes of stack, profile 1
+# speck64_decrypt: made by factc function; 207 words, 160 bytes of stack, profile 1
     .option push
     .option norvc
     .option norelax
@@ -21,8 +21,8 @@ speck64_decrypt:
     .word 0x00a12423  # sw x10, 8(x2)
     .word 0x00b12623  # sw x11, 12(x2)
     # the frame's base
-    .word 0xf6010113  # addi x2, x2, -160
-    .cfi_def_cfa 2, 176
+    .word 0xf7010113  # addi x2, x2, -144
+    .cfi_def_cfa 2, 160
     # parameter 0: an array
     .word 0x00050293  # addi x5, x10, 0
     .word 0x00010313  # addi x6, x2, 0
@@ -42,80 +42,99 @@ speck64_decrypt:
     .word 0x0042ae03  # lw x28, 4(x5)
     .word 0x01c32223  # sw x28, 4(x6)
     # the body
-    .word 0x00000593  # addi x11, x0, 0
-    .word 0x00000613  # addi x12, x0, 0
-    .word 0x00000693  # addi x13, x0, 0
     .word 0x00000713  # addi x14, x0, 0
+    .word 0x00000793  # addi x15, x0, 0
+    .word 0x00000813  # addi x16, x0, 0
     .word 0x01012403  # lw x8, 16(x2)
     .word 0x01412483  # lw x9, 20(x2)
-    .word 0x01800313  # addi x6, x0, 24
-    .word 0x00230333  # add x6, x6, x2
-    .word 0x06c00393  # addi x7, x0, 108
-    .word 0x006383b3  # add x7, x7, x6
-    .word 0x406382b3  # sub x5, x7, x6
-    .word 0x00029463  # bne x5, x0, 8
-    .word 0x0100006f  # jal x0, 16
-    .word 0x00032023  # sw x0, 0(x6)
-    .word 0x00430313  # addi x6, x6, 4
-    .word 0xfedff06f  # jal x0, -20
-    .word 0x08400313  # addi x6, x0, 132
-    .word 0x00230333  # add x6, x6, x2
-    .word 0x00c00393  # addi x7, x0, 12
-    .word 0x006383b3  # add x7, x7, x6
-    .word 0x406382b3  # sub x5, x7, x6
-    .word 0x00029463  # bne x5, x0, 8
-    .word 0x0100006f  # jal x0, 16
-    .word 0x00032023  # sw x0, 0(x6)
-    .word 0x00430313  # addi x6, x6, 4
-    .word 0xfedff06f  # jal x0, -20
     .word 0x00c12503  # lw x10, 12(x2)
-    .word 0x00000593  # addi x11, x0, 0
-    .word 0x00200313  # addi x6, x0, 2
-    .word 0x40b30333  # sub x6, x6, x11
-    .word 0x00231313  # slli x6, x6, 2
-    .word 0x00230333  # add x6, x6, x2
-    .word 0x00032303  # lw x6, 0(x6)
-    .word 0x00259293  # slli x5, x11, 2
-    .word 0x002282b3  # add x5, x5, x2
-    .word 0x0862a223  # sw x6, 132(x5)
-    .word 0x00158593  # addi x11, x11, 1
-    .word 0x0035b293  # sltiu x5, x11, 3
-    .word 0xfc029ce3  # bne x5, x0, -40
-    .word 0xfff58593  # addi x11, x11, -1
-    .word 0x00000613  # addi x12, x0, 0
-    .word 0x00261293  # slli x5, x12, 2
+    .word 0x00812583  # lw x11, 8(x2)
+    .word 0x00412603  # lw x12, 4(x2)
+    .word 0x00012683  # lw x13, 0(x2)
+    .word 0x00012c23  # sw x0, 24(x2)
+    .word 0x00012e23  # sw x0, 28(x2)
+    .word 0x02012023  # sw x0, 32(x2)
+    .word 0x02012223  # sw x0, 36(x2)
+    .word 0x02012423  # sw x0, 40(x2)
+    .word 0x02012623  # sw x0, 44(x2)
+    .word 0x02012823  # sw x0, 48(x2)
+    .word 0x02012a23  # sw x0, 52(x2)
+    .word 0x02012c23  # sw x0, 56(x2)
+    .word 0x02012e23  # sw x0, 60(x2)
+    .word 0x04012023  # sw x0, 64(x2)
+    .word 0x04012223  # sw x0, 68(x2)
+    .word 0x04012423  # sw x0, 72(x2)
+    .word 0x04012623  # sw x0, 76(x2)
+    .word 0x04012823  # sw x0, 80(x2)
+    .word 0x04012a23  # sw x0, 84(x2)
+    .word 0x04012c23  # sw x0, 88(x2)
+    .word 0x04012e23  # sw x0, 92(x2)
+    .word 0x06012023  # sw x0, 96(x2)
+    .word 0x06012223  # sw x0, 100(x2)
+    .word 0x06012423  # sw x0, 104(x2)
+    .word 0x06012623  # sw x0, 108(x2)
+    .word 0x06012823  # sw x0, 112(x2)
+    .word 0x06012a23  # sw x0, 116(x2)
+    .word 0x06012c23  # sw x0, 120(x2)
+    .word 0x06012e23  # sw x0, 124(x2)
+    .word 0x08012023  # sw x0, 128(x2)
+    .word 0x00000713  # addi x14, x0, 0
+    .word 0x00300293  # addi x5, x0, 3
+    .word 0x02e287b3  # mul x15, x5, x14
+    .word 0x00279293  # slli x5, x15, 2
     .word 0x002282b3  # add x5, x5, x2
     .word 0x00a2ac23  # sw x10, 24(x5)
-    .word 0x00300313  # addi x6, x0, 3
-    .word 0x026672b3  # remu x5, x12, x6
-    .word 0x00229293  # slli x5, x5, 2
-    .word 0x002282b3  # add x5, x5, x2
-    .word 0x0842a283  # lw x5, 132(x5)
-    .word 0x01829f13  # slli x30, x5, 24
-    .word 0x0082d293  # srli x5, x5, 8
+    .word 0x01859f13  # slli x30, x11, 24
+    .word 0x0085d293  # srli x5, x11, 8
     .word 0x005f02b3  # add x5, x30, x5
     .word 0x00a282b3  # add x5, x5, x10
-    .word 0x00c2c6b3  # xor x13, x5, x12
-    .word 0x00300313  # addi x6, x0, 3
-    .word 0x026672b3  # remu x5, x12, x6
+    .word 0x00f2c5b3  # xor x11, x5, x15
+    .word 0x00351f13  # slli x30, x10, 3
+    .word 0x01d55293  # srli x5, x10, 29
+    .word 0x005f02b3  # add x5, x30, x5
+    .word 0x00b2c533  # xor x10, x5, x11
+    .word 0x00178293  # addi x5, x15, 1
     .word 0x00229293  # slli x5, x5, 2
     .word 0x002282b3  # add x5, x5, x2
-    .word 0x08d2a223  # sw x13, 132(x5)
+    .word 0x00a2ac23  # sw x10, 24(x5)
+    .word 0x01861f13  # slli x30, x12, 24
+    .word 0x00865293  # srli x5, x12, 8
+    .word 0x005f02b3  # add x5, x30, x5
+    .word 0x00a282b3  # add x5, x5, x10
+    .word 0x00178313  # addi x6, x15, 1
+    .word 0x0062c633  # xor x12, x5, x6
+    .word 0x00351f13  # slli x30, x10, 3
+    .word 0x01d55293  # srli x5, x10, 29
+    .word 0x005f02b3  # add x5, x30, x5
+    .word 0x00c2c533  # xor x10, x5, x12
+    .word 0x00278293  # addi x5, x15, 2
+    .word 0x00229293  # slli x5, x5, 2
+    .word 0x002282b3  # add x5, x5, x2
+    .word 0x00a2ac23  # sw x10, 24(x5)
+    .word 0x01869f13  # slli x30, x13, 24
+    .word 0x0086d293  # srli x5, x13, 8
+    .word 0x005f02b3  # add x5, x30, x5
+    .word 0x00a282b3  # add x5, x5, x10
+    .word 0x00278313  # addi x6, x15, 2
+    .word 0x0062c6b3  # xor x13, x5, x6
     .word 0x00351f13  # slli x30, x10, 3
     .word 0x01d55293  # srli x5, x10, 29
     .word 0x005f02b3  # add x5, x30, x5
     .word 0x00d2c533  # xor x10, x5, x13
-    .word 0x00160613  # addi x12, x12, 1
-    .word 0x01b63293  # sltiu x5, x12, 27
-    .word 0xfa0290e3  # bne x5, x0, -96
-    .word 0xfff60613  # addi x12, x12, -1
-    .word 0x00000713  # addi x14, x0, 0
+    .word 0x00170713  # addi x14, x14, 1
+    .word 0x00973293  # sltiu x5, x14, 9
+    .word 0xf40298e3  # bne x5, x0, -176
+    .word 0xfff70713  # addi x14, x14, -1
+    .word 0x00000813  # addi x16, x0, 0
+    .word 0x01800293  # addi x5, x0, 24
+    .word 0x00300313  # addi x6, x0, 3
+    .word 0x03030333  # mul x6, x6, x16
+    .word 0x406287b3  # sub x15, x5, x6
     .word 0x009442b3  # xor x5, x8, x9
     .word 0x01d29f13  # slli x30, x5, 29
     .word 0x0032d493  # srli x9, x5, 3
     .word 0x009f04b3  # add x9, x30, x9
-    .word 0x01a00313  # addi x6, x0, 26
-    .word 0x40e30333  # sub x6, x6, x14
+    .word 0x00278313  # addi x6, x15, 2
     .word 0x00231313  # slli x6, x6, 2
     .word 0x00230333  # add x6, x6, x2
     .word 0x01832303  # lw x6, 24(x6)
@@ -124,23 +143,48 @@ speck64_decrypt:
     .word 0x00829f13  # slli x30, x5, 8
     .word 0x0182d413  # srli x8, x5, 24
     .word 0x008f0433  # add x8, x30, x8
-    .word 0x00170713  # addi x14, x14, 1
-    .word 0x01b73293  # sltiu x5, x14, 27
-    .word 0xfc0290e3  # bne x5, x0, -64
-    .word 0xfff70713  # addi x14, x14, -1
+    .word 0x009442b3  # xor x5, x8, x9
+    .word 0x01d29f13  # slli x30, x5, 29
+    .word 0x0032d493  # srli x9, x5, 3
+    .word 0x009f04b3  # add x9, x30, x9
+    .word 0x00178313  # addi x6, x15, 1
+    .word 0x00231313  # slli x6, x6, 2
+    .word 0x00230333  # add x6, x6, x2
+    .word 0x01832303  # lw x6, 24(x6)
+    .word 0x006442b3  # xor x5, x8, x6
+    .word 0x409282b3  # sub x5, x5, x9
+    .word 0x00829f13  # slli x30, x5, 8
+    .word 0x0182d413  # srli x8, x5, 24
+    .word 0x008f0433  # add x8, x30, x8
+    .word 0x009442b3  # xor x5, x8, x9
+    .word 0x01d29f13  # slli x30, x5, 29
+    .word 0x0032d493  # srli x9, x5, 3
+    .word 0x009f04b3  # add x9, x30, x9
+    .word 0x00279313  # slli x6, x15, 2
+    .word 0x00230333  # add x6, x6, x2
+    .word 0x01832303  # lw x6, 24(x6)
+    .word 0x006442b3  # xor x5, x8, x6
+    .word 0x409282b3  # sub x5, x5, x9
+    .word 0x00829f13  # slli x30, x5, 8
+    .word 0x0182d413  # srli x8, x5, 24
+    .word 0x008f0433  # add x8, x30, x8
+    .word 0x00180813  # addi x16, x16, 1
+    .word 0x00983293  # sltiu x5, x16, 9
+    .word 0xf40298e3  # bne x5, x0, -176
+    .word 0xfff80813  # addi x16, x16, -1
     .word 0x00812823  # sw x8, 16(x2)
     .word 0x00912a23  # sw x9, 20(x2)
     # the result
     .word 0x00000513  # addi x10, x0, 0
     # parameter 1: the array, back
-    .word 0x0ac12283  # lw x5, 172(x2)
+    .word 0x09c12283  # lw x5, 156(x2)
     .word 0x01010313  # addi x6, x2, 16
     .word 0x00032e03  # lw x28, 0(x6)
     .word 0x01c2a023  # sw x28, 0(x5)
     .word 0x00432e03  # lw x28, 4(x6)
     .word 0x01c2a223  # sw x28, 4(x5)
     # above the frame
-    .word 0x0a010293  # addi x5, x2, 160
+    .word 0x09010293  # addi x5, x2, 144
     # the caller's registers
     .word 0x0002a403  # lw x8, 0(x5)
     .cfi_restore 8
@@ -158,11 +202,7 @@ speck64_decrypt:
     .word 0x00012a23  # sw x0, 20(x2)
     .word 0x00012c23  # sw x0, 24(x2)
     .word 0x00012e23  # sw x0, 28(x2)
-    .word 0x02012023  # sw x0, 32(x2)
-    .word 0x02012223  # sw x0, 36(x2)
-    .word 0x02012423  # sw x0, 40(x2)
-    .word 0x02012623  # sw x0, 44(x2)
-    .word 0x03010113  # addi x2, x2, 48
+    .word 0x02010113  # addi x2, x2, 32
     .word 0x00012023  # sw x0, 0(x2)
     .word 0x00012223  # sw x0, 4(x2)
     .word 0x00012423  # sw x0, 8(x2)
