@@ -1,4 +1,4 @@
-# hex_encode: made by factc 1.0.0 function; 186 words, 128 bytes of stack, profile 1
+# hex_encode: made by factc function; 185 words, 128 bytes of stack, profile 1
     .option push
     .option norvc
     .option norelax
@@ -15,6 +15,8 @@ hex_encode:
     # the caller's registers
     .word 0x00812023  # sw x8, 0(x2)
     .cfi_offset 8, -16
+    .word 0x00912223  # sw x9, 4(x2)
+    .cfi_offset 9, -12
     # arguments that are needed behind the body
     .word 0x00a12423  # sw x10, 8(x2)
     .word 0x00b12623  # sw x11, 12(x2)
@@ -97,38 +99,35 @@ hex_encode:
     .word 0x02030313  # addi x6, x6, 32
     .word 0xfa729ce3  # bne x5, x7, -72
     # the body
+    .word 0x00000413  # addi x8, x0, 0
+    .word 0x00000493  # addi x9, x0, 0
     .word 0x00000513  # addi x10, x0, 0
     .word 0x00000593  # addi x11, x0, 0
-    .word 0x00000613  # addi x12, x0, 0
-    .word 0x00000693  # addi x13, x0, 0
-    .word 0x00000513  # addi x10, x0, 0
-    .word 0x00250633  # add x12, x10, x2
-    .word 0x00064603  # lbu x12, 0(x12)
-    .word 0x00465593  # srli x11, x12, 4
-    .word 0x00f67613  # andi x12, x12, 15
-    .word 0x00151693  # slli x13, x10, 1
-    .word 0x05758313  # addi x6, x11, 87
-    .word 0x00a5b393  # sltiu x7, x11, 10
-    .word 0x02700413  # addi x8, x0, 39
-    .word 0x407003b3  # sub x7, x0, x7
-    .word 0x007473b3  # and x7, x8, x7
-    .word 0x40730333  # sub x6, x6, x7
-    .word 0x002682b3  # add x5, x13, x2
-    .word 0x02628023  # sb x6, 32(x5)
-    .word 0x00151293  # slli x5, x10, 1
-    .word 0x00128693  # addi x13, x5, 1
-    .word 0x05760313  # addi x6, x12, 87
-    .word 0x00a63393  # sltiu x7, x12, 10
-    .word 0x02700413  # addi x8, x0, 39
-    .word 0x407003b3  # sub x7, x0, x7
-    .word 0x007473b3  # and x7, x8, x7
-    .word 0x40730333  # sub x6, x6, x7
-    .word 0x002682b3  # add x5, x13, x2
-    .word 0x02628023  # sb x6, 32(x5)
-    .word 0x00150513  # addi x10, x10, 1
-    .word 0x02053293  # sltiu x5, x10, 32
-    .word 0xf8029ee3  # bne x5, x0, -100
-    .word 0xfff50513  # addi x10, x10, -1
+    .word 0x00000413  # addi x8, x0, 0
+    .word 0x00141493  # slli x9, x8, 1
+    .word 0x00240533  # add x10, x8, x2
+    .word 0x00054503  # lbu x10, 0(x10)
+    .word 0x00455593  # srli x11, x10, 4
+    .word 0x05758293  # addi x5, x11, 87
+    .word 0xff658313  # addi x6, x11, -10
+    .word 0x00835313  # srli x6, x6, 8
+    .word 0x02737313  # andi x6, x6, 39
+    .word 0x406285b3  # sub x11, x5, x6
+    .word 0x00f57513  # andi x10, x10, 15
+    .word 0x05750293  # addi x5, x10, 87
+    .word 0xff650313  # addi x6, x10, -10
+    .word 0x00835313  # srli x6, x6, 8
+    .word 0x02737313  # andi x6, x6, 39
+    .word 0x40628533  # sub x10, x5, x6
+    .word 0x002482b3  # add x5, x9, x2
+    .word 0x02b28023  # sb x11, 32(x5)
+    .word 0x00148293  # addi x5, x9, 1
+    .word 0x002282b3  # add x5, x5, x2
+    .word 0x02a28023  # sb x10, 32(x5)
+    .word 0x00140413  # addi x8, x8, 1
+    .word 0x02043293  # sltiu x5, x8, 32
+    .word 0xfa0294e3  # bne x5, x0, -88
+    .word 0xfff40413  # addi x8, x8, -1
     # the result
     .word 0x00000513  # addi x10, x0, 0
     # parameter 1: the array, back
@@ -176,6 +175,8 @@ hex_encode:
     # the caller's registers
     .word 0x0002a403  # lw x8, 0(x5)
     .cfi_restore 8
+    .word 0x0042a483  # lw x9, 4(x5)
+    .cfi_restore 9
     # the caller's x2
     .word 0x01028293  # addi x5, x5, 16
     .cfi_def_cfa 5, 0
