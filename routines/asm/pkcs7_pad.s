@@ -1,4 +1,4 @@
-# pkcs7_pad: made by factc 1.0.0 function; 173 words, 48 bytes of stack, profile 1
+# pkcs7_pad: made by factc function; 144 words, 48 bytes of stack, profile 1
     .option push
     .option norvc
     .option norelax
@@ -55,85 +55,56 @@ pkcs7_pad:
     # the body
     .word 0x00012403  # lw x8, 0(x2)
     .word 0x00f47493  # andi x9, x8, 15
-    .word 0x00906863  # bltu x0, x9, 16
     .word 0x01000293  # addi x5, x0, 16
     .word 0x409282b3  # sub x5, x5, x9
-    .word 0x00510223  # sb x5, 4(x2)
+    .word 0x0ff2f513  # andi x10, x5, 255
+    .word 0x00906463  # bltu x0, x9, 8
+    .word 0x00a10223  # sb x10, 4(x2)
     .word 0x00100313  # addi x6, x0, 1
-    .word 0x00936863  # bltu x6, x9, 16
-    .word 0x01000293  # addi x5, x0, 16
-    .word 0x409282b3  # sub x5, x5, x9
-    .word 0x005102a3  # sb x5, 5(x2)
+    .word 0x00936463  # bltu x6, x9, 8
+    .word 0x00a102a3  # sb x10, 5(x2)
     .word 0x00200313  # addi x6, x0, 2
-    .word 0x00936863  # bltu x6, x9, 16
-    .word 0x01000293  # addi x5, x0, 16
-    .word 0x409282b3  # sub x5, x5, x9
-    .word 0x00510323  # sb x5, 6(x2)
+    .word 0x00936463  # bltu x6, x9, 8
+    .word 0x00a10323  # sb x10, 6(x2)
     .word 0x00300313  # addi x6, x0, 3
-    .word 0x00936863  # bltu x6, x9, 16
-    .word 0x01000293  # addi x5, x0, 16
-    .word 0x409282b3  # sub x5, x5, x9
-    .word 0x005103a3  # sb x5, 7(x2)
+    .word 0x00936463  # bltu x6, x9, 8
+    .word 0x00a103a3  # sb x10, 7(x2)
     .word 0x00400313  # addi x6, x0, 4
-    .word 0x00936863  # bltu x6, x9, 16
-    .word 0x01000293  # addi x5, x0, 16
-    .word 0x409282b3  # sub x5, x5, x9
-    .word 0x00510423  # sb x5, 8(x2)
+    .word 0x00936463  # bltu x6, x9, 8
+    .word 0x00a10423  # sb x10, 8(x2)
     .word 0x00500313  # addi x6, x0, 5
-    .word 0x00936863  # bltu x6, x9, 16
-    .word 0x01000293  # addi x5, x0, 16
-    .word 0x409282b3  # sub x5, x5, x9
-    .word 0x005104a3  # sb x5, 9(x2)
+    .word 0x00936463  # bltu x6, x9, 8
+    .word 0x00a104a3  # sb x10, 9(x2)
     .word 0x00600313  # addi x6, x0, 6
-    .word 0x00936863  # bltu x6, x9, 16
-    .word 0x01000293  # addi x5, x0, 16
-    .word 0x409282b3  # sub x5, x5, x9
-    .word 0x00510523  # sb x5, 10(x2)
+    .word 0x00936463  # bltu x6, x9, 8
+    .word 0x00a10523  # sb x10, 10(x2)
     .word 0x00700313  # addi x6, x0, 7
-    .word 0x00936863  # bltu x6, x9, 16
-    .word 0x01000293  # addi x5, x0, 16
-    .word 0x409282b3  # sub x5, x5, x9
-    .word 0x005105a3  # sb x5, 11(x2)
+    .word 0x00936463  # bltu x6, x9, 8
+    .word 0x00a105a3  # sb x10, 11(x2)
     .word 0x00800313  # addi x6, x0, 8
-    .word 0x00936863  # bltu x6, x9, 16
-    .word 0x01000293  # addi x5, x0, 16
-    .word 0x409282b3  # sub x5, x5, x9
-    .word 0x00510623  # sb x5, 12(x2)
+    .word 0x00936463  # bltu x6, x9, 8
+    .word 0x00a10623  # sb x10, 12(x2)
     .word 0x00900313  # addi x6, x0, 9
-    .word 0x00936863  # bltu x6, x9, 16
-    .word 0x01000293  # addi x5, x0, 16
-    .word 0x409282b3  # sub x5, x5, x9
-    .word 0x005106a3  # sb x5, 13(x2)
+    .word 0x00936463  # bltu x6, x9, 8
+    .word 0x00a106a3  # sb x10, 13(x2)
     .word 0x00a00313  # addi x6, x0, 10
-    .word 0x00936863  # bltu x6, x9, 16
-    .word 0x01000293  # addi x5, x0, 16
-    .word 0x409282b3  # sub x5, x5, x9
-    .word 0x00510723  # sb x5, 14(x2)
+    .word 0x00936463  # bltu x6, x9, 8
+    .word 0x00a10723  # sb x10, 14(x2)
     .word 0x00b00313  # addi x6, x0, 11
-    .word 0x00936863  # bltu x6, x9, 16
-    .word 0x01000293  # addi x5, x0, 16
-    .word 0x409282b3  # sub x5, x5, x9
-    .word 0x005107a3  # sb x5, 15(x2)
+    .word 0x00936463  # bltu x6, x9, 8
+    .word 0x00a107a3  # sb x10, 15(x2)
     .word 0x00c00313  # addi x6, x0, 12
-    .word 0x00936863  # bltu x6, x9, 16
-    .word 0x01000293  # addi x5, x0, 16
-    .word 0x409282b3  # sub x5, x5, x9
-    .word 0x00510823  # sb x5, 16(x2)
+    .word 0x00936463  # bltu x6, x9, 8
+    .word 0x00a10823  # sb x10, 16(x2)
     .word 0x00d00313  # addi x6, x0, 13
-    .word 0x00936863  # bltu x6, x9, 16
-    .word 0x01000293  # addi x5, x0, 16
-    .word 0x409282b3  # sub x5, x5, x9
-    .word 0x005108a3  # sb x5, 17(x2)
+    .word 0x00936463  # bltu x6, x9, 8
+    .word 0x00a108a3  # sb x10, 17(x2)
     .word 0x00e00313  # addi x6, x0, 14
-    .word 0x00936863  # bltu x6, x9, 16
-    .word 0x01000293  # addi x5, x0, 16
-    .word 0x409282b3  # sub x5, x5, x9
-    .word 0x00510923  # sb x5, 18(x2)
+    .word 0x00936463  # bltu x6, x9, 8
+    .word 0x00a10923  # sb x10, 18(x2)
     .word 0x00f00313  # addi x6, x0, 15
-    .word 0x00936863  # bltu x6, x9, 16
-    .word 0x01000293  # addi x5, x0, 16
-    .word 0x409282b3  # sub x5, x5, x9
-    .word 0x005109a3  # sb x5, 19(x2)
+    .word 0x00936463  # bltu x6, x9, 8
+    .word 0x00a109a3  # sb x10, 19(x2)
     # the result
     .word 0x00000513  # addi x10, x0, 0
     # parameter 1: the array, back

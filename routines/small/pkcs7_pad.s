@@ -1,4 +1,4 @@
-# pkcs7_pad: made by factc 1.0.0 function; 105 words, 48 bytes of stack, profile 1
+# pkcs7_pad: made by factc function; 106 words, 48 bytes of stack, profile 1
     .option push
     .option norvc
     .option norelax
@@ -54,18 +54,19 @@ pkcs7_pad:
     .word 0x01c32623  # sw x28, 12(x6)
     # the body
     .word 0x00012403  # lw x8, 0(x2)
-    .word 0x00000513  # addi x10, x0, 0
+    .word 0x00000593  # addi x11, x0, 0
     .word 0x00f47493  # andi x9, x8, 15
-    .word 0x00000513  # addi x10, x0, 0
-    .word 0x00956a63  # bltu x10, x9, 20
-    .word 0x01000313  # addi x6, x0, 16
-    .word 0x40930333  # sub x6, x6, x9
-    .word 0x002502b3  # add x5, x10, x2
-    .word 0x00628223  # sb x6, 4(x5)
-    .word 0x00150513  # addi x10, x10, 1
-    .word 0x01053293  # sltiu x5, x10, 16
-    .word 0xfe0292e3  # bne x5, x0, -28
-    .word 0xfff50513  # addi x10, x10, -1
+    .word 0x01000293  # addi x5, x0, 16
+    .word 0x409282b3  # sub x5, x5, x9
+    .word 0x0ff2f513  # andi x10, x5, 255
+    .word 0x00000593  # addi x11, x0, 0
+    .word 0x0095e663  # bltu x11, x9, 12
+    .word 0x002582b3  # add x5, x11, x2
+    .word 0x00a28223  # sb x10, 4(x5)
+    .word 0x00158593  # addi x11, x11, 1
+    .word 0x0105b293  # sltiu x5, x11, 16
+    .word 0xfe0296e3  # bne x5, x0, -20
+    .word 0xfff58593  # addi x11, x11, -1
     # the result
     .word 0x00000513  # addi x10, x0, 0
     # parameter 1: the array, back
