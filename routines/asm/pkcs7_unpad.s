@@ -1,4 +1,4 @@
-# pkcs7_unpad: made by factc 1.0.0 function; 202 words, 48 bytes of stack, profile 1
+# pkcs7_unpad: made by factc function; 190 words, 48 bytes of stack, profile 1
     .option push
     .option norvc
     .option norelax
@@ -13,8 +13,10 @@ pkcs7_unpad:
     .word 0xff010113  # addi x2, x2, -16
     .cfi_def_cfa_offset 16
     # the caller's registers
-    .word 0x00912023  # sw x9, 0(x2)
-    .cfi_offset 9, -16
+    .word 0x00812023  # sw x8, 0(x2)
+    .cfi_offset 8, -16
+    .word 0x00912223  # sw x9, 4(x2)
+    .cfi_offset 9, -12
     # arguments that are needed behind the body
     # the frame's base
     .word 0xfe010113  # addi x2, x2, -32
@@ -47,143 +49,129 @@ pkcs7_unpad:
     .word 0x00c2ae03  # lw x28, 12(x5)
     .word 0x01c32623  # sw x28, 12(x6)
     # the body
-    .word 0x00f14483  # lbu x9, 15(x2)
-    .word 0xfff48293  # addi x5, x9, -1
-    .word 0x0ff2f293  # andi x5, x5, 255
-    .word 0x0102b513  # sltiu x10, x5, 16
-    .word 0x0104b593  # sltiu x11, x9, 16
-    .word 0x0015b593  # sltiu x11, x11, 1
-    .word 0x0015b313  # sltiu x6, x11, 1
-    .word 0x00014383  # lbu x7, 0(x2)
-    .word 0x409383b3  # sub x7, x7, x9
-    .word 0x0013b393  # sltiu x7, x7, 1
-    .word 0x00736333  # or x6, x6, x7
-    .word 0x00657533  # and x10, x10, x6
-    .word 0x00f4b593  # sltiu x11, x9, 15
-    .word 0x0015b593  # sltiu x11, x11, 1
-    .word 0x0015b313  # sltiu x6, x11, 1
-    .word 0x00114383  # lbu x7, 1(x2)
-    .word 0x409383b3  # sub x7, x7, x9
-    .word 0x0013b393  # sltiu x7, x7, 1
-    .word 0x00736333  # or x6, x6, x7
-    .word 0x00657533  # and x10, x10, x6
-    .word 0x00e4b593  # sltiu x11, x9, 14
-    .word 0x0015b593  # sltiu x11, x11, 1
-    .word 0x0015b313  # sltiu x6, x11, 1
-    .word 0x00214383  # lbu x7, 2(x2)
-    .word 0x409383b3  # sub x7, x7, x9
-    .word 0x0013b393  # sltiu x7, x7, 1
-    .word 0x00736333  # or x6, x6, x7
-    .word 0x00657533  # and x10, x10, x6
-    .word 0x00d4b593  # sltiu x11, x9, 13
-    .word 0x0015b593  # sltiu x11, x11, 1
-    .word 0x0015b313  # sltiu x6, x11, 1
-    .word 0x00314383  # lbu x7, 3(x2)
-    .word 0x409383b3  # sub x7, x7, x9
-    .word 0x0013b393  # sltiu x7, x7, 1
-    .word 0x00736333  # or x6, x6, x7
-    .word 0x00657533  # and x10, x10, x6
-    .word 0x00c4b593  # sltiu x11, x9, 12
-    .word 0x0015b593  # sltiu x11, x11, 1
-    .word 0x0015b313  # sltiu x6, x11, 1
-    .word 0x00414383  # lbu x7, 4(x2)
-    .word 0x409383b3  # sub x7, x7, x9
-    .word 0x0013b393  # sltiu x7, x7, 1
-    .word 0x00736333  # or x6, x6, x7
-    .word 0x00657533  # and x10, x10, x6
-    .word 0x00b4b593  # sltiu x11, x9, 11
-    .word 0x0015b593  # sltiu x11, x11, 1
-    .word 0x0015b313  # sltiu x6, x11, 1
-    .word 0x00514383  # lbu x7, 5(x2)
-    .word 0x409383b3  # sub x7, x7, x9
-    .word 0x0013b393  # sltiu x7, x7, 1
-    .word 0x00736333  # or x6, x6, x7
-    .word 0x00657533  # and x10, x10, x6
-    .word 0x00a4b593  # sltiu x11, x9, 10
-    .word 0x0015b593  # sltiu x11, x11, 1
-    .word 0x0015b313  # sltiu x6, x11, 1
-    .word 0x00614383  # lbu x7, 6(x2)
-    .word 0x409383b3  # sub x7, x7, x9
-    .word 0x0013b393  # sltiu x7, x7, 1
-    .word 0x00736333  # or x6, x6, x7
-    .word 0x00657533  # and x10, x10, x6
-    .word 0x0094b593  # sltiu x11, x9, 9
-    .word 0x0015b593  # sltiu x11, x11, 1
-    .word 0x0015b313  # sltiu x6, x11, 1
-    .word 0x00714383  # lbu x7, 7(x2)
-    .word 0x409383b3  # sub x7, x7, x9
-    .word 0x0013b393  # sltiu x7, x7, 1
-    .word 0x00736333  # or x6, x6, x7
-    .word 0x00657533  # and x10, x10, x6
-    .word 0x0084b593  # sltiu x11, x9, 8
-    .word 0x0015b593  # sltiu x11, x11, 1
-    .word 0x0015b313  # sltiu x6, x11, 1
-    .word 0x00814383  # lbu x7, 8(x2)
-    .word 0x409383b3  # sub x7, x7, x9
-    .word 0x0013b393  # sltiu x7, x7, 1
-    .word 0x00736333  # or x6, x6, x7
-    .word 0x00657533  # and x10, x10, x6
-    .word 0x0074b593  # sltiu x11, x9, 7
-    .word 0x0015b593  # sltiu x11, x11, 1
-    .word 0x0015b313  # sltiu x6, x11, 1
-    .word 0x00914383  # lbu x7, 9(x2)
-    .word 0x409383b3  # sub x7, x7, x9
-    .word 0x0013b393  # sltiu x7, x7, 1
-    .word 0x00736333  # or x6, x6, x7
-    .word 0x00657533  # and x10, x10, x6
-    .word 0x0064b593  # sltiu x11, x9, 6
-    .word 0x0015b593  # sltiu x11, x11, 1
-    .word 0x0015b313  # sltiu x6, x11, 1
-    .word 0x00a14383  # lbu x7, 10(x2)
-    .word 0x409383b3  # sub x7, x7, x9
-    .word 0x0013b393  # sltiu x7, x7, 1
-    .word 0x00736333  # or x6, x6, x7
-    .word 0x00657533  # and x10, x10, x6
-    .word 0x0054b593  # sltiu x11, x9, 5
-    .word 0x0015b593  # sltiu x11, x11, 1
-    .word 0x0015b313  # sltiu x6, x11, 1
-    .word 0x00b14383  # lbu x7, 11(x2)
-    .word 0x409383b3  # sub x7, x7, x9
-    .word 0x0013b393  # sltiu x7, x7, 1
-    .word 0x00736333  # or x6, x6, x7
-    .word 0x00657533  # and x10, x10, x6
-    .word 0x0044b593  # sltiu x11, x9, 4
-    .word 0x0015b593  # sltiu x11, x11, 1
-    .word 0x0015b313  # sltiu x6, x11, 1
-    .word 0x00c14383  # lbu x7, 12(x2)
-    .word 0x409383b3  # sub x7, x7, x9
-    .word 0x0013b393  # sltiu x7, x7, 1
-    .word 0x00736333  # or x6, x6, x7
-    .word 0x00657533  # and x10, x10, x6
-    .word 0x0034b593  # sltiu x11, x9, 3
-    .word 0x0015b593  # sltiu x11, x11, 1
-    .word 0x0015b313  # sltiu x6, x11, 1
-    .word 0x00d14383  # lbu x7, 13(x2)
-    .word 0x409383b3  # sub x7, x7, x9
-    .word 0x0013b393  # sltiu x7, x7, 1
-    .word 0x00736333  # or x6, x6, x7
-    .word 0x00657533  # and x10, x10, x6
-    .word 0x0024b593  # sltiu x11, x9, 2
-    .word 0x0015b593  # sltiu x11, x11, 1
-    .word 0x0015b313  # sltiu x6, x11, 1
-    .word 0x00e14383  # lbu x7, 14(x2)
-    .word 0x409383b3  # sub x7, x7, x9
-    .word 0x0013b393  # sltiu x7, x7, 1
-    .word 0x00736333  # or x6, x6, x7
-    .word 0x00657533  # and x10, x10, x6
-    .word 0x0014b593  # sltiu x11, x9, 1
-    .word 0x0015b593  # sltiu x11, x11, 1
-    .word 0x0015b313  # sltiu x6, x11, 1
-    .word 0x00f14383  # lbu x7, 15(x2)
-    .word 0x409383b3  # sub x7, x7, x9
-    .word 0x0013b393  # sltiu x7, x7, 1
-    .word 0x00736333  # or x6, x6, x7
-    .word 0x00657533  # and x10, x10, x6
+    .word 0x00f14403  # lbu x8, 15(x2)
+    .word 0xfff40293  # addi x5, x8, -1
     .word 0x01000313  # addi x6, x0, 16
-    .word 0x40930333  # sub x6, x6, x9
+    .word 0x40830333  # sub x6, x6, x8
+    .word 0x0062e4b3  # or x9, x5, x6
+    .word 0x00f00293  # addi x5, x0, 15
+    .word 0x40828533  # sub x10, x5, x8
+    .word 0x00014303  # lbu x6, 0(x2)
+    .word 0x00834333  # xor x6, x6, x8
+    .word 0x00831313  # slli x6, x6, 8
+    .word 0x00a37333  # and x6, x6, x10
+    .word 0x0064e4b3  # or x9, x9, x6
+    .word 0x00e00293  # addi x5, x0, 14
+    .word 0x40828533  # sub x10, x5, x8
+    .word 0x00114303  # lbu x6, 1(x2)
+    .word 0x00834333  # xor x6, x6, x8
+    .word 0x00831313  # slli x6, x6, 8
+    .word 0x00a37333  # and x6, x6, x10
+    .word 0x0064e4b3  # or x9, x9, x6
+    .word 0x00d00293  # addi x5, x0, 13
+    .word 0x40828533  # sub x10, x5, x8
+    .word 0x00214303  # lbu x6, 2(x2)
+    .word 0x00834333  # xor x6, x6, x8
+    .word 0x00831313  # slli x6, x6, 8
+    .word 0x00a37333  # and x6, x6, x10
+    .word 0x0064e4b3  # or x9, x9, x6
+    .word 0x00c00293  # addi x5, x0, 12
+    .word 0x40828533  # sub x10, x5, x8
+    .word 0x00314303  # lbu x6, 3(x2)
+    .word 0x00834333  # xor x6, x6, x8
+    .word 0x00831313  # slli x6, x6, 8
+    .word 0x00a37333  # and x6, x6, x10
+    .word 0x0064e4b3  # or x9, x9, x6
+    .word 0x00b00293  # addi x5, x0, 11
+    .word 0x40828533  # sub x10, x5, x8
+    .word 0x00414303  # lbu x6, 4(x2)
+    .word 0x00834333  # xor x6, x6, x8
+    .word 0x00831313  # slli x6, x6, 8
+    .word 0x00a37333  # and x6, x6, x10
+    .word 0x0064e4b3  # or x9, x9, x6
+    .word 0x00a00293  # addi x5, x0, 10
+    .word 0x40828533  # sub x10, x5, x8
+    .word 0x00514303  # lbu x6, 5(x2)
+    .word 0x00834333  # xor x6, x6, x8
+    .word 0x00831313  # slli x6, x6, 8
+    .word 0x00a37333  # and x6, x6, x10
+    .word 0x0064e4b3  # or x9, x9, x6
+    .word 0x00900293  # addi x5, x0, 9
+    .word 0x40828533  # sub x10, x5, x8
+    .word 0x00614303  # lbu x6, 6(x2)
+    .word 0x00834333  # xor x6, x6, x8
+    .word 0x00831313  # slli x6, x6, 8
+    .word 0x00a37333  # and x6, x6, x10
+    .word 0x0064e4b3  # or x9, x9, x6
+    .word 0x00800293  # addi x5, x0, 8
+    .word 0x40828533  # sub x10, x5, x8
+    .word 0x00714303  # lbu x6, 7(x2)
+    .word 0x00834333  # xor x6, x6, x8
+    .word 0x00831313  # slli x6, x6, 8
+    .word 0x00a37333  # and x6, x6, x10
+    .word 0x0064e4b3  # or x9, x9, x6
+    .word 0x00700293  # addi x5, x0, 7
+    .word 0x40828533  # sub x10, x5, x8
+    .word 0x00814303  # lbu x6, 8(x2)
+    .word 0x00834333  # xor x6, x6, x8
+    .word 0x00831313  # slli x6, x6, 8
+    .word 0x00a37333  # and x6, x6, x10
+    .word 0x0064e4b3  # or x9, x9, x6
+    .word 0x00600293  # addi x5, x0, 6
+    .word 0x40828533  # sub x10, x5, x8
+    .word 0x00914303  # lbu x6, 9(x2)
+    .word 0x00834333  # xor x6, x6, x8
+    .word 0x00831313  # slli x6, x6, 8
+    .word 0x00a37333  # and x6, x6, x10
+    .word 0x0064e4b3  # or x9, x9, x6
+    .word 0x00500293  # addi x5, x0, 5
+    .word 0x40828533  # sub x10, x5, x8
+    .word 0x00a14303  # lbu x6, 10(x2)
+    .word 0x00834333  # xor x6, x6, x8
+    .word 0x00831313  # slli x6, x6, 8
+    .word 0x00a37333  # and x6, x6, x10
+    .word 0x0064e4b3  # or x9, x9, x6
+    .word 0x00400293  # addi x5, x0, 4
+    .word 0x40828533  # sub x10, x5, x8
+    .word 0x00b14303  # lbu x6, 11(x2)
+    .word 0x00834333  # xor x6, x6, x8
+    .word 0x00831313  # slli x6, x6, 8
+    .word 0x00a37333  # and x6, x6, x10
+    .word 0x0064e4b3  # or x9, x9, x6
+    .word 0x00300293  # addi x5, x0, 3
+    .word 0x40828533  # sub x10, x5, x8
+    .word 0x00c14303  # lbu x6, 12(x2)
+    .word 0x00834333  # xor x6, x6, x8
+    .word 0x00831313  # slli x6, x6, 8
+    .word 0x00a37333  # and x6, x6, x10
+    .word 0x0064e4b3  # or x9, x9, x6
+    .word 0x00200293  # addi x5, x0, 2
+    .word 0x40828533  # sub x10, x5, x8
+    .word 0x00d14303  # lbu x6, 13(x2)
+    .word 0x00834333  # xor x6, x6, x8
+    .word 0x00831313  # slli x6, x6, 8
+    .word 0x00a37333  # and x6, x6, x10
+    .word 0x0064e4b3  # or x9, x9, x6
+    .word 0x00100293  # addi x5, x0, 1
+    .word 0x40828533  # sub x10, x5, x8
+    .word 0x00e14303  # lbu x6, 14(x2)
+    .word 0x00834333  # xor x6, x6, x8
+    .word 0x00831313  # slli x6, x6, 8
+    .word 0x00a37333  # and x6, x6, x10
+    .word 0x0064e4b3  # or x9, x9, x6
+    .word 0x00000293  # addi x5, x0, 0
+    .word 0x40828533  # sub x10, x5, x8
+    .word 0x00f14303  # lbu x6, 15(x2)
+    .word 0x00834333  # xor x6, x6, x8
+    .word 0x00831313  # slli x6, x6, 8
+    .word 0x00a37333  # and x6, x6, x10
+    .word 0x0064e4b3  # or x9, x9, x6
+    .word 0x1004b293  # sltiu x5, x9, 256
+    .word 0x01000313  # addi x6, x0, 16
+    .word 0x40830333  # sub x6, x6, x8
     .word 0x0ff37313  # andi x6, x6, 255
     .word 0x0ff00393  # addi x7, x0, 255
-    .word 0x40a002b3  # sub x5, x0, x10
+    .word 0x405002b3  # sub x5, x0, x5
     .word 0x00734333  # xor x6, x6, x7
     .word 0x00537333  # and x6, x6, x5
     .word 0x0063c2b3  # xor x5, x7, x6
@@ -193,7 +181,9 @@ pkcs7_unpad:
     # above the frame
     .word 0x02010293  # addi x5, x2, 32
     # the caller's registers
-    .word 0x0002a483  # lw x9, 0(x5)
+    .word 0x0002a403  # lw x8, 0(x5)
+    .cfi_restore 8
+    .word 0x0042a483  # lw x9, 4(x5)
     .cfi_restore 9
     # the caller's x2
     .word 0x01028293  # addi x5, x5, 16

@@ -1,4 +1,4 @@
-# pkcs7_unpad: made by factc 1.0.0 function; 92 words, 48 bytes of stack, profile 1
+# pkcs7_unpad: made by factc function; 94 words, 48 bytes of stack, profile 1
     .option push
     .option norvc
     .option norelax
@@ -13,8 +13,10 @@ pkcs7_unpad:
     .word 0xff010113  # addi x2, x2, -16
     .cfi_def_cfa_offset 16
     # the caller's registers
-    .word 0x00912023  # sw x9, 0(x2)
-    .cfi_offset 9, -16
+    .word 0x00812023  # sw x8, 0(x2)
+    .cfi_offset 8, -16
+    .word 0x00912223  # sw x9, 4(x2)
+    .cfi_offset 9, -12
     # arguments that are needed behind the body
     # the frame's base
     .word 0xfe010113  # addi x2, x2, -32
@@ -47,33 +49,33 @@ pkcs7_unpad:
     .word 0x00c2ae03  # lw x28, 12(x5)
     .word 0x01c32623  # sw x28, 12(x6)
     # the body
+    .word 0x00000513  # addi x10, x0, 0
     .word 0x00000593  # addi x11, x0, 0
-    .word 0x00000613  # addi x12, x0, 0
-    .word 0x00f14483  # lbu x9, 15(x2)
-    .word 0xfff48293  # addi x5, x9, -1
-    .word 0x0ff2f293  # andi x5, x5, 255
-    .word 0x0102b513  # sltiu x10, x5, 16
-    .word 0x00000593  # addi x11, x0, 0
-    .word 0x01000293  # addi x5, x0, 16
-    .word 0x40b282b3  # sub x5, x5, x11
-    .word 0x0054b633  # sltu x12, x9, x5
-    .word 0x00163613  # sltiu x12, x12, 1
-    .word 0x00163313  # sltiu x6, x12, 1
-    .word 0x002583b3  # add x7, x11, x2
-    .word 0x0003c383  # lbu x7, 0(x7)
-    .word 0x409383b3  # sub x7, x7, x9
-    .word 0x0013b393  # sltiu x7, x7, 1
-    .word 0x00736333  # or x6, x6, x7
-    .word 0x00657533  # and x10, x10, x6
-    .word 0x00158593  # addi x11, x11, 1
-    .word 0x0105b293  # sltiu x5, x11, 16
-    .word 0xfc0296e3  # bne x5, x0, -52
-    .word 0xfff58593  # addi x11, x11, -1
+    .word 0x00f14403  # lbu x8, 15(x2)
+    .word 0xfff40293  # addi x5, x8, -1
     .word 0x01000313  # addi x6, x0, 16
-    .word 0x40930333  # sub x6, x6, x9
+    .word 0x40830333  # sub x6, x6, x8
+    .word 0x0062e4b3  # or x9, x5, x6
+    .word 0x00000513  # addi x10, x0, 0
+    .word 0x00f00293  # addi x5, x0, 15
+    .word 0x40a282b3  # sub x5, x5, x10
+    .word 0x408285b3  # sub x11, x5, x8
+    .word 0x00250333  # add x6, x10, x2
+    .word 0x00034303  # lbu x6, 0(x6)
+    .word 0x00834333  # xor x6, x6, x8
+    .word 0x00831313  # slli x6, x6, 8
+    .word 0x00b37333  # and x6, x6, x11
+    .word 0x0064e4b3  # or x9, x9, x6
+    .word 0x00150513  # addi x10, x10, 1
+    .word 0x01053293  # sltiu x5, x10, 16
+    .word 0xfc029ae3  # bne x5, x0, -44
+    .word 0xfff50513  # addi x10, x10, -1
+    .word 0x1004b293  # sltiu x5, x9, 256
+    .word 0x01000313  # addi x6, x0, 16
+    .word 0x40830333  # sub x6, x6, x8
     .word 0x0ff37313  # andi x6, x6, 255
     .word 0x0ff00393  # addi x7, x0, 255
-    .word 0x40a002b3  # sub x5, x0, x10
+    .word 0x405002b3  # sub x5, x0, x5
     .word 0x00734333  # xor x6, x6, x7
     .word 0x00537333  # and x6, x6, x5
     .word 0x0063c2b3  # xor x5, x7, x6
@@ -83,7 +85,9 @@ pkcs7_unpad:
     # above the frame
     .word 0x02010293  # addi x5, x2, 32
     # the caller's registers
-    .word 0x0002a483  # lw x9, 0(x5)
+    .word 0x0002a403  # lw x8, 0(x5)
+    .cfi_restore 8
+    .word 0x0042a483  # lw x9, 4(x5)
     .cfi_restore 9
     # the caller's x2
     .word 0x01028293  # addi x5, x5, 16
