@@ -1,4 +1,4 @@
-# divide_32: made by factc 1.0.0 function; 93 words, 80 bytes of stack, profile 1
+# divide_32: made by factc function; 89 words, 80 bytes of stack, profile 1
     .option push
     .option norvc
     .option norelax
@@ -24,10 +24,6 @@ divide_32:
     # the frame's base
     .word 0xfd010113  # addi x2, x2, -48
     .cfi_def_cfa 2, 80
-    # the frame's word at 20, zeroed
-    .word 0x00012a23  # sw x0, 20(x2)
-    # the frame's word at 24, zeroed
-    .word 0x00012c23  # sw x0, 24(x2)
     # parameter 0: a word
     .word 0x00a12023  # sw x10, 0(x2)
     # parameter 1: a word
@@ -37,32 +33,30 @@ divide_32:
     .word 0x00412483  # lw x9, 4(x2)
     .word 0x00000613  # addi x12, x0, 0
     .word 0x00000693  # addi x13, x0, 0
-    .word 0x01412703  # lw x14, 20(x2)
+    .word 0x00000713  # addi x14, x0, 0
     .word 0x00000513  # addi x10, x0, 0
     .word 0x00040593  # addi x11, x8, 0
     .word 0x00000613  # addi x12, x0, 0
-    .word 0x01f55293  # srli x5, x10, 31
-    .word 0xfff28693  # addi x13, x5, -1
-    .word 0x0016b693  # sltiu x13, x13, 1
+    .word 0x00000693  # addi x13, x0, 0
+    .word 0x01f55713  # srli x14, x10, 31
     .word 0x00151293  # slli x5, x10, 1
     .word 0x01f5d313  # srli x6, x11, 31
     .word 0x0062e533  # or x10, x5, x6
-    .word 0x00159593  # slli x11, x11, 1
     .word 0x00953333  # sltu x6, x10, x9
     .word 0x00133313  # sltiu x6, x6, 1
-    .word 0x0066e2b3  # or x5, x13, x6
-    .word 0x40500733  # sub x14, x0, x5
-    .word 0x409502b3  # sub x5, x10, x9
-    .word 0x00a2c2b3  # xor x5, x5, x10
-    .word 0x00e2f2b3  # and x5, x5, x14
-    .word 0x00554533  # xor x10, x10, x5
-    .word 0x0015e293  # ori x5, x11, 1
-    .word 0x00b2c2b3  # xor x5, x5, x11
-    .word 0x00e2f2b3  # and x5, x5, x14
-    .word 0x0055c5b3  # xor x11, x11, x5
+    .word 0x00676733  # or x14, x14, x6
+    .word 0x40e003b3  # sub x7, x0, x14
+    .word 0x0074f333  # and x6, x9, x7
+    .word 0x40650533  # sub x10, x10, x6
+    .word 0x00159293  # slli x5, x11, 1
+    .word 0x00e2e5b3  # or x11, x5, x14
+    .word 0x00168693  # addi x13, x13, 1
+    .word 0x0086b293  # sltiu x5, x13, 8
+    .word 0xfc0294e3  # bne x5, x0, -56
+    .word 0xfff68693  # addi x13, x13, -1
     .word 0x00160613  # addi x12, x12, 1
-    .word 0x02063293  # sltiu x5, x12, 32
-    .word 0xfa0296e3  # bne x5, x0, -84
+    .word 0x00463293  # sltiu x5, x12, 4
+    .word 0xfa029ae3  # bne x5, x0, -76
     .word 0xfff60613  # addi x12, x12, -1
     .word 0x00b12423  # sw x11, 8(x2)
     .word 0x00a12623  # sw x10, 12(x2)
