@@ -1,4 +1,4 @@
-/* gf256_multiply: made by factc 1.0.0 function.
+/* gf256_multiply: made by factc function.
    Arrays are aligned by their elements, lie outside the stack below the caller, and no two that are not const overlap.
    For an observer of profile 1: neither the instructions that it executes, nor the addresses of its loads and stores,
    nor the operands of its divisions depend on secret arguments. Nothing is proved of time. */
@@ -6,7 +6,7 @@
 #define FACT_gf256_multiply_H
 #include <stdbool.h>
 #include <stdint.h>
-#define gf256_multiply_STACK_BYTES 96
+#define gf256_multiply_STACK_BYTES 112
 #ifdef __cplusplus
 extern "C" {
 #endif
