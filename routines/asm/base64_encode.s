@@ -1,4 +1,4 @@
-# base64_encode: made by factc 1.0.0 function; 289 words, 144 bytes of stack, profile 1
+# base64_encode: made by factc function; 470 words, 144 bytes of stack, profile 1
     .option push
     .option norvc
     .option norelax
@@ -67,6 +67,46 @@ base64_encode:
     .word 0x03c32623  # sw x28, 44(x6)
     # parameter 1: a word
     .word 0x02b12823  # sw x11, 48(x2)
+    # parameter 2: an array
+    .word 0x00060293  # addi x5, x12, 0
+    .word 0x03410313  # addi x6, x2, 52
+    .word 0x0032fe13  # andi x28, x5, 3
+    .word 0x020e0e63  # beq x28, x0, 60
+    .word 0x04000393  # addi x7, x0, 64
+    .word 0x005383b3  # add x7, x7, x5
+    .word 0x0002ce03  # lbu x28, 0(x5)
+    .word 0x01c30023  # sb x28, 0(x6)
+    .word 0x0012ce03  # lbu x28, 1(x5)
+    .word 0x01c300a3  # sb x28, 1(x6)
+    .word 0x0022ce03  # lbu x28, 2(x5)
+    .word 0x01c30123  # sb x28, 2(x6)
+    .word 0x0032ce03  # lbu x28, 3(x5)
+    .word 0x01c301a3  # sb x28, 3(x6)
+    .word 0x00428293  # addi x5, x5, 4
+    .word 0x00430313  # addi x6, x6, 4
+    .word 0xfc729ce3  # bne x5, x7, -40
+    .word 0x0580006f  # jal x0, 88
+    .word 0x04000393  # addi x7, x0, 64
+    .word 0x005383b3  # add x7, x7, x5
+    .word 0x0002ae03  # lw x28, 0(x5)
+    .word 0x01c32023  # sw x28, 0(x6)
+    .word 0x0042ae03  # lw x28, 4(x5)
+    .word 0x01c32223  # sw x28, 4(x6)
+    .word 0x0082ae03  # lw x28, 8(x5)
+    .word 0x01c32423  # sw x28, 8(x6)
+    .word 0x00c2ae03  # lw x28, 12(x5)
+    .word 0x01c32623  # sw x28, 12(x6)
+    .word 0x0102ae03  # lw x28, 16(x5)
+    .word 0x01c32823  # sw x28, 16(x6)
+    .word 0x0142ae03  # lw x28, 20(x5)
+    .word 0x01c32a23  # sw x28, 20(x6)
+    .word 0x0182ae03  # lw x28, 24(x5)
+    .word 0x01c32c23  # sw x28, 24(x6)
+    .word 0x01c2ae03  # lw x28, 28(x5)
+    .word 0x01c32e23  # sw x28, 28(x6)
+    .word 0x02028293  # addi x5, x5, 32
+    .word 0x02030313  # addi x6, x6, 32
+    .word 0xfa729ce3  # bne x5, x7, -72
     # the body
     .word 0x03012483  # lw x9, 48(x2)
     .word 0x00000513  # addi x10, x0, 0
@@ -75,157 +115,299 @@ base64_encode:
     .word 0x00000693  # addi x13, x0, 0
     .word 0x00000713  # addi x14, x0, 0
     .word 0x00000793  # addi x15, x0, 0
+    .word 0x00000813  # addi x16, x0, 0
     .word 0x00000513  # addi x10, x0, 0
-    .word 0x00300293  # addi x5, x0, 3
+    .word 0x00600293  # addi x5, x0, 6
     .word 0x02a285b3  # mul x11, x5, x10
-    .word 0x00000613  # addi x12, x0, 0
-    .word 0x0095f663  # bgeu x11, x9, 12
-    .word 0x00258633  # add x12, x11, x2
-    .word 0x00064603  # lbu x12, 0(x12)
-    .word 0x00861613  # slli x12, x12, 8
+    .word 0x00351613  # slli x12, x10, 3
+    .word 0x1e95fa63  # bgeu x11, x9, 500
+    .word 0x002582b3  # add x5, x11, x2
+    .word 0x0002c283  # lbu x5, 0(x5)
+    .word 0x01029693  # slli x13, x5, 16
     .word 0x00158293  # addi x5, x11, 1
-    .word 0x0092fa63  # bgeu x5, x9, 20
+    .word 0x0092fc63  # bgeu x5, x9, 24
     .word 0x00158313  # addi x6, x11, 1
     .word 0x00230333  # add x6, x6, x2
     .word 0x00034303  # lbu x6, 0(x6)
-    .word 0x00666633  # or x12, x12, x6
-    .word 0x00861613  # slli x12, x12, 8
+    .word 0x00831313  # slli x6, x6, 8
+    .word 0x0066e6b3  # or x13, x13, x6
     .word 0x00258293  # addi x5, x11, 2
     .word 0x0092fa63  # bgeu x5, x9, 20
     .word 0x00258313  # addi x6, x11, 2
     .word 0x00230333  # add x6, x6, x2
     .word 0x00034303  # lbu x6, 0(x6)
-    .word 0x00666633  # or x12, x12, x6
-    .word 0x01265293  # srli x5, x12, 18
-    .word 0x03f2f693  # andi x13, x5, 63
-    .word 0x04168713  # addi x14, x13, 65
-    .word 0x01a6b313  # sltiu x6, x13, 26
+    .word 0x0066e6b3  # or x13, x13, x6
+    .word 0x0126d713  # srli x14, x13, 18
+    .word 0x04170793  # addi x15, x14, 65
+    .word 0x01a73313  # sltiu x6, x14, 26
     .word 0x00600393  # addi x7, x0, 6
     .word 0xfff30313  # addi x6, x6, -1
     .word 0x0063f333  # and x6, x7, x6
-    .word 0x00670733  # add x14, x14, x6
-    .word 0x0346b313  # sltiu x6, x13, 52
+    .word 0x006787b3  # add x15, x15, x6
+    .word 0x03473313  # sltiu x6, x14, 52
     .word 0x04b00393  # addi x7, x0, 75
     .word 0xfff30313  # addi x6, x6, -1
     .word 0x0063f333  # and x6, x7, x6
-    .word 0x40670733  # sub x14, x14, x6
-    .word 0x03e6b313  # sltiu x6, x13, 62
+    .word 0x406787b3  # sub x15, x15, x6
+    .word 0x03e73313  # sltiu x6, x14, 62
     .word 0x00f00393  # addi x7, x0, 15
     .word 0xfff30313  # addi x6, x6, -1
     .word 0x0063f333  # and x6, x7, x6
-    .word 0x40670733  # sub x14, x14, x6
-    .word 0x03f6b313  # sltiu x6, x13, 63
+    .word 0x406787b3  # sub x15, x15, x6
+    .word 0x03f73313  # sltiu x6, x14, 63
     .word 0x00300393  # addi x7, x0, 3
     .word 0xfff30313  # addi x6, x6, -1
     .word 0x0063f333  # and x6, x7, x6
-    .word 0x006702b3  # add x5, x14, x6
-    .word 0x0ff2f793  # andi x15, x5, 255
-    .word 0x0095e463  # bltu x11, x9, 8
-    .word 0x00000793  # addi x15, x0, 0
-    .word 0x00251293  # slli x5, x10, 2
+    .word 0x00678833  # add x16, x15, x6
+    .word 0x00c6d293  # srli x5, x13, 12
+    .word 0x03f2f713  # andi x14, x5, 63
+    .word 0x04170793  # addi x15, x14, 65
+    .word 0x01a73313  # sltiu x6, x14, 26
+    .word 0x00600393  # addi x7, x0, 6
+    .word 0xfff30313  # addi x6, x6, -1
+    .word 0x0063f333  # and x6, x7, x6
+    .word 0x006787b3  # add x15, x15, x6
+    .word 0x03473313  # sltiu x6, x14, 52
+    .word 0x04b00393  # addi x7, x0, 75
+    .word 0xfff30313  # addi x6, x6, -1
+    .word 0x0063f333  # and x6, x7, x6
+    .word 0x406787b3  # sub x15, x15, x6
+    .word 0x03e73313  # sltiu x6, x14, 62
+    .word 0x00f00393  # addi x7, x0, 15
+    .word 0xfff30313  # addi x6, x6, -1
+    .word 0x0063f333  # and x6, x7, x6
+    .word 0x406787b3  # sub x15, x15, x6
+    .word 0x03f73313  # sltiu x6, x14, 63
+    .word 0x00300393  # addi x7, x0, 3
+    .word 0xfff30313  # addi x6, x6, -1
+    .word 0x0063f333  # and x6, x7, x6
+    .word 0x006787b3  # add x15, x15, x6
+    .word 0x002602b3  # add x5, x12, x2
+    .word 0x03028a23  # sb x16, 52(x5)
+    .word 0x00160293  # addi x5, x12, 1
     .word 0x002282b3  # add x5, x5, x2
     .word 0x02f28a23  # sb x15, 52(x5)
-    .word 0x00c65293  # srli x5, x12, 12
-    .word 0x03f2f693  # andi x13, x5, 63
-    .word 0x04168713  # addi x14, x13, 65
-    .word 0x01a6b313  # sltiu x6, x13, 26
+    .word 0x0066d293  # srli x5, x13, 6
+    .word 0x03f2f713  # andi x14, x5, 63
+    .word 0x04170793  # addi x15, x14, 65
+    .word 0x01a73313  # sltiu x6, x14, 26
     .word 0x00600393  # addi x7, x0, 6
     .word 0xfff30313  # addi x6, x6, -1
     .word 0x0063f333  # and x6, x7, x6
-    .word 0x00670733  # add x14, x14, x6
-    .word 0x0346b313  # sltiu x6, x13, 52
+    .word 0x006787b3  # add x15, x15, x6
+    .word 0x03473313  # sltiu x6, x14, 52
     .word 0x04b00393  # addi x7, x0, 75
     .word 0xfff30313  # addi x6, x6, -1
     .word 0x0063f333  # and x6, x7, x6
-    .word 0x40670733  # sub x14, x14, x6
-    .word 0x03e6b313  # sltiu x6, x13, 62
+    .word 0x406787b3  # sub x15, x15, x6
+    .word 0x03e73313  # sltiu x6, x14, 62
     .word 0x00f00393  # addi x7, x0, 15
     .word 0xfff30313  # addi x6, x6, -1
     .word 0x0063f333  # and x6, x7, x6
-    .word 0x40670733  # sub x14, x14, x6
-    .word 0x03f6b313  # sltiu x6, x13, 63
+    .word 0x406787b3  # sub x15, x15, x6
+    .word 0x03f73313  # sltiu x6, x14, 63
     .word 0x00300393  # addi x7, x0, 3
     .word 0xfff30313  # addi x6, x6, -1
     .word 0x0063f333  # and x6, x7, x6
-    .word 0x006702b3  # add x5, x14, x6
-    .word 0x0ff2f793  # andi x15, x5, 255
-    .word 0x00158313  # addi x6, x11, 1
-    .word 0x0064f463  # bgeu x9, x6, 8
-    .word 0x03d00793  # addi x15, x0, 61
-    .word 0x0095e463  # bltu x11, x9, 8
-    .word 0x00000793  # addi x15, x0, 0
-    .word 0x00251293  # slli x5, x10, 2
-    .word 0x00128293  # addi x5, x5, 1
-    .word 0x002282b3  # add x5, x5, x2
-    .word 0x02f28a23  # sb x15, 52(x5)
-    .word 0x00665293  # srli x5, x12, 6
-    .word 0x03f2f693  # andi x13, x5, 63
-    .word 0x04168713  # addi x14, x13, 65
-    .word 0x01a6b313  # sltiu x6, x13, 26
-    .word 0x00600393  # addi x7, x0, 6
-    .word 0xfff30313  # addi x6, x6, -1
-    .word 0x0063f333  # and x6, x7, x6
-    .word 0x00670733  # add x14, x14, x6
-    .word 0x0346b313  # sltiu x6, x13, 52
-    .word 0x04b00393  # addi x7, x0, 75
-    .word 0xfff30313  # addi x6, x6, -1
-    .word 0x0063f333  # and x6, x7, x6
-    .word 0x40670733  # sub x14, x14, x6
-    .word 0x03e6b313  # sltiu x6, x13, 62
-    .word 0x00f00393  # addi x7, x0, 15
-    .word 0xfff30313  # addi x6, x6, -1
-    .word 0x0063f333  # and x6, x7, x6
-    .word 0x40670733  # sub x14, x14, x6
-    .word 0x03f6b313  # sltiu x6, x13, 63
-    .word 0x00300393  # addi x7, x0, 3
-    .word 0xfff30313  # addi x6, x6, -1
-    .word 0x0063f333  # and x6, x7, x6
-    .word 0x006702b3  # add x5, x14, x6
-    .word 0x0ff2f793  # andi x15, x5, 255
+    .word 0x006787b3  # add x15, x15, x6
     .word 0x00258313  # addi x6, x11, 2
     .word 0x0064f463  # bgeu x9, x6, 8
     .word 0x03d00793  # addi x15, x0, 61
-    .word 0x0095e463  # bltu x11, x9, 8
-    .word 0x00000793  # addi x15, x0, 0
-    .word 0x00251293  # slli x5, x10, 2
-    .word 0x00228293  # addi x5, x5, 2
+    .word 0x00260293  # addi x5, x12, 2
     .word 0x002282b3  # add x5, x5, x2
     .word 0x02f28a23  # sb x15, 52(x5)
-    .word 0x03f67693  # andi x13, x12, 63
-    .word 0x04168713  # addi x14, x13, 65
-    .word 0x01a6b313  # sltiu x6, x13, 26
+    .word 0x03f6f793  # andi x15, x13, 63
+    .word 0x04178693  # addi x13, x15, 65
+    .word 0x01a7b313  # sltiu x6, x15, 26
     .word 0x00600393  # addi x7, x0, 6
     .word 0xfff30313  # addi x6, x6, -1
     .word 0x0063f333  # and x6, x7, x6
-    .word 0x00670733  # add x14, x14, x6
-    .word 0x0346b313  # sltiu x6, x13, 52
+    .word 0x006686b3  # add x13, x13, x6
+    .word 0x0347b313  # sltiu x6, x15, 52
     .word 0x04b00393  # addi x7, x0, 75
     .word 0xfff30313  # addi x6, x6, -1
     .word 0x0063f333  # and x6, x7, x6
-    .word 0x40670733  # sub x14, x14, x6
-    .word 0x03e6b313  # sltiu x6, x13, 62
+    .word 0x406686b3  # sub x13, x13, x6
+    .word 0x03e7b313  # sltiu x6, x15, 62
     .word 0x00f00393  # addi x7, x0, 15
     .word 0xfff30313  # addi x6, x6, -1
     .word 0x0063f333  # and x6, x7, x6
-    .word 0x40670733  # sub x14, x14, x6
-    .word 0x03f6b313  # sltiu x6, x13, 63
+    .word 0x406686b3  # sub x13, x13, x6
+    .word 0x03f7b313  # sltiu x6, x15, 63
     .word 0x00300393  # addi x7, x0, 3
     .word 0xfff30313  # addi x6, x6, -1
     .word 0x0063f333  # and x6, x7, x6
-    .word 0x006702b3  # add x5, x14, x6
-    .word 0x0ff2f793  # andi x15, x5, 255
+    .word 0x006687b3  # add x15, x13, x6
     .word 0x00358313  # addi x6, x11, 3
     .word 0x0064f463  # bgeu x9, x6, 8
     .word 0x03d00793  # addi x15, x0, 61
-    .word 0x0095e463  # bltu x11, x9, 8
-    .word 0x00000793  # addi x15, x0, 0
-    .word 0x00251293  # slli x5, x10, 2
-    .word 0x00328293  # addi x5, x5, 3
+    .word 0x00360293  # addi x5, x12, 3
     .word 0x002282b3  # add x5, x5, x2
     .word 0x02f28a23  # sb x15, 52(x5)
+    .word 0x0400006f  # jal x0, 64
+    .word 0x00000313  # addi x6, x0, 0
+    .word 0x002602b3  # add x5, x12, x2
+    .word 0x02628a23  # sb x6, 52(x5)
+    .word 0x00160293  # addi x5, x12, 1
+    .word 0x00000313  # addi x6, x0, 0
+    .word 0x002282b3  # add x5, x5, x2
+    .word 0x02628a23  # sb x6, 52(x5)
+    .word 0x00260293  # addi x5, x12, 2
+    .word 0x00000313  # addi x6, x0, 0
+    .word 0x002282b3  # add x5, x5, x2
+    .word 0x02628a23  # sb x6, 52(x5)
+    .word 0x00360293  # addi x5, x12, 3
+    .word 0x00000313  # addi x6, x0, 0
+    .word 0x002282b3  # add x5, x5, x2
+    .word 0x02628a23  # sb x6, 52(x5)
+    .word 0x00600293  # addi x5, x0, 6
+    .word 0x02a282b3  # mul x5, x5, x10
+    .word 0x00328593  # addi x11, x5, 3
+    .word 0x00351293  # slli x5, x10, 3
+    .word 0x00428613  # addi x12, x5, 4
+    .word 0x1e95fa63  # bgeu x11, x9, 500
+    .word 0x002582b3  # add x5, x11, x2
+    .word 0x0002c283  # lbu x5, 0(x5)
+    .word 0x01029693  # slli x13, x5, 16
+    .word 0x00158293  # addi x5, x11, 1
+    .word 0x0092fc63  # bgeu x5, x9, 24
+    .word 0x00158313  # addi x6, x11, 1
+    .word 0x00230333  # add x6, x6, x2
+    .word 0x00034303  # lbu x6, 0(x6)
+    .word 0x00831313  # slli x6, x6, 8
+    .word 0x0066e6b3  # or x13, x13, x6
+    .word 0x00258293  # addi x5, x11, 2
+    .word 0x0092fa63  # bgeu x5, x9, 20
+    .word 0x00258313  # addi x6, x11, 2
+    .word 0x00230333  # add x6, x6, x2
+    .word 0x00034303  # lbu x6, 0(x6)
+    .word 0x0066e6b3  # or x13, x13, x6
+    .word 0x0126d713  # srli x14, x13, 18
+    .word 0x04170793  # addi x15, x14, 65
+    .word 0x01a73313  # sltiu x6, x14, 26
+    .word 0x00600393  # addi x7, x0, 6
+    .word 0xfff30313  # addi x6, x6, -1
+    .word 0x0063f333  # and x6, x7, x6
+    .word 0x006787b3  # add x15, x15, x6
+    .word 0x03473313  # sltiu x6, x14, 52
+    .word 0x04b00393  # addi x7, x0, 75
+    .word 0xfff30313  # addi x6, x6, -1
+    .word 0x0063f333  # and x6, x7, x6
+    .word 0x406787b3  # sub x15, x15, x6
+    .word 0x03e73313  # sltiu x6, x14, 62
+    .word 0x00f00393  # addi x7, x0, 15
+    .word 0xfff30313  # addi x6, x6, -1
+    .word 0x0063f333  # and x6, x7, x6
+    .word 0x406787b3  # sub x15, x15, x6
+    .word 0x03f73313  # sltiu x6, x14, 63
+    .word 0x00300393  # addi x7, x0, 3
+    .word 0xfff30313  # addi x6, x6, -1
+    .word 0x0063f333  # and x6, x7, x6
+    .word 0x00678833  # add x16, x15, x6
+    .word 0x00c6d293  # srli x5, x13, 12
+    .word 0x03f2f713  # andi x14, x5, 63
+    .word 0x04170793  # addi x15, x14, 65
+    .word 0x01a73313  # sltiu x6, x14, 26
+    .word 0x00600393  # addi x7, x0, 6
+    .word 0xfff30313  # addi x6, x6, -1
+    .word 0x0063f333  # and x6, x7, x6
+    .word 0x006787b3  # add x15, x15, x6
+    .word 0x03473313  # sltiu x6, x14, 52
+    .word 0x04b00393  # addi x7, x0, 75
+    .word 0xfff30313  # addi x6, x6, -1
+    .word 0x0063f333  # and x6, x7, x6
+    .word 0x406787b3  # sub x15, x15, x6
+    .word 0x03e73313  # sltiu x6, x14, 62
+    .word 0x00f00393  # addi x7, x0, 15
+    .word 0xfff30313  # addi x6, x6, -1
+    .word 0x0063f333  # and x6, x7, x6
+    .word 0x406787b3  # sub x15, x15, x6
+    .word 0x03f73313  # sltiu x6, x14, 63
+    .word 0x00300393  # addi x7, x0, 3
+    .word 0xfff30313  # addi x6, x6, -1
+    .word 0x0063f333  # and x6, x7, x6
+    .word 0x006787b3  # add x15, x15, x6
+    .word 0x002602b3  # add x5, x12, x2
+    .word 0x03028a23  # sb x16, 52(x5)
+    .word 0x00160293  # addi x5, x12, 1
+    .word 0x002282b3  # add x5, x5, x2
+    .word 0x02f28a23  # sb x15, 52(x5)
+    .word 0x0066d293  # srli x5, x13, 6
+    .word 0x03f2f713  # andi x14, x5, 63
+    .word 0x04170793  # addi x15, x14, 65
+    .word 0x01a73313  # sltiu x6, x14, 26
+    .word 0x00600393  # addi x7, x0, 6
+    .word 0xfff30313  # addi x6, x6, -1
+    .word 0x0063f333  # and x6, x7, x6
+    .word 0x006787b3  # add x15, x15, x6
+    .word 0x03473313  # sltiu x6, x14, 52
+    .word 0x04b00393  # addi x7, x0, 75
+    .word 0xfff30313  # addi x6, x6, -1
+    .word 0x0063f333  # and x6, x7, x6
+    .word 0x406787b3  # sub x15, x15, x6
+    .word 0x03e73313  # sltiu x6, x14, 62
+    .word 0x00f00393  # addi x7, x0, 15
+    .word 0xfff30313  # addi x6, x6, -1
+    .word 0x0063f333  # and x6, x7, x6
+    .word 0x406787b3  # sub x15, x15, x6
+    .word 0x03f73313  # sltiu x6, x14, 63
+    .word 0x00300393  # addi x7, x0, 3
+    .word 0xfff30313  # addi x6, x6, -1
+    .word 0x0063f333  # and x6, x7, x6
+    .word 0x006787b3  # add x15, x15, x6
+    .word 0x00258313  # addi x6, x11, 2
+    .word 0x0064f463  # bgeu x9, x6, 8
+    .word 0x03d00793  # addi x15, x0, 61
+    .word 0x00260293  # addi x5, x12, 2
+    .word 0x002282b3  # add x5, x5, x2
+    .word 0x02f28a23  # sb x15, 52(x5)
+    .word 0x03f6f793  # andi x15, x13, 63
+    .word 0x04178693  # addi x13, x15, 65
+    .word 0x01a7b313  # sltiu x6, x15, 26
+    .word 0x00600393  # addi x7, x0, 6
+    .word 0xfff30313  # addi x6, x6, -1
+    .word 0x0063f333  # and x6, x7, x6
+    .word 0x006686b3  # add x13, x13, x6
+    .word 0x0347b313  # sltiu x6, x15, 52
+    .word 0x04b00393  # addi x7, x0, 75
+    .word 0xfff30313  # addi x6, x6, -1
+    .word 0x0063f333  # and x6, x7, x6
+    .word 0x406686b3  # sub x13, x13, x6
+    .word 0x03e7b313  # sltiu x6, x15, 62
+    .word 0x00f00393  # addi x7, x0, 15
+    .word 0xfff30313  # addi x6, x6, -1
+    .word 0x0063f333  # and x6, x7, x6
+    .word 0x406686b3  # sub x13, x13, x6
+    .word 0x03f7b313  # sltiu x6, x15, 63
+    .word 0x00300393  # addi x7, x0, 3
+    .word 0xfff30313  # addi x6, x6, -1
+    .word 0x0063f333  # and x6, x7, x6
+    .word 0x006687b3  # add x15, x13, x6
+    .word 0x00358313  # addi x6, x11, 3
+    .word 0x0064f463  # bgeu x9, x6, 8
+    .word 0x03d00793  # addi x15, x0, 61
+    .word 0x00360293  # addi x5, x12, 3
+    .word 0x002282b3  # add x5, x5, x2
+    .word 0x02f28a23  # sb x15, 52(x5)
+    .word 0x0400006f  # jal x0, 64
+    .word 0x00000313  # addi x6, x0, 0
+    .word 0x002602b3  # add x5, x12, x2
+    .word 0x02628a23  # sb x6, 52(x5)
+    .word 0x00160293  # addi x5, x12, 1
+    .word 0x00000313  # addi x6, x0, 0
+    .word 0x002282b3  # add x5, x5, x2
+    .word 0x02628a23  # sb x6, 52(x5)
+    .word 0x00260293  # addi x5, x12, 2
+    .word 0x00000313  # addi x6, x0, 0
+    .word 0x002282b3  # add x5, x5, x2
+    .word 0x02628a23  # sb x6, 52(x5)
+    .word 0x00360293  # addi x5, x12, 3
+    .word 0x00000313  # addi x6, x0, 0
+    .word 0x002282b3  # add x5, x5, x2
+    .word 0x02628a23  # sb x6, 52(x5)
     .word 0x00150513  # addi x10, x10, 1
-    .word 0x01053293  # sltiu x5, x10, 16
-    .word 0xda0296e3  # bne x5, x0, -596
+    .word 0x00853293  # sltiu x5, x10, 8
+    .word 0xb6029ce3  # bne x5, x0, -1160
     .word 0xfff50513  # addi x10, x10, -1
     # the result
     .word 0x00000513  # addi x10, x0, 0

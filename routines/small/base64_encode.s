@@ -1,4 +1,4 @@
-# base64_encode: made by factc 1.0.0 function; 208 words, 160 bytes of stack, profile 1
+# base64_encode: made by factc function; 340 words, 160 bytes of stack, profile 1
     .option push
     .option norvc
     .option norelax
@@ -67,6 +67,46 @@ base64_encode:
     .word 0x03c32623  # sw x28, 44(x6)
     # parameter 1: a word
     .word 0x02b12823  # sw x11, 48(x2)
+    # parameter 2: an array
+    .word 0x00060293  # addi x5, x12, 0
+    .word 0x03410313  # addi x6, x2, 52
+    .word 0x0032fe13  # andi x28, x5, 3
+    .word 0x020e0e63  # beq x28, x0, 60
+    .word 0x04000393  # addi x7, x0, 64
+    .word 0x005383b3  # add x7, x7, x5
+    .word 0x0002ce03  # lbu x28, 0(x5)
+    .word 0x01c30023  # sb x28, 0(x6)
+    .word 0x0012ce03  # lbu x28, 1(x5)
+    .word 0x01c300a3  # sb x28, 1(x6)
+    .word 0x0022ce03  # lbu x28, 2(x5)
+    .word 0x01c30123  # sb x28, 2(x6)
+    .word 0x0032ce03  # lbu x28, 3(x5)
+    .word 0x01c301a3  # sb x28, 3(x6)
+    .word 0x00428293  # addi x5, x5, 4
+    .word 0x00430313  # addi x6, x6, 4
+    .word 0xfc729ce3  # bne x5, x7, -40
+    .word 0x0580006f  # jal x0, 88
+    .word 0x04000393  # addi x7, x0, 64
+    .word 0x005383b3  # add x7, x7, x5
+    .word 0x0002ae03  # lw x28, 0(x5)
+    .word 0x01c32023  # sw x28, 0(x6)
+    .word 0x0042ae03  # lw x28, 4(x5)
+    .word 0x01c32223  # sw x28, 4(x6)
+    .word 0x0082ae03  # lw x28, 8(x5)
+    .word 0x01c32423  # sw x28, 8(x6)
+    .word 0x00c2ae03  # lw x28, 12(x5)
+    .word 0x01c32623  # sw x28, 12(x6)
+    .word 0x0102ae03  # lw x28, 16(x5)
+    .word 0x01c32823  # sw x28, 16(x6)
+    .word 0x0142ae03  # lw x28, 20(x5)
+    .word 0x01c32a23  # sw x28, 20(x6)
+    .word 0x0182ae03  # lw x28, 24(x5)
+    .word 0x01c32c23  # sw x28, 24(x6)
+    .word 0x01c2ae03  # lw x28, 28(x5)
+    .word 0x01c32e23  # sw x28, 28(x6)
+    .word 0x02028293  # addi x5, x5, 32
+    .word 0x02030313  # addi x6, x6, 32
+    .word 0xfa729ce3  # bne x5, x7, -72
     # the body
     .word 0x03012483  # lw x9, 48(x2)
     .word 0x00000513  # addi x10, x0, 0
@@ -78,27 +118,55 @@ base64_encode:
     .word 0x00000813  # addi x16, x0, 0
     .word 0x00000893  # addi x17, x0, 0
     .word 0x00000513  # addi x10, x0, 0
-    .word 0x00300293  # addi x5, x0, 3
-    .word 0x02a285b3  # mul x11, x5, x10
-    .word 0x00000613  # addi x12, x0, 0
-    .word 0x00000693  # addi x13, x0, 0
-    .word 0x00861613  # slli x12, x12, 8
-    .word 0x00d582b3  # add x5, x11, x13
-    .word 0x0092fa63  # bgeu x5, x9, 20
-    .word 0x00d58333  # add x6, x11, x13
+    .word 0x00000593  # addi x11, x0, 0
+    .word 0x00600293  # addi x5, x0, 6
+    .word 0x02a282b3  # mul x5, x5, x10
+    .word 0x00300313  # addi x6, x0, 3
+    .word 0x02b30333  # mul x6, x6, x11
+    .word 0x00628633  # add x12, x5, x6
+    .word 0x00351293  # slli x5, x10, 3
+    .word 0x00259313  # slli x6, x11, 2
+    .word 0x006286b3  # add x13, x5, x6
+    .word 0x1e967a63  # bgeu x12, x9, 500
+    .word 0x002602b3  # add x5, x12, x2
+    .word 0x0002c283  # lbu x5, 0(x5)
+    .word 0x01029713  # slli x14, x5, 16
+    .word 0x00160293  # addi x5, x12, 1
+    .word 0x0092fc63  # bgeu x5, x9, 24
+    .word 0x00160313  # addi x6, x12, 1
     .word 0x00230333  # add x6, x6, x2
     .word 0x00034303  # lbu x6, 0(x6)
-    .word 0x00666633  # or x12, x12, x6
-    .word 0x00168693  # addi x13, x13, 1
-    .word 0x0036b293  # sltiu x5, x13, 3
-    .word 0xfc029ee3  # bne x5, x0, -36
-    .word 0xfff68693  # addi x13, x13, -1
-    .word 0x00000713  # addi x14, x0, 0
-    .word 0x01200313  # addi x6, x0, 18
+    .word 0x00831313  # slli x6, x6, 8
+    .word 0x00676733  # or x14, x14, x6
+    .word 0x00260293  # addi x5, x12, 2
+    .word 0x0092fa63  # bgeu x5, x9, 20
+    .word 0x00260313  # addi x6, x12, 2
+    .word 0x00230333  # add x6, x6, x2
+    .word 0x00034303  # lbu x6, 0(x6)
+    .word 0x00676733  # or x14, x14, x6
+    .word 0x01275793  # srli x15, x14, 18
+    .word 0x04178813  # addi x16, x15, 65
+    .word 0x01a7b313  # sltiu x6, x15, 26
     .word 0x00600393  # addi x7, x0, 6
-    .word 0x02e383b3  # mul x7, x7, x14
-    .word 0x40730333  # sub x6, x6, x7
-    .word 0x006652b3  # srl x5, x12, x6
+    .word 0xfff30313  # addi x6, x6, -1
+    .word 0x0063f333  # and x6, x7, x6
+    .word 0x00680833  # add x16, x16, x6
+    .word 0x0347b313  # sltiu x6, x15, 52
+    .word 0x04b00393  # addi x7, x0, 75
+    .word 0xfff30313  # addi x6, x6, -1
+    .word 0x0063f333  # and x6, x7, x6
+    .word 0x40680833  # sub x16, x16, x6
+    .word 0x03e7b313  # sltiu x6, x15, 62
+    .word 0x00f00393  # addi x7, x0, 15
+    .word 0xfff30313  # addi x6, x6, -1
+    .word 0x0063f333  # and x6, x7, x6
+    .word 0x40680833  # sub x16, x16, x6
+    .word 0x03f7b313  # sltiu x6, x15, 63
+    .word 0x00300393  # addi x7, x0, 3
+    .word 0xfff30313  # addi x6, x6, -1
+    .word 0x0063f333  # and x6, x7, x6
+    .word 0x006808b3  # add x17, x16, x6
+    .word 0x00c75293  # srli x5, x14, 12
     .word 0x03f2f793  # andi x15, x5, 63
     .word 0x04178813  # addi x16, x15, 65
     .word 0x01a7b313  # sltiu x6, x15, 26
@@ -120,27 +188,92 @@ base64_encode:
     .word 0x00300393  # addi x7, x0, 3
     .word 0xfff30313  # addi x6, x6, -1
     .word 0x0063f333  # and x6, x7, x6
-    .word 0x006802b3  # add x5, x16, x6
-    .word 0x0ff2f893  # andi x17, x5, 255
-    .word 0x00e032b3  # sltu x5, x0, x14
-    .word 0x00e583b3  # add x7, x11, x14
-    .word 0x0074b333  # sltu x6, x9, x7
-    .word 0x0062f2b3  # and x5, x5, x6
-    .word 0x00028463  # beq x5, x0, 8
-    .word 0x03d00893  # addi x17, x0, 61
-    .word 0x0095e463  # bltu x11, x9, 8
-    .word 0x00000893  # addi x17, x0, 0
-    .word 0x00251293  # slli x5, x10, 2
-    .word 0x00e282b3  # add x5, x5, x14
-    .word 0x002282b3  # add x5, x5, x2
+    .word 0x00680833  # add x16, x16, x6
+    .word 0x002682b3  # add x5, x13, x2
     .word 0x03128a23  # sb x17, 52(x5)
-    .word 0x00170713  # addi x14, x14, 1
-    .word 0x00473293  # sltiu x5, x14, 4
-    .word 0xf4029ce3  # bne x5, x0, -168
-    .word 0xfff70713  # addi x14, x14, -1
+    .word 0x00168293  # addi x5, x13, 1
+    .word 0x002282b3  # add x5, x5, x2
+    .word 0x03028a23  # sb x16, 52(x5)
+    .word 0x00675293  # srli x5, x14, 6
+    .word 0x03f2f793  # andi x15, x5, 63
+    .word 0x04178813  # addi x16, x15, 65
+    .word 0x01a7b313  # sltiu x6, x15, 26
+    .word 0x00600393  # addi x7, x0, 6
+    .word 0xfff30313  # addi x6, x6, -1
+    .word 0x0063f333  # and x6, x7, x6
+    .word 0x00680833  # add x16, x16, x6
+    .word 0x0347b313  # sltiu x6, x15, 52
+    .word 0x04b00393  # addi x7, x0, 75
+    .word 0xfff30313  # addi x6, x6, -1
+    .word 0x0063f333  # and x6, x7, x6
+    .word 0x40680833  # sub x16, x16, x6
+    .word 0x03e7b313  # sltiu x6, x15, 62
+    .word 0x00f00393  # addi x7, x0, 15
+    .word 0xfff30313  # addi x6, x6, -1
+    .word 0x0063f333  # and x6, x7, x6
+    .word 0x40680833  # sub x16, x16, x6
+    .word 0x03f7b313  # sltiu x6, x15, 63
+    .word 0x00300393  # addi x7, x0, 3
+    .word 0xfff30313  # addi x6, x6, -1
+    .word 0x0063f333  # and x6, x7, x6
+    .word 0x00680833  # add x16, x16, x6
+    .word 0x00260313  # addi x6, x12, 2
+    .word 0x0064f463  # bgeu x9, x6, 8
+    .word 0x03d00813  # addi x16, x0, 61
+    .word 0x00268293  # addi x5, x13, 2
+    .word 0x002282b3  # add x5, x5, x2
+    .word 0x03028a23  # sb x16, 52(x5)
+    .word 0x03f77813  # andi x16, x14, 63
+    .word 0x04180713  # addi x14, x16, 65
+    .word 0x01a83313  # sltiu x6, x16, 26
+    .word 0x00600393  # addi x7, x0, 6
+    .word 0xfff30313  # addi x6, x6, -1
+    .word 0x0063f333  # and x6, x7, x6
+    .word 0x00670733  # add x14, x14, x6
+    .word 0x03483313  # sltiu x6, x16, 52
+    .word 0x04b00393  # addi x7, x0, 75
+    .word 0xfff30313  # addi x6, x6, -1
+    .word 0x0063f333  # and x6, x7, x6
+    .word 0x40670733  # sub x14, x14, x6
+    .word 0x03e83313  # sltiu x6, x16, 62
+    .word 0x00f00393  # addi x7, x0, 15
+    .word 0xfff30313  # addi x6, x6, -1
+    .word 0x0063f333  # and x6, x7, x6
+    .word 0x40670733  # sub x14, x14, x6
+    .word 0x03f83313  # sltiu x6, x16, 63
+    .word 0x00300393  # addi x7, x0, 3
+    .word 0xfff30313  # addi x6, x6, -1
+    .word 0x0063f333  # and x6, x7, x6
+    .word 0x00670833  # add x16, x14, x6
+    .word 0x00360313  # addi x6, x12, 3
+    .word 0x0064f463  # bgeu x9, x6, 8
+    .word 0x03d00813  # addi x16, x0, 61
+    .word 0x00368293  # addi x5, x13, 3
+    .word 0x002282b3  # add x5, x5, x2
+    .word 0x03028a23  # sb x16, 52(x5)
+    .word 0x0400006f  # jal x0, 64
+    .word 0x00000313  # addi x6, x0, 0
+    .word 0x002682b3  # add x5, x13, x2
+    .word 0x02628a23  # sb x6, 52(x5)
+    .word 0x00168293  # addi x5, x13, 1
+    .word 0x00000313  # addi x6, x0, 0
+    .word 0x002282b3  # add x5, x5, x2
+    .word 0x02628a23  # sb x6, 52(x5)
+    .word 0x00268293  # addi x5, x13, 2
+    .word 0x00000313  # addi x6, x0, 0
+    .word 0x002282b3  # add x5, x5, x2
+    .word 0x02628a23  # sb x6, 52(x5)
+    .word 0x00368293  # addi x5, x13, 3
+    .word 0x00000313  # addi x6, x0, 0
+    .word 0x002282b3  # add x5, x5, x2
+    .word 0x02628a23  # sb x6, 52(x5)
+    .word 0x00158593  # addi x11, x11, 1
+    .word 0x0025b293  # sltiu x5, x11, 2
+    .word 0xda0294e3  # bne x5, x0, -600
+    .word 0xfff58593  # addi x11, x11, -1
     .word 0x00150513  # addi x10, x10, 1
-    .word 0x01053293  # sltiu x5, x10, 16
-    .word 0xf00294e3  # bne x5, x0, -248
+    .word 0x00853293  # sltiu x5, x10, 8
+    .word 0xd8029ae3  # bne x5, x0, -620
     .word 0xfff50513  # addi x10, x10, -1
     # the result
     .word 0x00000513  # addi x10, x0, 0
