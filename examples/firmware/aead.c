@@ -1,9 +1,10 @@
 /* Seals and opens the message of RFC 8439, section 2.8.2, with ChaCha20-Poly1305, compares text and tag with those that the RFC
-   prints, and finds a changed byte. */
+   prints, and finds a changed byte. Then does the same with a longer text, of which OpenSSL gave the tag. */
 #include "board.h"
 #include "chacha20_poly1305.h"
 
 #define COUNT 114
+#define LONGER 600
 
 static const uint8_t key[32] = {0x80, 0x81, 0x82, 0x83, 0x84, 0x85, 0x86, 0x87, 0x88, 0x89, 0x8a, 0x8b, 0x8c, 0x8d, 0x8e, 0x8f,
                                 0x90, 0x91, 0x92, 0x93, 0x94, 0x95, 0x96, 0x97, 0x98, 0x99, 0x9a, 0x9b, 0x9c, 0x9d, 0x9e, 0x9f};
@@ -21,6 +22,8 @@ static const uint8_t printed[COUNT + 16] = {
     0x61, 0x16, 0x1a, 0xe1, 0x0b, 0x59, 0x4f, 0x09, 0xe2, 0x6a, 0x7e, 0x90, 0x2e, 0xcb, 0xd0, 0x60,
     0x06, 0x91
 };
+
+static const uint8_t longer_tag[16] = {0x40, 0x8e, 0x8d, 0xa0, 0x1f, 0x5f, 0x2d, 0x8f, 0xd2, 0xd0, 0x8c, 0xe6, 0x17, 0x14, 0x1d, 0x2e};
 
 static void say(const char *text) {
     uint32_t count = 0;
@@ -47,6 +50,20 @@ static int same(const void *one, const void *other, int count) {
     return found == 0;
 }
 
+/* The bytes 0, 7, 14 and so on. */
+static void longer(struct associated data) {
+    static uint8_t text[LONGER];
+    uint8_t tag[16], found = 0;
+    for (int at = 0; at < LONGER; at++)
+        text[at] = (uint8_t)(7 * at);
+    seal(key, nonce, data, text, LONGER, tag);
+    say(same(tag, longer_tag, 16) ? "600 bytes as OpenSSL seals them\n" : "600 bytes otherwise than OpenSSL seals them\n");
+    bool right = open_sealed(key, nonce, data, text, LONGER, tag);
+    for (int at = 0; at < LONGER; at++)
+        found |= text[at] ^ (uint8_t)(7 * at);
+    say(right && found == 0 ? "opened\n" : "not opened\n");
+}
+
 int main(void) {
     struct associated data = {header, sizeof header};
     uint8_t text[COUNT], tag[16];
@@ -60,5 +77,6 @@ int main(void) {
     say(open_sealed(key, nonce, data, text, COUNT, tag) ? "a changed byte is accepted\n" : "a changed byte is refused\n");
     text[5] ^= 1;
     say(open_sealed(key, nonce, data, text, COUNT, tag) && same(text, message, COUNT) ? "opened\n" : "not opened\n");
+    longer(data);
     return 0;
 }

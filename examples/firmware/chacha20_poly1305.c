@@ -1,10 +1,13 @@
 #include "chacha20_poly1305.h"
 
 #include "chacha20_block.h"
-#include "chacha20_xor.h"
+#include "chacha20_blocks.h"
 #include "equal_16.h"
-#include "poly1305_block.h"
+#include "poly1305_blocks.h"
 #include "poly1305_finish.h"
+
+/* How many bytes the routines take at once. */
+#define PART 256
 
 static void copied(uint8_t *to, const uint8_t *from, uint32_t count) {
     for (uint32_t at = 0; at < count; at++)
@@ -18,25 +21,26 @@ static void wiped(void *place, uint32_t count) {
         *bytes++ = 0;
 }
 
-/* The key stream's blocks from the second on; the first gives the key of the tag. */
+/* The key stream's blocks from the second on; the first gives the key of the tag. Whole parts are encrypted where they are. */
 static void encrypt(const uint8_t key[32], const uint8_t nonce[12], uint8_t *text, uint32_t count) {
-    for (uint32_t at = 0; at < count; at += 64) {
-        uint8_t block[64] = {0};
-        uint32_t here = count - at < 64 ? count - at : 64;
-        copied(block, text + at, here);
-        chacha20_xor(key, at / 64 + 1, nonce, block, here);
-        copied(text + at, block, here);
-        wiped(block, sizeof block);
-    }
+    uint8_t part[PART] = {0};
+    uint32_t at = 0;
+    for (; count - at >= PART; at += PART)
+        chacha20_blocks(key, at / 64 + 1, nonce, text + at, PART);
+    copied(part, text + at, count - at);
+    chacha20_blocks(key, at / 64 + 1, nonce, part, count - at);
+    copied(text + at, part, count - at);
+    wiped(part, sizeof part);
 }
 
 /* Blocks of 16 bytes, the last filled with zeros. */
 static void add(const uint8_t key[32], uint32_t sum[10], const uint8_t *bytes, uint32_t count) {
-    for (uint32_t at = 0; at < count; at += 16) {
-        uint8_t block[16] = {0};
-        copied(block, bytes + at, count - at < 16 ? count - at : 16);
-        poly1305_block(key, block, 16, sum);
-    }
+    uint8_t part[PART] = {0};
+    uint32_t at = 0;
+    for (; count - at >= PART; at += PART)
+        poly1305_blocks(key, bytes + at, PART, sum);
+    copied(part, bytes + at, count - at);
+    poly1305_blocks(key, part, (count - at + 15) / 16 * 16, sum);
 }
 
 static void make_tag(const uint8_t key[32], const uint8_t nonce[12], struct associated data, const uint8_t *text, uint32_t count, uint8_t tag[16]) {
