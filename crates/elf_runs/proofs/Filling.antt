@@ -1,8 +1,8 @@
 -- Lists that are filled or changed one item after another.
 use Rattle.std.proofs.Common.{◌≡◌, ◌<◌, ◌≤◌, ◌+◌, ◌-◌, ◌*◌, ◌++◌, ◌∙◌, [], ◌∷◌, ℕ, List, ap, arith, drop, length, map, refl}
 use Rattle.std.proofs.Common.{append_assoc, false, get_or, replicate, suc, zero, slice_index, slice_set, sym, take, true, w32}
-use Rattle.std.proofs.lemmas.Grind.{common_steps}
-use Rattle.std.proofs.lemmas.List.{length-append, length-map, length-replicate, map-set, take_all}
+use Rattle.std.proofs.lemmas.Grind.{common_steps, flat_map-append}
+use Rattle.std.proofs.lemmas.List.{length-append, length-map, length-replicate, map_more, map-set, take_all}
 use Rattle.std.specs.Int.{to_le_bytes}
 use Rattle.std.specs.List.{flat_map}
 use Rattle.std.proofs.Math.ListN.{get_or-map}
@@ -65,6 +65,21 @@ filled size byte f words i n items fits all is counted =
     (all_filled size byte (map f words) items (rw same fits)
     (rw same (is ∙ ap (λ some. replicate (size - rounded (4 * length words)) byte
     ++ flat_map (to_le_bytes w32) (map f some)) every)))
+
+-- the bytes of one word more
+pub word_more : (front : List ℕ) (f : Word → ℕ) (words : List Word) (i : ℕ) (d : Word) (before after : List ℕ)
+    → i < length words → before ≡ front ++ flat_map (to_le_bytes w32) (map f (take i words))
+    → after ≡ before ++ to_le_bytes w32 (f (get_or words i d))
+    → after ≡ front ++ flat_map (to_le_bytes w32) (map f (take (i + 1) words))
+word_more front f words i d before after within is more =
+    let done = map f (take i words) in
+    let last = f (get_or words i d) in
+    let bytes = flat_map (to_le_bytes w32) in
+    more
+    ∙ ap (λ some. some ++ to_le_bytes w32 last) is
+    ∙ append_assoc front (bytes done) (to_le_bytes w32 last)
+    ∙ ap (λ some. front ++ some) (sym (ap bytes (map_more f words i d within)
+    ∙ flat_map-append (to_le_bytes w32) done (last ∷ [])))
 
 pub stack_is : (size : ℕ) (words : List Word) (bytes unknown : List ℕ)
     → bytes ≡ on_stack size 0 (map (λ word. word.value) words)
