@@ -3,6 +3,7 @@ use Rattle.std.proofs.Common.{◌≡◌, ℕ, suc, ◌+◌, ◌*◌, ◌≤◌, 
 use Rattle.std.proofs.Common.{Some, None, append_assoc, refl, sym, ap, ◌∙◌, arith}
 use Rattle.std.specs.Prelude.{slice_get}
 use Rattle.std.proofs.lemmas.List.{append_cancel_left}
+use Rattle.std.proofs.lemmas.Option.{none-some}
 use Rattle.run_reports.proofs.progress_lemmas.Told.{all_told}
 use Rattle.run_reports.specs.progress.GoingOn.{BothGoOn, Reaches, HasLines, IsTold}
 use Rattle.run_reports.specs.progress.Lines.{steps_a_line, WentOut}
@@ -117,10 +118,10 @@ both_go_on {t = t} {t' = t'} {seen = seen} made more more' is =
 
 -- they do not, where one of them has shown nothing, or they differ
 pub one_ended : {one other : Option Observation} → one ≡ None → ShowSame one other → ⊥
-one_ended none same = let some = same.1 in cc
+one_ended none same = absurd (none-some same.0 (sym none ∙ same.1))
 
 pub other_ended : {one other : Option Observation} → other ≡ None → ShowSame one other → ⊥
-other_ended none same = let some = same.2 in cc
+other_ended none same = absurd (none-some same.0 (sym none ∙ same.2))
 
 pub they_differ : {one other : Option Observation} {o p : Observation} {entry : ℕ} → one ≡ Some o → other ≡ Some p
     → IsFirstDifference (entries_of (o ∷ [])) (entries_of (p ∷ [])) entry → ShowSame one other → ⊥
