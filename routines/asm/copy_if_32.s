@@ -1,0 +1,417 @@
+# copy_if_32: made by factc function; 381 words, 96 bytes of stack, profile 1
+    .option push
+    .option norvc
+    .option norelax
+    .cfi_sections .debug_frame
+    .section .text.copy_if_32, "ax", @progbits
+    .p2align 2
+    .globl copy_if_32
+    .type copy_if_32, @function
+copy_if_32:
+    .cfi_startproc
+    # room above the frame
+    .word 0xff010113  # addi x2, x2, -16
+    .cfi_def_cfa_offset 16
+    # the caller's registers
+    .word 0x00912023  # sw x9, 0(x2)
+    .cfi_offset 9, -16
+    # arguments that are needed behind the body
+    .word 0x00a12223  # sw x10, 4(x2)
+    .word 0x00b12423  # sw x11, 8(x2)
+    .word 0x00c12623  # sw x12, 12(x2)
+    # the frame's base
+    .word 0xfb010113  # addi x2, x2, -80
+    .cfi_def_cfa 2, 96
+    # parameter 0: a word
+    .word 0x00a03533  # sltu x10, x0, x10
+    .word 0x00a12023  # sw x10, 0(x2)
+    # parameter 1: an array
+    .word 0x00058293  # addi x5, x11, 0
+    .word 0x00410313  # addi x6, x2, 4
+    .word 0x0032fe13  # andi x28, x5, 3
+    .word 0x020e0e63  # beq x28, x0, 60
+    .word 0x02000393  # addi x7, x0, 32
+    .word 0x005383b3  # add x7, x7, x5
+    .word 0x0002ce03  # lbu x28, 0(x5)
+    .word 0x01c30023  # sb x28, 0(x6)
+    .word 0x0012ce03  # lbu x28, 1(x5)
+    .word 0x01c300a3  # sb x28, 1(x6)
+    .word 0x0022ce03  # lbu x28, 2(x5)
+    .word 0x01c30123  # sb x28, 2(x6)
+    .word 0x0032ce03  # lbu x28, 3(x5)
+    .word 0x01c301a3  # sb x28, 3(x6)
+    .word 0x00428293  # addi x5, x5, 4
+    .word 0x00430313  # addi x6, x6, 4
+    .word 0xfc729ce3  # bne x5, x7, -40
+    .word 0x0440006f  # jal x0, 68
+    .word 0x0002ae03  # lw x28, 0(x5)
+    .word 0x01c32023  # sw x28, 0(x6)
+    .word 0x0042ae03  # lw x28, 4(x5)
+    .word 0x01c32223  # sw x28, 4(x6)
+    .word 0x0082ae03  # lw x28, 8(x5)
+    .word 0x01c32423  # sw x28, 8(x6)
+    .word 0x00c2ae03  # lw x28, 12(x5)
+    .word 0x01c32623  # sw x28, 12(x6)
+    .word 0x0102ae03  # lw x28, 16(x5)
+    .word 0x01c32823  # sw x28, 16(x6)
+    .word 0x0142ae03  # lw x28, 20(x5)
+    .word 0x01c32a23  # sw x28, 20(x6)
+    .word 0x0182ae03  # lw x28, 24(x5)
+    .word 0x01c32c23  # sw x28, 24(x6)
+    .word 0x01c2ae03  # lw x28, 28(x5)
+    .word 0x01c32e23  # sw x28, 28(x6)
+    # parameter 2: an array
+    .word 0x00060293  # addi x5, x12, 0
+    .word 0x02410313  # addi x6, x2, 36
+    .word 0x0032fe13  # andi x28, x5, 3
+    .word 0x020e0e63  # beq x28, x0, 60
+    .word 0x02000393  # addi x7, x0, 32
+    .word 0x005383b3  # add x7, x7, x5
+    .word 0x0002ce03  # lbu x28, 0(x5)
+    .word 0x01c30023  # sb x28, 0(x6)
+    .word 0x0012ce03  # lbu x28, 1(x5)
+    .word 0x01c300a3  # sb x28, 1(x6)
+    .word 0x0022ce03  # lbu x28, 2(x5)
+    .word 0x01c30123  # sb x28, 2(x6)
+    .word 0x0032ce03  # lbu x28, 3(x5)
+    .word 0x01c301a3  # sb x28, 3(x6)
+    .word 0x00428293  # addi x5, x5, 4
+    .word 0x00430313  # addi x6, x6, 4
+    .word 0xfc729ce3  # bne x5, x7, -40
+    .word 0x0440006f  # jal x0, 68
+    .word 0x0002ae03  # lw x28, 0(x5)
+    .word 0x01c32023  # sw x28, 0(x6)
+    .word 0x0042ae03  # lw x28, 4(x5)
+    .word 0x01c32223  # sw x28, 4(x6)
+    .word 0x0082ae03  # lw x28, 8(x5)
+    .word 0x01c32423  # sw x28, 8(x6)
+    .word 0x00c2ae03  # lw x28, 12(x5)
+    .word 0x01c32623  # sw x28, 12(x6)
+    .word 0x0102ae03  # lw x28, 16(x5)
+    .word 0x01c32823  # sw x28, 16(x6)
+    .word 0x0142ae03  # lw x28, 20(x5)
+    .word 0x01c32a23  # sw x28, 20(x6)
+    .word 0x0182ae03  # lw x28, 24(x5)
+    .word 0x01c32c23  # sw x28, 24(x6)
+    .word 0x01c2ae03  # lw x28, 28(x5)
+    .word 0x01c32e23  # sw x28, 28(x6)
+    # the body
+    .word 0x00012483  # lw x9, 0(x2)
+    .word 0x00414303  # lbu x6, 4(x2)
+    .word 0x02414383  # lbu x7, 36(x2)
+    .word 0x409002b3  # sub x5, x0, x9
+    .word 0x00734333  # xor x6, x6, x7
+    .word 0x00537333  # and x6, x6, x5
+    .word 0x0063c2b3  # xor x5, x7, x6
+    .word 0x02510223  # sb x5, 36(x2)
+    .word 0x00514303  # lbu x6, 5(x2)
+    .word 0x02514383  # lbu x7, 37(x2)
+    .word 0x409002b3  # sub x5, x0, x9
+    .word 0x00734333  # xor x6, x6, x7
+    .word 0x00537333  # and x6, x6, x5
+    .word 0x0063c2b3  # xor x5, x7, x6
+    .word 0x025102a3  # sb x5, 37(x2)
+    .word 0x00614303  # lbu x6, 6(x2)
+    .word 0x02614383  # lbu x7, 38(x2)
+    .word 0x409002b3  # sub x5, x0, x9
+    .word 0x00734333  # xor x6, x6, x7
+    .word 0x00537333  # and x6, x6, x5
+    .word 0x0063c2b3  # xor x5, x7, x6
+    .word 0x02510323  # sb x5, 38(x2)
+    .word 0x00714303  # lbu x6, 7(x2)
+    .word 0x02714383  # lbu x7, 39(x2)
+    .word 0x409002b3  # sub x5, x0, x9
+    .word 0x00734333  # xor x6, x6, x7
+    .word 0x00537333  # and x6, x6, x5
+    .word 0x0063c2b3  # xor x5, x7, x6
+    .word 0x025103a3  # sb x5, 39(x2)
+    .word 0x00814303  # lbu x6, 8(x2)
+    .word 0x02814383  # lbu x7, 40(x2)
+    .word 0x409002b3  # sub x5, x0, x9
+    .word 0x00734333  # xor x6, x6, x7
+    .word 0x00537333  # and x6, x6, x5
+    .word 0x0063c2b3  # xor x5, x7, x6
+    .word 0x02510423  # sb x5, 40(x2)
+    .word 0x00914303  # lbu x6, 9(x2)
+    .word 0x02914383  # lbu x7, 41(x2)
+    .word 0x409002b3  # sub x5, x0, x9
+    .word 0x00734333  # xor x6, x6, x7
+    .word 0x00537333  # and x6, x6, x5
+    .word 0x0063c2b3  # xor x5, x7, x6
+    .word 0x025104a3  # sb x5, 41(x2)
+    .word 0x00a14303  # lbu x6, 10(x2)
+    .word 0x02a14383  # lbu x7, 42(x2)
+    .word 0x409002b3  # sub x5, x0, x9
+    .word 0x00734333  # xor x6, x6, x7
+    .word 0x00537333  # and x6, x6, x5
+    .word 0x0063c2b3  # xor x5, x7, x6
+    .word 0x02510523  # sb x5, 42(x2)
+    .word 0x00b14303  # lbu x6, 11(x2)
+    .word 0x02b14383  # lbu x7, 43(x2)
+    .word 0x409002b3  # sub x5, x0, x9
+    .word 0x00734333  # xor x6, x6, x7
+    .word 0x00537333  # and x6, x6, x5
+    .word 0x0063c2b3  # xor x5, x7, x6
+    .word 0x025105a3  # sb x5, 43(x2)
+    .word 0x00c14303  # lbu x6, 12(x2)
+    .word 0x02c14383  # lbu x7, 44(x2)
+    .word 0x409002b3  # sub x5, x0, x9
+    .word 0x00734333  # xor x6, x6, x7
+    .word 0x00537333  # and x6, x6, x5
+    .word 0x0063c2b3  # xor x5, x7, x6
+    .word 0x02510623  # sb x5, 44(x2)
+    .word 0x00d14303  # lbu x6, 13(x2)
+    .word 0x02d14383  # lbu x7, 45(x2)
+    .word 0x409002b3  # sub x5, x0, x9
+    .word 0x00734333  # xor x6, x6, x7
+    .word 0x00537333  # and x6, x6, x5
+    .word 0x0063c2b3  # xor x5, x7, x6
+    .word 0x025106a3  # sb x5, 45(x2)
+    .word 0x00e14303  # lbu x6, 14(x2)
+    .word 0x02e14383  # lbu x7, 46(x2)
+    .word 0x409002b3  # sub x5, x0, x9
+    .word 0x00734333  # xor x6, x6, x7
+    .word 0x00537333  # and x6, x6, x5
+    .word 0x0063c2b3  # xor x5, x7, x6
+    .word 0x02510723  # sb x5, 46(x2)
+    .word 0x00f14303  # lbu x6, 15(x2)
+    .word 0x02f14383  # lbu x7, 47(x2)
+    .word 0x409002b3  # sub x5, x0, x9
+    .word 0x00734333  # xor x6, x6, x7
+    .word 0x00537333  # and x6, x6, x5
+    .word 0x0063c2b3  # xor x5, x7, x6
+    .word 0x025107a3  # sb x5, 47(x2)
+    .word 0x01014303  # lbu x6, 16(x2)
+    .word 0x03014383  # lbu x7, 48(x2)
+    .word 0x409002b3  # sub x5, x0, x9
+    .word 0x00734333  # xor x6, x6, x7
+    .word 0x00537333  # and x6, x6, x5
+    .word 0x0063c2b3  # xor x5, x7, x6
+    .word 0x02510823  # sb x5, 48(x2)
+    .word 0x01114303  # lbu x6, 17(x2)
+    .word 0x03114383  # lbu x7, 49(x2)
+    .word 0x409002b3  # sub x5, x0, x9
+    .word 0x00734333  # xor x6, x6, x7
+    .word 0x00537333  # and x6, x6, x5
+    .word 0x0063c2b3  # xor x5, x7, x6
+    .word 0x025108a3  # sb x5, 49(x2)
+    .word 0x01214303  # lbu x6, 18(x2)
+    .word 0x03214383  # lbu x7, 50(x2)
+    .word 0x409002b3  # sub x5, x0, x9
+    .word 0x00734333  # xor x6, x6, x7
+    .word 0x00537333  # and x6, x6, x5
+    .word 0x0063c2b3  # xor x5, x7, x6
+    .word 0x02510923  # sb x5, 50(x2)
+    .word 0x01314303  # lbu x6, 19(x2)
+    .word 0x03314383  # lbu x7, 51(x2)
+    .word 0x409002b3  # sub x5, x0, x9
+    .word 0x00734333  # xor x6, x6, x7
+    .word 0x00537333  # and x6, x6, x5
+    .word 0x0063c2b3  # xor x5, x7, x6
+    .word 0x025109a3  # sb x5, 51(x2)
+    .word 0x01414303  # lbu x6, 20(x2)
+    .word 0x03414383  # lbu x7, 52(x2)
+    .word 0x409002b3  # sub x5, x0, x9
+    .word 0x00734333  # xor x6, x6, x7
+    .word 0x00537333  # and x6, x6, x5
+    .word 0x0063c2b3  # xor x5, x7, x6
+    .word 0x02510a23  # sb x5, 52(x2)
+    .word 0x01514303  # lbu x6, 21(x2)
+    .word 0x03514383  # lbu x7, 53(x2)
+    .word 0x409002b3  # sub x5, x0, x9
+    .word 0x00734333  # xor x6, x6, x7
+    .word 0x00537333  # and x6, x6, x5
+    .word 0x0063c2b3  # xor x5, x7, x6
+    .word 0x02510aa3  # sb x5, 53(x2)
+    .word 0x01614303  # lbu x6, 22(x2)
+    .word 0x03614383  # lbu x7, 54(x2)
+    .word 0x409002b3  # sub x5, x0, x9
+    .word 0x00734333  # xor x6, x6, x7
+    .word 0x00537333  # and x6, x6, x5
+    .word 0x0063c2b3  # xor x5, x7, x6
+    .word 0x02510b23  # sb x5, 54(x2)
+    .word 0x01714303  # lbu x6, 23(x2)
+    .word 0x03714383  # lbu x7, 55(x2)
+    .word 0x409002b3  # sub x5, x0, x9
+    .word 0x00734333  # xor x6, x6, x7
+    .word 0x00537333  # and x6, x6, x5
+    .word 0x0063c2b3  # xor x5, x7, x6
+    .word 0x02510ba3  # sb x5, 55(x2)
+    .word 0x01814303  # lbu x6, 24(x2)
+    .word 0x03814383  # lbu x7, 56(x2)
+    .word 0x409002b3  # sub x5, x0, x9
+    .word 0x00734333  # xor x6, x6, x7
+    .word 0x00537333  # and x6, x6, x5
+    .word 0x0063c2b3  # xor x5, x7, x6
+    .word 0x02510c23  # sb x5, 56(x2)
+    .word 0x01914303  # lbu x6, 25(x2)
+    .word 0x03914383  # lbu x7, 57(x2)
+    .word 0x409002b3  # sub x5, x0, x9
+    .word 0x00734333  # xor x6, x6, x7
+    .word 0x00537333  # and x6, x6, x5
+    .word 0x0063c2b3  # xor x5, x7, x6
+    .word 0x02510ca3  # sb x5, 57(x2)
+    .word 0x01a14303  # lbu x6, 26(x2)
+    .word 0x03a14383  # lbu x7, 58(x2)
+    .word 0x409002b3  # sub x5, x0, x9
+    .word 0x00734333  # xor x6, x6, x7
+    .word 0x00537333  # and x6, x6, x5
+    .word 0x0063c2b3  # xor x5, x7, x6
+    .word 0x02510d23  # sb x5, 58(x2)
+    .word 0x01b14303  # lbu x6, 27(x2)
+    .word 0x03b14383  # lbu x7, 59(x2)
+    .word 0x409002b3  # sub x5, x0, x9
+    .word 0x00734333  # xor x6, x6, x7
+    .word 0x00537333  # and x6, x6, x5
+    .word 0x0063c2b3  # xor x5, x7, x6
+    .word 0x02510da3  # sb x5, 59(x2)
+    .word 0x01c14303  # lbu x6, 28(x2)
+    .word 0x03c14383  # lbu x7, 60(x2)
+    .word 0x409002b3  # sub x5, x0, x9
+    .word 0x00734333  # xor x6, x6, x7
+    .word 0x00537333  # and x6, x6, x5
+    .word 0x0063c2b3  # xor x5, x7, x6
+    .word 0x02510e23  # sb x5, 60(x2)
+    .word 0x01d14303  # lbu x6, 29(x2)
+    .word 0x03d14383  # lbu x7, 61(x2)
+    .word 0x409002b3  # sub x5, x0, x9
+    .word 0x00734333  # xor x6, x6, x7
+    .word 0x00537333  # and x6, x6, x5
+    .word 0x0063c2b3  # xor x5, x7, x6
+    .word 0x02510ea3  # sb x5, 61(x2)
+    .word 0x01e14303  # lbu x6, 30(x2)
+    .word 0x03e14383  # lbu x7, 62(x2)
+    .word 0x409002b3  # sub x5, x0, x9
+    .word 0x00734333  # xor x6, x6, x7
+    .word 0x00537333  # and x6, x6, x5
+    .word 0x0063c2b3  # xor x5, x7, x6
+    .word 0x02510f23  # sb x5, 62(x2)
+    .word 0x01f14303  # lbu x6, 31(x2)
+    .word 0x03f14383  # lbu x7, 63(x2)
+    .word 0x409002b3  # sub x5, x0, x9
+    .word 0x00734333  # xor x6, x6, x7
+    .word 0x00537333  # and x6, x6, x5
+    .word 0x0063c2b3  # xor x5, x7, x6
+    .word 0x02510fa3  # sb x5, 63(x2)
+    .word 0x02014303  # lbu x6, 32(x2)
+    .word 0x04014383  # lbu x7, 64(x2)
+    .word 0x409002b3  # sub x5, x0, x9
+    .word 0x00734333  # xor x6, x6, x7
+    .word 0x00537333  # and x6, x6, x5
+    .word 0x0063c2b3  # xor x5, x7, x6
+    .word 0x04510023  # sb x5, 64(x2)
+    .word 0x02114303  # lbu x6, 33(x2)
+    .word 0x04114383  # lbu x7, 65(x2)
+    .word 0x409002b3  # sub x5, x0, x9
+    .word 0x00734333  # xor x6, x6, x7
+    .word 0x00537333  # and x6, x6, x5
+    .word 0x0063c2b3  # xor x5, x7, x6
+    .word 0x045100a3  # sb x5, 65(x2)
+    .word 0x02214303  # lbu x6, 34(x2)
+    .word 0x04214383  # lbu x7, 66(x2)
+    .word 0x409002b3  # sub x5, x0, x9
+    .word 0x00734333  # xor x6, x6, x7
+    .word 0x00537333  # and x6, x6, x5
+    .word 0x0063c2b3  # xor x5, x7, x6
+    .word 0x04510123  # sb x5, 66(x2)
+    .word 0x02314303  # lbu x6, 35(x2)
+    .word 0x04314383  # lbu x7, 67(x2)
+    .word 0x409002b3  # sub x5, x0, x9
+    .word 0x00734333  # xor x6, x6, x7
+    .word 0x00537333  # and x6, x6, x5
+    .word 0x0063c2b3  # xor x5, x7, x6
+    .word 0x045101a3  # sb x5, 67(x2)
+    # the result
+    .word 0x00000513  # addi x10, x0, 0
+    # parameter 2: the array, back
+    .word 0x05c12283  # lw x5, 92(x2)
+    .word 0x02410313  # addi x6, x2, 36
+    .word 0x0032fe13  # andi x28, x5, 3
+    .word 0x020e0e63  # beq x28, x0, 60
+    .word 0x02000393  # addi x7, x0, 32
+    .word 0x005383b3  # add x7, x7, x5
+    .word 0x00034e03  # lbu x28, 0(x6)
+    .word 0x01c28023  # sb x28, 0(x5)
+    .word 0x00134e03  # lbu x28, 1(x6)
+    .word 0x01c280a3  # sb x28, 1(x5)
+    .word 0x00234e03  # lbu x28, 2(x6)
+    .word 0x01c28123  # sb x28, 2(x5)
+    .word 0x00334e03  # lbu x28, 3(x6)
+    .word 0x01c281a3  # sb x28, 3(x5)
+    .word 0x00428293  # addi x5, x5, 4
+    .word 0x00430313  # addi x6, x6, 4
+    .word 0xfc729ce3  # bne x5, x7, -40
+    .word 0x0440006f  # jal x0, 68
+    .word 0x00032e03  # lw x28, 0(x6)
+    .word 0x01c2a023  # sw x28, 0(x5)
+    .word 0x00432e03  # lw x28, 4(x6)
+    .word 0x01c2a223  # sw x28, 4(x5)
+    .word 0x00832e03  # lw x28, 8(x6)
+    .word 0x01c2a423  # sw x28, 8(x5)
+    .word 0x00c32e03  # lw x28, 12(x6)
+    .word 0x01c2a623  # sw x28, 12(x5)
+    .word 0x01032e03  # lw x28, 16(x6)
+    .word 0x01c2a823  # sw x28, 16(x5)
+    .word 0x01432e03  # lw x28, 20(x6)
+    .word 0x01c2aa23  # sw x28, 20(x5)
+    .word 0x01832e03  # lw x28, 24(x6)
+    .word 0x01c2ac23  # sw x28, 24(x5)
+    .word 0x01c32e03  # lw x28, 28(x6)
+    .word 0x01c2ae23  # sw x28, 28(x5)
+    # above the frame
+    .word 0x05010293  # addi x5, x2, 80
+    # the caller's registers
+    .word 0x0002a483  # lw x9, 0(x5)
+    .cfi_restore 9
+    # the caller's x2
+    .word 0x01028293  # addi x5, x5, 16
+    .cfi_def_cfa 5, 0
+    # all the room, wiped upward
+    .word 0x00012023  # sw x0, 0(x2)
+    .word 0x00012223  # sw x0, 4(x2)
+    .word 0x00012423  # sw x0, 8(x2)
+    .word 0x00012623  # sw x0, 12(x2)
+    .word 0x00012823  # sw x0, 16(x2)
+    .word 0x00012a23  # sw x0, 20(x2)
+    .word 0x00012c23  # sw x0, 24(x2)
+    .word 0x00012e23  # sw x0, 28(x2)
+    .word 0x02010113  # addi x2, x2, 32
+    .word 0x00012023  # sw x0, 0(x2)
+    .word 0x00012223  # sw x0, 4(x2)
+    .word 0x00012423  # sw x0, 8(x2)
+    .word 0x00012623  # sw x0, 12(x2)
+    .word 0x00012823  # sw x0, 16(x2)
+    .word 0x00012a23  # sw x0, 20(x2)
+    .word 0x00012c23  # sw x0, 24(x2)
+    .word 0x00012e23  # sw x0, 28(x2)
+    .word 0x02012023  # sw x0, 32(x2)
+    .word 0x02012223  # sw x0, 36(x2)
+    .word 0x02012423  # sw x0, 40(x2)
+    .word 0x02012623  # sw x0, 44(x2)
+    .word 0x02012823  # sw x0, 48(x2)
+    .word 0x02012a23  # sw x0, 52(x2)
+    .word 0x02012c23  # sw x0, 56(x2)
+    .word 0x02012e23  # sw x0, 60(x2)
+    .word 0x04010113  # addi x2, x2, 64
+    .word 0xfa511ee3  # bne x2, x5, -68
+    .cfi_def_cfa 2, 0
+    # temporaries, wiped
+    .word 0x00000293  # addi x5, x0, 0
+    .word 0x00000313  # addi x6, x0, 0
+    .word 0x00000393  # addi x7, x0, 0
+    .word 0x00000593  # addi x11, x0, 0
+    .word 0x00000613  # addi x12, x0, 0
+    .word 0x00000693  # addi x13, x0, 0
+    .word 0x00000713  # addi x14, x0, 0
+    .word 0x00000793  # addi x15, x0, 0
+    .word 0x00000813  # addi x16, x0, 0
+    .word 0x00000893  # addi x17, x0, 0
+    .word 0x00000e13  # addi x28, x0, 0
+    .word 0x00000e93  # addi x29, x0, 0
+    .word 0x00000f13  # addi x30, x0, 0
+    .word 0x00000f93  # addi x31, x0, 0
+    # back
+    .word 0x00008067  # jalr x0, 0(x1)
+    .cfi_endproc
+    .size copy_if_32, . - copy_if_32
+    .option pop

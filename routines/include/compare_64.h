@@ -1,0 +1,19 @@
+/* compare_64: made by factc function.
+   Arrays are aligned by their elements, lie outside the stack below the caller, and no two that are not const overlap.
+   For an observer of profile 1: neither the instructions that it executes, nor the addresses of its loads and stores,
+   nor the operands of its divisions depend on secret arguments. Nothing is proved of time. */
+#ifndef FACT_compare_64_H
+#define FACT_compare_64_H
+#include <stdbool.h>
+#include <stdint.h>
+#define compare_64_STACK_BYTES 48
+#ifdef __cplusplus
+extern "C" {
+#endif
+uint8_t /* secret */ compare_64(
+    const uint32_t a[2] /* secret */,
+    const uint32_t b[2] /* secret */);
+#ifdef __cplusplus
+}
+#endif
+#endif

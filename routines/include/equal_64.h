@@ -1,0 +1,19 @@
+/* equal_64: made by factc function.
+   Arrays are aligned by their elements, lie outside the stack below the caller, and no two that are not const overlap.
+   For an observer of profile 1: neither the instructions that it executes, nor the addresses of its loads and stores,
+   nor the operands of its divisions depend on secret arguments. Nothing is proved of time. */
+#ifndef FACT_equal_64_H
+#define FACT_equal_64_H
+#include <stdbool.h>
+#include <stdint.h>
+#define equal_64_STACK_BYTES 160
+#ifdef __cplusplus
+extern "C" {
+#endif
+bool /* secret */ equal_64(
+    const uint8_t a[64] /* secret */,
+    const uint8_t b[64] /* secret */);
+#ifdef __cplusplus
+}
+#endif
+#endif

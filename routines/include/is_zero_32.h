@@ -1,0 +1,18 @@
+/* is_zero_32: made by factc function.
+   Arrays are aligned by their elements, lie outside the stack below the caller, and no two that are not const overlap.
+   For an observer of profile 1: neither the instructions that it executes, nor the addresses of its loads and stores,
+   nor the operands of its divisions depend on secret arguments. Nothing is proved of time. */
+#ifndef FACT_is_zero_32_H
+#define FACT_is_zero_32_H
+#include <stdbool.h>
+#include <stdint.h>
+#define is_zero_32_STACK_BYTES 64
+#ifdef __cplusplus
+extern "C" {
+#endif
+bool /* secret */ is_zero_32(
+    const uint8_t a[32] /* secret */);
+#ifdef __cplusplus
+}
+#endif
+#endif

@@ -1,0 +1,19 @@
+/* lookup_words_256: made by factc function.
+   Arrays are aligned by their elements, lie outside the stack below the caller, and no two that are not const overlap.
+   For an observer of profile 1: neither the instructions that it executes, nor the addresses of its loads and stores,
+   nor the operands of its divisions depend on secret arguments. Nothing is proved of time. */
+#ifndef FACT_lookup_words_256_H
+#define FACT_lookup_words_256_H
+#include <stdbool.h>
+#include <stdint.h>
+#define lookup_words_256_STACK_BYTES 1056
+#ifdef __cplusplus
+extern "C" {
+#endif
+uint32_t /* secret */ lookup_words_256(
+    uint8_t place /* secret */,
+    const uint32_t table[256] /* secret */);
+#ifdef __cplusplus
+}
+#endif
+#endif

@@ -1,0 +1,19 @@
+/* sort_pairs_16: made by factc function.
+   Arrays are aligned by their elements, lie outside the stack below the caller, and no two that are not const overlap.
+   For an observer of profile 1: neither the instructions that it executes, nor the addresses of its loads and stores,
+   nor the operands of its divisions depend on secret arguments. Nothing is proved of time. */
+#ifndef FACT_sort_pairs_16_H
+#define FACT_sort_pairs_16_H
+#include <stdbool.h>
+#include <stdint.h>
+#define sort_pairs_16_STACK_BYTES 208
+#ifdef __cplusplus
+extern "C" {
+#endif
+void sort_pairs_16(
+    uint32_t keys[16] /* secret */,
+    uint32_t values[16] /* secret */);
+#ifdef __cplusplus
+}
+#endif
+#endif

@@ -1,0 +1,20 @@
+/* lookup_bytes_16: made by factc function.
+   Arrays are aligned by their elements, lie outside the stack below the caller, and no two that are not const overlap.
+   For an observer of profile 1: neither the instructions that it executes, nor the addresses of its loads and stores,
+   nor the operands of its divisions depend on secret arguments. Nothing is proved of time. */
+#ifndef FACT_lookup_bytes_16_H
+#define FACT_lookup_bytes_16_H
+#include <stdbool.h>
+#include <stdint.h>
+#define lookup_bytes_16_STACK_BYTES 320
+#ifdef __cplusplus
+extern "C" {
+#endif
+void lookup_bytes_16(
+    uint8_t place /* secret */,
+    const uint8_t table[256] /* secret */,
+    uint8_t entry[16] /* secret */);
+#ifdef __cplusplus
+}
+#endif
+#endif

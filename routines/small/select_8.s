@@ -1,0 +1,144 @@
+# select_8: made by factc function; 108 words, 64 bytes of stack, profile 1
+    .option push
+    .option norvc
+    .option norelax
+    .cfi_sections .debug_frame
+    .section .text.select_8, "ax", @progbits
+    .p2align 2
+    .globl select_8
+    .type select_8, @function
+select_8:
+    .cfi_startproc
+    # room above the frame
+    .word 0xff010113  # addi x2, x2, -16
+    .cfi_def_cfa_offset 16
+    # the caller's registers
+    .word 0x00812023  # sw x8, 0(x2)
+    .cfi_offset 8, -16
+    .word 0x00912223  # sw x9, 4(x2)
+    .cfi_offset 9, -12
+    # arguments that are needed behind the body
+    # the frame's base
+    .word 0xfd010113  # addi x2, x2, -48
+    .cfi_def_cfa 2, 64
+    # parameter 0: a word
+    .word 0x00a12023  # sw x10, 0(x2)
+    # parameter 1: an array
+    .word 0x00058293  # addi x5, x11, 0
+    .word 0x00410313  # addi x6, x2, 4
+    .word 0x0002ae03  # lw x28, 0(x5)
+    .word 0x01c32023  # sw x28, 0(x6)
+    .word 0x0042ae03  # lw x28, 4(x5)
+    .word 0x01c32223  # sw x28, 4(x6)
+    .word 0x0082ae03  # lw x28, 8(x5)
+    .word 0x01c32423  # sw x28, 8(x6)
+    .word 0x00c2ae03  # lw x28, 12(x5)
+    .word 0x01c32623  # sw x28, 12(x6)
+    .word 0x0102ae03  # lw x28, 16(x5)
+    .word 0x01c32823  # sw x28, 16(x6)
+    .word 0x0142ae03  # lw x28, 20(x5)
+    .word 0x01c32a23  # sw x28, 20(x6)
+    .word 0x0182ae03  # lw x28, 24(x5)
+    .word 0x01c32c23  # sw x28, 24(x6)
+    .word 0x01c2ae03  # lw x28, 28(x5)
+    .word 0x01c32e23  # sw x28, 28(x6)
+    # the body
+    .word 0x00012403  # lw x8, 0(x2)
+    .word 0x00147293  # andi x5, x8, 1
+    .word 0xfff28493  # addi x9, x5, -1
+    .word 0x0014b493  # sltiu x9, x9, 1
+    .word 0x00812303  # lw x6, 8(x2)
+    .word 0x00412383  # lw x7, 4(x2)
+    .word 0x409002b3  # sub x5, x0, x9
+    .word 0x00734333  # xor x6, x6, x7
+    .word 0x00537333  # and x6, x6, x5
+    .word 0x0063c533  # xor x10, x7, x6
+    .word 0x01012303  # lw x6, 16(x2)
+    .word 0x00c12383  # lw x7, 12(x2)
+    .word 0x409002b3  # sub x5, x0, x9
+    .word 0x00734333  # xor x6, x6, x7
+    .word 0x00537333  # and x6, x6, x5
+    .word 0x0063c5b3  # xor x11, x7, x6
+    .word 0x01812303  # lw x6, 24(x2)
+    .word 0x01412383  # lw x7, 20(x2)
+    .word 0x409002b3  # sub x5, x0, x9
+    .word 0x00734333  # xor x6, x6, x7
+    .word 0x00537333  # and x6, x6, x5
+    .word 0x0063c633  # xor x12, x7, x6
+    .word 0x02012303  # lw x6, 32(x2)
+    .word 0x01c12383  # lw x7, 28(x2)
+    .word 0x409002b3  # sub x5, x0, x9
+    .word 0x00734333  # xor x6, x6, x7
+    .word 0x00537333  # and x6, x6, x5
+    .word 0x0063c6b3  # xor x13, x7, x6
+    .word 0x00247293  # andi x5, x8, 2
+    .word 0xffe28493  # addi x9, x5, -2
+    .word 0x0014b493  # sltiu x9, x9, 1
+    .word 0x409002b3  # sub x5, x0, x9
+    .word 0x00a5c333  # xor x6, x11, x10
+    .word 0x00537333  # and x6, x6, x5
+    .word 0x00654533  # xor x10, x10, x6
+    .word 0x409002b3  # sub x5, x0, x9
+    .word 0x00c6c333  # xor x6, x13, x12
+    .word 0x00537333  # and x6, x6, x5
+    .word 0x006645b3  # xor x11, x12, x6
+    .word 0x00447293  # andi x5, x8, 4
+    .word 0xffc28293  # addi x5, x5, -4
+    .word 0x005032b3  # sltu x5, x0, x5
+    .word 0xfff28293  # addi x5, x5, -1
+    .word 0x00a5c333  # xor x6, x11, x10
+    .word 0x00537333  # and x6, x6, x5
+    .word 0x006542b3  # xor x5, x10, x6
+    .word 0x02512223  # sw x5, 36(x2)
+    # the result
+    .word 0x02412503  # lw x10, 36(x2)
+    # above the frame
+    .word 0x03010293  # addi x5, x2, 48
+    # the caller's registers
+    .word 0x0002a403  # lw x8, 0(x5)
+    .cfi_restore 8
+    .word 0x0042a483  # lw x9, 4(x5)
+    .cfi_restore 9
+    # the caller's x2
+    .word 0x01028293  # addi x5, x5, 16
+    .cfi_def_cfa 5, 0
+    # all the room, wiped upward
+    .word 0x00012023  # sw x0, 0(x2)
+    .word 0x00012223  # sw x0, 4(x2)
+    .word 0x00012423  # sw x0, 8(x2)
+    .word 0x00012623  # sw x0, 12(x2)
+    .word 0x00012823  # sw x0, 16(x2)
+    .word 0x00012a23  # sw x0, 20(x2)
+    .word 0x00012c23  # sw x0, 24(x2)
+    .word 0x00012e23  # sw x0, 28(x2)
+    .word 0x02012023  # sw x0, 32(x2)
+    .word 0x02012223  # sw x0, 36(x2)
+    .word 0x02012423  # sw x0, 40(x2)
+    .word 0x02012623  # sw x0, 44(x2)
+    .word 0x02012823  # sw x0, 48(x2)
+    .word 0x02012a23  # sw x0, 52(x2)
+    .word 0x02012c23  # sw x0, 56(x2)
+    .word 0x02012e23  # sw x0, 60(x2)
+    .word 0x04010113  # addi x2, x2, 64
+    .word 0xfa511ee3  # bne x2, x5, -68
+    .cfi_def_cfa 2, 0
+    # temporaries, wiped
+    .word 0x00000293  # addi x5, x0, 0
+    .word 0x00000313  # addi x6, x0, 0
+    .word 0x00000393  # addi x7, x0, 0
+    .word 0x00000593  # addi x11, x0, 0
+    .word 0x00000613  # addi x12, x0, 0
+    .word 0x00000693  # addi x13, x0, 0
+    .word 0x00000713  # addi x14, x0, 0
+    .word 0x00000793  # addi x15, x0, 0
+    .word 0x00000813  # addi x16, x0, 0
+    .word 0x00000893  # addi x17, x0, 0
+    .word 0x00000e13  # addi x28, x0, 0
+    .word 0x00000e93  # addi x29, x0, 0
+    .word 0x00000f13  # addi x30, x0, 0
+    .word 0x00000f93  # addi x31, x0, 0
+    # back
+    .word 0x00008067  # jalr x0, 0(x1)
+    .cfi_endproc
+    .size select_8, . - select_8
+    .option pop
