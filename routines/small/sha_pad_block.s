@@ -1,0 +1,234 @@
+# sha_pad_block: made by factc function; 196 words, 112 bytes of stack, profile 1
+    .option push
+    .option norvc
+    .option norelax
+    .cfi_sections .debug_frame
+    .section .text.sha_pad_block, "ax", @progbits
+    .p2align 2
+    .globl sha_pad_block
+    .type sha_pad_block, @function
+sha_pad_block:
+    .cfi_startproc
+    # room above the frame
+    .word 0xff010113  # addi x2, x2, -16
+    .cfi_def_cfa_offset 16
+    # the caller's registers
+    .word 0x00812023  # sw x8, 0(x2)
+    .cfi_offset 8, -16
+    .word 0x00912223  # sw x9, 4(x2)
+    .cfi_offset 9, -12
+    # arguments that are needed behind the body
+    .word 0x00a12623  # sw x10, 12(x2)
+    # the frame's base
+    .word 0xfa010113  # addi x2, x2, -96
+    .cfi_def_cfa 2, 112
+    # parameter 0: an array
+    .word 0x00050293  # addi x5, x10, 0
+    .word 0x00010313  # addi x6, x2, 0
+    .word 0x0032fe13  # andi x28, x5, 3
+    .word 0x020e0e63  # beq x28, x0, 60
+    .word 0x04000393  # addi x7, x0, 64
+    .word 0x005383b3  # add x7, x7, x5
+    .word 0x0002ce03  # lbu x28, 0(x5)
+    .word 0x01c30023  # sb x28, 0(x6)
+    .word 0x0012ce03  # lbu x28, 1(x5)
+    .word 0x01c300a3  # sb x28, 1(x6)
+    .word 0x0022ce03  # lbu x28, 2(x5)
+    .word 0x01c30123  # sb x28, 2(x6)
+    .word 0x0032ce03  # lbu x28, 3(x5)
+    .word 0x01c301a3  # sb x28, 3(x6)
+    .word 0x00428293  # addi x5, x5, 4
+    .word 0x00430313  # addi x6, x6, 4
+    .word 0xfc729ce3  # bne x5, x7, -40
+    .word 0x0580006f  # jal x0, 88
+    .word 0x04000393  # addi x7, x0, 64
+    .word 0x005383b3  # add x7, x7, x5
+    .word 0x0002ae03  # lw x28, 0(x5)
+    .word 0x01c32023  # sw x28, 0(x6)
+    .word 0x0042ae03  # lw x28, 4(x5)
+    .word 0x01c32223  # sw x28, 4(x6)
+    .word 0x0082ae03  # lw x28, 8(x5)
+    .word 0x01c32423  # sw x28, 8(x6)
+    .word 0x00c2ae03  # lw x28, 12(x5)
+    .word 0x01c32623  # sw x28, 12(x6)
+    .word 0x0102ae03  # lw x28, 16(x5)
+    .word 0x01c32823  # sw x28, 16(x6)
+    .word 0x0142ae03  # lw x28, 20(x5)
+    .word 0x01c32a23  # sw x28, 20(x6)
+    .word 0x0182ae03  # lw x28, 24(x5)
+    .word 0x01c32c23  # sw x28, 24(x6)
+    .word 0x01c2ae03  # lw x28, 28(x5)
+    .word 0x01c32e23  # sw x28, 28(x6)
+    .word 0x02028293  # addi x5, x5, 32
+    .word 0x02030313  # addi x6, x6, 32
+    .word 0xfa729ce3  # bne x5, x7, -72
+    # parameter 1: a word
+    .word 0x04b12023  # sw x11, 64(x2)
+    # parameter 2: a word
+    .word 0x04c12223  # sw x12, 68(x2)
+    # the body
+    .word 0x04012583  # lw x11, 64(x2)
+    .word 0x04412603  # lw x12, 68(x2)
+    .word 0x00000693  # addi x13, x0, 0
+    .word 0x00000713  # addi x14, x0, 0
+    .word 0x00000813  # addi x16, x0, 0
+    .word 0x00000693  # addi x13, x0, 0
+    .word 0x00659293  # slli x5, x11, 6
+    .word 0x00d28733  # add x14, x5, x13
+    .word 0x00c73333  # sltu x6, x14, x12
+    .word 0x002683b3  # add x7, x13, x2
+    .word 0x0003c383  # lbu x7, 0(x7)
+    .word 0x40c70433  # sub x8, x14, x12
+    .word 0x00803433  # sltu x8, x0, x8
+    .word 0x08000493  # addi x9, x0, 128
+    .word 0xfff40413  # addi x8, x8, -1
+    .word 0x0084f433  # and x8, x9, x8
+    .word 0x40600333  # sub x6, x0, x6
+    .word 0x0083c3b3  # xor x7, x7, x8
+    .word 0x0063f3b3  # and x7, x7, x6
+    .word 0x00744333  # xor x6, x8, x7
+    .word 0x002682b3  # add x5, x13, x2
+    .word 0x00628023  # sb x6, 0(x5)
+    .word 0x00168693  # addi x13, x13, 1
+    .word 0x0406b293  # sltiu x5, x13, 64
+    .word 0xfa029ce3  # bne x5, x0, -72
+    .word 0xfff68693  # addi x13, x13, -1
+    .word 0x00860293  # addi x5, x12, 8
+    .word 0x0062d293  # srli x5, x5, 6
+    .word 0x40b287b3  # sub x15, x5, x11
+    .word 0x0017b793  # sltiu x15, x15, 1
+    .word 0x01d65313  # srli x6, x12, 29
+    .word 0x0ff37313  # andi x6, x6, 255
+    .word 0x03b14383  # lbu x7, 59(x2)
+    .word 0x40f002b3  # sub x5, x0, x15
+    .word 0x00734333  # xor x6, x6, x7
+    .word 0x00537333  # and x6, x6, x5
+    .word 0x0063c2b3  # xor x5, x7, x6
+    .word 0x02510da3  # sb x5, 59(x2)
+    .word 0x00000813  # addi x16, x0, 0
+    .word 0x03c80293  # addi x5, x16, 60
+    .word 0x00361393  # slli x7, x12, 3
+    .word 0x01800413  # addi x8, x0, 24
+    .word 0x00381493  # slli x9, x16, 3
+    .word 0x40940433  # sub x8, x8, x9
+    .word 0x0083d3b3  # srl x7, x7, x8
+    .word 0x0ff3f393  # andi x7, x7, 255
+    .word 0x03c80413  # addi x8, x16, 60
+    .word 0x00240433  # add x8, x8, x2
+    .word 0x00044403  # lbu x8, 0(x8)
+    .word 0x40f00333  # sub x6, x0, x15
+    .word 0x0083c3b3  # xor x7, x7, x8
+    .word 0x0063f3b3  # and x7, x7, x6
+    .word 0x00744333  # xor x6, x8, x7
+    .word 0x002282b3  # add x5, x5, x2
+    .word 0x00628023  # sb x6, 0(x5)
+    .word 0x00180813  # addi x16, x16, 1
+    .word 0x00483293  # sltiu x5, x16, 4
+    .word 0xfa029ce3  # bne x5, x0, -72
+    .word 0xfff80813  # addi x16, x16, -1
+    .word 0x04f12423  # sw x15, 72(x2)
+    # the result
+    .word 0x04812503  # lw x10, 72(x2)
+    # parameter 0: the array, back
+    .word 0x06c12283  # lw x5, 108(x2)
+    .word 0x00010313  # addi x6, x2, 0
+    .word 0x0032fe13  # andi x28, x5, 3
+    .word 0x020e0e63  # beq x28, x0, 60
+    .word 0x04000393  # addi x7, x0, 64
+    .word 0x005383b3  # add x7, x7, x5
+    .word 0x00034e03  # lbu x28, 0(x6)
+    .word 0x01c28023  # sb x28, 0(x5)
+    .word 0x00134e03  # lbu x28, 1(x6)
+    .word 0x01c280a3  # sb x28, 1(x5)
+    .word 0x00234e03  # lbu x28, 2(x6)
+    .word 0x01c28123  # sb x28, 2(x5)
+    .word 0x00334e03  # lbu x28, 3(x6)
+    .word 0x01c281a3  # sb x28, 3(x5)
+    .word 0x00428293  # addi x5, x5, 4
+    .word 0x00430313  # addi x6, x6, 4
+    .word 0xfc729ce3  # bne x5, x7, -40
+    .word 0x0580006f  # jal x0, 88
+    .word 0x04000393  # addi x7, x0, 64
+    .word 0x005383b3  # add x7, x7, x5
+    .word 0x00032e03  # lw x28, 0(x6)
+    .word 0x01c2a023  # sw x28, 0(x5)
+    .word 0x00432e03  # lw x28, 4(x6)
+    .word 0x01c2a223  # sw x28, 4(x5)
+    .word 0x00832e03  # lw x28, 8(x6)
+    .word 0x01c2a423  # sw x28, 8(x5)
+    .word 0x00c32e03  # lw x28, 12(x6)
+    .word 0x01c2a623  # sw x28, 12(x5)
+    .word 0x01032e03  # lw x28, 16(x6)
+    .word 0x01c2a823  # sw x28, 16(x5)
+    .word 0x01432e03  # lw x28, 20(x6)
+    .word 0x01c2aa23  # sw x28, 20(x5)
+    .word 0x01832e03  # lw x28, 24(x6)
+    .word 0x01c2ac23  # sw x28, 24(x5)
+    .word 0x01c32e03  # lw x28, 28(x6)
+    .word 0x01c2ae23  # sw x28, 28(x5)
+    .word 0x02028293  # addi x5, x5, 32
+    .word 0x02030313  # addi x6, x6, 32
+    .word 0xfa729ce3  # bne x5, x7, -72
+    # above the frame
+    .word 0x06010293  # addi x5, x2, 96
+    # the caller's registers
+    .word 0x0002a403  # lw x8, 0(x5)
+    .cfi_restore 8
+    .word 0x0042a483  # lw x9, 4(x5)
+    .cfi_restore 9
+    # the caller's x2
+    .word 0x01028293  # addi x5, x5, 16
+    .cfi_def_cfa 5, 0
+    # all the room, wiped upward
+    .word 0x00012023  # sw x0, 0(x2)
+    .word 0x00012223  # sw x0, 4(x2)
+    .word 0x00012423  # sw x0, 8(x2)
+    .word 0x00012623  # sw x0, 12(x2)
+    .word 0x00012823  # sw x0, 16(x2)
+    .word 0x00012a23  # sw x0, 20(x2)
+    .word 0x00012c23  # sw x0, 24(x2)
+    .word 0x00012e23  # sw x0, 28(x2)
+    .word 0x02012023  # sw x0, 32(x2)
+    .word 0x02012223  # sw x0, 36(x2)
+    .word 0x02012423  # sw x0, 40(x2)
+    .word 0x02012623  # sw x0, 44(x2)
+    .word 0x03010113  # addi x2, x2, 48
+    .word 0x00012023  # sw x0, 0(x2)
+    .word 0x00012223  # sw x0, 4(x2)
+    .word 0x00012423  # sw x0, 8(x2)
+    .word 0x00012623  # sw x0, 12(x2)
+    .word 0x00012823  # sw x0, 16(x2)
+    .word 0x00012a23  # sw x0, 20(x2)
+    .word 0x00012c23  # sw x0, 24(x2)
+    .word 0x00012e23  # sw x0, 28(x2)
+    .word 0x02012023  # sw x0, 32(x2)
+    .word 0x02012223  # sw x0, 36(x2)
+    .word 0x02012423  # sw x0, 40(x2)
+    .word 0x02012623  # sw x0, 44(x2)
+    .word 0x02012823  # sw x0, 48(x2)
+    .word 0x02012a23  # sw x0, 52(x2)
+    .word 0x02012c23  # sw x0, 56(x2)
+    .word 0x02012e23  # sw x0, 60(x2)
+    .word 0x04010113  # addi x2, x2, 64
+    .word 0xfa511ee3  # bne x2, x5, -68
+    .cfi_def_cfa 2, 0
+    # temporaries, wiped
+    .word 0x00000293  # addi x5, x0, 0
+    .word 0x00000313  # addi x6, x0, 0
+    .word 0x00000393  # addi x7, x0, 0
+    .word 0x00000593  # addi x11, x0, 0
+    .word 0x00000613  # addi x12, x0, 0
+    .word 0x00000693  # addi x13, x0, 0
+    .word 0x00000713  # addi x14, x0, 0
+    .word 0x00000793  # addi x15, x0, 0
+    .word 0x00000813  # addi x16, x0, 0
+    .word 0x00000893  # addi x17, x0, 0
+    .word 0x00000e13  # addi x28, x0, 0
+    .word 0x00000e93  # addi x29, x0, 0
+    .word 0x00000f13  # addi x30, x0, 0
+    .word 0x00000f93  # addi x31, x0, 0
+    # back
+    .word 0x00008067  # jalr x0, 0(x1)
+    .cfi_endproc
+    .size sha_pad_block, . - sha_pad_block
+    .option pop

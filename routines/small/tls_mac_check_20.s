@@ -1,0 +1,291 @@
+# tls_mac_check_20: made by factc function; 250 words, 512 bytes of stack, profile 1
+    .option push
+    .option norvc
+    .option norelax
+    .cfi_sections .debug_frame
+    .section .text.tls_mac_check_20, "ax", @progbits
+    .p2align 2
+    .globl tls_mac_check_20
+    .type tls_mac_check_20, @function
+tls_mac_check_20:
+    .cfi_startproc
+    # room above the frame
+    .word 0xff010113  # addi x2, x2, -16
+    .cfi_def_cfa_offset 16
+    # the caller's registers
+    .word 0x00812023  # sw x8, 0(x2)
+    .cfi_offset 8, -16
+    .word 0x01212223  # sw x18, 4(x2)
+    .cfi_offset 18, -12
+    .word 0x01312423  # sw x19, 8(x2)
+    .cfi_offset 19, -8
+    .word 0x01412623  # sw x20, 12(x2)
+    .cfi_offset 20, -4
+    # arguments that are needed behind the body
+    # the frame's base
+    .word 0xe1010113  # addi x2, x2, -496
+    .cfi_def_cfa 2, 512
+    # parameter 0: an array
+    .word 0x00050293  # addi x5, x10, 0
+    .word 0x00010313  # addi x6, x2, 0
+    .word 0x0032fe13  # andi x28, x5, 3
+    .word 0x020e0e63  # beq x28, x0, 60
+    .word 0x11800393  # addi x7, x0, 280
+    .word 0x005383b3  # add x7, x7, x5
+    .word 0x0002ce03  # lbu x28, 0(x5)
+    .word 0x01c30023  # sb x28, 0(x6)
+    .word 0x0012ce03  # lbu x28, 1(x5)
+    .word 0x01c300a3  # sb x28, 1(x6)
+    .word 0x0022ce03  # lbu x28, 2(x5)
+    .word 0x01c30123  # sb x28, 2(x6)
+    .word 0x0032ce03  # lbu x28, 3(x5)
+    .word 0x01c301a3  # sb x28, 3(x6)
+    .word 0x00428293  # addi x5, x5, 4
+    .word 0x00430313  # addi x6, x6, 4
+    .word 0xfc729ce3  # bne x5, x7, -40
+    .word 0x0880006f  # jal x0, 136
+    .word 0x10000393  # addi x7, x0, 256
+    .word 0x005383b3  # add x7, x7, x5
+    .word 0x0002ae03  # lw x28, 0(x5)
+    .word 0x01c32023  # sw x28, 0(x6)
+    .word 0x0042ae03  # lw x28, 4(x5)
+    .word 0x01c32223  # sw x28, 4(x6)
+    .word 0x0082ae03  # lw x28, 8(x5)
+    .word 0x01c32423  # sw x28, 8(x6)
+    .word 0x00c2ae03  # lw x28, 12(x5)
+    .word 0x01c32623  # sw x28, 12(x6)
+    .word 0x0102ae03  # lw x28, 16(x5)
+    .word 0x01c32823  # sw x28, 16(x6)
+    .word 0x0142ae03  # lw x28, 20(x5)
+    .word 0x01c32a23  # sw x28, 20(x6)
+    .word 0x0182ae03  # lw x28, 24(x5)
+    .word 0x01c32c23  # sw x28, 24(x6)
+    .word 0x01c2ae03  # lw x28, 28(x5)
+    .word 0x01c32e23  # sw x28, 28(x6)
+    .word 0x02028293  # addi x5, x5, 32
+    .word 0x02030313  # addi x6, x6, 32
+    .word 0xfa729ce3  # bne x5, x7, -72
+    .word 0x0002ae03  # lw x28, 0(x5)
+    .word 0x01c32023  # sw x28, 0(x6)
+    .word 0x0042ae03  # lw x28, 4(x5)
+    .word 0x01c32223  # sw x28, 4(x6)
+    .word 0x0082ae03  # lw x28, 8(x5)
+    .word 0x01c32423  # sw x28, 8(x6)
+    .word 0x00c2ae03  # lw x28, 12(x5)
+    .word 0x01c32623  # sw x28, 12(x6)
+    .word 0x0102ae03  # lw x28, 16(x5)
+    .word 0x01c32823  # sw x28, 16(x6)
+    .word 0x0142ae03  # lw x28, 20(x5)
+    .word 0x01c32a23  # sw x28, 20(x6)
+    # parameter 1: a word
+    .word 0x10b12c23  # sw x11, 280(x2)
+    # parameter 2: an array
+    .word 0x00060293  # addi x5, x12, 0
+    .word 0x11c10313  # addi x6, x2, 284
+    .word 0x0032fe13  # andi x28, x5, 3
+    .word 0x020e0e63  # beq x28, x0, 60
+    .word 0x01400393  # addi x7, x0, 20
+    .word 0x005383b3  # add x7, x7, x5
+    .word 0x0002ce03  # lbu x28, 0(x5)
+    .word 0x01c30023  # sb x28, 0(x6)
+    .word 0x0012ce03  # lbu x28, 1(x5)
+    .word 0x01c300a3  # sb x28, 1(x6)
+    .word 0x0022ce03  # lbu x28, 2(x5)
+    .word 0x01c30123  # sb x28, 2(x6)
+    .word 0x0032ce03  # lbu x28, 3(x5)
+    .word 0x01c301a3  # sb x28, 3(x6)
+    .word 0x00428293  # addi x5, x5, 4
+    .word 0x00430313  # addi x6, x6, 4
+    .word 0xfc729ce3  # bne x5, x7, -40
+    .word 0x02c0006f  # jal x0, 44
+    .word 0x0002ae03  # lw x28, 0(x5)
+    .word 0x01c32023  # sw x28, 0(x6)
+    .word 0x0042ae03  # lw x28, 4(x5)
+    .word 0x01c32223  # sw x28, 4(x6)
+    .word 0x0082ae03  # lw x28, 8(x5)
+    .word 0x01c32423  # sw x28, 8(x6)
+    .word 0x00c2ae03  # lw x28, 12(x5)
+    .word 0x01c32623  # sw x28, 12(x6)
+    .word 0x0102ae03  # lw x28, 16(x5)
+    .word 0x01c32823  # sw x28, 16(x6)
+    # the body
+    .word 0x11812503  # lw x10, 280(x2)
+    .word 0x00000693  # addi x13, x0, 0
+    .word 0x00000713  # addi x14, x0, 0
+    .word 0x00000793  # addi x15, x0, 0
+    .word 0x00000813  # addi x16, x0, 0
+    .word 0x00000893  # addi x17, x0, 0
+    .word 0x00000913  # addi x18, x0, 0
+    .word 0x00000993  # addi x19, x0, 0
+    .word 0x00000a13  # addi x20, x0, 0
+    .word 0x10400293  # addi x5, x0, 260
+    .word 0x40a285b3  # sub x11, x5, x10
+    .word 0x13000313  # addi x6, x0, 304
+    .word 0x00230333  # add x6, x6, x2
+    .word 0x05000393  # addi x7, x0, 80
+    .word 0x006383b3  # add x7, x7, x6
+    .word 0x406382b3  # sub x5, x7, x6
+    .word 0x00029463  # bne x5, x0, 8
+    .word 0x0100006f  # jal x0, 16
+    .word 0x00032023  # sw x0, 0(x6)
+    .word 0x00430313  # addi x6, x6, 4
+    .word 0xfedff06f  # jal x0, -20
+    .word 0x00000613  # addi x12, x0, 0
+    .word 0x00000693  # addi x13, x0, 0
+    .word 0x00000713  # addi x14, x0, 0
+    .word 0x01400293  # addi x5, x0, 20
+    .word 0x02d282b3  # mul x5, x5, x13
+    .word 0x00e287b3  # add x15, x5, x14
+    .word 0x00271313  # slli x6, x14, 2
+    .word 0x00230333  # add x6, x6, x2
+    .word 0x13032303  # lw x6, 304(x6)
+    .word 0x002783b3  # add x7, x15, x2
+    .word 0x0003c383  # lbu x7, 0(x7)
+    .word 0x40b78433  # sub x8, x15, x11
+    .word 0x01443413  # sltiu x8, x8, 20
+    .word 0x40800433  # sub x8, x0, x8
+    .word 0x0083f3b3  # and x7, x7, x8
+    .word 0x00736333  # or x6, x6, x7
+    .word 0x00271293  # slli x5, x14, 2
+    .word 0x002282b3  # add x5, x5, x2
+    .word 0x1262a823  # sw x6, 304(x5)
+    .word 0x40b783b3  # sub x7, x15, x11
+    .word 0x0013b393  # sltiu x7, x7, 1
+    .word 0x407003b3  # sub x7, x0, x7
+    .word 0x00777333  # and x6, x14, x7
+    .word 0x00666633  # or x12, x12, x6
+    .word 0x00170713  # addi x14, x14, 1
+    .word 0x01473293  # sltiu x5, x14, 20
+    .word 0xfa0292e3  # bne x5, x0, -92
+    .word 0xfff70713  # addi x14, x14, -1
+    .word 0x00168693  # addi x13, x13, 1
+    .word 0x00e6b293  # sltiu x5, x13, 14
+    .word 0xf80298e3  # bne x5, x0, -112
+    .word 0xfff68693  # addi x13, x13, -1
+    .word 0x00000813  # addi x16, x0, 0
+    .word 0x010652b3  # srl x5, x12, x16
+    .word 0x0012f293  # andi x5, x5, 1
+    .word 0xfff28893  # addi x17, x5, -1
+    .word 0x0018b893  # sltiu x17, x17, 1
+    .word 0x18000313  # addi x6, x0, 384
+    .word 0x00230333  # add x6, x6, x2
+    .word 0x05000393  # addi x7, x0, 80
+    .word 0x006383b3  # add x7, x7, x6
+    .word 0x406382b3  # sub x5, x7, x6
+    .word 0x00029463  # bne x5, x0, 8
+    .word 0x0100006f  # jal x0, 16
+    .word 0x00032023  # sw x0, 0(x6)
+    .word 0x00430313  # addi x6, x6, 4
+    .word 0xfedff06f  # jal x0, -20
+    .word 0x00000913  # addi x18, x0, 0
+    .word 0x00291313  # slli x6, x18, 2
+    .word 0x00230333  # add x6, x6, x2
+    .word 0x13032303  # lw x6, 304(x6)
+    .word 0x00291293  # slli x5, x18, 2
+    .word 0x002282b3  # add x5, x5, x2
+    .word 0x1862a023  # sw x6, 384(x5)
+    .word 0x00190913  # addi x18, x18, 1
+    .word 0x01493293  # sltiu x5, x18, 20
+    .word 0xfe0290e3  # bne x5, x0, -32
+    .word 0xfff90913  # addi x18, x18, -1
+    .word 0x00000993  # addi x19, x0, 0
+    .word 0x00100413  # addi x8, x0, 1
+    .word 0x01041433  # sll x8, x8, x16
+    .word 0x008983b3  # add x7, x19, x8
+    .word 0x01400413  # addi x8, x0, 20
+    .word 0x0283f3b3  # remu x7, x7, x8
+    .word 0x00239393  # slli x7, x7, 2
+    .word 0x002383b3  # add x7, x7, x2
+    .word 0x1803a383  # lw x7, 384(x7)
+    .word 0x00299413  # slli x8, x19, 2
+    .word 0x00240433  # add x8, x8, x2
+    .word 0x18042403  # lw x8, 384(x8)
+    .word 0x41100333  # sub x6, x0, x17
+    .word 0x0083c3b3  # xor x7, x7, x8
+    .word 0x0063f3b3  # and x7, x7, x6
+    .word 0x00744333  # xor x6, x8, x7
+    .word 0x00299293  # slli x5, x19, 2
+    .word 0x002282b3  # add x5, x5, x2
+    .word 0x1262a823  # sw x6, 304(x5)
+    .word 0x00198993  # addi x19, x19, 1
+    .word 0x0149b293  # sltiu x5, x19, 20
+    .word 0xfa0298e3  # bne x5, x0, -80
+    .word 0xfff98993  # addi x19, x19, -1
+    .word 0x00180813  # addi x16, x16, 1
+    .word 0x00583293  # sltiu x5, x16, 5
+    .word 0xf2029ce3  # bne x5, x0, -200
+    .word 0xfff80813  # addi x16, x16, -1
+    .word 0x00000613  # addi x12, x0, 0
+    .word 0x00000a13  # addi x20, x0, 0
+    .word 0x002a1313  # slli x6, x20, 2
+    .word 0x00230333  # add x6, x6, x2
+    .word 0x13032303  # lw x6, 304(x6)
+    .word 0x002a03b3  # add x7, x20, x2
+    .word 0x11c3c383  # lbu x7, 284(x7)
+    .word 0x00734333  # xor x6, x6, x7
+    .word 0x00666633  # or x12, x12, x6
+    .word 0x001a0a13  # addi x20, x20, 1
+    .word 0x014a3293  # sltiu x5, x20, 20
+    .word 0xfc029ee3  # bne x5, x0, -36
+    .word 0xfffa0a13  # addi x20, x20, -1
+    .word 0x00163293  # sltiu x5, x12, 1
+    .word 0xfff50313  # addi x6, x10, -1
+    .word 0x10033313  # sltiu x6, x6, 256
+    .word 0x0062f2b3  # and x5, x5, x6
+    .word 0x1c512823  # sw x5, 464(x2)
+    # the result
+    .word 0x1d012503  # lw x10, 464(x2)
+    # above the frame
+    .word 0x1f010293  # addi x5, x2, 496
+    # the caller's registers
+    .word 0x0002a403  # lw x8, 0(x5)
+    .cfi_restore 8
+    .word 0x0042a903  # lw x18, 4(x5)
+    .cfi_restore 18
+    .word 0x0082a983  # lw x19, 8(x5)
+    .cfi_restore 19
+    .word 0x00c2aa03  # lw x20, 12(x5)
+    .cfi_restore 20
+    # the caller's x2
+    .word 0x01028293  # addi x5, x5, 16
+    .cfi_def_cfa 5, 0
+    # all the room, wiped upward
+    .word 0x00012023  # sw x0, 0(x2)
+    .word 0x00012223  # sw x0, 4(x2)
+    .word 0x00012423  # sw x0, 8(x2)
+    .word 0x00012623  # sw x0, 12(x2)
+    .word 0x00012823  # sw x0, 16(x2)
+    .word 0x00012a23  # sw x0, 20(x2)
+    .word 0x00012c23  # sw x0, 24(x2)
+    .word 0x00012e23  # sw x0, 28(x2)
+    .word 0x02012023  # sw x0, 32(x2)
+    .word 0x02012223  # sw x0, 36(x2)
+    .word 0x02012423  # sw x0, 40(x2)
+    .word 0x02012623  # sw x0, 44(x2)
+    .word 0x02012823  # sw x0, 48(x2)
+    .word 0x02012a23  # sw x0, 52(x2)
+    .word 0x02012c23  # sw x0, 56(x2)
+    .word 0x02012e23  # sw x0, 60(x2)
+    .word 0x04010113  # addi x2, x2, 64
+    .word 0xfa511ee3  # bne x2, x5, -68
+    .cfi_def_cfa 2, 0
+    # temporaries, wiped
+    .word 0x00000293  # addi x5, x0, 0
+    .word 0x00000313  # addi x6, x0, 0
+    .word 0x00000393  # addi x7, x0, 0
+    .word 0x00000593  # addi x11, x0, 0
+    .word 0x00000613  # addi x12, x0, 0
+    .word 0x00000693  # addi x13, x0, 0
+    .word 0x00000713  # addi x14, x0, 0
+    .word 0x00000793  # addi x15, x0, 0
+    .word 0x00000813  # addi x16, x0, 0
+    .word 0x00000893  # addi x17, x0, 0
+    .word 0x00000e13  # addi x28, x0, 0
+    .word 0x00000e93  # addi x29, x0, 0
+    .word 0x00000f13  # addi x30, x0, 0
+    .word 0x00000f93  # addi x31, x0, 0
+    # back
+    .word 0x00008067  # jalr x0, 0(x1)
+    .cfi_endproc
+    .size tls_mac_check_20, . - tls_mac_check_20
+    .option pop
