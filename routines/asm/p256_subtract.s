@@ -1,0 +1,262 @@
+# p256_subtract: made by factc function; 223 words, 144 bytes of stack, profile 1
+    .option push
+    .option norvc
+    .option norelax
+    .cfi_sections .debug_frame
+    .section .text.p256_subtract, "ax", @progbits
+    .p2align 2
+    .globl p256_subtract
+    .type p256_subtract, @function
+p256_subtract:
+    .cfi_startproc
+    # room above the frame
+    .word 0xfe010113  # addi x2, x2, -32
+    .cfi_def_cfa_offset 32
+    # the caller's registers
+    .word 0x00812023  # sw x8, 0(x2)
+    .cfi_offset 8, -32
+    .word 0x00912223  # sw x9, 4(x2)
+    .cfi_offset 9, -28
+    .word 0x01212423  # sw x18, 8(x2)
+    .cfi_offset 18, -24
+    # arguments that are needed behind the body
+    .word 0x00a12a23  # sw x10, 20(x2)
+    .word 0x00b12c23  # sw x11, 24(x2)
+    .word 0x00c12e23  # sw x12, 28(x2)
+    # the frame's base
+    .word 0xf9010113  # addi x2, x2, -112
+    .cfi_def_cfa 2, 144
+    # parameter 0: an array
+    .word 0x00050293  # addi x5, x10, 0
+    .word 0x00010313  # addi x6, x2, 0
+    .word 0x0002ae03  # lw x28, 0(x5)
+    .word 0x01c32023  # sw x28, 0(x6)
+    .word 0x0042ae03  # lw x28, 4(x5)
+    .word 0x01c32223  # sw x28, 4(x6)
+    .word 0x0082ae03  # lw x28, 8(x5)
+    .word 0x01c32423  # sw x28, 8(x6)
+    .word 0x00c2ae03  # lw x28, 12(x5)
+    .word 0x01c32623  # sw x28, 12(x6)
+    .word 0x0102ae03  # lw x28, 16(x5)
+    .word 0x01c32823  # sw x28, 16(x6)
+    .word 0x0142ae03  # lw x28, 20(x5)
+    .word 0x01c32a23  # sw x28, 20(x6)
+    .word 0x0182ae03  # lw x28, 24(x5)
+    .word 0x01c32c23  # sw x28, 24(x6)
+    .word 0x01c2ae03  # lw x28, 28(x5)
+    .word 0x01c32e23  # sw x28, 28(x6)
+    # parameter 1: an array
+    .word 0x00058293  # addi x5, x11, 0
+    .word 0x02010313  # addi x6, x2, 32
+    .word 0x0002ae03  # lw x28, 0(x5)
+    .word 0x01c32023  # sw x28, 0(x6)
+    .word 0x0042ae03  # lw x28, 4(x5)
+    .word 0x01c32223  # sw x28, 4(x6)
+    .word 0x0082ae03  # lw x28, 8(x5)
+    .word 0x01c32423  # sw x28, 8(x6)
+    .word 0x00c2ae03  # lw x28, 12(x5)
+    .word 0x01c32623  # sw x28, 12(x6)
+    .word 0x0102ae03  # lw x28, 16(x5)
+    .word 0x01c32823  # sw x28, 16(x6)
+    .word 0x0142ae03  # lw x28, 20(x5)
+    .word 0x01c32a23  # sw x28, 20(x6)
+    .word 0x0182ae03  # lw x28, 24(x5)
+    .word 0x01c32c23  # sw x28, 24(x6)
+    .word 0x01c2ae03  # lw x28, 28(x5)
+    .word 0x01c32e23  # sw x28, 28(x6)
+    # the body
+    .word 0x00012283  # lw x5, 0(x2)
+    .word 0x02012303  # lw x6, 32(x2)
+    .word 0x40628433  # sub x8, x5, x6
+    .word 0x00040613  # addi x12, x8, 0
+    .word 0x00012283  # lw x5, 0(x2)
+    .word 0x02012303  # lw x6, 32(x2)
+    .word 0x0062b5b3  # sltu x11, x5, x6
+    .word 0x00412283  # lw x5, 4(x2)
+    .word 0x02412303  # lw x6, 36(x2)
+    .word 0x40628433  # sub x8, x5, x6
+    .word 0x40b40533  # sub x10, x8, x11
+    .word 0x00412283  # lw x5, 4(x2)
+    .word 0x02412303  # lw x6, 36(x2)
+    .word 0x0062b2b3  # sltu x5, x5, x6
+    .word 0x00b43333  # sltu x6, x8, x11
+    .word 0x006285b3  # add x11, x5, x6
+    .word 0x00812283  # lw x5, 8(x2)
+    .word 0x02812303  # lw x6, 40(x2)
+    .word 0x40628433  # sub x8, x5, x6
+    .word 0x40b406b3  # sub x13, x8, x11
+    .word 0x00812283  # lw x5, 8(x2)
+    .word 0x02812303  # lw x6, 40(x2)
+    .word 0x0062b2b3  # sltu x5, x5, x6
+    .word 0x00b43333  # sltu x6, x8, x11
+    .word 0x006285b3  # add x11, x5, x6
+    .word 0x00c12283  # lw x5, 12(x2)
+    .word 0x02c12303  # lw x6, 44(x2)
+    .word 0x40628433  # sub x8, x5, x6
+    .word 0x40b40733  # sub x14, x8, x11
+    .word 0x00c12283  # lw x5, 12(x2)
+    .word 0x02c12303  # lw x6, 44(x2)
+    .word 0x0062b2b3  # sltu x5, x5, x6
+    .word 0x00b43333  # sltu x6, x8, x11
+    .word 0x006285b3  # add x11, x5, x6
+    .word 0x01012283  # lw x5, 16(x2)
+    .word 0x03012303  # lw x6, 48(x2)
+    .word 0x40628433  # sub x8, x5, x6
+    .word 0x40b407b3  # sub x15, x8, x11
+    .word 0x01012283  # lw x5, 16(x2)
+    .word 0x03012303  # lw x6, 48(x2)
+    .word 0x0062b2b3  # sltu x5, x5, x6
+    .word 0x00b43333  # sltu x6, x8, x11
+    .word 0x006285b3  # add x11, x5, x6
+    .word 0x01412283  # lw x5, 20(x2)
+    .word 0x03412303  # lw x6, 52(x2)
+    .word 0x40628433  # sub x8, x5, x6
+    .word 0x40b40833  # sub x16, x8, x11
+    .word 0x01412283  # lw x5, 20(x2)
+    .word 0x03412303  # lw x6, 52(x2)
+    .word 0x0062b2b3  # sltu x5, x5, x6
+    .word 0x00b43333  # sltu x6, x8, x11
+    .word 0x006285b3  # add x11, x5, x6
+    .word 0x01812283  # lw x5, 24(x2)
+    .word 0x03812303  # lw x6, 56(x2)
+    .word 0x40628433  # sub x8, x5, x6
+    .word 0x40b408b3  # sub x17, x8, x11
+    .word 0x01812283  # lw x5, 24(x2)
+    .word 0x03812303  # lw x6, 56(x2)
+    .word 0x0062b2b3  # sltu x5, x5, x6
+    .word 0x00b43333  # sltu x6, x8, x11
+    .word 0x006285b3  # add x11, x5, x6
+    .word 0x01c12283  # lw x5, 28(x2)
+    .word 0x03c12303  # lw x6, 60(x2)
+    .word 0x40628433  # sub x8, x5, x6
+    .word 0x40b40933  # sub x18, x8, x11
+    .word 0x01c12283  # lw x5, 28(x2)
+    .word 0x03c12303  # lw x6, 60(x2)
+    .word 0x0062b2b3  # sltu x5, x5, x6
+    .word 0x00b43333  # sltu x6, x8, x11
+    .word 0x006285b3  # add x11, x5, x6
+    .word 0x40b004b3  # sub x9, x0, x11
+    .word 0x009605b3  # add x11, x12, x9
+    .word 0x0095b433  # sltu x8, x11, x9
+    .word 0x04b12023  # sw x11, 64(x2)
+    .word 0x009505b3  # add x11, x10, x9
+    .word 0x00858633  # add x12, x11, x8
+    .word 0x0095b2b3  # sltu x5, x11, x9
+    .word 0x00863333  # sltu x6, x12, x8
+    .word 0x00628433  # add x8, x5, x6
+    .word 0x04c12223  # sw x12, 68(x2)
+    .word 0x009685b3  # add x11, x13, x9
+    .word 0x00858633  # add x12, x11, x8
+    .word 0x0095b2b3  # sltu x5, x11, x9
+    .word 0x00863333  # sltu x6, x12, x8
+    .word 0x00628433  # add x8, x5, x6
+    .word 0x04c12423  # sw x12, 72(x2)
+    .word 0x0004f513  # andi x10, x9, 0
+    .word 0x00a705b3  # add x11, x14, x10
+    .word 0x00858633  # add x12, x11, x8
+    .word 0x00a5b2b3  # sltu x5, x11, x10
+    .word 0x00863333  # sltu x6, x12, x8
+    .word 0x00628433  # add x8, x5, x6
+    .word 0x04c12623  # sw x12, 76(x2)
+    .word 0x0004f513  # andi x10, x9, 0
+    .word 0x00a785b3  # add x11, x15, x10
+    .word 0x00858633  # add x12, x11, x8
+    .word 0x00a5b2b3  # sltu x5, x11, x10
+    .word 0x00863333  # sltu x6, x12, x8
+    .word 0x00628433  # add x8, x5, x6
+    .word 0x04c12823  # sw x12, 80(x2)
+    .word 0x0004f513  # andi x10, x9, 0
+    .word 0x00a805b3  # add x11, x16, x10
+    .word 0x00858633  # add x12, x11, x8
+    .word 0x00a5b2b3  # sltu x5, x11, x10
+    .word 0x00863333  # sltu x6, x12, x8
+    .word 0x00628433  # add x8, x5, x6
+    .word 0x04c12a23  # sw x12, 84(x2)
+    .word 0x0014f513  # andi x10, x9, 1
+    .word 0x00a885b3  # add x11, x17, x10
+    .word 0x00858633  # add x12, x11, x8
+    .word 0x00a5b2b3  # sltu x5, x11, x10
+    .word 0x00863333  # sltu x6, x12, x8
+    .word 0x00628433  # add x8, x5, x6
+    .word 0x04c12c23  # sw x12, 88(x2)
+    .word 0x009905b3  # add x11, x18, x9
+    .word 0x00858633  # add x12, x11, x8
+    .word 0x04c12e23  # sw x12, 92(x2)
+    # the result
+    .word 0x00000513  # addi x10, x0, 0
+    # parameter 2: the array, back
+    .word 0x08c12283  # lw x5, 140(x2)
+    .word 0x04010313  # addi x6, x2, 64
+    .word 0x00032e03  # lw x28, 0(x6)
+    .word 0x01c2a023  # sw x28, 0(x5)
+    .word 0x00432e03  # lw x28, 4(x6)
+    .word 0x01c2a223  # sw x28, 4(x5)
+    .word 0x00832e03  # lw x28, 8(x6)
+    .word 0x01c2a423  # sw x28, 8(x5)
+    .word 0x00c32e03  # lw x28, 12(x6)
+    .word 0x01c2a623  # sw x28, 12(x5)
+    .word 0x01032e03  # lw x28, 16(x6)
+    .word 0x01c2a823  # sw x28, 16(x5)
+    .word 0x01432e03  # lw x28, 20(x6)
+    .word 0x01c2aa23  # sw x28, 20(x5)
+    .word 0x01832e03  # lw x28, 24(x6)
+    .word 0x01c2ac23  # sw x28, 24(x5)
+    .word 0x01c32e03  # lw x28, 28(x6)
+    .word 0x01c2ae23  # sw x28, 28(x5)
+    # above the frame
+    .word 0x07010293  # addi x5, x2, 112
+    # the caller's registers
+    .word 0x0002a403  # lw x8, 0(x5)
+    .cfi_restore 8
+    .word 0x0042a483  # lw x9, 4(x5)
+    .cfi_restore 9
+    .word 0x0082a903  # lw x18, 8(x5)
+    .cfi_restore 18
+    # the caller's x2
+    .word 0x02028293  # addi x5, x5, 32
+    .cfi_def_cfa 5, 0
+    # all the room, wiped upward
+    .word 0x00012023  # sw x0, 0(x2)
+    .word 0x00012223  # sw x0, 4(x2)
+    .word 0x00012423  # sw x0, 8(x2)
+    .word 0x00012623  # sw x0, 12(x2)
+    .word 0x01010113  # addi x2, x2, 16
+    .word 0x00012023  # sw x0, 0(x2)
+    .word 0x00012223  # sw x0, 4(x2)
+    .word 0x00012423  # sw x0, 8(x2)
+    .word 0x00012623  # sw x0, 12(x2)
+    .word 0x00012823  # sw x0, 16(x2)
+    .word 0x00012a23  # sw x0, 20(x2)
+    .word 0x00012c23  # sw x0, 24(x2)
+    .word 0x00012e23  # sw x0, 28(x2)
+    .word 0x02012023  # sw x0, 32(x2)
+    .word 0x02012223  # sw x0, 36(x2)
+    .word 0x02012423  # sw x0, 40(x2)
+    .word 0x02012623  # sw x0, 44(x2)
+    .word 0x02012823  # sw x0, 48(x2)
+    .word 0x02012a23  # sw x0, 52(x2)
+    .word 0x02012c23  # sw x0, 56(x2)
+    .word 0x02012e23  # sw x0, 60(x2)
+    .word 0x04010113  # addi x2, x2, 64
+    .word 0xfa511ee3  # bne x2, x5, -68
+    .cfi_def_cfa 2, 0
+    # temporaries, wiped
+    .word 0x00000293  # addi x5, x0, 0
+    .word 0x00000313  # addi x6, x0, 0
+    .word 0x00000393  # addi x7, x0, 0
+    .word 0x00000593  # addi x11, x0, 0
+    .word 0x00000613  # addi x12, x0, 0
+    .word 0x00000693  # addi x13, x0, 0
+    .word 0x00000713  # addi x14, x0, 0
+    .word 0x00000793  # addi x15, x0, 0
+    .word 0x00000813  # addi x16, x0, 0
+    .word 0x00000893  # addi x17, x0, 0
+    .word 0x00000e13  # addi x28, x0, 0
+    .word 0x00000e93  # addi x29, x0, 0
+    .word 0x00000f13  # addi x30, x0, 0
+    .word 0x00000f93  # addi x31, x0, 0
+    # back
+    .word 0x00008067  # jalr x0, 0(x1)
+    .cfi_endproc
+    .size p256_subtract, . - p256_subtract
+    .option pop

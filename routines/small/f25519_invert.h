@@ -1,0 +1,19 @@
+/* f25519_invert: made by factc function.
+   Arrays are aligned by their elements, lie outside the stack below the caller, and no two that are not const overlap.
+   For an observer of profile 1: neither the instructions that it executes, nor the addresses of its loads and stores,
+   nor the operands of its divisions depend on secret arguments. Nothing is proved of time. */
+#ifndef FACT_f25519_invert_H
+#define FACT_f25519_invert_H
+#include <stdbool.h>
+#include <stdint.h>
+#define f25519_invert_STACK_BYTES 944
+#ifdef __cplusplus
+extern "C" {
+#endif
+void f25519_invert(
+    const uint32_t number[8] /* secret */,
+    uint32_t inverse[8] /* secret */);
+#ifdef __cplusplus
+}
+#endif
+#endif

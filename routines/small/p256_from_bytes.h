@@ -1,0 +1,19 @@
+/* p256_from_bytes: made by factc function.
+   Arrays are aligned by their elements, lie outside the stack below the caller, and no two that are not const overlap.
+   For an observer of profile 1: neither the instructions that it executes, nor the addresses of its loads and stores,
+   nor the operands of its divisions depend on secret arguments. Nothing is proved of time. */
+#ifndef FACT_p256_from_bytes_H
+#define FACT_p256_from_bytes_H
+#include <stdbool.h>
+#include <stdint.h>
+#define p256_from_bytes_STACK_BYTES 928
+#ifdef __cplusplus
+extern "C" {
+#endif
+bool /* secret */ p256_from_bytes(
+    const uint8_t bytes[32] /* secret */,
+    uint32_t number[8] /* secret */);
+#ifdef __cplusplus
+}
+#endif
+#endif

@@ -1,0 +1,224 @@
+# p256_subtract: made by factc function; 187 words, 176 bytes of stack, profile 1
+    .option push
+    .option norvc
+    .option norelax
+    .cfi_sections .debug_frame
+    .section .text.p256_subtract, "ax", @progbits
+    .p2align 2
+    .globl p256_subtract
+    .type p256_subtract, @function
+p256_subtract:
+    .cfi_startproc
+    # room above the frame
+    .word 0xfe010113  # addi x2, x2, -32
+    .cfi_def_cfa_offset 32
+    # the caller's registers
+    .word 0x00812023  # sw x8, 0(x2)
+    .cfi_offset 8, -32
+    .word 0x00912223  # sw x9, 4(x2)
+    .cfi_offset 9, -28
+    # arguments that are needed behind the body
+    .word 0x00a12a23  # sw x10, 20(x2)
+    .word 0x00b12c23  # sw x11, 24(x2)
+    .word 0x00c12e23  # sw x12, 28(x2)
+    # the frame's base
+    .word 0xf7010113  # addi x2, x2, -144
+    .cfi_def_cfa 2, 176
+    # parameter 0: an array
+    .word 0x00050293  # addi x5, x10, 0
+    .word 0x00010313  # addi x6, x2, 0
+    .word 0x0002ae03  # lw x28, 0(x5)
+    .word 0x01c32023  # sw x28, 0(x6)
+    .word 0x0042ae03  # lw x28, 4(x5)
+    .word 0x01c32223  # sw x28, 4(x6)
+    .word 0x0082ae03  # lw x28, 8(x5)
+    .word 0x01c32423  # sw x28, 8(x6)
+    .word 0x00c2ae03  # lw x28, 12(x5)
+    .word 0x01c32623  # sw x28, 12(x6)
+    .word 0x0102ae03  # lw x28, 16(x5)
+    .word 0x01c32823  # sw x28, 16(x6)
+    .word 0x0142ae03  # lw x28, 20(x5)
+    .word 0x01c32a23  # sw x28, 20(x6)
+    .word 0x0182ae03  # lw x28, 24(x5)
+    .word 0x01c32c23  # sw x28, 24(x6)
+    .word 0x01c2ae03  # lw x28, 28(x5)
+    .word 0x01c32e23  # sw x28, 28(x6)
+    # parameter 1: an array
+    .word 0x00058293  # addi x5, x11, 0
+    .word 0x02010313  # addi x6, x2, 32
+    .word 0x0002ae03  # lw x28, 0(x5)
+    .word 0x01c32023  # sw x28, 0(x6)
+    .word 0x0042ae03  # lw x28, 4(x5)
+    .word 0x01c32223  # sw x28, 4(x6)
+    .word 0x0082ae03  # lw x28, 8(x5)
+    .word 0x01c32423  # sw x28, 8(x6)
+    .word 0x00c2ae03  # lw x28, 12(x5)
+    .word 0x01c32623  # sw x28, 12(x6)
+    .word 0x0102ae03  # lw x28, 16(x5)
+    .word 0x01c32823  # sw x28, 16(x6)
+    .word 0x0142ae03  # lw x28, 20(x5)
+    .word 0x01c32a23  # sw x28, 20(x6)
+    .word 0x0182ae03  # lw x28, 24(x5)
+    .word 0x01c32c23  # sw x28, 24(x6)
+    .word 0x01c2ae03  # lw x28, 28(x5)
+    .word 0x01c32e23  # sw x28, 28(x6)
+    # the body
+    .word 0x00000613  # addi x12, x0, 0
+    .word 0x00000693  # addi x13, x0, 0
+    .word 0x00000793  # addi x15, x0, 0
+    .word 0x00000813  # addi x16, x0, 0
+    .word 0x00000893  # addi x17, x0, 0
+    .word 0x06000313  # addi x6, x0, 96
+    .word 0x00230333  # add x6, x6, x2
+    .word 0x02000393  # addi x7, x0, 32
+    .word 0x006383b3  # add x7, x7, x6
+    .word 0x406382b3  # sub x5, x7, x6
+    .word 0x00029463  # bne x5, x0, 8
+    .word 0x0100006f  # jal x0, 16
+    .word 0x00032023  # sw x0, 0(x6)
+    .word 0x00430313  # addi x6, x6, 4
+    .word 0xfedff06f  # jal x0, -20
+    .word 0x00000593  # addi x11, x0, 0
+    .word 0x00000613  # addi x12, x0, 0
+    .word 0x00261293  # slli x5, x12, 2
+    .word 0x002282b3  # add x5, x5, x2
+    .word 0x0002a283  # lw x5, 0(x5)
+    .word 0x00261313  # slli x6, x12, 2
+    .word 0x00230333  # add x6, x6, x2
+    .word 0x02032303  # lw x6, 32(x6)
+    .word 0x406286b3  # sub x13, x5, x6
+    .word 0x40b68333  # sub x6, x13, x11
+    .word 0x00261293  # slli x5, x12, 2
+    .word 0x002282b3  # add x5, x5, x2
+    .word 0x0662a023  # sw x6, 96(x5)
+    .word 0x00261293  # slli x5, x12, 2
+    .word 0x002282b3  # add x5, x5, x2
+    .word 0x0002a283  # lw x5, 0(x5)
+    .word 0x00261313  # slli x6, x12, 2
+    .word 0x00230333  # add x6, x6, x2
+    .word 0x02032303  # lw x6, 32(x6)
+    .word 0x0062b2b3  # sltu x5, x5, x6
+    .word 0x00b6b333  # sltu x6, x13, x11
+    .word 0x006285b3  # add x11, x5, x6
+    .word 0x00160613  # addi x12, x12, 1
+    .word 0x00863293  # sltiu x5, x12, 8
+    .word 0xfa0294e3  # bne x5, x0, -88
+    .word 0xfff60613  # addi x12, x12, -1
+    .word 0x40b00733  # sub x14, x0, x11
+    .word 0x00000593  # addi x11, x0, 0
+    .word 0x00000793  # addi x15, x0, 0
+    .word 0x0037b313  # sltiu x6, x15, 3
+    .word 0xff978393  # addi x7, x15, -7
+    .word 0x0013b393  # sltiu x7, x7, 1
+    .word 0x00736333  # or x6, x6, x7
+    .word 0x000003b7  # lui x7, 0x00000
+    .word 0xfff38393  # addi x7, x7, -1
+    .word 0xffa78413  # addi x8, x15, -6
+    .word 0x00803433  # sltu x8, x0, x8
+    .word 0x00100493  # addi x9, x0, 1
+    .word 0xfff40413  # addi x8, x8, -1
+    .word 0x0084f433  # and x8, x9, x8
+    .word 0x40600333  # sub x6, x0, x6
+    .word 0x0083c3b3  # xor x7, x7, x8
+    .word 0x0063f3b3  # and x7, x7, x6
+    .word 0x00744333  # xor x6, x8, x7
+    .word 0x006776b3  # and x13, x14, x6
+    .word 0x00279293  # slli x5, x15, 2
+    .word 0x002282b3  # add x5, x5, x2
+    .word 0x0602a283  # lw x5, 96(x5)
+    .word 0x00d28833  # add x16, x5, x13
+    .word 0x00b808b3  # add x17, x16, x11
+    .word 0x00d832b3  # sltu x5, x16, x13
+    .word 0x00b8b333  # sltu x6, x17, x11
+    .word 0x006285b3  # add x11, x5, x6
+    .word 0x00279293  # slli x5, x15, 2
+    .word 0x002282b3  # add x5, x5, x2
+    .word 0x0512a023  # sw x17, 64(x5)
+    .word 0x00178793  # addi x15, x15, 1
+    .word 0x0087b293  # sltiu x5, x15, 8
+    .word 0xf80296e3  # bne x5, x0, -116
+    .word 0xfff78793  # addi x15, x15, -1
+    # the result
+    .word 0x00000513  # addi x10, x0, 0
+    # parameter 2: the array, back
+    .word 0x0ac12283  # lw x5, 172(x2)
+    .word 0x04010313  # addi x6, x2, 64
+    .word 0x00032e03  # lw x28, 0(x6)
+    .word 0x01c2a023  # sw x28, 0(x5)
+    .word 0x00432e03  # lw x28, 4(x6)
+    .word 0x01c2a223  # sw x28, 4(x5)
+    .word 0x00832e03  # lw x28, 8(x6)
+    .word 0x01c2a423  # sw x28, 8(x5)
+    .word 0x00c32e03  # lw x28, 12(x6)
+    .word 0x01c2a623  # sw x28, 12(x5)
+    .word 0x01032e03  # lw x28, 16(x6)
+    .word 0x01c2a823  # sw x28, 16(x5)
+    .word 0x01432e03  # lw x28, 20(x6)
+    .word 0x01c2aa23  # sw x28, 20(x5)
+    .word 0x01832e03  # lw x28, 24(x6)
+    .word 0x01c2ac23  # sw x28, 24(x5)
+    .word 0x01c32e03  # lw x28, 28(x6)
+    .word 0x01c2ae23  # sw x28, 28(x5)
+    # above the frame
+    .word 0x09010293  # addi x5, x2, 144
+    # the caller's registers
+    .word 0x0002a403  # lw x8, 0(x5)
+    .cfi_restore 8
+    .word 0x0042a483  # lw x9, 4(x5)
+    .cfi_restore 9
+    # the caller's x2
+    .word 0x02028293  # addi x5, x5, 32
+    .cfi_def_cfa 5, 0
+    # all the room, wiped upward
+    .word 0x00012023  # sw x0, 0(x2)
+    .word 0x00012223  # sw x0, 4(x2)
+    .word 0x00012423  # sw x0, 8(x2)
+    .word 0x00012623  # sw x0, 12(x2)
+    .word 0x00012823  # sw x0, 16(x2)
+    .word 0x00012a23  # sw x0, 20(x2)
+    .word 0x00012c23  # sw x0, 24(x2)
+    .word 0x00012e23  # sw x0, 28(x2)
+    .word 0x02012023  # sw x0, 32(x2)
+    .word 0x02012223  # sw x0, 36(x2)
+    .word 0x02012423  # sw x0, 40(x2)
+    .word 0x02012623  # sw x0, 44(x2)
+    .word 0x03010113  # addi x2, x2, 48
+    .word 0x00012023  # sw x0, 0(x2)
+    .word 0x00012223  # sw x0, 4(x2)
+    .word 0x00012423  # sw x0, 8(x2)
+    .word 0x00012623  # sw x0, 12(x2)
+    .word 0x00012823  # sw x0, 16(x2)
+    .word 0x00012a23  # sw x0, 20(x2)
+    .word 0x00012c23  # sw x0, 24(x2)
+    .word 0x00012e23  # sw x0, 28(x2)
+    .word 0x02012023  # sw x0, 32(x2)
+    .word 0x02012223  # sw x0, 36(x2)
+    .word 0x02012423  # sw x0, 40(x2)
+    .word 0x02012623  # sw x0, 44(x2)
+    .word 0x02012823  # sw x0, 48(x2)
+    .word 0x02012a23  # sw x0, 52(x2)
+    .word 0x02012c23  # sw x0, 56(x2)
+    .word 0x02012e23  # sw x0, 60(x2)
+    .word 0x04010113  # addi x2, x2, 64
+    .word 0xfa511ee3  # bne x2, x5, -68
+    .cfi_def_cfa 2, 0
+    # temporaries, wiped
+    .word 0x00000293  # addi x5, x0, 0
+    .word 0x00000313  # addi x6, x0, 0
+    .word 0x00000393  # addi x7, x0, 0
+    .word 0x00000593  # addi x11, x0, 0
+    .word 0x00000613  # addi x12, x0, 0
+    .word 0x00000693  # addi x13, x0, 0
+    .word 0x00000713  # addi x14, x0, 0
+    .word 0x00000793  # addi x15, x0, 0
+    .word 0x00000813  # addi x16, x0, 0
+    .word 0x00000893  # addi x17, x0, 0
+    .word 0x00000e13  # addi x28, x0, 0
+    .word 0x00000e93  # addi x29, x0, 0
+    .word 0x00000f13  # addi x30, x0, 0
+    .word 0x00000f93  # addi x31, x0, 0
+    # back
+    .word 0x00008067  # jalr x0, 0(x1)
+    .cfi_endproc
+    .size p256_subtract, . - p256_subtract
+    .option pop
