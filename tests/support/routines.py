@@ -15,7 +15,16 @@ LINE = re.compile(r"^(\w+): (.*) = (.*)$")
 C = [*TARGET, *FREE, "-std=c99", "-O1", "-Wall", "-Wextra", "-Werror"]
 TYPES = {"bool": "bool", "uint8": "uint8_t", "uint16": "uint16_t", "uint32": "uint32_t"}
 # Those whose runs take long: a test runs their first vector alone.
-SLOW = ("x25519", "p256_invert", "f25519_invert", "modular_power_128")
+SLOW = (
+    "p256_scalar_multiply",
+    "ed25519_scalar_multiply",
+    "x25519",
+    "p256_sign",
+    "p256_verify_scalars",
+    "p256_invert",
+    "f25519_invert",
+    "modular_power_128",
+)
 # Those that take several blocks a call: which argument says how many, what it counts, the bytes of a block, and the most of it.
 SEVERAL = {
     "aes128_ctr": ("length", "bytes", 16, 256),
