@@ -8,23 +8,23 @@
 #endif
 
 #if AES_KEY_BYTES == 16
-#include "aes128_decrypt.h"
-#include "aes128_encrypt.h"
-#define aes_encrypt aes128_encrypt
-#define aes_decrypt aes128_decrypt
+#include "aes128_decrypt_2.h"
+#include "aes128_encrypt_2.h"
+#include "aes128_expand.h"
+#define AES_READY_WORDS 88
+#define aes_expand aes128_expand
+#define aes_encrypt_2 aes128_encrypt_2
+#define aes_decrypt_2 aes128_decrypt_2
 #elif AES_KEY_BYTES == 32
-#include "aes256_decrypt.h"
-#include "aes256_encrypt.h"
-#define aes_encrypt aes256_encrypt
-#define aes_decrypt aes256_decrypt
+#include "aes256_decrypt_2.h"
+#include "aes256_encrypt_2.h"
+#include "aes256_expand.h"
+#define AES_READY_WORDS 120
+#define aes_expand aes256_expand
+#define aes_encrypt_2 aes256_encrypt_2
+#define aes_decrypt_2 aes256_decrypt_2
 #else
 #error "AES_KEY_BYTES is 16 or 32"
 #endif
-
-/* What is authenticated and not encrypted. */
-struct associated {
-    const uint8_t *bytes;
-    uint32_t count;
-};
 
 #endif

@@ -1,6 +1,6 @@
 /* Keys, agreement and signatures with P-256 (SP 800-186, FIPS 186-5, SP 800-56A) in C around routines of the library:
-   p256_scalar_multiply, p256_sign, hmac_sha256, copy_if_32 and less_32; to verify, also p256_verify_scalars, p256_from_bytes,
-   p256_point_add, p256_invert, p256_multiply and p256_to_bytes.
+   p256_scalar_multiply, p256_sign, p256_verify_scalars, p256_point_add, p256_from_bytes, p256_multiply, p256_invert, p256_to_bytes,
+   hmac_sha256, copy_if_32 and less_32.
 
    Numbers have 32 bytes, the highest first; a point is X, then Y, and a signature r, then s. Keys, digests and what is agreed upon are
    secret. Whether something is accepted is public, and so is all that is verified. */

@@ -79,15 +79,24 @@ static void make_mac(const uint8_t mac_key[TLS_MAC_BYTES], const uint8_t first[1
     wiped(block, sizeof block);
 }
 
+/* Two blocks at once; the last one may be alone. */
 static void decrypt(const uint8_t key[AES_KEY_BYTES], const uint8_t vector[16], uint8_t *bytes, uint32_t count) {
-    uint8_t before[16], here[16];
+    uint32_t keys[AES_READY_WORDS];
+    uint8_t blocks[32], before[16];
+    aes_expand(key, keys);
     copied(before, vector, 16);
-    for (uint32_t at = 0; at < count; at += 16) {
-        copied(here, bytes + at, 16);
-        aes_decrypt(key, bytes + at);
-        added(bytes + at, before, 16);
-        copied(before, here, 16);
+    filled(blocks, 0, 32);
+    for (uint32_t at = 0; at < count; at += 32) {
+        uint32_t here = count - at < 32 ? count - at : 32;
+        copied(blocks, bytes + at, here);
+        aes_decrypt_2(keys, blocks);
+        added(blocks, before, 16);
+        added(blocks + 16, bytes + at, here - 16);
+        copied(before, bytes + at + here - 16, 16);
+        copied(bytes + at, blocks, here);
     }
+    wiped(keys, sizeof keys);
+    wiped(blocks, sizeof blocks);
 }
 
 bool tls_cbc_check(const uint8_t key[AES_KEY_BYTES], const uint8_t mac_key[TLS_MAC_BYTES],

@@ -1,6 +1,6 @@
 /* Records of TLS 1.2's CBC suites (RFC 5246, section 6.2.3.2): AES-128 or AES-256 (aes_key.h), and HMAC-SHA-256, or HMAC-SHA-1 where
-   TLS_MAC_BYTES is defined as 20. In C around routines of the library: aes128_decrypt or aes256_decrypt, tls_padding, sha_pad_block,
-   copy_if_32, and sha256_block and tls_mac_check_32, or sha1_block and tls_mac_check_20.
+   TLS_MAC_BYTES is defined as 20. In C around routines of the library: aes128_expand and aes128_decrypt_2, or those of AES-256,
+   tls_padding, sha_pad_block, copy_if_32, and sha256_block and tls_mac_check_32, or sha1_block and tls_mac_check_20.
 
    Keys and record are secret, and so is what the padding says, until a record is accepted; its count, its head and its vector are
    public. The hash takes as many blocks as if there were no padding, whatever the padding is. */

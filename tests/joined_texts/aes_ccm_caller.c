@@ -4,7 +4,7 @@
 const char *wrong_with(const struct vector *vector) {
     static uint8_t text[MOST_BYTES];
     const uint8_t *key = vector->parts[0].bytes;
-    struct associated data = {vector->parts[2].bytes, vector->parts[2].count};
+    struct ccm_data data = {vector->parts[2].bytes, vector->parts[2].count};
     struct part plain = vector->parts[3], sealed = vector->parts[4], right = vector->parts[5];
     struct ccm_nonce nonce = {vector->parts[1].bytes, vector->parts[1].count, right.count};
     uint8_t tag[17];

@@ -7,7 +7,7 @@ bool right;
 
 void harness(void) {
     struct ccm_nonce nonce = {nonce_bytes, sizeof nonce_bytes, sizeof tag};
-    struct associated data = {data_bytes, sizeof data_bytes};
+    struct ccm_data data = {data_bytes, sizeof data_bytes};
     aes_ccm_seal(key, &nonce, data, text, sizeof text, tag);
     right = aes_ccm_check(key, &nonce, data, sealed, sizeof sealed, given);
 }
