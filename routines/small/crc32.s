@@ -1,4 +1,4 @@
-# crc32: made by factc function; 129 words, 112 bytes of stack, profile 1
+# crc32: made by factc function; 127 words, 112 bytes of stack, profile 1
     .option push
     .option norvc
     .option norelax
@@ -66,37 +66,35 @@ crc32:
     # the body
     .word 0x00012483  # lw x9, 0(x2)
     .word 0x04412503  # lw x10, 68(x2)
-    .word 0x00000613  # addi x12, x0, 0
     .word 0x00000693  # addi x13, x0, 0
+    .word 0x00000713  # addi x14, x0, 0
     .word 0xfff4c593  # xori x11, x9, -1
-    .word 0x00000613  # addi x12, x0, 0
-    .word 0x04a67e63  # bgeu x12, x10, 92
-    .word 0x00260333  # add x6, x12, x2
+    .word 0xedb88637  # lui x12, 0xedb88
+    .word 0x32060613  # addi x12, x12, 800
+    .word 0x00000693  # addi x13, x0, 0
+    .word 0x04a6f663  # bgeu x13, x10, 76
+    .word 0x00268333  # add x6, x13, x2
     .word 0x00434303  # lbu x6, 4(x6)
     .word 0x0065c5b3  # xor x11, x11, x6
-    .word 0x00000693  # addi x13, x0, 0
+    .word 0x00000713  # addi x14, x0, 0
     .word 0x0015d293  # srli x5, x11, 1
-    .word 0xedb88337  # lui x6, 0xedb88
-    .word 0x32030313  # addi x6, x6, 800
     .word 0x0015f393  # andi x7, x11, 1
     .word 0x407003b3  # sub x7, x0, x7
-    .word 0x00737333  # and x6, x6, x7
+    .word 0x00767333  # and x6, x12, x7
     .word 0x0062c5b3  # xor x11, x5, x6
     .word 0x0015d293  # srli x5, x11, 1
-    .word 0xedb88337  # lui x6, 0xedb88
-    .word 0x32030313  # addi x6, x6, 800
     .word 0x0015f393  # andi x7, x11, 1
     .word 0x407003b3  # sub x7, x0, x7
-    .word 0x00737333  # and x6, x6, x7
+    .word 0x00767333  # and x6, x12, x7
     .word 0x0062c5b3  # xor x11, x5, x6
+    .word 0x00170713  # addi x14, x14, 1
+    .word 0x00473293  # sltiu x5, x14, 4
+    .word 0xfc0298e3  # bne x5, x0, -48
+    .word 0xfff70713  # addi x14, x14, -1
     .word 0x00168693  # addi x13, x13, 1
-    .word 0x0046b293  # sltiu x5, x13, 4
-    .word 0xfc0290e3  # bne x5, x0, -64
+    .word 0x0406b293  # sltiu x5, x13, 64
+    .word 0xfa0296e3  # bne x5, x0, -84
     .word 0xfff68693  # addi x13, x13, -1
-    .word 0x00160613  # addi x12, x12, 1
-    .word 0x04063293  # sltiu x5, x12, 64
-    .word 0xf8029ee3  # bne x5, x0, -100
-    .word 0xfff60613  # addi x12, x12, -1
     .word 0xfff5c293  # xori x5, x11, -1
     .word 0x04512423  # sw x5, 72(x2)
     # the result
