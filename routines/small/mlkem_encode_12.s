@@ -1,4 +1,4 @@
-# mlkem_encode_12: made by factc 1.0.0 function; 201 words, 928 bytes of stack, profile 1
+# mlkem_encode_12: made by factc function; 200 words, 928 bytes of stack, profile 1
     .option push
     .option norvc
     .option norelax
@@ -109,8 +109,7 @@ mlkem_encode_12:
     .word 0x00000693  # addi x13, x0, 0
     .word 0x00000493  # addi x9, x0, 0
     .word 0x00149513  # slli x10, x9, 1
-    .word 0x00300293  # addi x5, x0, 3
-    .word 0x029285b3  # mul x11, x5, x9
+    .word 0x009505b3  # add x11, x10, x9
     .word 0x00151613  # slli x12, x10, 1
     .word 0x00260633  # add x12, x12, x2
     .word 0x00065603  # lhu x12, 0(x12)
@@ -133,7 +132,7 @@ mlkem_encode_12:
     .word 0x20628023  # sb x6, 512(x5)
     .word 0x00148493  # addi x9, x9, 1
     .word 0x0804b293  # sltiu x5, x9, 128
-    .word 0xf8029ee3  # bne x5, x0, -100
+    .word 0xfa0290e3  # bne x5, x0, -96
     .word 0xfff48493  # addi x9, x9, -1
     # the result
     .word 0x00000513  # addi x10, x0, 0
