@@ -3,6 +3,7 @@
 -- source_excerpts: the line of a source with a place marked. call_places: the procedure of a place, and where it is
 --   called.
 -- expected_tokens: which kinds of tokens may follow a prefix of a source.
+-- habits: which habit of C stands at a place, by the tokens around it, and what to write instead.
 -- refusal_details: what is said of a refusal beside its rule: Details has all of it, WhyLines what the evidence of a
 --   violation says, TypeLines, SizeLines and ExpectedLines its parts. explained_refusals: all that is printed below
 --   one.
@@ -10,6 +11,7 @@
 pub mod source_excerpts
 pub mod expected_tokens
 pub mod call_places
+pub mod habits
 pub mod refusal_details
 pub mod explained_refusals
 pub mod Listed

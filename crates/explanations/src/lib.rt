@@ -13,6 +13,7 @@ pub mod call_places;
 pub mod expected_tokens;
 pub mod explained_refusals;
 mod finding;
+mod habits;
 pub mod lookup;
 pub mod refusal_details;
 pub mod row;

@@ -20,7 +20,7 @@ ghost use Rattle.std.specs.String.{string_bytes};
 ghost use Rattle.explanations.specs.refusal_details.Details.{Finds, FindsBeside, SaysDetails};
 
 use crate::refusal_details::characters::character_line;
-use crate::refusal_details::expectations::expected_lines;
+use crate::refusal_details::expectations::unexpected_lines;
 use crate::refusal_details::programs::call_lines;
 use crate::refusal_details::why_lines::why_lines;
 use language::{Refusal, Rule, Why};
@@ -61,7 +61,7 @@ fn found_lines(alloc: Global, source: &str, rule: Rule, at: u32) -> Result<Strin
 {
     match rule {
         Rule::UnknownCharacter => String::from_str(alloc, character_line(at, source.as_bytes())),
-        Rule::UnexpectedToken => expected_lines(alloc, at, source),
+        Rule::UnexpectedToken => unexpected_lines(alloc, at, source),
         _ => Ok(String::new(alloc)),
     }
 }

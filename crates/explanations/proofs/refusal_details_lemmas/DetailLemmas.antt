@@ -1,5 +1,5 @@
 -- What an answer of the parser says; and what holds where a call succeeds.
-use Rattle.std.proofs.Common.{◌≡◌, ℕ, List, Option, None, Some, Result, Ok, Err, IfOk, sym, ◌∙◌, inl, inr}
+use Rattle.std.proofs.Common.{◌≡◌, ℕ, List, None, Some, Result, Ok, Err, IfOk, sym, ◌∙◌, inl, inr}
 use Rattle.std.proofs.lemmas.Option.{none-some}
 use Rattle.explanations.specs.Below.{ParseAnswer, IsRefusedAs, Place, Reads, Refusal, refused}
 use Rattle.explanations.specs.refusal_details.Details.{IsProgramOf, unread}

@@ -2,7 +2,7 @@
 use Rattle.std.specs.Prelude.{◌≡◌, ℕ, nat_eq, Bool, if◌then◌else◌, List, [], ◌∷◌, ◌++◌, take, drop, length}
 use Rattle.std.specs.Prelude.{nat_lt, codes, Option, None, Some}
 use Rattle.std.specs.List.{starts_with}
-use Rattle.explanations.specs.refusal_details.ExpectedLines.{SaysExpected}
+use Rattle.explanations.specs.refusal_details.ExpectedLines.{SaysUnexpected}
 use Rattle.explanations.specs.Below.{accepted, Place, place_text, ProcedureTree, ProgramTree, Reads, Refusal}
 use Rattle.explanations.specs.Below.{refused, Rule, UnexpectedToken, UnknownCharacter, Why}
 use Rattle.explanations.specs.refusal_details.WhyLines.{why_lines}
@@ -63,7 +63,7 @@ SaysOfCalls source at lines = SaysOfProgram source (λ program line. line ≡ ca
 -- what is found in a source behind so many bytes, where rule and place are all that is known
 abbrev pub Finds : List ℕ → Rule → ℕ → List ℕ → Type 0
 Finds source UnknownCharacter at lines = lines ≡ character_line (drop at source)
-Finds source UnexpectedToken at lines = SaysExpected source at lines
+Finds source UnexpectedToken at lines = SaysUnexpected source at lines
 Finds source rule at lines = lines ≡ []
 
 -- and what is found beside the evidence of a violation

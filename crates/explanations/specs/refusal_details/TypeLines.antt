@@ -3,7 +3,7 @@ use Rattle.std.specs.Prelude.{ℕ, Bool, false, true, List, [], ◌++◌, drop, 
 use Rattle.std.specs.Fmt.{decimal}
 use Rattle.std.specs.List.{take_while}
 use Rattle.explanations.specs.Below.{Array, Boolean, is_word_byte, Kind, Nothing, Place, Uint16, Uint32, Uint8}
-use Rattle.explanations.specs.Below.{ValueType, Word, WordType}
+use Rattle.explanations.specs.Below.{ValueType, Word}
 use Rattle.language.specs.declared.signature.Label.{Label}
 use Rattle.language.specs.declared.signature.Label.TheVariants.{Public, Secret}
 use Rattle.language.specs.declared.why.ComparedTypes.{ComparedTypes}

@@ -3,12 +3,34 @@
 ghost use Rattle.std.specs.Prelude.{◌≡◌, ◌++◌, map, IfOk, OnOk};
 ghost use Rattle.std.specs.String.{string_bytes};
 ghost use Rattle.explanations.specs.refusal_details.ExpectedLines.{SaysExpected, expected_line, more_names};
+ghost use Rattle.explanations.specs.refusal_details.ExpectedLines.{SaysHabit, SaysUnexpected};
 
 use crate::expected_tokens::expected;
+use crate::habits::advice_at;
 use std::alloc::{AllocError, Global};
 
-/// What is said of the token that stands behind so many bytes of a text, or of its end there.
-pub fn expected_lines(alloc: Global, at: u32, text: &str) -> Result<String, AllocError>
+/// What is said of the token that stands behind so many bytes of a text, or of its end there: what may stand there, and
+/// what to write instead of a habit of C.
+pub fn unexpected_lines(alloc: Global, at: u32, text: &str) -> Result<String, AllocError>
+    ensures { IfOk result (λ lines. SaysUnexpected text.now at (string_bytes lines)) }
+{
+    let expected = expected_lines(alloc, at, text)?;
+    let habit = habit_line(alloc, at, text)?;
+    format!(in alloc; "{expected}{habit}")
+}
+
+/// What to write instead of a habit of C, where there is one.
+fn habit_line(alloc: Global, at: u32, text: &str) -> Result<String, AllocError>
+    ensures { IfOk result (λ line. SaysHabit text.now at (string_bytes line)) }
+{
+    match advice_at(alloc, text, at)? {
+        Some(advice) => format!(in alloc; "  {advice} (docs/COOKBOOK.md)\n"),
+        None => Ok(String::new(alloc)),
+    }
+}
+
+/// What may stand there.
+fn expected_lines(alloc: Global, at: u32, text: &str) -> Result<String, AllocError>
     ensures { IfOk result (λ lines. SaysExpected text.now at (string_bytes lines)) }
 {
     match text.split_at_checked(at as usize) {

@@ -37,9 +37,9 @@ pub const I2: &str =
     `(d & 7) + 1`.";
 
 pub const S3: &str =
-    "The work, which says how long a run can take, may be at most 4294967296. It is about the number of\n\
-    nodes, where the body of a loop counts for each iteration that its bounds allow and once more. A\n\
-    bound that can have any value allows 4294967295 iterations: limit it first.";
+    "A run could take too long: its work may be at most 4294967296. Work is the number of nodes (numbers,\n\
+    names, operators and statements), about, with a loop's body counted for each iteration. A bound that\n\
+    may have any value stands for 4294967295 iterations: limit it first, as in `0 to n & 1023`.";
 
 pub const M1: &str =
     "The system refused memory that was asked for. This does not say whether the input is right or wrong.\n\

@@ -23,16 +23,14 @@ pub const X2: &str =
     nothing: `010` is 10.";
 
 pub const X3: &str =
-    "No program begins with the tokens up to this one, or the source ends too early. Usual causes: a call\n\
-    inside an expression or a `return`, since a call is a statement or the whole right side of a\n\
-    declaration or an assignment; a second comparison, or an operator after the amount of `<<<`, without\n\
-    parentheses; an arm of an `if` or the body of a loop without braces; a `return` that is not last; a\n\
-    missing `;` before this token; a keyword used as a name.";
+    "This token cannot stand here, or the source ends too early: `factc check --explain` lists what can\n\
+    stand here. Look just before it for a missing `;`, bracket or operator. Write a call as a statement\n\
+    or as a whole right side, braces around each arm and each loop's body, and `return` once, last.";
 
 pub const X4: &str =
-    "Brackets, operators and `else` are nested too deeply: the limit is 64. Each of them adds one to the\n\
-    depth of all that follows, until the bracket around it is closed or a `,` or `;` comes. Split a long\n\
-    expression into declarations, and a long chain of `else if` into several conditionals.";
+    "Too much is nested here: more than 64 brackets, operators and `else`. A bracket counts until it is\n\
+    closed, and an operator until the next `,` or `;` or the end of the bracket around it. Give parts of\n\
+    a long expression names, by declarations, and split a long chain of `else if` into several `if`.";
 
 pub const X5: &str =
     "A source has at most 262144 bytes. A generated table is the usual cause: compute it, or let the\n\

@@ -1,0 +1,2 @@
+pub mod Habits
+pub mod Spots

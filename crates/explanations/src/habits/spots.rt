@@ -1,0 +1,109 @@
+// The tokens around a place of a source, by their spelling.
+
+ghost use Rattle.std.specs.Prelude.{◌≡◌, length};
+ghost use Rattle.std.specs.List.{filter, fold};
+ghost use Rattle.syntax.specs.Lexeme.{lexeme, lexemes};
+ghost use Rattle.explanations.specs.habits.Spots.{after_token, count_before, ends_statement, is_before, nowhere};
+ghost use Rattle.explanations.specs.habits.Spots.{region, spot_around, spot_of, statement_start};
+
+use syntax::Token;
+
+/// The spellings of the tokens around a place; nothing where there is none.
+#[derive(Clone, Copy)]
+pub(crate) struct Spot<'a> {
+    /// The first token of the statement that the token before it belongs to.
+    pub start: &'a str,
+    pub second: &'a str,
+    pub before: &'a str,
+    pub here: &'a str,
+    pub next: &'a str,
+    pub region: &'static str,
+}
+
+/// Whether a statement ends with a token, or begins after it.
+fn ends_statement(text: &str) -> bool
+    ensures { result ≡ ends_statement text.now }
+{
+    text == "" || text == ";" || text == "{" || text == "}"
+}
+
+/// How often a token stands before a place.
+fn count_before(tokens: &[Token<'_>], at: u32, word: &str) -> usize
+    ensures { result ≡ count_before at word.now (lexemes tokens.now) }
+{
+    tokens
+        .iter()
+        .filter(|token| token.place.offset < at && token.text == word)
+        .count()
+}
+
+/// In which part of a program a place is.
+fn region(tokens: &[Token<'_>], at: u32) -> &'static str
+    ensures { result.now ≡ region at (lexemes tokens.now) }
+{
+    if count_before(tokens, at, "(") != count_before(tokens, at, ")") {
+        "brackets"
+    } else if count_before(tokens, at, "{") == count_before(tokens, at, "}") {
+        "outside"
+    } else {
+        "body"
+    }
+}
+
+impl<'a> Spot<'a> {
+    /// What a token adds to what is known of the place, where those before it were looked at.
+    fn after_token(self, token: &Token<'a>, at: u32) -> Self
+        ensures { spot_of result ≡ after_token at (spot_of self.entry) (lexeme token.now) }
+    {
+        let text = token.text;
+        if token.place.offset < at {
+            let start = if ends_statement(self.before) {
+                text
+            } else {
+                self.start
+            };
+            let second = self.before;
+            Spot {
+                start,
+                second,
+                before: text,
+                ..self
+            }
+        } else if self.here == "" {
+            Spot { here: text, ..self }
+        } else if self.next == "" {
+            Spot { next: text, ..self }
+        } else {
+            self
+        }
+    }
+
+    /// The first token of the statement that the place is in; a statement may begin there.
+    pub fn statement_start(&self) -> &'a str
+        ensures { result.now ≡ statement_start (spot_of self.now) }
+    {
+        if ends_statement(self.before) {
+            self.here
+        } else {
+            self.start
+        }
+    }
+}
+
+/// The tokens around the place behind so many bytes.
+pub(crate) fn spot_around<'a>(tokens: &[Token<'a>], at: u32) -> Spot<'a>
+    ensures { spot_of result ≡ spot_around at (lexemes tokens.now) }
+{
+    let mut spot = Spot {
+        start: "",
+        second: "",
+        before: "",
+        here: "",
+        next: "",
+        region: region(tokens, at),
+    };
+    for token in tokens {
+        spot = spot.after_token(token, at);
+    }
+    spot
+}
