@@ -1,4 +1,4 @@
-# aes128_ctr: made by factc function; 1524 words, 816 bytes of stack, profile 1
+# aes128_ctr: made by factc 1.0.0 function; 1486 words, 816 bytes of stack, profile 1
     .option push
     .option norvc
     .option norelax
@@ -250,7 +250,7 @@ aes128_ctr:
     .word 0x2e412283  # lw x5, 740(x2)
     .word 0x005332b3  # sltu x5, x6, x5
     .word 0x00029463  # bne x5, x0, 8
-    .word 0x2400106f  # jal x0, 4672
+    .word 0x1a80106f  # jal x0, 4520
     .word 0x28612423  # sw x6, 648(x2)
     .word 0x00130313  # addi x6, x6, 1
     .word 0x2e612023  # sw x6, 736(x2)
@@ -405,7 +405,7 @@ aes128_ctr:
     .word 0x2ec12283  # lw x5, 748(x2)
     .word 0x005332b3  # sltu x5, x6, x5
     .word 0x00029463  # bne x5, x0, 8
-    .word 0x6b00006f  # jal x0, 1712
+    .word 0x6940006f  # jal x0, 1684
     .word 0x28612623  # sw x6, 652(x2)
     .word 0x00130313  # addi x6, x6, 1
     .word 0x2e612423  # sw x6, 744(x2)
@@ -797,42 +797,35 @@ aes128_ctr:
     .word 0x00230333  # add x6, x6, x2
     .word 0x00032303  # lw x6, 0(x6)
     .word 0x006a4a33  # xor x20, x20, x6
-    .word 0x00198313  # addi x6, x19, 1
-    .word 0x00231313  # slli x6, x6, 2
+    .word 0x00299313  # slli x6, x19, 2
     .word 0x00230333  # add x6, x6, x2
-    .word 0x00032303  # lw x6, 0(x6)
+    .word 0x00432303  # lw x6, 4(x6)
     .word 0x006acab3  # xor x21, x21, x6
-    .word 0x00298313  # addi x6, x19, 2
-    .word 0x00231313  # slli x6, x6, 2
+    .word 0x00299313  # slli x6, x19, 2
     .word 0x00230333  # add x6, x6, x2
-    .word 0x00032303  # lw x6, 0(x6)
+    .word 0x00832303  # lw x6, 8(x6)
     .word 0x006b4b33  # xor x22, x22, x6
-    .word 0x00398313  # addi x6, x19, 3
-    .word 0x00231313  # slli x6, x6, 2
+    .word 0x00299313  # slli x6, x19, 2
     .word 0x00230333  # add x6, x6, x2
-    .word 0x00032303  # lw x6, 0(x6)
+    .word 0x00c32303  # lw x6, 12(x6)
     .word 0x006bcbb3  # xor x23, x23, x6
-    .word 0x00498313  # addi x6, x19, 4
-    .word 0x00231313  # slli x6, x6, 2
+    .word 0x00299313  # slli x6, x19, 2
     .word 0x00230333  # add x6, x6, x2
-    .word 0x00032303  # lw x6, 0(x6)
+    .word 0x01032303  # lw x6, 16(x6)
     .word 0x006c4c33  # xor x24, x24, x6
-    .word 0x00598313  # addi x6, x19, 5
-    .word 0x00231313  # slli x6, x6, 2
+    .word 0x00299313  # slli x6, x19, 2
     .word 0x00230333  # add x6, x6, x2
-    .word 0x00032303  # lw x6, 0(x6)
+    .word 0x01432303  # lw x6, 20(x6)
     .word 0x006cccb3  # xor x25, x25, x6
-    .word 0x00698313  # addi x6, x19, 6
-    .word 0x00231313  # slli x6, x6, 2
+    .word 0x00299313  # slli x6, x19, 2
     .word 0x00230333  # add x6, x6, x2
-    .word 0x00032303  # lw x6, 0(x6)
+    .word 0x01832303  # lw x6, 24(x6)
     .word 0x006d4d33  # xor x26, x26, x6
-    .word 0x00798313  # addi x6, x19, 7
-    .word 0x00231313  # slli x6, x6, 2
+    .word 0x00299313  # slli x6, x19, 2
     .word 0x00230333  # add x6, x6, x2
-    .word 0x00032303  # lw x6, 0(x6)
+    .word 0x01c32303  # lw x6, 28(x6)
     .word 0x006dcdb3  # xor x27, x27, x6
-    .word 0x945ff06f  # jal x0, -1724
+    .word 0x961ff06f  # jal x0, -1696
     .word 0x001a5293  # srli x5, x20, 1
     .word 0x0152c2b3  # xor x5, x5, x21
     .word 0x2c812303  # lw x6, 712(x2)
@@ -921,222 +914,191 @@ aes128_ctr:
     .word 0x00529913  # slli x18, x5, 5
     .word 0x02090293  # addi x5, x18, 32
     .word 0x28412303  # lw x6, 644(x2)
-    .word 0x36536263  # bltu x6, x5, 868
+    .word 0x2e536463  # bltu x6, x5, 744
     .word 0x00290333  # add x6, x18, x2
     .word 0x17034303  # lbu x6, 368(x6)
     .word 0x01434333  # xor x6, x6, x20
     .word 0x002902b3  # add x5, x18, x2
     .word 0x16628823  # sb x6, 368(x5)
-    .word 0x00190993  # addi x19, x18, 1
-    .word 0x00298333  # add x6, x19, x2
-    .word 0x17034303  # lbu x6, 368(x6)
+    .word 0x00290333  # add x6, x18, x2
+    .word 0x17134303  # lbu x6, 369(x6)
     .word 0x008a5393  # srli x7, x20, 8
     .word 0x00734333  # xor x6, x6, x7
-    .word 0x002982b3  # add x5, x19, x2
-    .word 0x16628823  # sb x6, 368(x5)
-    .word 0x00290993  # addi x19, x18, 2
-    .word 0x00298333  # add x6, x19, x2
-    .word 0x17034303  # lbu x6, 368(x6)
+    .word 0x002902b3  # add x5, x18, x2
+    .word 0x166288a3  # sb x6, 369(x5)
+    .word 0x00290333  # add x6, x18, x2
+    .word 0x17234303  # lbu x6, 370(x6)
     .word 0x010a5393  # srli x7, x20, 16
     .word 0x00734333  # xor x6, x6, x7
-    .word 0x002982b3  # add x5, x19, x2
-    .word 0x16628823  # sb x6, 368(x5)
-    .word 0x00390993  # addi x19, x18, 3
-    .word 0x00298333  # add x6, x19, x2
-    .word 0x17034303  # lbu x6, 368(x6)
+    .word 0x002902b3  # add x5, x18, x2
+    .word 0x16628923  # sb x6, 370(x5)
+    .word 0x00290333  # add x6, x18, x2
+    .word 0x17334303  # lbu x6, 371(x6)
     .word 0x018a5393  # srli x7, x20, 24
     .word 0x00734333  # xor x6, x6, x7
-    .word 0x002982b3  # add x5, x19, x2
-    .word 0x16628823  # sb x6, 368(x5)
-    .word 0x00490993  # addi x19, x18, 4
-    .word 0x00298333  # add x6, x19, x2
-    .word 0x17034303  # lbu x6, 368(x6)
+    .word 0x002902b3  # add x5, x18, x2
+    .word 0x166289a3  # sb x6, 371(x5)
+    .word 0x00290333  # add x6, x18, x2
+    .word 0x17434303  # lbu x6, 372(x6)
     .word 0x01634333  # xor x6, x6, x22
-    .word 0x002982b3  # add x5, x19, x2
-    .word 0x16628823  # sb x6, 368(x5)
-    .word 0x00590993  # addi x19, x18, 5
-    .word 0x00298333  # add x6, x19, x2
-    .word 0x17034303  # lbu x6, 368(x6)
+    .word 0x002902b3  # add x5, x18, x2
+    .word 0x16628a23  # sb x6, 372(x5)
+    .word 0x00290333  # add x6, x18, x2
+    .word 0x17534303  # lbu x6, 373(x6)
     .word 0x008b5393  # srli x7, x22, 8
     .word 0x00734333  # xor x6, x6, x7
-    .word 0x002982b3  # add x5, x19, x2
-    .word 0x16628823  # sb x6, 368(x5)
-    .word 0x00690993  # addi x19, x18, 6
-    .word 0x00298333  # add x6, x19, x2
-    .word 0x17034303  # lbu x6, 368(x6)
+    .word 0x002902b3  # add x5, x18, x2
+    .word 0x16628aa3  # sb x6, 373(x5)
+    .word 0x00290333  # add x6, x18, x2
+    .word 0x17634303  # lbu x6, 374(x6)
     .word 0x010b5393  # srli x7, x22, 16
     .word 0x00734333  # xor x6, x6, x7
-    .word 0x002982b3  # add x5, x19, x2
-    .word 0x16628823  # sb x6, 368(x5)
-    .word 0x00790993  # addi x19, x18, 7
-    .word 0x00298333  # add x6, x19, x2
-    .word 0x17034303  # lbu x6, 368(x6)
+    .word 0x002902b3  # add x5, x18, x2
+    .word 0x16628b23  # sb x6, 374(x5)
+    .word 0x00290333  # add x6, x18, x2
+    .word 0x17734303  # lbu x6, 375(x6)
     .word 0x018b5393  # srli x7, x22, 24
     .word 0x00734333  # xor x6, x6, x7
-    .word 0x002982b3  # add x5, x19, x2
-    .word 0x16628823  # sb x6, 368(x5)
-    .word 0x00890993  # addi x19, x18, 8
-    .word 0x00298333  # add x6, x19, x2
-    .word 0x17034303  # lbu x6, 368(x6)
+    .word 0x002902b3  # add x5, x18, x2
+    .word 0x16628ba3  # sb x6, 375(x5)
+    .word 0x00290333  # add x6, x18, x2
+    .word 0x17834303  # lbu x6, 376(x6)
     .word 0x01834333  # xor x6, x6, x24
-    .word 0x002982b3  # add x5, x19, x2
-    .word 0x16628823  # sb x6, 368(x5)
-    .word 0x00990993  # addi x19, x18, 9
-    .word 0x00298333  # add x6, x19, x2
-    .word 0x17034303  # lbu x6, 368(x6)
+    .word 0x002902b3  # add x5, x18, x2
+    .word 0x16628c23  # sb x6, 376(x5)
+    .word 0x00290333  # add x6, x18, x2
+    .word 0x17934303  # lbu x6, 377(x6)
     .word 0x008c5393  # srli x7, x24, 8
     .word 0x00734333  # xor x6, x6, x7
-    .word 0x002982b3  # add x5, x19, x2
-    .word 0x16628823  # sb x6, 368(x5)
-    .word 0x00a90993  # addi x19, x18, 10
-    .word 0x00298333  # add x6, x19, x2
-    .word 0x17034303  # lbu x6, 368(x6)
+    .word 0x002902b3  # add x5, x18, x2
+    .word 0x16628ca3  # sb x6, 377(x5)
+    .word 0x00290333  # add x6, x18, x2
+    .word 0x17a34303  # lbu x6, 378(x6)
     .word 0x010c5393  # srli x7, x24, 16
     .word 0x00734333  # xor x6, x6, x7
-    .word 0x002982b3  # add x5, x19, x2
-    .word 0x16628823  # sb x6, 368(x5)
-    .word 0x00b90993  # addi x19, x18, 11
-    .word 0x00298333  # add x6, x19, x2
-    .word 0x17034303  # lbu x6, 368(x6)
+    .word 0x002902b3  # add x5, x18, x2
+    .word 0x16628d23  # sb x6, 378(x5)
+    .word 0x00290333  # add x6, x18, x2
+    .word 0x17b34303  # lbu x6, 379(x6)
     .word 0x018c5393  # srli x7, x24, 24
     .word 0x00734333  # xor x6, x6, x7
-    .word 0x002982b3  # add x5, x19, x2
-    .word 0x16628823  # sb x6, 368(x5)
-    .word 0x00c90993  # addi x19, x18, 12
-    .word 0x00298333  # add x6, x19, x2
-    .word 0x17034303  # lbu x6, 368(x6)
+    .word 0x002902b3  # add x5, x18, x2
+    .word 0x16628da3  # sb x6, 379(x5)
+    .word 0x00290333  # add x6, x18, x2
+    .word 0x17c34303  # lbu x6, 380(x6)
     .word 0x01a34333  # xor x6, x6, x26
-    .word 0x002982b3  # add x5, x19, x2
-    .word 0x16628823  # sb x6, 368(x5)
-    .word 0x00d90993  # addi x19, x18, 13
-    .word 0x00298333  # add x6, x19, x2
-    .word 0x17034303  # lbu x6, 368(x6)
+    .word 0x002902b3  # add x5, x18, x2
+    .word 0x16628e23  # sb x6, 380(x5)
+    .word 0x00290333  # add x6, x18, x2
+    .word 0x17d34303  # lbu x6, 381(x6)
     .word 0x008d5393  # srli x7, x26, 8
     .word 0x00734333  # xor x6, x6, x7
-    .word 0x002982b3  # add x5, x19, x2
-    .word 0x16628823  # sb x6, 368(x5)
-    .word 0x00e90993  # addi x19, x18, 14
-    .word 0x00298333  # add x6, x19, x2
-    .word 0x17034303  # lbu x6, 368(x6)
+    .word 0x002902b3  # add x5, x18, x2
+    .word 0x16628ea3  # sb x6, 381(x5)
+    .word 0x00290333  # add x6, x18, x2
+    .word 0x17e34303  # lbu x6, 382(x6)
     .word 0x010d5393  # srli x7, x26, 16
     .word 0x00734333  # xor x6, x6, x7
-    .word 0x002982b3  # add x5, x19, x2
-    .word 0x16628823  # sb x6, 368(x5)
-    .word 0x00f90993  # addi x19, x18, 15
-    .word 0x00298333  # add x6, x19, x2
-    .word 0x17034303  # lbu x6, 368(x6)
+    .word 0x002902b3  # add x5, x18, x2
+    .word 0x16628f23  # sb x6, 382(x5)
+    .word 0x00290333  # add x6, x18, x2
+    .word 0x17f34303  # lbu x6, 383(x6)
     .word 0x018d5393  # srli x7, x26, 24
     .word 0x00734333  # xor x6, x6, x7
-    .word 0x002982b3  # add x5, x19, x2
-    .word 0x16628823  # sb x6, 368(x5)
-    .word 0x01090993  # addi x19, x18, 16
-    .word 0x00298333  # add x6, x19, x2
-    .word 0x17034303  # lbu x6, 368(x6)
+    .word 0x002902b3  # add x5, x18, x2
+    .word 0x16628fa3  # sb x6, 383(x5)
+    .word 0x00290333  # add x6, x18, x2
+    .word 0x18034303  # lbu x6, 384(x6)
     .word 0x01534333  # xor x6, x6, x21
-    .word 0x002982b3  # add x5, x19, x2
-    .word 0x16628823  # sb x6, 368(x5)
-    .word 0x01190993  # addi x19, x18, 17
-    .word 0x00298333  # add x6, x19, x2
-    .word 0x17034303  # lbu x6, 368(x6)
+    .word 0x002902b3  # add x5, x18, x2
+    .word 0x18628023  # sb x6, 384(x5)
+    .word 0x00290333  # add x6, x18, x2
+    .word 0x18134303  # lbu x6, 385(x6)
     .word 0x008ad393  # srli x7, x21, 8
     .word 0x00734333  # xor x6, x6, x7
-    .word 0x002982b3  # add x5, x19, x2
-    .word 0x16628823  # sb x6, 368(x5)
-    .word 0x01290993  # addi x19, x18, 18
-    .word 0x00298333  # add x6, x19, x2
-    .word 0x17034303  # lbu x6, 368(x6)
+    .word 0x002902b3  # add x5, x18, x2
+    .word 0x186280a3  # sb x6, 385(x5)
+    .word 0x00290333  # add x6, x18, x2
+    .word 0x18234303  # lbu x6, 386(x6)
     .word 0x010ad393  # srli x7, x21, 16
     .word 0x00734333  # xor x6, x6, x7
-    .word 0x002982b3  # add x5, x19, x2
-    .word 0x16628823  # sb x6, 368(x5)
-    .word 0x01390993  # addi x19, x18, 19
-    .word 0x00298333  # add x6, x19, x2
-    .word 0x17034303  # lbu x6, 368(x6)
+    .word 0x002902b3  # add x5, x18, x2
+    .word 0x18628123  # sb x6, 386(x5)
+    .word 0x00290333  # add x6, x18, x2
+    .word 0x18334303  # lbu x6, 387(x6)
     .word 0x018ad393  # srli x7, x21, 24
     .word 0x00734333  # xor x6, x6, x7
-    .word 0x002982b3  # add x5, x19, x2
-    .word 0x16628823  # sb x6, 368(x5)
-    .word 0x01490993  # addi x19, x18, 20
-    .word 0x00298333  # add x6, x19, x2
-    .word 0x17034303  # lbu x6, 368(x6)
+    .word 0x002902b3  # add x5, x18, x2
+    .word 0x186281a3  # sb x6, 387(x5)
+    .word 0x00290333  # add x6, x18, x2
+    .word 0x18434303  # lbu x6, 388(x6)
     .word 0x01734333  # xor x6, x6, x23
-    .word 0x002982b3  # add x5, x19, x2
-    .word 0x16628823  # sb x6, 368(x5)
-    .word 0x01590993  # addi x19, x18, 21
-    .word 0x00298333  # add x6, x19, x2
-    .word 0x17034303  # lbu x6, 368(x6)
+    .word 0x002902b3  # add x5, x18, x2
+    .word 0x18628223  # sb x6, 388(x5)
+    .word 0x00290333  # add x6, x18, x2
+    .word 0x18534303  # lbu x6, 389(x6)
     .word 0x008bd393  # srli x7, x23, 8
     .word 0x00734333  # xor x6, x6, x7
-    .word 0x002982b3  # add x5, x19, x2
-    .word 0x16628823  # sb x6, 368(x5)
-    .word 0x01690993  # addi x19, x18, 22
-    .word 0x00298333  # add x6, x19, x2
-    .word 0x17034303  # lbu x6, 368(x6)
+    .word 0x002902b3  # add x5, x18, x2
+    .word 0x186282a3  # sb x6, 389(x5)
+    .word 0x00290333  # add x6, x18, x2
+    .word 0x18634303  # lbu x6, 390(x6)
     .word 0x010bd393  # srli x7, x23, 16
     .word 0x00734333  # xor x6, x6, x7
-    .word 0x002982b3  # add x5, x19, x2
-    .word 0x16628823  # sb x6, 368(x5)
-    .word 0x01790993  # addi x19, x18, 23
-    .word 0x00298333  # add x6, x19, x2
-    .word 0x17034303  # lbu x6, 368(x6)
+    .word 0x002902b3  # add x5, x18, x2
+    .word 0x18628323  # sb x6, 390(x5)
+    .word 0x00290333  # add x6, x18, x2
+    .word 0x18734303  # lbu x6, 391(x6)
     .word 0x018bd393  # srli x7, x23, 24
     .word 0x00734333  # xor x6, x6, x7
-    .word 0x002982b3  # add x5, x19, x2
-    .word 0x16628823  # sb x6, 368(x5)
-    .word 0x01890993  # addi x19, x18, 24
-    .word 0x00298333  # add x6, x19, x2
-    .word 0x17034303  # lbu x6, 368(x6)
+    .word 0x002902b3  # add x5, x18, x2
+    .word 0x186283a3  # sb x6, 391(x5)
+    .word 0x00290333  # add x6, x18, x2
+    .word 0x18834303  # lbu x6, 392(x6)
     .word 0x01934333  # xor x6, x6, x25
-    .word 0x002982b3  # add x5, x19, x2
-    .word 0x16628823  # sb x6, 368(x5)
-    .word 0x01990993  # addi x19, x18, 25
-    .word 0x00298333  # add x6, x19, x2
-    .word 0x17034303  # lbu x6, 368(x6)
+    .word 0x002902b3  # add x5, x18, x2
+    .word 0x18628423  # sb x6, 392(x5)
+    .word 0x00290333  # add x6, x18, x2
+    .word 0x18934303  # lbu x6, 393(x6)
     .word 0x008cd393  # srli x7, x25, 8
     .word 0x00734333  # xor x6, x6, x7
-    .word 0x002982b3  # add x5, x19, x2
-    .word 0x16628823  # sb x6, 368(x5)
-    .word 0x01a90993  # addi x19, x18, 26
-    .word 0x00298333  # add x6, x19, x2
-    .word 0x17034303  # lbu x6, 368(x6)
+    .word 0x002902b3  # add x5, x18, x2
+    .word 0x186284a3  # sb x6, 393(x5)
+    .word 0x00290333  # add x6, x18, x2
+    .word 0x18a34303  # lbu x6, 394(x6)
     .word 0x010cd393  # srli x7, x25, 16
     .word 0x00734333  # xor x6, x6, x7
-    .word 0x002982b3  # add x5, x19, x2
-    .word 0x16628823  # sb x6, 368(x5)
-    .word 0x01b90993  # addi x19, x18, 27
-    .word 0x00298333  # add x6, x19, x2
-    .word 0x17034303  # lbu x6, 368(x6)
+    .word 0x002902b3  # add x5, x18, x2
+    .word 0x18628523  # sb x6, 394(x5)
+    .word 0x00290333  # add x6, x18, x2
+    .word 0x18b34303  # lbu x6, 395(x6)
     .word 0x018cd393  # srli x7, x25, 24
     .word 0x00734333  # xor x6, x6, x7
-    .word 0x002982b3  # add x5, x19, x2
-    .word 0x16628823  # sb x6, 368(x5)
-    .word 0x01c90993  # addi x19, x18, 28
-    .word 0x00298333  # add x6, x19, x2
-    .word 0x17034303  # lbu x6, 368(x6)
+    .word 0x002902b3  # add x5, x18, x2
+    .word 0x186285a3  # sb x6, 395(x5)
+    .word 0x00290333  # add x6, x18, x2
+    .word 0x18c34303  # lbu x6, 396(x6)
     .word 0x01b34333  # xor x6, x6, x27
-    .word 0x002982b3  # add x5, x19, x2
-    .word 0x16628823  # sb x6, 368(x5)
-    .word 0x01d90993  # addi x19, x18, 29
-    .word 0x00298333  # add x6, x19, x2
-    .word 0x17034303  # lbu x6, 368(x6)
+    .word 0x002902b3  # add x5, x18, x2
+    .word 0x18628623  # sb x6, 396(x5)
+    .word 0x00290333  # add x6, x18, x2
+    .word 0x18d34303  # lbu x6, 397(x6)
     .word 0x008dd393  # srli x7, x27, 8
     .word 0x00734333  # xor x6, x6, x7
-    .word 0x002982b3  # add x5, x19, x2
-    .word 0x16628823  # sb x6, 368(x5)
-    .word 0x01e90993  # addi x19, x18, 30
-    .word 0x00298333  # add x6, x19, x2
-    .word 0x17034303  # lbu x6, 368(x6)
+    .word 0x002902b3  # add x5, x18, x2
+    .word 0x186286a3  # sb x6, 397(x5)
+    .word 0x00290333  # add x6, x18, x2
+    .word 0x18e34303  # lbu x6, 398(x6)
     .word 0x010dd393  # srli x7, x27, 16
     .word 0x00734333  # xor x6, x6, x7
-    .word 0x002982b3  # add x5, x19, x2
-    .word 0x16628823  # sb x6, 368(x5)
-    .word 0x01f90993  # addi x19, x18, 31
-    .word 0x00298333  # add x6, x19, x2
-    .word 0x17034303  # lbu x6, 368(x6)
+    .word 0x002902b3  # add x5, x18, x2
+    .word 0x18628723  # sb x6, 398(x5)
+    .word 0x00290333  # add x6, x18, x2
+    .word 0x18f34303  # lbu x6, 399(x6)
     .word 0x018dd393  # srli x7, x27, 24
     .word 0x00734333  # xor x6, x6, x7
-    .word 0x002982b3  # add x5, x19, x2
-    .word 0x16628823  # sb x6, 368(x5)
+    .word 0x002902b3  # add x5, x18, x2
+    .word 0x186287a3  # sb x6, 399(x5)
     .word 0x4600006f  # jal x0, 1120
     .word 0x28412303  # lw x6, 644(x2)
     .word 0x00697c63  # bgeu x18, x6, 24
@@ -1417,7 +1379,7 @@ aes128_ctr:
     .word 0x00734333  # xor x6, x6, x7
     .word 0x002982b3  # add x5, x19, x2
     .word 0x16628823  # sb x6, 368(x5)
-    .word 0xdb5fe06f  # jal x0, -4684
+    .word 0xe4dfe06f  # jal x0, -4532
     .word 0x28012283  # lw x5, 640(x2)
     .word 0x28412303  # lw x6, 644(x2)
     .word 0x00f30313  # addi x6, x6, 15

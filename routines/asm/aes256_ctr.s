@@ -1,4 +1,4 @@
-# aes256_ctr: made by factc function; 1524 words, 944 bytes of stack, profile 1
+# aes256_ctr: made by factc 1.0.0 function; 1486 words, 944 bytes of stack, profile 1
     .option push
     .option norvc
     .option norelax
@@ -250,7 +250,7 @@ aes256_ctr:
     .word 0x36412283  # lw x5, 868(x2)
     .word 0x005332b3  # sltu x5, x6, x5
     .word 0x00029463  # bne x5, x0, 8
-    .word 0x2400106f  # jal x0, 4672
+    .word 0x1a80106f  # jal x0, 4520
     .word 0x30612423  # sw x6, 776(x2)
     .word 0x00130313  # addi x6, x6, 1
     .word 0x36612023  # sw x6, 864(x2)
@@ -405,7 +405,7 @@ aes256_ctr:
     .word 0x36c12283  # lw x5, 876(x2)
     .word 0x005332b3  # sltu x5, x6, x5
     .word 0x00029463  # bne x5, x0, 8
-    .word 0x6b00006f  # jal x0, 1712
+    .word 0x6940006f  # jal x0, 1684
     .word 0x30612623  # sw x6, 780(x2)
     .word 0x00130313  # addi x6, x6, 1
     .word 0x36612423  # sw x6, 872(x2)
@@ -797,42 +797,35 @@ aes256_ctr:
     .word 0x00230333  # add x6, x6, x2
     .word 0x00032303  # lw x6, 0(x6)
     .word 0x006a4a33  # xor x20, x20, x6
-    .word 0x00198313  # addi x6, x19, 1
-    .word 0x00231313  # slli x6, x6, 2
+    .word 0x00299313  # slli x6, x19, 2
     .word 0x00230333  # add x6, x6, x2
-    .word 0x00032303  # lw x6, 0(x6)
+    .word 0x00432303  # lw x6, 4(x6)
     .word 0x006acab3  # xor x21, x21, x6
-    .word 0x00298313  # addi x6, x19, 2
-    .word 0x00231313  # slli x6, x6, 2
+    .word 0x00299313  # slli x6, x19, 2
     .word 0x00230333  # add x6, x6, x2
-    .word 0x00032303  # lw x6, 0(x6)
+    .word 0x00832303  # lw x6, 8(x6)
     .word 0x006b4b33  # xor x22, x22, x6
-    .word 0x00398313  # addi x6, x19, 3
-    .word 0x00231313  # slli x6, x6, 2
+    .word 0x00299313  # slli x6, x19, 2
     .word 0x00230333  # add x6, x6, x2
-    .word 0x00032303  # lw x6, 0(x6)
+    .word 0x00c32303  # lw x6, 12(x6)
     .word 0x006bcbb3  # xor x23, x23, x6
-    .word 0x00498313  # addi x6, x19, 4
-    .word 0x00231313  # slli x6, x6, 2
+    .word 0x00299313  # slli x6, x19, 2
     .word 0x00230333  # add x6, x6, x2
-    .word 0x00032303  # lw x6, 0(x6)
+    .word 0x01032303  # lw x6, 16(x6)
     .word 0x006c4c33  # xor x24, x24, x6
-    .word 0x00598313  # addi x6, x19, 5
-    .word 0x00231313  # slli x6, x6, 2
+    .word 0x00299313  # slli x6, x19, 2
     .word 0x00230333  # add x6, x6, x2
-    .word 0x00032303  # lw x6, 0(x6)
+    .word 0x01432303  # lw x6, 20(x6)
     .word 0x006cccb3  # xor x25, x25, x6
-    .word 0x00698313  # addi x6, x19, 6
-    .word 0x00231313  # slli x6, x6, 2
+    .word 0x00299313  # slli x6, x19, 2
     .word 0x00230333  # add x6, x6, x2
-    .word 0x00032303  # lw x6, 0(x6)
+    .word 0x01832303  # lw x6, 24(x6)
     .word 0x006d4d33  # xor x26, x26, x6
-    .word 0x00798313  # addi x6, x19, 7
-    .word 0x00231313  # slli x6, x6, 2
+    .word 0x00299313  # slli x6, x19, 2
     .word 0x00230333  # add x6, x6, x2
-    .word 0x00032303  # lw x6, 0(x6)
+    .word 0x01c32303  # lw x6, 28(x6)
     .word 0x006dcdb3  # xor x27, x27, x6
-    .word 0x945ff06f  # jal x0, -1724
+    .word 0x961ff06f  # jal x0, -1696
     .word 0x001a5293  # srli x5, x20, 1
     .word 0x0152c2b3  # xor x5, x5, x21
     .word 0x34812303  # lw x6, 840(x2)
@@ -921,222 +914,191 @@ aes256_ctr:
     .word 0x00529913  # slli x18, x5, 5
     .word 0x02090293  # addi x5, x18, 32
     .word 0x30412303  # lw x6, 772(x2)
-    .word 0x36536263  # bltu x6, x5, 868
+    .word 0x2e536463  # bltu x6, x5, 744
     .word 0x00290333  # add x6, x18, x2
     .word 0x1f034303  # lbu x6, 496(x6)
     .word 0x01434333  # xor x6, x6, x20
     .word 0x002902b3  # add x5, x18, x2
     .word 0x1e628823  # sb x6, 496(x5)
-    .word 0x00190993  # addi x19, x18, 1
-    .word 0x00298333  # add x6, x19, x2
-    .word 0x1f034303  # lbu x6, 496(x6)
+    .word 0x00290333  # add x6, x18, x2
+    .word 0x1f134303  # lbu x6, 497(x6)
     .word 0x008a5393  # srli x7, x20, 8
     .word 0x00734333  # xor x6, x6, x7
-    .word 0x002982b3  # add x5, x19, x2
-    .word 0x1e628823  # sb x6, 496(x5)
-    .word 0x00290993  # addi x19, x18, 2
-    .word 0x00298333  # add x6, x19, x2
-    .word 0x1f034303  # lbu x6, 496(x6)
+    .word 0x002902b3  # add x5, x18, x2
+    .word 0x1e6288a3  # sb x6, 497(x5)
+    .word 0x00290333  # add x6, x18, x2
+    .word 0x1f234303  # lbu x6, 498(x6)
     .word 0x010a5393  # srli x7, x20, 16
     .word 0x00734333  # xor x6, x6, x7
-    .word 0x002982b3  # add x5, x19, x2
-    .word 0x1e628823  # sb x6, 496(x5)
-    .word 0x00390993  # addi x19, x18, 3
-    .word 0x00298333  # add x6, x19, x2
-    .word 0x1f034303  # lbu x6, 496(x6)
+    .word 0x002902b3  # add x5, x18, x2
+    .word 0x1e628923  # sb x6, 498(x5)
+    .word 0x00290333  # add x6, x18, x2
+    .word 0x1f334303  # lbu x6, 499(x6)
     .word 0x018a5393  # srli x7, x20, 24
     .word 0x00734333  # xor x6, x6, x7
-    .word 0x002982b3  # add x5, x19, x2
-    .word 0x1e628823  # sb x6, 496(x5)
-    .word 0x00490993  # addi x19, x18, 4
-    .word 0x00298333  # add x6, x19, x2
-    .word 0x1f034303  # lbu x6, 496(x6)
+    .word 0x002902b3  # add x5, x18, x2
+    .word 0x1e6289a3  # sb x6, 499(x5)
+    .word 0x00290333  # add x6, x18, x2
+    .word 0x1f434303  # lbu x6, 500(x6)
     .word 0x01634333  # xor x6, x6, x22
-    .word 0x002982b3  # add x5, x19, x2
-    .word 0x1e628823  # sb x6, 496(x5)
-    .word 0x00590993  # addi x19, x18, 5
-    .word 0x00298333  # add x6, x19, x2
-    .word 0x1f034303  # lbu x6, 496(x6)
+    .word 0x002902b3  # add x5, x18, x2
+    .word 0x1e628a23  # sb x6, 500(x5)
+    .word 0x00290333  # add x6, x18, x2
+    .word 0x1f534303  # lbu x6, 501(x6)
     .word 0x008b5393  # srli x7, x22, 8
     .word 0x00734333  # xor x6, x6, x7
-    .word 0x002982b3  # add x5, x19, x2
-    .word 0x1e628823  # sb x6, 496(x5)
-    .word 0x00690993  # addi x19, x18, 6
-    .word 0x00298333  # add x6, x19, x2
-    .word 0x1f034303  # lbu x6, 496(x6)
+    .word 0x002902b3  # add x5, x18, x2
+    .word 0x1e628aa3  # sb x6, 501(x5)
+    .word 0x00290333  # add x6, x18, x2
+    .word 0x1f634303  # lbu x6, 502(x6)
     .word 0x010b5393  # srli x7, x22, 16
     .word 0x00734333  # xor x6, x6, x7
-    .word 0x002982b3  # add x5, x19, x2
-    .word 0x1e628823  # sb x6, 496(x5)
-    .word 0x00790993  # addi x19, x18, 7
-    .word 0x00298333  # add x6, x19, x2
-    .word 0x1f034303  # lbu x6, 496(x6)
+    .word 0x002902b3  # add x5, x18, x2
+    .word 0x1e628b23  # sb x6, 502(x5)
+    .word 0x00290333  # add x6, x18, x2
+    .word 0x1f734303  # lbu x6, 503(x6)
     .word 0x018b5393  # srli x7, x22, 24
     .word 0x00734333  # xor x6, x6, x7
-    .word 0x002982b3  # add x5, x19, x2
-    .word 0x1e628823  # sb x6, 496(x5)
-    .word 0x00890993  # addi x19, x18, 8
-    .word 0x00298333  # add x6, x19, x2
-    .word 0x1f034303  # lbu x6, 496(x6)
+    .word 0x002902b3  # add x5, x18, x2
+    .word 0x1e628ba3  # sb x6, 503(x5)
+    .word 0x00290333  # add x6, x18, x2
+    .word 0x1f834303  # lbu x6, 504(x6)
     .word 0x01834333  # xor x6, x6, x24
-    .word 0x002982b3  # add x5, x19, x2
-    .word 0x1e628823  # sb x6, 496(x5)
-    .word 0x00990993  # addi x19, x18, 9
-    .word 0x00298333  # add x6, x19, x2
-    .word 0x1f034303  # lbu x6, 496(x6)
+    .word 0x002902b3  # add x5, x18, x2
+    .word 0x1e628c23  # sb x6, 504(x5)
+    .word 0x00290333  # add x6, x18, x2
+    .word 0x1f934303  # lbu x6, 505(x6)
     .word 0x008c5393  # srli x7, x24, 8
     .word 0x00734333  # xor x6, x6, x7
-    .word 0x002982b3  # add x5, x19, x2
-    .word 0x1e628823  # sb x6, 496(x5)
-    .word 0x00a90993  # addi x19, x18, 10
-    .word 0x00298333  # add x6, x19, x2
-    .word 0x1f034303  # lbu x6, 496(x6)
+    .word 0x002902b3  # add x5, x18, x2
+    .word 0x1e628ca3  # sb x6, 505(x5)
+    .word 0x00290333  # add x6, x18, x2
+    .word 0x1fa34303  # lbu x6, 506(x6)
     .word 0x010c5393  # srli x7, x24, 16
     .word 0x00734333  # xor x6, x6, x7
-    .word 0x002982b3  # add x5, x19, x2
-    .word 0x1e628823  # sb x6, 496(x5)
-    .word 0x00b90993  # addi x19, x18, 11
-    .word 0x00298333  # add x6, x19, x2
-    .word 0x1f034303  # lbu x6, 496(x6)
+    .word 0x002902b3  # add x5, x18, x2
+    .word 0x1e628d23  # sb x6, 506(x5)
+    .word 0x00290333  # add x6, x18, x2
+    .word 0x1fb34303  # lbu x6, 507(x6)
     .word 0x018c5393  # srli x7, x24, 24
     .word 0x00734333  # xor x6, x6, x7
-    .word 0x002982b3  # add x5, x19, x2
-    .word 0x1e628823  # sb x6, 496(x5)
-    .word 0x00c90993  # addi x19, x18, 12
-    .word 0x00298333  # add x6, x19, x2
-    .word 0x1f034303  # lbu x6, 496(x6)
+    .word 0x002902b3  # add x5, x18, x2
+    .word 0x1e628da3  # sb x6, 507(x5)
+    .word 0x00290333  # add x6, x18, x2
+    .word 0x1fc34303  # lbu x6, 508(x6)
     .word 0x01a34333  # xor x6, x6, x26
-    .word 0x002982b3  # add x5, x19, x2
-    .word 0x1e628823  # sb x6, 496(x5)
-    .word 0x00d90993  # addi x19, x18, 13
-    .word 0x00298333  # add x6, x19, x2
-    .word 0x1f034303  # lbu x6, 496(x6)
+    .word 0x002902b3  # add x5, x18, x2
+    .word 0x1e628e23  # sb x6, 508(x5)
+    .word 0x00290333  # add x6, x18, x2
+    .word 0x1fd34303  # lbu x6, 509(x6)
     .word 0x008d5393  # srli x7, x26, 8
     .word 0x00734333  # xor x6, x6, x7
-    .word 0x002982b3  # add x5, x19, x2
-    .word 0x1e628823  # sb x6, 496(x5)
-    .word 0x00e90993  # addi x19, x18, 14
-    .word 0x00298333  # add x6, x19, x2
-    .word 0x1f034303  # lbu x6, 496(x6)
+    .word 0x002902b3  # add x5, x18, x2
+    .word 0x1e628ea3  # sb x6, 509(x5)
+    .word 0x00290333  # add x6, x18, x2
+    .word 0x1fe34303  # lbu x6, 510(x6)
     .word 0x010d5393  # srli x7, x26, 16
     .word 0x00734333  # xor x6, x6, x7
-    .word 0x002982b3  # add x5, x19, x2
-    .word 0x1e628823  # sb x6, 496(x5)
-    .word 0x00f90993  # addi x19, x18, 15
-    .word 0x00298333  # add x6, x19, x2
-    .word 0x1f034303  # lbu x6, 496(x6)
+    .word 0x002902b3  # add x5, x18, x2
+    .word 0x1e628f23  # sb x6, 510(x5)
+    .word 0x00290333  # add x6, x18, x2
+    .word 0x1ff34303  # lbu x6, 511(x6)
     .word 0x018d5393  # srli x7, x26, 24
     .word 0x00734333  # xor x6, x6, x7
-    .word 0x002982b3  # add x5, x19, x2
-    .word 0x1e628823  # sb x6, 496(x5)
-    .word 0x01090993  # addi x19, x18, 16
-    .word 0x00298333  # add x6, x19, x2
-    .word 0x1f034303  # lbu x6, 496(x6)
+    .word 0x002902b3  # add x5, x18, x2
+    .word 0x1e628fa3  # sb x6, 511(x5)
+    .word 0x00290333  # add x6, x18, x2
+    .word 0x20034303  # lbu x6, 512(x6)
     .word 0x01534333  # xor x6, x6, x21
-    .word 0x002982b3  # add x5, x19, x2
-    .word 0x1e628823  # sb x6, 496(x5)
-    .word 0x01190993  # addi x19, x18, 17
-    .word 0x00298333  # add x6, x19, x2
-    .word 0x1f034303  # lbu x6, 496(x6)
+    .word 0x002902b3  # add x5, x18, x2
+    .word 0x20628023  # sb x6, 512(x5)
+    .word 0x00290333  # add x6, x18, x2
+    .word 0x20134303  # lbu x6, 513(x6)
     .word 0x008ad393  # srli x7, x21, 8
     .word 0x00734333  # xor x6, x6, x7
-    .word 0x002982b3  # add x5, x19, x2
-    .word 0x1e628823  # sb x6, 496(x5)
-    .word 0x01290993  # addi x19, x18, 18
-    .word 0x00298333  # add x6, x19, x2
-    .word 0x1f034303  # lbu x6, 496(x6)
+    .word 0x002902b3  # add x5, x18, x2
+    .word 0x206280a3  # sb x6, 513(x5)
+    .word 0x00290333  # add x6, x18, x2
+    .word 0x20234303  # lbu x6, 514(x6)
     .word 0x010ad393  # srli x7, x21, 16
     .word 0x00734333  # xor x6, x6, x7
-    .word 0x002982b3  # add x5, x19, x2
-    .word 0x1e628823  # sb x6, 496(x5)
-    .word 0x01390993  # addi x19, x18, 19
-    .word 0x00298333  # add x6, x19, x2
-    .word 0x1f034303  # lbu x6, 496(x6)
+    .word 0x002902b3  # add x5, x18, x2
+    .word 0x20628123  # sb x6, 514(x5)
+    .word 0x00290333  # add x6, x18, x2
+    .word 0x20334303  # lbu x6, 515(x6)
     .word 0x018ad393  # srli x7, x21, 24
     .word 0x00734333  # xor x6, x6, x7
-    .word 0x002982b3  # add x5, x19, x2
-    .word 0x1e628823  # sb x6, 496(x5)
-    .word 0x01490993  # addi x19, x18, 20
-    .word 0x00298333  # add x6, x19, x2
-    .word 0x1f034303  # lbu x6, 496(x6)
+    .word 0x002902b3  # add x5, x18, x2
+    .word 0x206281a3  # sb x6, 515(x5)
+    .word 0x00290333  # add x6, x18, x2
+    .word 0x20434303  # lbu x6, 516(x6)
     .word 0x01734333  # xor x6, x6, x23
-    .word 0x002982b3  # add x5, x19, x2
-    .word 0x1e628823  # sb x6, 496(x5)
-    .word 0x01590993  # addi x19, x18, 21
-    .word 0x00298333  # add x6, x19, x2
-    .word 0x1f034303  # lbu x6, 496(x6)
+    .word 0x002902b3  # add x5, x18, x2
+    .word 0x20628223  # sb x6, 516(x5)
+    .word 0x00290333  # add x6, x18, x2
+    .word 0x20534303  # lbu x6, 517(x6)
     .word 0x008bd393  # srli x7, x23, 8
     .word 0x00734333  # xor x6, x6, x7
-    .word 0x002982b3  # add x5, x19, x2
-    .word 0x1e628823  # sb x6, 496(x5)
-    .word 0x01690993  # addi x19, x18, 22
-    .word 0x00298333  # add x6, x19, x2
-    .word 0x1f034303  # lbu x6, 496(x6)
+    .word 0x002902b3  # add x5, x18, x2
+    .word 0x206282a3  # sb x6, 517(x5)
+    .word 0x00290333  # add x6, x18, x2
+    .word 0x20634303  # lbu x6, 518(x6)
     .word 0x010bd393  # srli x7, x23, 16
     .word 0x00734333  # xor x6, x6, x7
-    .word 0x002982b3  # add x5, x19, x2
-    .word 0x1e628823  # sb x6, 496(x5)
-    .word 0x01790993  # addi x19, x18, 23
-    .word 0x00298333  # add x6, x19, x2
-    .word 0x1f034303  # lbu x6, 496(x6)
+    .word 0x002902b3  # add x5, x18, x2
+    .word 0x20628323  # sb x6, 518(x5)
+    .word 0x00290333  # add x6, x18, x2
+    .word 0x20734303  # lbu x6, 519(x6)
     .word 0x018bd393  # srli x7, x23, 24
     .word 0x00734333  # xor x6, x6, x7
-    .word 0x002982b3  # add x5, x19, x2
-    .word 0x1e628823  # sb x6, 496(x5)
-    .word 0x01890993  # addi x19, x18, 24
-    .word 0x00298333  # add x6, x19, x2
-    .word 0x1f034303  # lbu x6, 496(x6)
+    .word 0x002902b3  # add x5, x18, x2
+    .word 0x206283a3  # sb x6, 519(x5)
+    .word 0x00290333  # add x6, x18, x2
+    .word 0x20834303  # lbu x6, 520(x6)
     .word 0x01934333  # xor x6, x6, x25
-    .word 0x002982b3  # add x5, x19, x2
-    .word 0x1e628823  # sb x6, 496(x5)
-    .word 0x01990993  # addi x19, x18, 25
-    .word 0x00298333  # add x6, x19, x2
-    .word 0x1f034303  # lbu x6, 496(x6)
+    .word 0x002902b3  # add x5, x18, x2
+    .word 0x20628423  # sb x6, 520(x5)
+    .word 0x00290333  # add x6, x18, x2
+    .word 0x20934303  # lbu x6, 521(x6)
     .word 0x008cd393  # srli x7, x25, 8
     .word 0x00734333  # xor x6, x6, x7
-    .word 0x002982b3  # add x5, x19, x2
-    .word 0x1e628823  # sb x6, 496(x5)
-    .word 0x01a90993  # addi x19, x18, 26
-    .word 0x00298333  # add x6, x19, x2
-    .word 0x1f034303  # lbu x6, 496(x6)
+    .word 0x002902b3  # add x5, x18, x2
+    .word 0x206284a3  # sb x6, 521(x5)
+    .word 0x00290333  # add x6, x18, x2
+    .word 0x20a34303  # lbu x6, 522(x6)
     .word 0x010cd393  # srli x7, x25, 16
     .word 0x00734333  # xor x6, x6, x7
-    .word 0x002982b3  # add x5, x19, x2
-    .word 0x1e628823  # sb x6, 496(x5)
-    .word 0x01b90993  # addi x19, x18, 27
-    .word 0x00298333  # add x6, x19, x2
-    .word 0x1f034303  # lbu x6, 496(x6)
+    .word 0x002902b3  # add x5, x18, x2
+    .word 0x20628523  # sb x6, 522(x5)
+    .word 0x00290333  # add x6, x18, x2
+    .word 0x20b34303  # lbu x6, 523(x6)
     .word 0x018cd393  # srli x7, x25, 24
     .word 0x00734333  # xor x6, x6, x7
-    .word 0x002982b3  # add x5, x19, x2
-    .word 0x1e628823  # sb x6, 496(x5)
-    .word 0x01c90993  # addi x19, x18, 28
-    .word 0x00298333  # add x6, x19, x2
-    .word 0x1f034303  # lbu x6, 496(x6)
+    .word 0x002902b3  # add x5, x18, x2
+    .word 0x206285a3  # sb x6, 523(x5)
+    .word 0x00290333  # add x6, x18, x2
+    .word 0x20c34303  # lbu x6, 524(x6)
     .word 0x01b34333  # xor x6, x6, x27
-    .word 0x002982b3  # add x5, x19, x2
-    .word 0x1e628823  # sb x6, 496(x5)
-    .word 0x01d90993  # addi x19, x18, 29
-    .word 0x00298333  # add x6, x19, x2
-    .word 0x1f034303  # lbu x6, 496(x6)
+    .word 0x002902b3  # add x5, x18, x2
+    .word 0x20628623  # sb x6, 524(x5)
+    .word 0x00290333  # add x6, x18, x2
+    .word 0x20d34303  # lbu x6, 525(x6)
     .word 0x008dd393  # srli x7, x27, 8
     .word 0x00734333  # xor x6, x6, x7
-    .word 0x002982b3  # add x5, x19, x2
-    .word 0x1e628823  # sb x6, 496(x5)
-    .word 0x01e90993  # addi x19, x18, 30
-    .word 0x00298333  # add x6, x19, x2
-    .word 0x1f034303  # lbu x6, 496(x6)
+    .word 0x002902b3  # add x5, x18, x2
+    .word 0x206286a3  # sb x6, 525(x5)
+    .word 0x00290333  # add x6, x18, x2
+    .word 0x20e34303  # lbu x6, 526(x6)
     .word 0x010dd393  # srli x7, x27, 16
     .word 0x00734333  # xor x6, x6, x7
-    .word 0x002982b3  # add x5, x19, x2
-    .word 0x1e628823  # sb x6, 496(x5)
-    .word 0x01f90993  # addi x19, x18, 31
-    .word 0x00298333  # add x6, x19, x2
-    .word 0x1f034303  # lbu x6, 496(x6)
+    .word 0x002902b3  # add x5, x18, x2
+    .word 0x20628723  # sb x6, 526(x5)
+    .word 0x00290333  # add x6, x18, x2
+    .word 0x20f34303  # lbu x6, 527(x6)
     .word 0x018dd393  # srli x7, x27, 24
     .word 0x00734333  # xor x6, x6, x7
-    .word 0x002982b3  # add x5, x19, x2
-    .word 0x1e628823  # sb x6, 496(x5)
+    .word 0x002902b3  # add x5, x18, x2
+    .word 0x206287a3  # sb x6, 527(x5)
     .word 0x4600006f  # jal x0, 1120
     .word 0x30412303  # lw x6, 772(x2)
     .word 0x00697c63  # bgeu x18, x6, 24
@@ -1417,7 +1379,7 @@ aes256_ctr:
     .word 0x00734333  # xor x6, x6, x7
     .word 0x002982b3  # add x5, x19, x2
     .word 0x1e628823  # sb x6, 496(x5)
-    .word 0xdb5fe06f  # jal x0, -4684
+    .word 0xe4dfe06f  # jal x0, -4532
     .word 0x30012283  # lw x5, 768(x2)
     .word 0x30412303  # lw x6, 772(x2)
     .word 0x00f30313  # addi x6, x6, 15

@@ -1,4 +1,4 @@
-# poly1305_blocks: made by factc function; 781 words, 448 bytes of stack, profile 1
+# poly1305_blocks: made by factc 1.0.0 function; 766 words, 448 bytes of stack, profile 1
     .option push
     .option norvc
     .option norelax
@@ -293,7 +293,7 @@ poly1305_blocks:
     .word 0x17412283  # lw x5, 372(x2)
     .word 0x005332b3  # sltu x5, x6, x5
     .word 0x00029463  # bne x5, x0, 8
-    .word 0x64c0006f  # jal x0, 1612
+    .word 0x6100006f  # jal x0, 1552
     .word 0x14612623  # sw x6, 332(x2)
     .word 0x00130313  # addi x6, x6, 1
     .word 0x16612823  # sw x6, 368(x2)
@@ -304,72 +304,57 @@ poly1305_blocks:
     .word 0x00000c13  # addi x24, x0, 0
     .word 0x00000c93  # addi x25, x0, 0
     .word 0x01048293  # addi x5, x9, 16
-    .word 0x12546263  # bltu x8, x5, 292
+    .word 0x0e546463  # bltu x8, x5, 232
     .word 0x00248533  # add x10, x9, x2
     .word 0x02054503  # lbu x10, 32(x10)
-    .word 0x00148293  # addi x5, x9, 1
-    .word 0x002285b3  # add x11, x5, x2
-    .word 0x0205c583  # lbu x11, 32(x11)
-    .word 0x00248293  # addi x5, x9, 2
-    .word 0x00228633  # add x12, x5, x2
-    .word 0x02064603  # lbu x12, 32(x12)
-    .word 0x00348293  # addi x5, x9, 3
-    .word 0x002286b3  # add x13, x5, x2
-    .word 0x0206c683  # lbu x13, 32(x13)
+    .word 0x002485b3  # add x11, x9, x2
+    .word 0x0215c583  # lbu x11, 33(x11)
+    .word 0x00248633  # add x12, x9, x2
+    .word 0x02264603  # lbu x12, 34(x12)
+    .word 0x002486b3  # add x13, x9, x2
+    .word 0x0236c683  # lbu x13, 35(x13)
     .word 0x00859313  # slli x6, x11, 8
     .word 0x006562b3  # or x5, x10, x6
     .word 0x01061313  # slli x6, x12, 16
     .word 0x0062e2b3  # or x5, x5, x6
     .word 0x01869313  # slli x6, x13, 24
     .word 0x0062e7b3  # or x15, x5, x6
-    .word 0x00448713  # addi x14, x9, 4
-    .word 0x00270533  # add x10, x14, x2
-    .word 0x02054503  # lbu x10, 32(x10)
-    .word 0x00170293  # addi x5, x14, 1
-    .word 0x002285b3  # add x11, x5, x2
-    .word 0x0205c583  # lbu x11, 32(x11)
-    .word 0x00270293  # addi x5, x14, 2
-    .word 0x00228633  # add x12, x5, x2
-    .word 0x02064603  # lbu x12, 32(x12)
-    .word 0x00370293  # addi x5, x14, 3
-    .word 0x002286b3  # add x13, x5, x2
-    .word 0x0206c683  # lbu x13, 32(x13)
+    .word 0x00248533  # add x10, x9, x2
+    .word 0x02454503  # lbu x10, 36(x10)
+    .word 0x002485b3  # add x11, x9, x2
+    .word 0x0255c583  # lbu x11, 37(x11)
+    .word 0x00248633  # add x12, x9, x2
+    .word 0x02664603  # lbu x12, 38(x12)
+    .word 0x002486b3  # add x13, x9, x2
+    .word 0x0276c683  # lbu x13, 39(x13)
     .word 0x00859313  # slli x6, x11, 8
     .word 0x006562b3  # or x5, x10, x6
     .word 0x01061313  # slli x6, x12, 16
     .word 0x0062e2b3  # or x5, x5, x6
     .word 0x01869313  # slli x6, x13, 24
     .word 0x0062ebb3  # or x23, x5, x6
-    .word 0x00848713  # addi x14, x9, 8
-    .word 0x00270533  # add x10, x14, x2
-    .word 0x02054503  # lbu x10, 32(x10)
-    .word 0x00170293  # addi x5, x14, 1
-    .word 0x002285b3  # add x11, x5, x2
-    .word 0x0205c583  # lbu x11, 32(x11)
-    .word 0x00270293  # addi x5, x14, 2
-    .word 0x00228633  # add x12, x5, x2
-    .word 0x02064603  # lbu x12, 32(x12)
-    .word 0x00370293  # addi x5, x14, 3
-    .word 0x002286b3  # add x13, x5, x2
-    .word 0x0206c683  # lbu x13, 32(x13)
+    .word 0x00248533  # add x10, x9, x2
+    .word 0x02854503  # lbu x10, 40(x10)
+    .word 0x002485b3  # add x11, x9, x2
+    .word 0x0295c583  # lbu x11, 41(x11)
+    .word 0x00248633  # add x12, x9, x2
+    .word 0x02a64603  # lbu x12, 42(x12)
+    .word 0x002486b3  # add x13, x9, x2
+    .word 0x02b6c683  # lbu x13, 43(x13)
     .word 0x00859313  # slli x6, x11, 8
     .word 0x006562b3  # or x5, x10, x6
     .word 0x01061313  # slli x6, x12, 16
     .word 0x0062e2b3  # or x5, x5, x6
     .word 0x01869313  # slli x6, x13, 24
     .word 0x0062ec33  # or x24, x5, x6
-    .word 0x00c48713  # addi x14, x9, 12
-    .word 0x00270533  # add x10, x14, x2
-    .word 0x02054503  # lbu x10, 32(x10)
-    .word 0x00170293  # addi x5, x14, 1
-    .word 0x002285b3  # add x11, x5, x2
-    .word 0x0205c583  # lbu x11, 32(x11)
-    .word 0x00270293  # addi x5, x14, 2
-    .word 0x00228633  # add x12, x5, x2
-    .word 0x02064603  # lbu x12, 32(x12)
-    .word 0x00370293  # addi x5, x14, 3
-    .word 0x002286b3  # add x13, x5, x2
-    .word 0x0206c683  # lbu x13, 32(x13)
+    .word 0x00248533  # add x10, x9, x2
+    .word 0x02c54503  # lbu x10, 44(x10)
+    .word 0x002485b3  # add x11, x9, x2
+    .word 0x02d5c583  # lbu x11, 45(x11)
+    .word 0x00248633  # add x12, x9, x2
+    .word 0x02e64603  # lbu x12, 46(x12)
+    .word 0x002486b3  # add x13, x9, x2
+    .word 0x02f6c683  # lbu x13, 47(x13)
     .word 0x00859313  # slli x6, x11, 8
     .word 0x006562b3  # or x5, x10, x6
     .word 0x01061313  # slli x6, x12, 16
@@ -695,7 +680,7 @@ poly1305_blocks:
     .word 0x000d8d13  # addi x26, x27, 0
     .word 0x0037f293  # andi x5, x15, 3
     .word 0x01a28b33  # add x22, x5, x26
-    .word 0x9a9ff06f  # jal x0, -1624
+    .word 0x9e5ff06f  # jal x0, -1564
     .word 0x16812303  # lw x6, 360(x2)
     .word 0x006972b3  # and x5, x18, x6
     .word 0x12512223  # sw x5, 292(x2)

@@ -1,4 +1,4 @@
-/* chacha20_blocks: made by factc function.
+/* chacha20_blocks: made by factc 1.0.0 function.
    Arrays are aligned by their elements, lie outside the stack below the caller, and no two that are not const overlap.
    For an observer of profile 1: neither the instructions that it executes, nor the addresses of its loads and stores,
    nor the operands of its divisions depend on secret arguments. Nothing is proved of time. */
@@ -6,7 +6,7 @@
 #define FACT_chacha20_blocks_H
 #include <stdbool.h>
 #include <stdint.h>
-#define chacha20_blocks_STACK_BYTES 464
+#define chacha20_blocks_STACK_BYTES 576
 #ifdef __cplusplus
 extern "C" {
 #endif

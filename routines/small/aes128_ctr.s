@@ -1,4 +1,4 @@
-# aes128_ctr: made by factc function; 1170 words, 992 bytes of stack, profile 1
+# aes128_ctr: made by factc 1.0.0 function; 1155 words, 992 bytes of stack, profile 1
     .option push
     .option norvc
     .option norelax
@@ -259,7 +259,7 @@ aes128_ctr:
     .word 0x38012283  # lw x5, 896(x2)
     .word 0x005332b3  # sltu x5, x6, x5
     .word 0x00029463  # bne x5, x0, 8
-    .word 0x46d0006f  # jal x0, 3180
+    .word 0x4310006f  # jal x0, 3120
     .word 0x2a612423  # sw x6, 680(x2)
     .word 0x00130313  # addi x6, x6, 1
     .word 0x36612e23  # sw x6, 892(x2)
@@ -315,7 +315,7 @@ aes128_ctr:
     .word 0x38812283  # lw x5, 904(x2)
     .word 0x005332b3  # sltu x5, x6, x5
     .word 0x00029463  # bne x5, x0, 8
-    .word 0x08c0006f  # jal x0, 140
+    .word 0x0800006f  # jal x0, 128
     .word 0x2a612623  # sw x6, 684(x2)
     .word 0x00130313  # addi x6, x6, 1
     .word 0x38612223  # sw x6, 900(x2)
@@ -325,22 +325,19 @@ aes128_ctr:
     .word 0x002282b3  # add x5, x5, x2
     .word 0x2742a283  # lw x5, 628(x5)
     .word 0x0012d293  # srli x5, x5, 1
-    .word 0x001d0313  # addi x6, x26, 1
-    .word 0x00231313  # slli x6, x6, 2
+    .word 0x002d1313  # slli x6, x26, 2
     .word 0x00230333  # add x6, x6, x2
-    .word 0x27432303  # lw x6, 628(x6)
+    .word 0x27832303  # lw x6, 632(x6)
     .word 0x0062c2b3  # xor x5, x5, x6
     .word 0x36412303  # lw x6, 868(x2)
     .word 0x0062fb33  # and x22, x5, x6
-    .word 0x001d0293  # addi x5, x26, 1
-    .word 0x001d0313  # addi x6, x26, 1
-    .word 0x00231313  # slli x6, x6, 2
+    .word 0x002d1313  # slli x6, x26, 2
     .word 0x00230333  # add x6, x6, x2
-    .word 0x27432303  # lw x6, 628(x6)
+    .word 0x27832303  # lw x6, 632(x6)
     .word 0x01634333  # xor x6, x6, x22
-    .word 0x00229293  # slli x5, x5, 2
+    .word 0x002d1293  # slli x5, x26, 2
     .word 0x002282b3  # add x5, x5, x2
-    .word 0x2662aa23  # sw x6, 628(x5)
+    .word 0x2662ac23  # sw x6, 632(x5)
     .word 0x002d1313  # slli x6, x26, 2
     .word 0x00230333  # add x6, x6, x2
     .word 0x27432303  # lw x6, 628(x6)
@@ -349,7 +346,7 @@ aes128_ctr:
     .word 0x002d1293  # slli x5, x26, 2
     .word 0x002282b3  # add x5, x5, x2
     .word 0x2662aa23  # sw x6, 628(x5)
-    .word 0xf69ff06f  # jal x0, -152
+    .word 0xf75ff06f  # jal x0, -140
     .word 0x38012223  # sw x0, 900(x2)
     .word 0x00400293  # addi x5, x0, 4
     .word 0x38512423  # sw x5, 904(x2)
@@ -357,7 +354,7 @@ aes128_ctr:
     .word 0x38812283  # lw x5, 904(x2)
     .word 0x005332b3  # sltu x5, x6, x5
     .word 0x00029463  # bne x5, x0, 8
-    .word 0x0940006f  # jal x0, 148
+    .word 0x0880006f  # jal x0, 136
     .word 0x2a612823  # sw x6, 688(x2)
     .word 0x00130313  # addi x6, x6, 1
     .word 0x38612223  # sw x6, 900(x2)
@@ -369,22 +366,19 @@ aes128_ctr:
     .word 0x002282b3  # add x5, x5, x2
     .word 0x2742a283  # lw x5, 628(x5)
     .word 0x0022d293  # srli x5, x5, 2
-    .word 0x002d0313  # addi x6, x26, 2
-    .word 0x00231313  # slli x6, x6, 2
+    .word 0x002d1313  # slli x6, x26, 2
     .word 0x00230333  # add x6, x6, x2
-    .word 0x27432303  # lw x6, 628(x6)
+    .word 0x27c32303  # lw x6, 636(x6)
     .word 0x0062c2b3  # xor x5, x5, x6
     .word 0x36812303  # lw x6, 872(x2)
     .word 0x0062fb33  # and x22, x5, x6
-    .word 0x002d0293  # addi x5, x26, 2
-    .word 0x002d0313  # addi x6, x26, 2
-    .word 0x00231313  # slli x6, x6, 2
+    .word 0x002d1313  # slli x6, x26, 2
     .word 0x00230333  # add x6, x6, x2
-    .word 0x27432303  # lw x6, 628(x6)
+    .word 0x27c32303  # lw x6, 636(x6)
     .word 0x01634333  # xor x6, x6, x22
-    .word 0x00229293  # slli x5, x5, 2
+    .word 0x002d1293  # slli x5, x26, 2
     .word 0x002282b3  # add x5, x5, x2
-    .word 0x2662aa23  # sw x6, 628(x5)
+    .word 0x2662ae23  # sw x6, 636(x5)
     .word 0x002d1313  # slli x6, x26, 2
     .word 0x00230333  # add x6, x6, x2
     .word 0x27432303  # lw x6, 628(x6)
@@ -393,7 +387,7 @@ aes128_ctr:
     .word 0x002d1293  # slli x5, x26, 2
     .word 0x002282b3  # add x5, x5, x2
     .word 0x2662aa23  # sw x6, 628(x5)
-    .word 0xf61ff06f  # jal x0, -160
+    .word 0xf6dff06f  # jal x0, -148
     .word 0x38012223  # sw x0, 900(x2)
     .word 0x00400293  # addi x5, x0, 4
     .word 0x38512423  # sw x5, 904(x2)
@@ -401,7 +395,7 @@ aes128_ctr:
     .word 0x38812283  # lw x5, 904(x2)
     .word 0x005332b3  # sltu x5, x6, x5
     .word 0x00029463  # bne x5, x0, 8
-    .word 0x09c0006f  # jal x0, 156
+    .word 0x0900006f  # jal x0, 144
     .word 0x2a612a23  # sw x6, 692(x2)
     .word 0x00130313  # addi x6, x6, 1
     .word 0x38612223  # sw x6, 900(x2)
@@ -411,24 +405,21 @@ aes128_ctr:
     .word 0x2742a283  # lw x5, 628(x5)
     .word 0x0042d293  # srli x5, x5, 4
     .word 0x2b412303  # lw x6, 692(x2)
-    .word 0x00430313  # addi x6, x6, 4
     .word 0x00231313  # slli x6, x6, 2
     .word 0x00230333  # add x6, x6, x2
-    .word 0x27432303  # lw x6, 628(x6)
+    .word 0x28432303  # lw x6, 644(x6)
     .word 0x0062c2b3  # xor x5, x5, x6
     .word 0x36c12303  # lw x6, 876(x2)
     .word 0x0062fb33  # and x22, x5, x6
     .word 0x2b412283  # lw x5, 692(x2)
-    .word 0x00428293  # addi x5, x5, 4
     .word 0x2b412303  # lw x6, 692(x2)
-    .word 0x00430313  # addi x6, x6, 4
     .word 0x00231313  # slli x6, x6, 2
     .word 0x00230333  # add x6, x6, x2
-    .word 0x27432303  # lw x6, 628(x6)
+    .word 0x28432303  # lw x6, 644(x6)
     .word 0x01634333  # xor x6, x6, x22
     .word 0x00229293  # slli x5, x5, 2
     .word 0x002282b3  # add x5, x5, x2
-    .word 0x2662aa23  # sw x6, 628(x5)
+    .word 0x2862a223  # sw x6, 644(x5)
     .word 0x2b412283  # lw x5, 692(x2)
     .word 0x2b412303  # lw x6, 692(x2)
     .word 0x00231313  # slli x6, x6, 2
@@ -439,7 +430,7 @@ aes128_ctr:
     .word 0x00229293  # slli x5, x5, 2
     .word 0x002282b3  # add x5, x5, x2
     .word 0x2662aa23  # sw x6, 628(x5)
-    .word 0xf59ff06f  # jal x0, -168
+    .word 0xf65ff06f  # jal x0, -156
     .word 0x38012223  # sw x0, 900(x2)
     .word 0x00800293  # addi x5, x0, 8
     .word 0x38512423  # sw x5, 904(x2)
@@ -850,7 +841,7 @@ aes128_ctr:
     .word 0x38812283  # lw x5, 904(x2)
     .word 0x005332b3  # sltu x5, x6, x5
     .word 0x00029463  # bne x5, x0, 8
-    .word 0x08c0006f  # jal x0, 140
+    .word 0x0800006f  # jal x0, 128
     .word 0x34612023  # sw x6, 832(x2)
     .word 0x00130313  # addi x6, x6, 1
     .word 0x38612223  # sw x6, 900(x2)
@@ -860,22 +851,19 @@ aes128_ctr:
     .word 0x002282b3  # add x5, x5, x2
     .word 0x2742a283  # lw x5, 628(x5)
     .word 0x0012d293  # srli x5, x5, 1
-    .word 0x001d0313  # addi x6, x26, 1
-    .word 0x00231313  # slli x6, x6, 2
+    .word 0x002d1313  # slli x6, x26, 2
     .word 0x00230333  # add x6, x6, x2
-    .word 0x27432303  # lw x6, 628(x6)
+    .word 0x27832303  # lw x6, 632(x6)
     .word 0x0062c2b3  # xor x5, x5, x6
     .word 0x36412303  # lw x6, 868(x2)
     .word 0x0062fb33  # and x22, x5, x6
-    .word 0x001d0293  # addi x5, x26, 1
-    .word 0x001d0313  # addi x6, x26, 1
-    .word 0x00231313  # slli x6, x6, 2
+    .word 0x002d1313  # slli x6, x26, 2
     .word 0x00230333  # add x6, x6, x2
-    .word 0x27432303  # lw x6, 628(x6)
+    .word 0x27832303  # lw x6, 632(x6)
     .word 0x01634333  # xor x6, x6, x22
-    .word 0x00229293  # slli x5, x5, 2
+    .word 0x002d1293  # slli x5, x26, 2
     .word 0x002282b3  # add x5, x5, x2
-    .word 0x2662aa23  # sw x6, 628(x5)
+    .word 0x2662ac23  # sw x6, 632(x5)
     .word 0x002d1313  # slli x6, x26, 2
     .word 0x00230333  # add x6, x6, x2
     .word 0x27432303  # lw x6, 628(x6)
@@ -884,7 +872,7 @@ aes128_ctr:
     .word 0x002d1293  # slli x5, x26, 2
     .word 0x002282b3  # add x5, x5, x2
     .word 0x2662aa23  # sw x6, 628(x5)
-    .word 0xf69ff06f  # jal x0, -152
+    .word 0xf75ff06f  # jal x0, -140
     .word 0x38012223  # sw x0, 900(x2)
     .word 0x00400293  # addi x5, x0, 4
     .word 0x38512423  # sw x5, 904(x2)
@@ -892,7 +880,7 @@ aes128_ctr:
     .word 0x38812283  # lw x5, 904(x2)
     .word 0x005332b3  # sltu x5, x6, x5
     .word 0x00029463  # bne x5, x0, 8
-    .word 0x0940006f  # jal x0, 148
+    .word 0x0880006f  # jal x0, 136
     .word 0x34612223  # sw x6, 836(x2)
     .word 0x00130313  # addi x6, x6, 1
     .word 0x38612223  # sw x6, 900(x2)
@@ -904,22 +892,19 @@ aes128_ctr:
     .word 0x002282b3  # add x5, x5, x2
     .word 0x2742a283  # lw x5, 628(x5)
     .word 0x0022d293  # srli x5, x5, 2
-    .word 0x002d0313  # addi x6, x26, 2
-    .word 0x00231313  # slli x6, x6, 2
+    .word 0x002d1313  # slli x6, x26, 2
     .word 0x00230333  # add x6, x6, x2
-    .word 0x27432303  # lw x6, 628(x6)
+    .word 0x27c32303  # lw x6, 636(x6)
     .word 0x0062c2b3  # xor x5, x5, x6
     .word 0x36812303  # lw x6, 872(x2)
     .word 0x0062fb33  # and x22, x5, x6
-    .word 0x002d0293  # addi x5, x26, 2
-    .word 0x002d0313  # addi x6, x26, 2
-    .word 0x00231313  # slli x6, x6, 2
+    .word 0x002d1313  # slli x6, x26, 2
     .word 0x00230333  # add x6, x6, x2
-    .word 0x27432303  # lw x6, 628(x6)
+    .word 0x27c32303  # lw x6, 636(x6)
     .word 0x01634333  # xor x6, x6, x22
-    .word 0x00229293  # slli x5, x5, 2
+    .word 0x002d1293  # slli x5, x26, 2
     .word 0x002282b3  # add x5, x5, x2
-    .word 0x2662aa23  # sw x6, 628(x5)
+    .word 0x2662ae23  # sw x6, 636(x5)
     .word 0x002d1313  # slli x6, x26, 2
     .word 0x00230333  # add x6, x6, x2
     .word 0x27432303  # lw x6, 628(x6)
@@ -928,7 +913,7 @@ aes128_ctr:
     .word 0x002d1293  # slli x5, x26, 2
     .word 0x002282b3  # add x5, x5, x2
     .word 0x2662aa23  # sw x6, 628(x5)
-    .word 0xf61ff06f  # jal x0, -160
+    .word 0xf6dff06f  # jal x0, -148
     .word 0x38012223  # sw x0, 900(x2)
     .word 0x00400293  # addi x5, x0, 4
     .word 0x38512423  # sw x5, 904(x2)
@@ -936,7 +921,7 @@ aes128_ctr:
     .word 0x38812283  # lw x5, 904(x2)
     .word 0x005332b3  # sltu x5, x6, x5
     .word 0x00029463  # bne x5, x0, 8
-    .word 0x09c0006f  # jal x0, 156
+    .word 0x0900006f  # jal x0, 144
     .word 0x34612423  # sw x6, 840(x2)
     .word 0x00130313  # addi x6, x6, 1
     .word 0x38612223  # sw x6, 900(x2)
@@ -946,24 +931,21 @@ aes128_ctr:
     .word 0x2742a283  # lw x5, 628(x5)
     .word 0x0042d293  # srli x5, x5, 4
     .word 0x34812303  # lw x6, 840(x2)
-    .word 0x00430313  # addi x6, x6, 4
     .word 0x00231313  # slli x6, x6, 2
     .word 0x00230333  # add x6, x6, x2
-    .word 0x27432303  # lw x6, 628(x6)
+    .word 0x28432303  # lw x6, 644(x6)
     .word 0x0062c2b3  # xor x5, x5, x6
     .word 0x36c12303  # lw x6, 876(x2)
     .word 0x0062fb33  # and x22, x5, x6
     .word 0x34812283  # lw x5, 840(x2)
-    .word 0x00428293  # addi x5, x5, 4
     .word 0x34812303  # lw x6, 840(x2)
-    .word 0x00430313  # addi x6, x6, 4
     .word 0x00231313  # slli x6, x6, 2
     .word 0x00230333  # add x6, x6, x2
-    .word 0x27432303  # lw x6, 628(x6)
+    .word 0x28432303  # lw x6, 644(x6)
     .word 0x01634333  # xor x6, x6, x22
     .word 0x00229293  # slli x5, x5, 2
     .word 0x002282b3  # add x5, x5, x2
-    .word 0x2662aa23  # sw x6, 628(x5)
+    .word 0x2862a223  # sw x6, 644(x5)
     .word 0x34812283  # lw x5, 840(x2)
     .word 0x34812303  # lw x6, 840(x2)
     .word 0x00231313  # slli x6, x6, 2
@@ -974,14 +956,14 @@ aes128_ctr:
     .word 0x00229293  # slli x5, x5, 2
     .word 0x002282b3  # add x5, x5, x2
     .word 0x2662aa23  # sw x6, 628(x5)
-    .word 0xf59ff06f  # jal x0, -168
+    .word 0xf65ff06f  # jal x0, -156
     .word 0x2a812283  # lw x5, 680(x2)
     .word 0x00529293  # slli x5, x5, 5
     .word 0x34512623  # sw x5, 844(x2)
     .word 0x34c12283  # lw x5, 844(x2)
     .word 0x02028293  # addi x5, x5, 32
     .word 0x2a412303  # lw x6, 676(x2)
-    .word 0x08536863  # bltu x6, x5, 144
+    .word 0x08536e63  # bltu x6, x5, 156
     .word 0x38012223  # sw x0, 900(x2)
     .word 0x02000293  # addi x5, x0, 32
     .word 0x38512423  # sw x5, 904(x2)
@@ -989,14 +971,17 @@ aes128_ctr:
     .word 0x38812283  # lw x5, 904(x2)
     .word 0x005332b3  # sltu x5, x6, x5
     .word 0x00029463  # bne x5, x0, 8
-    .word 0x06c0006f  # jal x0, 108
+    .word 0x0780006f  # jal x0, 120
     .word 0x34612823  # sw x6, 848(x2)
     .word 0x00130313  # addi x6, x6, 1
     .word 0x38612223  # sw x6, 900(x2)
     .word 0x34c12283  # lw x5, 844(x2)
     .word 0x35012303  # lw x6, 848(x2)
-    .word 0x00628d33  # add x26, x5, x6
-    .word 0x002d0333  # add x6, x26, x2
+    .word 0x006282b3  # add x5, x5, x6
+    .word 0x34c12303  # lw x6, 844(x2)
+    .word 0x35012383  # lw x7, 848(x2)
+    .word 0x00730333  # add x6, x6, x7
+    .word 0x00230333  # add x6, x6, x2
     .word 0x17034303  # lbu x6, 368(x6)
     .word 0x35012383  # lw x7, 848(x2)
     .word 0x0043d393  # srli x7, x7, 4
@@ -1013,9 +998,9 @@ aes128_ctr:
     .word 0x00341413  # slli x8, x8, 3
     .word 0x0083d3b3  # srl x7, x7, x8
     .word 0x00734333  # xor x6, x6, x7
-    .word 0x002d02b3  # add x5, x26, x2
+    .word 0x002282b3  # add x5, x5, x2
     .word 0x16628823  # sb x6, 368(x5)
-    .word 0xf89ff06f  # jal x0, -120
+    .word 0xf7dff06f  # jal x0, -132
     .word 0x0940006f  # jal x0, 148
     .word 0x38012223  # sw x0, 900(x2)
     .word 0x02000293  # addi x5, x0, 32
@@ -1053,7 +1038,7 @@ aes128_ctr:
     .word 0x002d02b3  # add x5, x26, x2
     .word 0x16628823  # sb x6, 368(x5)
     .word 0xf81ff06f  # jal x0, -128
-    .word 0xb88ff06f  # jal x0, -3192
+    .word 0xbc4ff06f  # jal x0, -3132
     .word 0x2a012283  # lw x5, 672(x2)
     .word 0x2a412303  # lw x6, 676(x2)
     .word 0x00f30313  # addi x6, x6, 15

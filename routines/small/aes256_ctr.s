@@ -1,4 +1,4 @@
-# aes256_ctr: made by factc function; 1170 words, 1120 bytes of stack, profile 1
+# aes256_ctr: made by factc 1.0.0 function; 1155 words, 1120 bytes of stack, profile 1
     .option push
     .option norvc
     .option norelax
@@ -259,7 +259,7 @@ aes256_ctr:
     .word 0x40012283  # lw x5, 1024(x2)
     .word 0x005332b3  # sltu x5, x6, x5
     .word 0x00029463  # bne x5, x0, 8
-    .word 0x46d0006f  # jal x0, 3180
+    .word 0x4310006f  # jal x0, 3120
     .word 0x32612423  # sw x6, 808(x2)
     .word 0x00130313  # addi x6, x6, 1
     .word 0x3e612e23  # sw x6, 1020(x2)
@@ -315,7 +315,7 @@ aes256_ctr:
     .word 0x40812283  # lw x5, 1032(x2)
     .word 0x005332b3  # sltu x5, x6, x5
     .word 0x00029463  # bne x5, x0, 8
-    .word 0x08c0006f  # jal x0, 140
+    .word 0x0800006f  # jal x0, 128
     .word 0x32612623  # sw x6, 812(x2)
     .word 0x00130313  # addi x6, x6, 1
     .word 0x40612223  # sw x6, 1028(x2)
@@ -325,22 +325,19 @@ aes256_ctr:
     .word 0x002282b3  # add x5, x5, x2
     .word 0x2f42a283  # lw x5, 756(x5)
     .word 0x0012d293  # srli x5, x5, 1
-    .word 0x001d0313  # addi x6, x26, 1
-    .word 0x00231313  # slli x6, x6, 2
+    .word 0x002d1313  # slli x6, x26, 2
     .word 0x00230333  # add x6, x6, x2
-    .word 0x2f432303  # lw x6, 756(x6)
+    .word 0x2f832303  # lw x6, 760(x6)
     .word 0x0062c2b3  # xor x5, x5, x6
     .word 0x3e412303  # lw x6, 996(x2)
     .word 0x0062fb33  # and x22, x5, x6
-    .word 0x001d0293  # addi x5, x26, 1
-    .word 0x001d0313  # addi x6, x26, 1
-    .word 0x00231313  # slli x6, x6, 2
+    .word 0x002d1313  # slli x6, x26, 2
     .word 0x00230333  # add x6, x6, x2
-    .word 0x2f432303  # lw x6, 756(x6)
+    .word 0x2f832303  # lw x6, 760(x6)
     .word 0x01634333  # xor x6, x6, x22
-    .word 0x00229293  # slli x5, x5, 2
+    .word 0x002d1293  # slli x5, x26, 2
     .word 0x002282b3  # add x5, x5, x2
-    .word 0x2e62aa23  # sw x6, 756(x5)
+    .word 0x2e62ac23  # sw x6, 760(x5)
     .word 0x002d1313  # slli x6, x26, 2
     .word 0x00230333  # add x6, x6, x2
     .word 0x2f432303  # lw x6, 756(x6)
@@ -349,7 +346,7 @@ aes256_ctr:
     .word 0x002d1293  # slli x5, x26, 2
     .word 0x002282b3  # add x5, x5, x2
     .word 0x2e62aa23  # sw x6, 756(x5)
-    .word 0xf69ff06f  # jal x0, -152
+    .word 0xf75ff06f  # jal x0, -140
     .word 0x40012223  # sw x0, 1028(x2)
     .word 0x00400293  # addi x5, x0, 4
     .word 0x40512423  # sw x5, 1032(x2)
@@ -357,7 +354,7 @@ aes256_ctr:
     .word 0x40812283  # lw x5, 1032(x2)
     .word 0x005332b3  # sltu x5, x6, x5
     .word 0x00029463  # bne x5, x0, 8
-    .word 0x0940006f  # jal x0, 148
+    .word 0x0880006f  # jal x0, 136
     .word 0x32612823  # sw x6, 816(x2)
     .word 0x00130313  # addi x6, x6, 1
     .word 0x40612223  # sw x6, 1028(x2)
@@ -369,22 +366,19 @@ aes256_ctr:
     .word 0x002282b3  # add x5, x5, x2
     .word 0x2f42a283  # lw x5, 756(x5)
     .word 0x0022d293  # srli x5, x5, 2
-    .word 0x002d0313  # addi x6, x26, 2
-    .word 0x00231313  # slli x6, x6, 2
+    .word 0x002d1313  # slli x6, x26, 2
     .word 0x00230333  # add x6, x6, x2
-    .word 0x2f432303  # lw x6, 756(x6)
+    .word 0x2fc32303  # lw x6, 764(x6)
     .word 0x0062c2b3  # xor x5, x5, x6
     .word 0x3e812303  # lw x6, 1000(x2)
     .word 0x0062fb33  # and x22, x5, x6
-    .word 0x002d0293  # addi x5, x26, 2
-    .word 0x002d0313  # addi x6, x26, 2
-    .word 0x00231313  # slli x6, x6, 2
+    .word 0x002d1313  # slli x6, x26, 2
     .word 0x00230333  # add x6, x6, x2
-    .word 0x2f432303  # lw x6, 756(x6)
+    .word 0x2fc32303  # lw x6, 764(x6)
     .word 0x01634333  # xor x6, x6, x22
-    .word 0x00229293  # slli x5, x5, 2
+    .word 0x002d1293  # slli x5, x26, 2
     .word 0x002282b3  # add x5, x5, x2
-    .word 0x2e62aa23  # sw x6, 756(x5)
+    .word 0x2e62ae23  # sw x6, 764(x5)
     .word 0x002d1313  # slli x6, x26, 2
     .word 0x00230333  # add x6, x6, x2
     .word 0x2f432303  # lw x6, 756(x6)
@@ -393,7 +387,7 @@ aes256_ctr:
     .word 0x002d1293  # slli x5, x26, 2
     .word 0x002282b3  # add x5, x5, x2
     .word 0x2e62aa23  # sw x6, 756(x5)
-    .word 0xf61ff06f  # jal x0, -160
+    .word 0xf6dff06f  # jal x0, -148
     .word 0x40012223  # sw x0, 1028(x2)
     .word 0x00400293  # addi x5, x0, 4
     .word 0x40512423  # sw x5, 1032(x2)
@@ -401,7 +395,7 @@ aes256_ctr:
     .word 0x40812283  # lw x5, 1032(x2)
     .word 0x005332b3  # sltu x5, x6, x5
     .word 0x00029463  # bne x5, x0, 8
-    .word 0x09c0006f  # jal x0, 156
+    .word 0x0900006f  # jal x0, 144
     .word 0x32612a23  # sw x6, 820(x2)
     .word 0x00130313  # addi x6, x6, 1
     .word 0x40612223  # sw x6, 1028(x2)
@@ -411,24 +405,21 @@ aes256_ctr:
     .word 0x2f42a283  # lw x5, 756(x5)
     .word 0x0042d293  # srli x5, x5, 4
     .word 0x33412303  # lw x6, 820(x2)
-    .word 0x00430313  # addi x6, x6, 4
     .word 0x00231313  # slli x6, x6, 2
     .word 0x00230333  # add x6, x6, x2
-    .word 0x2f432303  # lw x6, 756(x6)
+    .word 0x30432303  # lw x6, 772(x6)
     .word 0x0062c2b3  # xor x5, x5, x6
     .word 0x3ec12303  # lw x6, 1004(x2)
     .word 0x0062fb33  # and x22, x5, x6
     .word 0x33412283  # lw x5, 820(x2)
-    .word 0x00428293  # addi x5, x5, 4
     .word 0x33412303  # lw x6, 820(x2)
-    .word 0x00430313  # addi x6, x6, 4
     .word 0x00231313  # slli x6, x6, 2
     .word 0x00230333  # add x6, x6, x2
-    .word 0x2f432303  # lw x6, 756(x6)
+    .word 0x30432303  # lw x6, 772(x6)
     .word 0x01634333  # xor x6, x6, x22
     .word 0x00229293  # slli x5, x5, 2
     .word 0x002282b3  # add x5, x5, x2
-    .word 0x2e62aa23  # sw x6, 756(x5)
+    .word 0x3062a223  # sw x6, 772(x5)
     .word 0x33412283  # lw x5, 820(x2)
     .word 0x33412303  # lw x6, 820(x2)
     .word 0x00231313  # slli x6, x6, 2
@@ -439,7 +430,7 @@ aes256_ctr:
     .word 0x00229293  # slli x5, x5, 2
     .word 0x002282b3  # add x5, x5, x2
     .word 0x2e62aa23  # sw x6, 756(x5)
-    .word 0xf59ff06f  # jal x0, -168
+    .word 0xf65ff06f  # jal x0, -156
     .word 0x40012223  # sw x0, 1028(x2)
     .word 0x00800293  # addi x5, x0, 8
     .word 0x40512423  # sw x5, 1032(x2)
@@ -850,7 +841,7 @@ aes256_ctr:
     .word 0x40812283  # lw x5, 1032(x2)
     .word 0x005332b3  # sltu x5, x6, x5
     .word 0x00029463  # bne x5, x0, 8
-    .word 0x08c0006f  # jal x0, 140
+    .word 0x0800006f  # jal x0, 128
     .word 0x3c612023  # sw x6, 960(x2)
     .word 0x00130313  # addi x6, x6, 1
     .word 0x40612223  # sw x6, 1028(x2)
@@ -860,22 +851,19 @@ aes256_ctr:
     .word 0x002282b3  # add x5, x5, x2
     .word 0x2f42a283  # lw x5, 756(x5)
     .word 0x0012d293  # srli x5, x5, 1
-    .word 0x001d0313  # addi x6, x26, 1
-    .word 0x00231313  # slli x6, x6, 2
+    .word 0x002d1313  # slli x6, x26, 2
     .word 0x00230333  # add x6, x6, x2
-    .word 0x2f432303  # lw x6, 756(x6)
+    .word 0x2f832303  # lw x6, 760(x6)
     .word 0x0062c2b3  # xor x5, x5, x6
     .word 0x3e412303  # lw x6, 996(x2)
     .word 0x0062fb33  # and x22, x5, x6
-    .word 0x001d0293  # addi x5, x26, 1
-    .word 0x001d0313  # addi x6, x26, 1
-    .word 0x00231313  # slli x6, x6, 2
+    .word 0x002d1313  # slli x6, x26, 2
     .word 0x00230333  # add x6, x6, x2
-    .word 0x2f432303  # lw x6, 756(x6)
+    .word 0x2f832303  # lw x6, 760(x6)
     .word 0x01634333  # xor x6, x6, x22
-    .word 0x00229293  # slli x5, x5, 2
+    .word 0x002d1293  # slli x5, x26, 2
     .word 0x002282b3  # add x5, x5, x2
-    .word 0x2e62aa23  # sw x6, 756(x5)
+    .word 0x2e62ac23  # sw x6, 760(x5)
     .word 0x002d1313  # slli x6, x26, 2
     .word 0x00230333  # add x6, x6, x2
     .word 0x2f432303  # lw x6, 756(x6)
@@ -884,7 +872,7 @@ aes256_ctr:
     .word 0x002d1293  # slli x5, x26, 2
     .word 0x002282b3  # add x5, x5, x2
     .word 0x2e62aa23  # sw x6, 756(x5)
-    .word 0xf69ff06f  # jal x0, -152
+    .word 0xf75ff06f  # jal x0, -140
     .word 0x40012223  # sw x0, 1028(x2)
     .word 0x00400293  # addi x5, x0, 4
     .word 0x40512423  # sw x5, 1032(x2)
@@ -892,7 +880,7 @@ aes256_ctr:
     .word 0x40812283  # lw x5, 1032(x2)
     .word 0x005332b3  # sltu x5, x6, x5
     .word 0x00029463  # bne x5, x0, 8
-    .word 0x0940006f  # jal x0, 148
+    .word 0x0880006f  # jal x0, 136
     .word 0x3c612223  # sw x6, 964(x2)
     .word 0x00130313  # addi x6, x6, 1
     .word 0x40612223  # sw x6, 1028(x2)
@@ -904,22 +892,19 @@ aes256_ctr:
     .word 0x002282b3  # add x5, x5, x2
     .word 0x2f42a283  # lw x5, 756(x5)
     .word 0x0022d293  # srli x5, x5, 2
-    .word 0x002d0313  # addi x6, x26, 2
-    .word 0x00231313  # slli x6, x6, 2
+    .word 0x002d1313  # slli x6, x26, 2
     .word 0x00230333  # add x6, x6, x2
-    .word 0x2f432303  # lw x6, 756(x6)
+    .word 0x2fc32303  # lw x6, 764(x6)
     .word 0x0062c2b3  # xor x5, x5, x6
     .word 0x3e812303  # lw x6, 1000(x2)
     .word 0x0062fb33  # and x22, x5, x6
-    .word 0x002d0293  # addi x5, x26, 2
-    .word 0x002d0313  # addi x6, x26, 2
-    .word 0x00231313  # slli x6, x6, 2
+    .word 0x002d1313  # slli x6, x26, 2
     .word 0x00230333  # add x6, x6, x2
-    .word 0x2f432303  # lw x6, 756(x6)
+    .word 0x2fc32303  # lw x6, 764(x6)
     .word 0x01634333  # xor x6, x6, x22
-    .word 0x00229293  # slli x5, x5, 2
+    .word 0x002d1293  # slli x5, x26, 2
     .word 0x002282b3  # add x5, x5, x2
-    .word 0x2e62aa23  # sw x6, 756(x5)
+    .word 0x2e62ae23  # sw x6, 764(x5)
     .word 0x002d1313  # slli x6, x26, 2
     .word 0x00230333  # add x6, x6, x2
     .word 0x2f432303  # lw x6, 756(x6)
@@ -928,7 +913,7 @@ aes256_ctr:
     .word 0x002d1293  # slli x5, x26, 2
     .word 0x002282b3  # add x5, x5, x2
     .word 0x2e62aa23  # sw x6, 756(x5)
-    .word 0xf61ff06f  # jal x0, -160
+    .word 0xf6dff06f  # jal x0, -148
     .word 0x40012223  # sw x0, 1028(x2)
     .word 0x00400293  # addi x5, x0, 4
     .word 0x40512423  # sw x5, 1032(x2)
@@ -936,7 +921,7 @@ aes256_ctr:
     .word 0x40812283  # lw x5, 1032(x2)
     .word 0x005332b3  # sltu x5, x6, x5
     .word 0x00029463  # bne x5, x0, 8
-    .word 0x09c0006f  # jal x0, 156
+    .word 0x0900006f  # jal x0, 144
     .word 0x3c612423  # sw x6, 968(x2)
     .word 0x00130313  # addi x6, x6, 1
     .word 0x40612223  # sw x6, 1028(x2)
@@ -946,24 +931,21 @@ aes256_ctr:
     .word 0x2f42a283  # lw x5, 756(x5)
     .word 0x0042d293  # srli x5, x5, 4
     .word 0x3c812303  # lw x6, 968(x2)
-    .word 0x00430313  # addi x6, x6, 4
     .word 0x00231313  # slli x6, x6, 2
     .word 0x00230333  # add x6, x6, x2
-    .word 0x2f432303  # lw x6, 756(x6)
+    .word 0x30432303  # lw x6, 772(x6)
     .word 0x0062c2b3  # xor x5, x5, x6
     .word 0x3ec12303  # lw x6, 1004(x2)
     .word 0x0062fb33  # and x22, x5, x6
     .word 0x3c812283  # lw x5, 968(x2)
-    .word 0x00428293  # addi x5, x5, 4
     .word 0x3c812303  # lw x6, 968(x2)
-    .word 0x00430313  # addi x6, x6, 4
     .word 0x00231313  # slli x6, x6, 2
     .word 0x00230333  # add x6, x6, x2
-    .word 0x2f432303  # lw x6, 756(x6)
+    .word 0x30432303  # lw x6, 772(x6)
     .word 0x01634333  # xor x6, x6, x22
     .word 0x00229293  # slli x5, x5, 2
     .word 0x002282b3  # add x5, x5, x2
-    .word 0x2e62aa23  # sw x6, 756(x5)
+    .word 0x3062a223  # sw x6, 772(x5)
     .word 0x3c812283  # lw x5, 968(x2)
     .word 0x3c812303  # lw x6, 968(x2)
     .word 0x00231313  # slli x6, x6, 2
@@ -974,14 +956,14 @@ aes256_ctr:
     .word 0x00229293  # slli x5, x5, 2
     .word 0x002282b3  # add x5, x5, x2
     .word 0x2e62aa23  # sw x6, 756(x5)
-    .word 0xf59ff06f  # jal x0, -168
+    .word 0xf65ff06f  # jal x0, -156
     .word 0x32812283  # lw x5, 808(x2)
     .word 0x00529293  # slli x5, x5, 5
     .word 0x3c512623  # sw x5, 972(x2)
     .word 0x3cc12283  # lw x5, 972(x2)
     .word 0x02028293  # addi x5, x5, 32
     .word 0x32412303  # lw x6, 804(x2)
-    .word 0x08536863  # bltu x6, x5, 144
+    .word 0x08536e63  # bltu x6, x5, 156
     .word 0x40012223  # sw x0, 1028(x2)
     .word 0x02000293  # addi x5, x0, 32
     .word 0x40512423  # sw x5, 1032(x2)
@@ -989,14 +971,17 @@ aes256_ctr:
     .word 0x40812283  # lw x5, 1032(x2)
     .word 0x005332b3  # sltu x5, x6, x5
     .word 0x00029463  # bne x5, x0, 8
-    .word 0x06c0006f  # jal x0, 108
+    .word 0x0780006f  # jal x0, 120
     .word 0x3c612823  # sw x6, 976(x2)
     .word 0x00130313  # addi x6, x6, 1
     .word 0x40612223  # sw x6, 1028(x2)
     .word 0x3cc12283  # lw x5, 972(x2)
     .word 0x3d012303  # lw x6, 976(x2)
-    .word 0x00628d33  # add x26, x5, x6
-    .word 0x002d0333  # add x6, x26, x2
+    .word 0x006282b3  # add x5, x5, x6
+    .word 0x3cc12303  # lw x6, 972(x2)
+    .word 0x3d012383  # lw x7, 976(x2)
+    .word 0x00730333  # add x6, x6, x7
+    .word 0x00230333  # add x6, x6, x2
     .word 0x1f034303  # lbu x6, 496(x6)
     .word 0x3d012383  # lw x7, 976(x2)
     .word 0x0043d393  # srli x7, x7, 4
@@ -1013,9 +998,9 @@ aes256_ctr:
     .word 0x00341413  # slli x8, x8, 3
     .word 0x0083d3b3  # srl x7, x7, x8
     .word 0x00734333  # xor x6, x6, x7
-    .word 0x002d02b3  # add x5, x26, x2
+    .word 0x002282b3  # add x5, x5, x2
     .word 0x1e628823  # sb x6, 496(x5)
-    .word 0xf89ff06f  # jal x0, -120
+    .word 0xf7dff06f  # jal x0, -132
     .word 0x0940006f  # jal x0, 148
     .word 0x40012223  # sw x0, 1028(x2)
     .word 0x02000293  # addi x5, x0, 32
@@ -1053,7 +1038,7 @@ aes256_ctr:
     .word 0x002d02b3  # add x5, x26, x2
     .word 0x1e628823  # sb x6, 496(x5)
     .word 0xf81ff06f  # jal x0, -128
-    .word 0xb88ff06f  # jal x0, -3192
+    .word 0xbc4ff06f  # jal x0, -3132
     .word 0x32012283  # lw x5, 800(x2)
     .word 0x32412303  # lw x6, 804(x2)
     .word 0x00f30313  # addi x6, x6, 15

@@ -1,4 +1,4 @@
-# poly1305_blocks: made by factc function; 633 words, 560 bytes of stack, profile 1
+# poly1305_blocks: made by factc 1.0.0 function; 630 words, 560 bytes of stack, profile 1
     .option push
     .option norvc
     .option norelax
@@ -196,39 +196,35 @@ poly1305_blocks:
     .word 0x1d412283  # lw x5, 468(x2)
     .word 0x005332b3  # sltu x5, x6, x5
     .word 0x00029463  # bne x5, x0, 8
-    .word 0x1140006f  # jal x0, 276
+    .word 0x0fc0006f  # jal x0, 252
     .word 0x16612623  # sw x6, 364(x2)
     .word 0x00130313  # addi x6, x6, 1
     .word 0x1c612823  # sw x6, 464(x2)
     .word 0x16c12283  # lw x5, 364(x2)
     .word 0x00229293  # slli x5, x5, 2
+    .word 0x00228733  # add x14, x5, x2
+    .word 0x00074703  # lbu x14, 0(x14)
+    .word 0x16c12283  # lw x5, 364(x2)
+    .word 0x00229293  # slli x5, x5, 2
     .word 0x002287b3  # add x15, x5, x2
-    .word 0x0007c783  # lbu x15, 0(x15)
+    .word 0x0017c783  # lbu x15, 1(x15)
     .word 0x16c12283  # lw x5, 364(x2)
     .word 0x00229293  # slli x5, x5, 2
-    .word 0x00128293  # addi x5, x5, 1
     .word 0x00228833  # add x16, x5, x2
-    .word 0x00084803  # lbu x16, 0(x16)
+    .word 0x00284803  # lbu x16, 2(x16)
     .word 0x16c12283  # lw x5, 364(x2)
     .word 0x00229293  # slli x5, x5, 2
-    .word 0x00228293  # addi x5, x5, 2
-    .word 0x002288b3  # add x17, x5, x2
-    .word 0x0008c883  # lbu x17, 0(x17)
-    .word 0x16c12283  # lw x5, 364(x2)
-    .word 0x00229293  # slli x5, x5, 2
-    .word 0x00328293  # addi x5, x5, 3
     .word 0x002282b3  # add x5, x5, x2
-    .word 0x0002c283  # lbu x5, 0(x5)
+    .word 0x0032c283  # lbu x5, 3(x5)
     .word 0x18512e23  # sw x5, 412(x2)
-    .word 0x00881313  # slli x6, x16, 8
-    .word 0x0067e2b3  # or x5, x15, x6
-    .word 0x01089313  # slli x6, x17, 16
+    .word 0x00879313  # slli x6, x15, 8
+    .word 0x006762b3  # or x5, x14, x6
+    .word 0x01081313  # slli x6, x16, 16
     .word 0x0062e2b3  # or x5, x5, x6
     .word 0x19c12303  # lw x6, 412(x2)
     .word 0x01831313  # slli x6, x6, 24
     .word 0x0062edb3  # or x27, x5, x6
     .word 0x16c12283  # lw x5, 364(x2)
-    .word 0x00428293  # addi x5, x5, 4
     .word 0x16c12383  # lw x7, 364(x2)
     .word 0x0013b393  # sltiu x7, x7, 1
     .word 0x1b812403  # lw x8, 440(x2)
@@ -240,21 +236,19 @@ poly1305_blocks:
     .word 0x007df333  # and x6, x27, x7
     .word 0x00229293  # slli x5, x5, 2
     .word 0x002282b3  # add x5, x5, x2
-    .word 0x1462a623  # sw x6, 332(x5)
+    .word 0x1462ae23  # sw x6, 348(x5)
     .word 0x16c12283  # lw x5, 364(x2)
     .word 0x16c12303  # lw x6, 364(x2)
     .word 0x00133313  # sltiu x6, x6, 1
     .word 0x00000393  # addi x7, x0, 0
     .word 0x16c12403  # lw x8, 364(x2)
-    .word 0x00440413  # addi x8, x8, 4
     .word 0x00241413  # slli x8, x8, 2
     .word 0x00240433  # add x8, x8, x2
-    .word 0x14c42403  # lw x8, 332(x8)
+    .word 0x15c42403  # lw x8, 348(x8)
     .word 0x16c12483  # lw x9, 364(x2)
-    .word 0x00448493  # addi x9, x9, 4
     .word 0x00249493  # slli x9, x9, 2
     .word 0x002484b3  # add x9, x9, x2
-    .word 0x14c4a483  # lw x9, 332(x9)
+    .word 0x15c4a483  # lw x9, 348(x9)
     .word 0x0024d493  # srli x9, x9, 2
     .word 0x00940433  # add x8, x8, x9
     .word 0x40600333  # sub x6, x0, x6
@@ -264,7 +258,7 @@ poly1305_blocks:
     .word 0x00229293  # slli x5, x5, 2
     .word 0x002282b3  # add x5, x5, x2
     .word 0x1462a623  # sw x6, 332(x5)
-    .word 0xee1ff06f  # jal x0, -288
+    .word 0xef9ff06f  # jal x0, -264
     .word 0x17000313  # addi x6, x0, 368
     .word 0x00230333  # add x6, x6, x2
     .word 0x01400393  # addi x7, x0, 20
@@ -283,18 +277,18 @@ poly1305_blocks:
     .word 0x1d412283  # lw x5, 468(x2)
     .word 0x005332b3  # sltu x5, x6, x5
     .word 0x00029463  # bne x5, x0, 8
-    .word 0x0e00006f  # jal x0, 224
+    .word 0x0d80006f  # jal x0, 216
     .word 0x18612223  # sw x6, 388(x2)
     .word 0x00130313  # addi x6, x6, 1
     .word 0x1c612823  # sw x6, 464(x2)
     .word 0x01a00293  # addi x5, x0, 26
     .word 0x18412303  # lw x6, 388(x2)
     .word 0x026282b3  # mul x5, x5, x6
-    .word 0x0052d713  # srli x14, x5, 5
+    .word 0x0052d613  # srli x12, x5, 5
     .word 0x01a00293  # addi x5, x0, 26
     .word 0x18412303  # lw x6, 388(x2)
     .word 0x026282b3  # mul x5, x5, x6
-    .word 0x01f2f613  # andi x12, x5, 31
+    .word 0x01f2f913  # andi x18, x5, 31
     .word 0x18412283  # lw x5, 388(x2)
     .word 0x00129293  # slli x5, x5, 1
     .word 0x00229293  # slli x5, x5, 2
@@ -302,10 +296,9 @@ poly1305_blocks:
     .word 0x1242a283  # lw x5, 292(x5)
     .word 0x18412303  # lw x6, 388(x2)
     .word 0x00131313  # slli x6, x6, 1
-    .word 0x00130313  # addi x6, x6, 1
     .word 0x00231313  # slli x6, x6, 2
     .word 0x00230333  # add x6, x6, x2
-    .word 0x12432303  # lw x6, 292(x6)
+    .word 0x12832303  # lw x6, 296(x6)
     .word 0x00d31313  # slli x6, x6, 13
     .word 0x006282b3  # add x5, x5, x6
     .word 0x01b28db3  # add x27, x5, x27
@@ -321,24 +314,23 @@ poly1305_blocks:
     .word 0x00744333  # xor x6, x8, x7
     .word 0x006dfd33  # and x26, x27, x6
     .word 0x01addd93  # srli x27, x27, 26
-    .word 0x00271313  # slli x6, x14, 2
+    .word 0x00261313  # slli x6, x12, 2
     .word 0x00230333  # add x6, x6, x2
     .word 0x17032303  # lw x6, 368(x6)
-    .word 0x00cd13b3  # sll x7, x26, x12
+    .word 0x012d13b3  # sll x7, x26, x18
     .word 0x00736333  # or x6, x6, x7
-    .word 0x00271293  # slli x5, x14, 2
+    .word 0x00261293  # slli x5, x12, 2
     .word 0x002282b3  # add x5, x5, x2
     .word 0x1662a823  # sw x6, 368(x5)
     .word 0x00600313  # addi x6, x0, 6
-    .word 0x02c37063  # bgeu x6, x12, 32
-    .word 0x00170293  # addi x5, x14, 1
+    .word 0x01237e63  # bgeu x6, x18, 28
     .word 0x02000393  # addi x7, x0, 32
-    .word 0x40c383b3  # sub x7, x7, x12
+    .word 0x412383b3  # sub x7, x7, x18
     .word 0x007d5333  # srl x6, x26, x7
-    .word 0x00229293  # slli x5, x5, 2
+    .word 0x00261293  # slli x5, x12, 2
     .word 0x002282b3  # add x5, x5, x2
-    .word 0x1662a823  # sw x6, 368(x5)
-    .word 0xf15ff06f  # jal x0, -236
+    .word 0x1662aa23  # sw x6, 372(x5)
+    .word 0xf1dff06f  # jal x0, -228
     .word 0x12012283  # lw x5, 288(x2)
     .word 0x1002b293  # sltiu x5, x5, 256
     .word 0x12012303  # lw x6, 288(x2)
@@ -357,7 +349,7 @@ poly1305_blocks:
     .word 0x1d412283  # lw x5, 468(x2)
     .word 0x005332b3  # sltu x5, x6, x5
     .word 0x00029463  # bne x5, x0, 8
-    .word 0x2c80006f  # jal x0, 712
+    .word 0x2e00006f  # jal x0, 736
     .word 0x18612423  # sw x6, 392(x2)
     .word 0x00130313  # addi x6, x6, 1
     .word 0x1c612823  # sw x6, 464(x2)
@@ -374,25 +366,31 @@ poly1305_blocks:
     .word 0x00430313  # addi x6, x6, 4
     .word 0xfedff06f  # jal x0, -20
     .word 0x01060293  # addi x5, x12, 16
-    .word 0x0655ee63  # bltu x11, x5, 124
+    .word 0x0855ea63  # bltu x11, x5, 148
     .word 0x00000693  # addi x13, x0, 0
     .word 0x00269313  # slli x6, x13, 2
-    .word 0x00660733  # add x14, x12, x6
-    .word 0x002707b3  # add x15, x14, x2
+    .word 0x006602b3  # add x5, x12, x6
+    .word 0x00228733  # add x14, x5, x2
+    .word 0x02074703  # lbu x14, 32(x14)
+    .word 0x00269313  # slli x6, x13, 2
+    .word 0x00130313  # addi x6, x6, 1
+    .word 0x006602b3  # add x5, x12, x6
+    .word 0x002287b3  # add x15, x5, x2
     .word 0x0207c783  # lbu x15, 32(x15)
-    .word 0x00170293  # addi x5, x14, 1
+    .word 0x00269313  # slli x6, x13, 2
+    .word 0x00230313  # addi x6, x6, 2
+    .word 0x006602b3  # add x5, x12, x6
     .word 0x00228833  # add x16, x5, x2
     .word 0x02084803  # lbu x16, 32(x16)
-    .word 0x00270293  # addi x5, x14, 2
-    .word 0x002288b3  # add x17, x5, x2
-    .word 0x0208c883  # lbu x17, 32(x17)
-    .word 0x00370293  # addi x5, x14, 3
+    .word 0x00269313  # slli x6, x13, 2
+    .word 0x00330313  # addi x6, x6, 3
+    .word 0x006602b3  # add x5, x12, x6
     .word 0x002282b3  # add x5, x5, x2
     .word 0x0202c283  # lbu x5, 32(x5)
     .word 0x18512e23  # sw x5, 412(x2)
-    .word 0x00881393  # slli x7, x16, 8
-    .word 0x0077e333  # or x6, x15, x7
-    .word 0x01089393  # slli x7, x17, 16
+    .word 0x00879393  # slli x7, x15, 8
+    .word 0x00776333  # or x6, x14, x7
+    .word 0x01081393  # slli x7, x16, 16
     .word 0x00736333  # or x6, x6, x7
     .word 0x19c12383  # lw x7, 412(x2)
     .word 0x01839393  # slli x7, x7, 24
@@ -402,35 +400,35 @@ poly1305_blocks:
     .word 0x1862a623  # sw x6, 396(x5)
     .word 0x00168693  # addi x13, x13, 1
     .word 0x0046b293  # sltiu x5, x13, 4
-    .word 0xf8029ce3  # bne x5, x0, -104
+    .word 0xf80290e3  # bne x5, x0, -128
     .word 0xfff68693  # addi x13, x13, -1
     .word 0x0600006f  # jal x0, 96
-    .word 0x00000913  # addi x18, x0, 0
-    .word 0x01260733  # add x14, x12, x18
-    .word 0x40b70db3  # sub x27, x14, x11
+    .word 0x00000893  # addi x17, x0, 0
+    .word 0x01160933  # add x18, x12, x17
+    .word 0x40b90db3  # sub x27, x18, x11
     .word 0x001dbd93  # sltiu x27, x27, 1
-    .word 0x00b77663  # bgeu x14, x11, 12
-    .word 0x00270db3  # add x27, x14, x2
+    .word 0x00b97663  # bgeu x18, x11, 12
+    .word 0x00290db3  # add x27, x18, x2
     .word 0x020dcd83  # lbu x27, 32(x27)
-    .word 0x00295293  # srli x5, x18, 2
-    .word 0x00295313  # srli x6, x18, 2
+    .word 0x0028d293  # srli x5, x17, 2
+    .word 0x0028d313  # srli x6, x17, 2
     .word 0x00231313  # slli x6, x6, 2
     .word 0x00230333  # add x6, x6, x2
     .word 0x18c32303  # lw x6, 396(x6)
-    .word 0x00397413  # andi x8, x18, 3
+    .word 0x0038f413  # andi x8, x17, 3
     .word 0x00341413  # slli x8, x8, 3
     .word 0x008d93b3  # sll x7, x27, x8
     .word 0x00736333  # or x6, x6, x7
     .word 0x00229293  # slli x5, x5, 2
     .word 0x002282b3  # add x5, x5, x2
     .word 0x1862a623  # sw x6, 396(x5)
-    .word 0x00190913  # addi x18, x18, 1
-    .word 0x01093293  # sltiu x5, x18, 16
+    .word 0x00188893  # addi x17, x17, 1
+    .word 0x0108b293  # sltiu x5, x17, 16
     .word 0xfa0298e3  # bne x5, x0, -80
-    .word 0xfff90913  # addi x18, x18, -1
+    .word 0xfff88893  # addi x17, x17, -1
     .word 0x01060293  # addi x5, x12, 16
-    .word 0x0055b733  # sltu x14, x11, x5
-    .word 0x00173713  # sltiu x14, x14, 1
+    .word 0x0055b633  # sltu x12, x11, x5
+    .word 0x00163613  # sltiu x12, x12, 1
     .word 0x00000d93  # addi x27, x0, 0
     .word 0x00000d13  # addi x26, x0, 0
     .word 0x00000993  # addi x19, x0, 0
@@ -457,7 +455,7 @@ poly1305_blocks:
     .word 0xfff98993  # addi x19, x19, -1
     .word 0x18012283  # lw x5, 384(x2)
     .word 0x01b282b3  # add x5, x5, x27
-    .word 0x00e282b3  # add x5, x5, x14
+    .word 0x00c282b3  # add x5, x5, x12
     .word 0x18512023  # sw x5, 384(x2)
     .word 0x17012283  # lw x5, 368(x2)
     .word 0x1a512023  # sw x5, 416(x2)
@@ -534,7 +532,7 @@ poly1305_blocks:
     .word 0x003bf293  # andi x5, x23, 3
     .word 0x01a282b3  # add x5, x5, x26
     .word 0x18512023  # sw x5, 384(x2)
-    .word 0xd2dff06f  # jal x0, -724
+    .word 0xd15ff06f  # jal x0, -748
     .word 0x1c012823  # sw x0, 464(x2)
     .word 0x00a00293  # addi x5, x0, 10
     .word 0x1c512a23  # sw x5, 468(x2)
@@ -542,30 +540,29 @@ poly1305_blocks:
     .word 0x1d412283  # lw x5, 468(x2)
     .word 0x005332b3  # sltu x5, x6, x5
     .word 0x00029463  # bne x5, x0, 8
-    .word 0x0a40006f  # jal x0, 164
+    .word 0x0a00006f  # jal x0, 160
     .word 0x1a612a23  # sw x6, 436(x2)
     .word 0x00130313  # addi x6, x6, 1
     .word 0x1c612823  # sw x6, 464(x2)
     .word 0x00d00293  # addi x5, x0, 13
     .word 0x1b412303  # lw x6, 436(x2)
     .word 0x026282b3  # mul x5, x5, x6
-    .word 0x0052d613  # srli x12, x5, 5
+    .word 0x0052d913  # srli x18, x5, 5
     .word 0x00d00293  # addi x5, x0, 13
     .word 0x1b412303  # lw x6, 436(x2)
     .word 0x026282b3  # mul x5, x5, x6
-    .word 0x01f2f713  # andi x14, x5, 31
-    .word 0x00261293  # slli x5, x12, 2
+    .word 0x01f2f613  # andi x12, x5, 31
+    .word 0x00291293  # slli x5, x18, 2
     .word 0x002282b3  # add x5, x5, x2
     .word 0x1702a283  # lw x5, 368(x5)
-    .word 0x00e2ddb3  # srl x27, x5, x14
+    .word 0x00c2ddb3  # srl x27, x5, x12
     .word 0x01300313  # addi x6, x0, 19
-    .word 0x02e37263  # bgeu x6, x14, 36
-    .word 0x00160313  # addi x6, x12, 1
-    .word 0x00231313  # slli x6, x6, 2
+    .word 0x02c37063  # bgeu x6, x12, 32
+    .word 0x00291313  # slli x6, x18, 2
     .word 0x00230333  # add x6, x6, x2
-    .word 0x17032303  # lw x6, 368(x6)
+    .word 0x17432303  # lw x6, 372(x6)
     .word 0x02000393  # addi x7, x0, 32
-    .word 0x40e383b3  # sub x7, x7, x14
+    .word 0x40c383b3  # sub x7, x7, x12
     .word 0x00731333  # sll x6, x6, x7
     .word 0x006dedb3  # or x27, x27, x6
     .word 0x1b412283  # lw x5, 436(x2)
@@ -582,7 +579,7 @@ poly1305_blocks:
     .word 0x00229293  # slli x5, x5, 2
     .word 0x002282b3  # add x5, x5, x2
     .word 0x1262a223  # sw x6, 292(x5)
-    .word 0xf51ff06f  # jal x0, -176
+    .word 0xf55ff06f  # jal x0, -172
     # the result
     .word 0x00000513  # addi x10, x0, 0
     # parameter 3: the array, back
