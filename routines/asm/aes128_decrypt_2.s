@@ -1,4 +1,4 @@
-# aes128_decrypt_2: made by factc function; 1027 words, 528 bytes of stack, profile 1
+# aes128_decrypt_2: made by factc 1.0.0 function; 1020 words, 528 bytes of stack, profile 1
     .option push
     .option norvc
     .option norelax
@@ -316,7 +316,7 @@ aes128_decrypt_2:
     .word 0x1c812283  # lw x5, 456(x2)
     .word 0x005332b3  # sltu x5, x6, x5
     .word 0x00029463  # bne x5, x0, 8
-    .word 0x0090006f  # jal x0, 2056
+    .word 0x7ec0006f  # jal x0, 2028
     .word 0x18612023  # sw x6, 384(x2)
     .word 0x00130313  # addi x6, x6, 1
     .word 0x1c612223  # sw x6, 452(x2)
@@ -657,46 +657,39 @@ aes128_decrypt_2:
     .word 0x00032303  # lw x6, 0(x6)
     .word 0x006a4a33  # xor x20, x20, x6
     .word 0x1a812303  # lw x6, 424(x2)
-    .word 0x00130313  # addi x6, x6, 1
     .word 0x00231313  # slli x6, x6, 2
     .word 0x00230333  # add x6, x6, x2
-    .word 0x00032303  # lw x6, 0(x6)
+    .word 0x00432303  # lw x6, 4(x6)
     .word 0x006acab3  # xor x21, x21, x6
     .word 0x1a812303  # lw x6, 424(x2)
-    .word 0x00230313  # addi x6, x6, 2
     .word 0x00231313  # slli x6, x6, 2
     .word 0x00230333  # add x6, x6, x2
-    .word 0x00032303  # lw x6, 0(x6)
+    .word 0x00832303  # lw x6, 8(x6)
     .word 0x006b4b33  # xor x22, x22, x6
     .word 0x1a812303  # lw x6, 424(x2)
-    .word 0x00330313  # addi x6, x6, 3
     .word 0x00231313  # slli x6, x6, 2
     .word 0x00230333  # add x6, x6, x2
-    .word 0x00032303  # lw x6, 0(x6)
+    .word 0x00c32303  # lw x6, 12(x6)
     .word 0x006bcbb3  # xor x23, x23, x6
     .word 0x1a812303  # lw x6, 424(x2)
-    .word 0x00430313  # addi x6, x6, 4
     .word 0x00231313  # slli x6, x6, 2
     .word 0x00230333  # add x6, x6, x2
-    .word 0x00032303  # lw x6, 0(x6)
+    .word 0x01032303  # lw x6, 16(x6)
     .word 0x006c4c33  # xor x24, x24, x6
     .word 0x1a812303  # lw x6, 424(x2)
-    .word 0x00530313  # addi x6, x6, 5
     .word 0x00231313  # slli x6, x6, 2
     .word 0x00230333  # add x6, x6, x2
-    .word 0x00032303  # lw x6, 0(x6)
+    .word 0x01432303  # lw x6, 20(x6)
     .word 0x006cccb3  # xor x25, x25, x6
     .word 0x1a812303  # lw x6, 424(x2)
-    .word 0x00630313  # addi x6, x6, 6
     .word 0x00231313  # slli x6, x6, 2
     .word 0x00230333  # add x6, x6, x2
-    .word 0x00032303  # lw x6, 0(x6)
+    .word 0x01832303  # lw x6, 24(x6)
     .word 0x006d4d33  # xor x26, x26, x6
     .word 0x1a812303  # lw x6, 424(x2)
-    .word 0x00730313  # addi x6, x6, 7
     .word 0x00231313  # slli x6, x6, 2
     .word 0x00230333  # add x6, x6, x2
-    .word 0x00032303  # lw x6, 0(x6)
+    .word 0x01c32303  # lw x6, 28(x6)
     .word 0x006dcdb3  # xor x27, x27, x6
     .word 0x18012283  # lw x5, 384(x2)
     .word 0x00900313  # addi x6, x0, 9
@@ -829,7 +822,7 @@ aes128_decrypt_2:
     .word 0x00ecccb3  # xor x25, x25, x14
     .word 0x00fd4d33  # xor x26, x26, x15
     .word 0x011dcdb3  # xor x27, x27, x17
-    .word 0xfecff06f  # jal x0, -2068
+    .word 0x809ff06f  # jal x0, -2040
     .word 0x001a5293  # srli x5, x20, 1
     .word 0x0152c2b3  # xor x5, x5, x21
     .word 0x1ac12303  # lw x6, 428(x2)

@@ -1,4 +1,4 @@
-# aes128_expand: made by factc function; 798 words, 560 bytes of stack, profile 1
+# aes128_expand: made by factc 1.0.0 function; 783 words, 560 bytes of stack, profile 1
     .option push
     .option norvc
     .option norelax
@@ -518,10 +518,9 @@ aes128_expand:
     .word 0x00737333  # and x6, x6, x7
     .word 0x0069c9b3  # xor x19, x19, x6
     .word 0x00349293  # slli x5, x9, 3
-    .word 0x00828293  # addi x5, x5, 8
     .word 0x00229293  # slli x5, x5, 2
     .word 0x002282b3  # add x5, x5, x2
-    .word 0x0132a823  # sw x19, 16(x5)
+    .word 0x0332a823  # sw x19, 48(x5)
     .word 0x00098a13  # addi x20, x19, 0
     .word 0x01bb79b3  # and x19, x22, x27
     .word 0x01899f13  # slli x30, x19, 24
@@ -534,10 +533,9 @@ aes128_expand:
     .word 0x00337313  # andi x6, x6, 3
     .word 0x0062c9b3  # xor x19, x5, x6
     .word 0x00349293  # slli x5, x9, 3
-    .word 0x00128293  # addi x5, x5, 1
     .word 0x00229293  # slli x5, x5, 2
     .word 0x002282b3  # add x5, x5, x2
-    .word 0x0102a283  # lw x5, 16(x5)
+    .word 0x0142a283  # lw x5, 20(x5)
     .word 0x0132c9b3  # xor x19, x5, x19
     .word 0x00299313  # slli x6, x19, 2
     .word 0x1d812383  # lw x7, 472(x2)
@@ -549,10 +547,9 @@ aes128_expand:
     .word 0x0069c9b3  # xor x19, x19, x6
     .word 0x00349293  # slli x5, x9, 3
     .word 0x00128293  # addi x5, x5, 1
-    .word 0x00828293  # addi x5, x5, 8
     .word 0x00229293  # slli x5, x5, 2
     .word 0x002282b3  # add x5, x5, x2
-    .word 0x0132a823  # sw x19, 16(x5)
+    .word 0x0332a823  # sw x19, 48(x5)
     .word 0x00098a93  # addi x21, x19, 0
     .word 0x01bd79b3  # and x19, x26, x27
     .word 0x01899f13  # slli x30, x19, 24
@@ -565,10 +562,9 @@ aes128_expand:
     .word 0x00337313  # andi x6, x6, 3
     .word 0x0062c9b3  # xor x19, x5, x6
     .word 0x00349293  # slli x5, x9, 3
-    .word 0x00228293  # addi x5, x5, 2
     .word 0x00229293  # slli x5, x5, 2
     .word 0x002282b3  # add x5, x5, x2
-    .word 0x0102a283  # lw x5, 16(x5)
+    .word 0x0182a283  # lw x5, 24(x5)
     .word 0x0132c9b3  # xor x19, x5, x19
     .word 0x00299313  # slli x6, x19, 2
     .word 0x1d812383  # lw x7, 472(x2)
@@ -580,10 +576,9 @@ aes128_expand:
     .word 0x0069c9b3  # xor x19, x19, x6
     .word 0x00349293  # slli x5, x9, 3
     .word 0x00228293  # addi x5, x5, 2
-    .word 0x00828293  # addi x5, x5, 8
     .word 0x00229293  # slli x5, x5, 2
     .word 0x002282b3  # add x5, x5, x2
-    .word 0x0132a823  # sw x19, 16(x5)
+    .word 0x0332a823  # sw x19, 48(x5)
     .word 0x00098b13  # addi x22, x19, 0
     .word 0x01bbf9b3  # and x19, x23, x27
     .word 0x01899f13  # slli x30, x19, 24
@@ -596,10 +591,9 @@ aes128_expand:
     .word 0x00337313  # andi x6, x6, 3
     .word 0x0062c9b3  # xor x19, x5, x6
     .word 0x00349293  # slli x5, x9, 3
-    .word 0x00328293  # addi x5, x5, 3
     .word 0x00229293  # slli x5, x5, 2
     .word 0x002282b3  # add x5, x5, x2
-    .word 0x0102a283  # lw x5, 16(x5)
+    .word 0x01c2a283  # lw x5, 28(x5)
     .word 0x0132c9b3  # xor x19, x5, x19
     .word 0x00299313  # slli x6, x19, 2
     .word 0x1d812383  # lw x7, 472(x2)
@@ -611,10 +605,9 @@ aes128_expand:
     .word 0x0069c9b3  # xor x19, x19, x6
     .word 0x00349293  # slli x5, x9, 3
     .word 0x00328293  # addi x5, x5, 3
-    .word 0x00828293  # addi x5, x5, 8
     .word 0x00229293  # slli x5, x5, 2
     .word 0x002282b3  # add x5, x5, x2
-    .word 0x0132a823  # sw x19, 16(x5)
+    .word 0x0332a823  # sw x19, 48(x5)
     .word 0x00098b93  # addi x23, x19, 0
     .word 0x01bc79b3  # and x19, x24, x27
     .word 0x01899f13  # slli x30, x19, 24
@@ -627,10 +620,9 @@ aes128_expand:
     .word 0x00337313  # andi x6, x6, 3
     .word 0x0062c9b3  # xor x19, x5, x6
     .word 0x00349293  # slli x5, x9, 3
-    .word 0x00428293  # addi x5, x5, 4
     .word 0x00229293  # slli x5, x5, 2
     .word 0x002282b3  # add x5, x5, x2
-    .word 0x0102a283  # lw x5, 16(x5)
+    .word 0x0202a283  # lw x5, 32(x5)
     .word 0x0132c9b3  # xor x19, x5, x19
     .word 0x00299313  # slli x6, x19, 2
     .word 0x1d812383  # lw x7, 472(x2)
@@ -642,10 +634,9 @@ aes128_expand:
     .word 0x0069c9b3  # xor x19, x19, x6
     .word 0x00349293  # slli x5, x9, 3
     .word 0x00428293  # addi x5, x5, 4
-    .word 0x00828293  # addi x5, x5, 8
     .word 0x00229293  # slli x5, x5, 2
     .word 0x002282b3  # add x5, x5, x2
-    .word 0x0132a823  # sw x19, 16(x5)
+    .word 0x0332a823  # sw x19, 48(x5)
     .word 0x00098c13  # addi x24, x19, 0
     .word 0x01bcf9b3  # and x19, x25, x27
     .word 0x01899f13  # slli x30, x19, 24
@@ -658,10 +649,9 @@ aes128_expand:
     .word 0x00337313  # andi x6, x6, 3
     .word 0x0062c9b3  # xor x19, x5, x6
     .word 0x00349293  # slli x5, x9, 3
-    .word 0x00528293  # addi x5, x5, 5
     .word 0x00229293  # slli x5, x5, 2
     .word 0x002282b3  # add x5, x5, x2
-    .word 0x0102a283  # lw x5, 16(x5)
+    .word 0x0242a283  # lw x5, 36(x5)
     .word 0x0132c9b3  # xor x19, x5, x19
     .word 0x00299313  # slli x6, x19, 2
     .word 0x1d812383  # lw x7, 472(x2)
@@ -673,10 +663,9 @@ aes128_expand:
     .word 0x0069c9b3  # xor x19, x19, x6
     .word 0x00349293  # slli x5, x9, 3
     .word 0x00528293  # addi x5, x5, 5
-    .word 0x00828293  # addi x5, x5, 8
     .word 0x00229293  # slli x5, x5, 2
     .word 0x002282b3  # add x5, x5, x2
-    .word 0x0132a823  # sw x19, 16(x5)
+    .word 0x0332a823  # sw x19, 48(x5)
     .word 0x00098c93  # addi x25, x19, 0
     .word 0x01b679b3  # and x19, x12, x27
     .word 0x01899f13  # slli x30, x19, 24
@@ -689,10 +678,9 @@ aes128_expand:
     .word 0x00337313  # andi x6, x6, 3
     .word 0x0062c9b3  # xor x19, x5, x6
     .word 0x00349293  # slli x5, x9, 3
-    .word 0x00628293  # addi x5, x5, 6
     .word 0x00229293  # slli x5, x5, 2
     .word 0x002282b3  # add x5, x5, x2
-    .word 0x0102a283  # lw x5, 16(x5)
+    .word 0x0282a283  # lw x5, 40(x5)
     .word 0x0132c9b3  # xor x19, x5, x19
     .word 0x00299313  # slli x6, x19, 2
     .word 0x1d812383  # lw x7, 472(x2)
@@ -704,10 +692,9 @@ aes128_expand:
     .word 0x0069c9b3  # xor x19, x19, x6
     .word 0x00349293  # slli x5, x9, 3
     .word 0x00628293  # addi x5, x5, 6
-    .word 0x00828293  # addi x5, x5, 8
     .word 0x00229293  # slli x5, x5, 2
     .word 0x002282b3  # add x5, x5, x2
-    .word 0x0132a823  # sw x19, 16(x5)
+    .word 0x0332a823  # sw x19, 48(x5)
     .word 0x00098d13  # addi x26, x19, 0
     .word 0x01b5f9b3  # and x19, x11, x27
     .word 0x01899f13  # slli x30, x19, 24
@@ -720,10 +707,9 @@ aes128_expand:
     .word 0x00337313  # andi x6, x6, 3
     .word 0x0062c9b3  # xor x19, x5, x6
     .word 0x00349293  # slli x5, x9, 3
-    .word 0x00728293  # addi x5, x5, 7
     .word 0x00229293  # slli x5, x5, 2
     .word 0x002282b3  # add x5, x5, x2
-    .word 0x0102a283  # lw x5, 16(x5)
+    .word 0x02c2a283  # lw x5, 44(x5)
     .word 0x0132c9b3  # xor x19, x5, x19
     .word 0x00299313  # slli x6, x19, 2
     .word 0x1d812383  # lw x7, 472(x2)
@@ -735,13 +721,12 @@ aes128_expand:
     .word 0x0069c9b3  # xor x19, x19, x6
     .word 0x00349293  # slli x5, x9, 3
     .word 0x00728293  # addi x5, x5, 7
-    .word 0x00828293  # addi x5, x5, 8
     .word 0x00229293  # slli x5, x5, 2
     .word 0x002282b3  # add x5, x5, x2
-    .word 0x0132a823  # sw x19, 16(x5)
+    .word 0x0332a823  # sw x19, 48(x5)
     .word 0x00148493  # addi x9, x9, 1
     .word 0x00a4b293  # sltiu x5, x9, 10
-    .word 0x8e0296e3  # bne x5, x0, -1812
+    .word 0x920294e3  # bne x5, x0, -1752
     .word 0xfff48493  # addi x9, x9, -1
     # the result
     .word 0x00000513  # addi x10, x0, 0

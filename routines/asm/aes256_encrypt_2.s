@@ -1,4 +1,4 @@
-# aes256_encrypt_2: made by factc function; 922 words, 656 bytes of stack, profile 1
+# aes256_encrypt_2: made by factc 1.0.0 function; 915 words, 656 bytes of stack, profile 1
     .option push
     .option norvc
     .option norelax
@@ -313,7 +313,7 @@ aes256_encrypt_2:
     .word 0x24812283  # lw x5, 584(x2)
     .word 0x005332b3  # sltu x5, x6, x5
     .word 0x00029463  # bne x5, x0, 8
-    .word 0x6700006f  # jal x0, 1648
+    .word 0x6540006f  # jal x0, 1620
     .word 0x20612023  # sw x6, 512(x2)
     .word 0x00130313  # addi x6, x6, 1
     .word 0x24612223  # sw x6, 580(x2)
@@ -689,42 +689,35 @@ aes256_encrypt_2:
     .word 0x00230333  # add x6, x6, x2
     .word 0x00032303  # lw x6, 0(x6)
     .word 0x00694933  # xor x18, x18, x6
-    .word 0x00188313  # addi x6, x17, 1
-    .word 0x00231313  # slli x6, x6, 2
+    .word 0x00289313  # slli x6, x17, 2
     .word 0x00230333  # add x6, x6, x2
-    .word 0x00032303  # lw x6, 0(x6)
+    .word 0x00432303  # lw x6, 4(x6)
     .word 0x0069c9b3  # xor x19, x19, x6
-    .word 0x00288313  # addi x6, x17, 2
-    .word 0x00231313  # slli x6, x6, 2
+    .word 0x00289313  # slli x6, x17, 2
     .word 0x00230333  # add x6, x6, x2
-    .word 0x00032303  # lw x6, 0(x6)
+    .word 0x00832303  # lw x6, 8(x6)
     .word 0x006a4a33  # xor x20, x20, x6
-    .word 0x00388313  # addi x6, x17, 3
-    .word 0x00231313  # slli x6, x6, 2
+    .word 0x00289313  # slli x6, x17, 2
     .word 0x00230333  # add x6, x6, x2
-    .word 0x00032303  # lw x6, 0(x6)
+    .word 0x00c32303  # lw x6, 12(x6)
     .word 0x006acab3  # xor x21, x21, x6
-    .word 0x00488313  # addi x6, x17, 4
-    .word 0x00231313  # slli x6, x6, 2
+    .word 0x00289313  # slli x6, x17, 2
     .word 0x00230333  # add x6, x6, x2
-    .word 0x00032303  # lw x6, 0(x6)
+    .word 0x01032303  # lw x6, 16(x6)
     .word 0x006b4b33  # xor x22, x22, x6
-    .word 0x00588313  # addi x6, x17, 5
-    .word 0x00231313  # slli x6, x6, 2
+    .word 0x00289313  # slli x6, x17, 2
     .word 0x00230333  # add x6, x6, x2
-    .word 0x00032303  # lw x6, 0(x6)
+    .word 0x01432303  # lw x6, 20(x6)
     .word 0x006bcbb3  # xor x23, x23, x6
-    .word 0x00688313  # addi x6, x17, 6
-    .word 0x00231313  # slli x6, x6, 2
+    .word 0x00289313  # slli x6, x17, 2
     .word 0x00230333  # add x6, x6, x2
-    .word 0x00032303  # lw x6, 0(x6)
+    .word 0x01832303  # lw x6, 24(x6)
     .word 0x006c4c33  # xor x24, x24, x6
-    .word 0x00788313  # addi x6, x17, 7
-    .word 0x00231313  # slli x6, x6, 2
+    .word 0x00289313  # slli x6, x17, 2
     .word 0x00230333  # add x6, x6, x2
-    .word 0x00032303  # lw x6, 0(x6)
+    .word 0x01c32303  # lw x6, 28(x6)
     .word 0x006cccb3  # xor x25, x25, x6
-    .word 0x985ff06f  # jal x0, -1660
+    .word 0x9a1ff06f  # jal x0, -1632
     .word 0x00195293  # srli x5, x18, 1
     .word 0x0132c2b3  # xor x5, x5, x19
     .word 0x23412303  # lw x6, 564(x2)

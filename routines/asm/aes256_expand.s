@@ -1,4 +1,4 @@
-# aes256_expand: made by factc function; 991 words, 656 bytes of stack, profile 1
+# aes256_expand: made by factc 1.0.0 function; 968 words, 656 bytes of stack, profile 1
     .option push
     .option norvc
     .option norelax
@@ -445,66 +445,58 @@ aes256_expand:
     .word 0x05812e23  # sw x24, 92(x2)
     .word 0x00000493  # addi x9, x0, 0
     .word 0x00349293  # slli x5, x9, 3
-    .word 0x00828293  # addi x5, x5, 8
     .word 0x00229293  # slli x5, x5, 2
     .word 0x002282b3  # add x5, x5, x2
-    .word 0x0202a283  # lw x5, 32(x5)
+    .word 0x0402a283  # lw x5, 64(x5)
     .word 0x0062d293  # srli x5, x5, 6
     .word 0x0192f8b3  # and x17, x5, x25
     .word 0x00349293  # slli x5, x9, 3
     .word 0x00128293  # addi x5, x5, 1
-    .word 0x00828293  # addi x5, x5, 8
     .word 0x00229293  # slli x5, x5, 2
     .word 0x002282b3  # add x5, x5, x2
-    .word 0x0202a283  # lw x5, 32(x5)
+    .word 0x0402a283  # lw x5, 64(x5)
     .word 0x0062d293  # srli x5, x5, 6
     .word 0x0192f933  # and x18, x5, x25
     .word 0x00349293  # slli x5, x9, 3
     .word 0x00228293  # addi x5, x5, 2
-    .word 0x00828293  # addi x5, x5, 8
     .word 0x00229293  # slli x5, x5, 2
     .word 0x002282b3  # add x5, x5, x2
-    .word 0x0202a283  # lw x5, 32(x5)
+    .word 0x0402a283  # lw x5, 64(x5)
     .word 0x0062d293  # srli x5, x5, 6
     .word 0x0192f9b3  # and x19, x5, x25
     .word 0x00349293  # slli x5, x9, 3
     .word 0x00328293  # addi x5, x5, 3
-    .word 0x00828293  # addi x5, x5, 8
     .word 0x00229293  # slli x5, x5, 2
     .word 0x002282b3  # add x5, x5, x2
-    .word 0x0202a283  # lw x5, 32(x5)
+    .word 0x0402a283  # lw x5, 64(x5)
     .word 0x0062d293  # srli x5, x5, 6
     .word 0x0192fa33  # and x20, x5, x25
     .word 0x00349293  # slli x5, x9, 3
     .word 0x00428293  # addi x5, x5, 4
-    .word 0x00828293  # addi x5, x5, 8
     .word 0x00229293  # slli x5, x5, 2
     .word 0x002282b3  # add x5, x5, x2
-    .word 0x0202a283  # lw x5, 32(x5)
+    .word 0x0402a283  # lw x5, 64(x5)
     .word 0x0062d293  # srli x5, x5, 6
     .word 0x0192fab3  # and x21, x5, x25
     .word 0x00349293  # slli x5, x9, 3
     .word 0x00528293  # addi x5, x5, 5
-    .word 0x00828293  # addi x5, x5, 8
     .word 0x00229293  # slli x5, x5, 2
     .word 0x002282b3  # add x5, x5, x2
-    .word 0x0202a283  # lw x5, 32(x5)
+    .word 0x0402a283  # lw x5, 64(x5)
     .word 0x0062d293  # srli x5, x5, 6
     .word 0x0192fb33  # and x22, x5, x25
     .word 0x00349293  # slli x5, x9, 3
     .word 0x00628293  # addi x5, x5, 6
-    .word 0x00828293  # addi x5, x5, 8
     .word 0x00229293  # slli x5, x5, 2
     .word 0x002282b3  # add x5, x5, x2
-    .word 0x0202a283  # lw x5, 32(x5)
+    .word 0x0402a283  # lw x5, 64(x5)
     .word 0x0062d293  # srli x5, x5, 6
     .word 0x0192fbb3  # and x23, x5, x25
     .word 0x00349293  # slli x5, x9, 3
     .word 0x00728293  # addi x5, x5, 7
-    .word 0x00828293  # addi x5, x5, 8
     .word 0x00229293  # slli x5, x5, 2
     .word 0x002282b3  # add x5, x5, x2
-    .word 0x0202a283  # lw x5, 32(x5)
+    .word 0x0402a283  # lw x5, 64(x5)
     .word 0x0062d293  # srli x5, x5, 6
     .word 0x0192fc33  # and x24, x5, x25
     .word 0x013ac2b3  # xor x5, x21, x19
@@ -723,13 +715,12 @@ aes256_expand:
     .word 0x01a37333  # and x6, x6, x26
     .word 0x0068c8b3  # xor x17, x17, x6
     .word 0x00349293  # slli x5, x9, 3
-    .word 0x01028293  # addi x5, x5, 16
     .word 0x00489393  # slli x7, x17, 4
     .word 0x01b3f3b3  # and x7, x7, x27
     .word 0x0078c333  # xor x6, x17, x7
     .word 0x00229293  # slli x5, x5, 2
     .word 0x002282b3  # add x5, x5, x2
-    .word 0x0262a023  # sw x6, 32(x5)
+    .word 0x0662a023  # sw x6, 96(x5)
     .word 0x019af8b3  # and x17, x21, x25
     .word 0x0014f293  # andi x5, x9, 1
     .word 0x02029463  # bne x5, x0, 40
@@ -743,23 +734,21 @@ aes256_expand:
     .word 0x02730333  # mul x6, x6, x7
     .word 0x0062c8b3  # xor x17, x5, x6
     .word 0x00349293  # slli x5, x9, 3
-    .word 0x00128293  # addi x5, x5, 1
     .word 0x00229293  # slli x5, x5, 2
     .word 0x002282b3  # add x5, x5, x2
-    .word 0x0202a283  # lw x5, 32(x5)
+    .word 0x0242a283  # lw x5, 36(x5)
     .word 0x0112c8b3  # xor x17, x5, x17
     .word 0x00289313  # slli x6, x17, 2
     .word 0x01a37333  # and x6, x6, x26
     .word 0x0068c8b3  # xor x17, x17, x6
     .word 0x00349293  # slli x5, x9, 3
     .word 0x00128293  # addi x5, x5, 1
-    .word 0x01028293  # addi x5, x5, 16
     .word 0x00489393  # slli x7, x17, 4
     .word 0x01b3f3b3  # and x7, x7, x27
     .word 0x0078c333  # xor x6, x17, x7
     .word 0x00229293  # slli x5, x5, 2
     .word 0x002282b3  # add x5, x5, x2
-    .word 0x0262a023  # sw x6, 32(x5)
+    .word 0x0662a023  # sw x6, 96(x5)
     .word 0x019bf8b3  # and x17, x23, x25
     .word 0x0014f293  # andi x5, x9, 1
     .word 0x02029463  # bne x5, x0, 40
@@ -773,23 +762,21 @@ aes256_expand:
     .word 0x02730333  # mul x6, x6, x7
     .word 0x0062c8b3  # xor x17, x5, x6
     .word 0x00349293  # slli x5, x9, 3
-    .word 0x00228293  # addi x5, x5, 2
     .word 0x00229293  # slli x5, x5, 2
     .word 0x002282b3  # add x5, x5, x2
-    .word 0x0202a283  # lw x5, 32(x5)
+    .word 0x0282a283  # lw x5, 40(x5)
     .word 0x0112c8b3  # xor x17, x5, x17
     .word 0x00289313  # slli x6, x17, 2
     .word 0x01a37333  # and x6, x6, x26
     .word 0x0068c8b3  # xor x17, x17, x6
     .word 0x00349293  # slli x5, x9, 3
     .word 0x00228293  # addi x5, x5, 2
-    .word 0x01028293  # addi x5, x5, 16
     .word 0x00489393  # slli x7, x17, 4
     .word 0x01b3f3b3  # and x7, x7, x27
     .word 0x0078c333  # xor x6, x17, x7
     .word 0x00229293  # slli x5, x5, 2
     .word 0x002282b3  # add x5, x5, x2
-    .word 0x0262a023  # sw x6, 32(x5)
+    .word 0x0662a023  # sw x6, 96(x5)
     .word 0x019a78b3  # and x17, x20, x25
     .word 0x0014f293  # andi x5, x9, 1
     .word 0x02029463  # bne x5, x0, 40
@@ -803,23 +790,21 @@ aes256_expand:
     .word 0x02730333  # mul x6, x6, x7
     .word 0x0062c8b3  # xor x17, x5, x6
     .word 0x00349293  # slli x5, x9, 3
-    .word 0x00328293  # addi x5, x5, 3
     .word 0x00229293  # slli x5, x5, 2
     .word 0x002282b3  # add x5, x5, x2
-    .word 0x0202a283  # lw x5, 32(x5)
+    .word 0x02c2a283  # lw x5, 44(x5)
     .word 0x0112c8b3  # xor x17, x5, x17
     .word 0x00289313  # slli x6, x17, 2
     .word 0x01a37333  # and x6, x6, x26
     .word 0x0068c8b3  # xor x17, x17, x6
     .word 0x00349293  # slli x5, x9, 3
     .word 0x00328293  # addi x5, x5, 3
-    .word 0x01028293  # addi x5, x5, 16
     .word 0x00489393  # slli x7, x17, 4
     .word 0x01b3f3b3  # and x7, x7, x27
     .word 0x0078c333  # xor x6, x17, x7
     .word 0x00229293  # slli x5, x5, 2
     .word 0x002282b3  # add x5, x5, x2
-    .word 0x0262a023  # sw x6, 32(x5)
+    .word 0x0662a023  # sw x6, 96(x5)
     .word 0x019c78b3  # and x17, x24, x25
     .word 0x0014f293  # andi x5, x9, 1
     .word 0x02029463  # bne x5, x0, 40
@@ -833,23 +818,21 @@ aes256_expand:
     .word 0x02730333  # mul x6, x6, x7
     .word 0x0062c8b3  # xor x17, x5, x6
     .word 0x00349293  # slli x5, x9, 3
-    .word 0x00428293  # addi x5, x5, 4
     .word 0x00229293  # slli x5, x5, 2
     .word 0x002282b3  # add x5, x5, x2
-    .word 0x0202a283  # lw x5, 32(x5)
+    .word 0x0302a283  # lw x5, 48(x5)
     .word 0x0112c8b3  # xor x17, x5, x17
     .word 0x00289313  # slli x6, x17, 2
     .word 0x01a37333  # and x6, x6, x26
     .word 0x0068c8b3  # xor x17, x17, x6
     .word 0x00349293  # slli x5, x9, 3
     .word 0x00428293  # addi x5, x5, 4
-    .word 0x01028293  # addi x5, x5, 16
     .word 0x00489393  # slli x7, x17, 4
     .word 0x01b3f3b3  # and x7, x7, x27
     .word 0x0078c333  # xor x6, x17, x7
     .word 0x00229293  # slli x5, x5, 2
     .word 0x002282b3  # add x5, x5, x2
-    .word 0x0262a023  # sw x6, 32(x5)
+    .word 0x0662a023  # sw x6, 96(x5)
     .word 0x019578b3  # and x17, x10, x25
     .word 0x0014f293  # andi x5, x9, 1
     .word 0x02029463  # bne x5, x0, 40
@@ -863,23 +846,21 @@ aes256_expand:
     .word 0x02730333  # mul x6, x6, x7
     .word 0x0062c8b3  # xor x17, x5, x6
     .word 0x00349293  # slli x5, x9, 3
-    .word 0x00528293  # addi x5, x5, 5
     .word 0x00229293  # slli x5, x5, 2
     .word 0x002282b3  # add x5, x5, x2
-    .word 0x0202a283  # lw x5, 32(x5)
+    .word 0x0342a283  # lw x5, 52(x5)
     .word 0x0112c8b3  # xor x17, x5, x17
     .word 0x00289313  # slli x6, x17, 2
     .word 0x01a37333  # and x6, x6, x26
     .word 0x0068c8b3  # xor x17, x17, x6
     .word 0x00349293  # slli x5, x9, 3
     .word 0x00528293  # addi x5, x5, 5
-    .word 0x01028293  # addi x5, x5, 16
     .word 0x00489393  # slli x7, x17, 4
     .word 0x01b3f3b3  # and x7, x7, x27
     .word 0x0078c333  # xor x6, x17, x7
     .word 0x00229293  # slli x5, x5, 2
     .word 0x002282b3  # add x5, x5, x2
-    .word 0x0262a023  # sw x6, 32(x5)
+    .word 0x0662a023  # sw x6, 96(x5)
     .word 0x019978b3  # and x17, x18, x25
     .word 0x0014f293  # andi x5, x9, 1
     .word 0x02029463  # bne x5, x0, 40
@@ -893,23 +874,21 @@ aes256_expand:
     .word 0x02730333  # mul x6, x6, x7
     .word 0x0062c8b3  # xor x17, x5, x6
     .word 0x00349293  # slli x5, x9, 3
-    .word 0x00628293  # addi x5, x5, 6
     .word 0x00229293  # slli x5, x5, 2
     .word 0x002282b3  # add x5, x5, x2
-    .word 0x0202a283  # lw x5, 32(x5)
+    .word 0x0382a283  # lw x5, 56(x5)
     .word 0x0112c8b3  # xor x17, x5, x17
     .word 0x00289313  # slli x6, x17, 2
     .word 0x01a37333  # and x6, x6, x26
     .word 0x0068c8b3  # xor x17, x17, x6
     .word 0x00349293  # slli x5, x9, 3
     .word 0x00628293  # addi x5, x5, 6
-    .word 0x01028293  # addi x5, x5, 16
     .word 0x00489393  # slli x7, x17, 4
     .word 0x01b3f3b3  # and x7, x7, x27
     .word 0x0078c333  # xor x6, x17, x7
     .word 0x00229293  # slli x5, x5, 2
     .word 0x002282b3  # add x5, x5, x2
-    .word 0x0262a023  # sw x6, 32(x5)
+    .word 0x0662a023  # sw x6, 96(x5)
     .word 0x0199f8b3  # and x17, x19, x25
     .word 0x0014f293  # andi x5, x9, 1
     .word 0x02029463  # bne x5, x0, 40
@@ -923,26 +902,24 @@ aes256_expand:
     .word 0x02730333  # mul x6, x6, x7
     .word 0x0062c8b3  # xor x17, x5, x6
     .word 0x00349293  # slli x5, x9, 3
-    .word 0x00728293  # addi x5, x5, 7
     .word 0x00229293  # slli x5, x5, 2
     .word 0x002282b3  # add x5, x5, x2
-    .word 0x0202a283  # lw x5, 32(x5)
+    .word 0x03c2a283  # lw x5, 60(x5)
     .word 0x0112c8b3  # xor x17, x5, x17
     .word 0x00289313  # slli x6, x17, 2
     .word 0x01a37333  # and x6, x6, x26
     .word 0x0068c8b3  # xor x17, x17, x6
     .word 0x00349293  # slli x5, x9, 3
     .word 0x00728293  # addi x5, x5, 7
-    .word 0x01028293  # addi x5, x5, 16
     .word 0x00489393  # slli x7, x17, 4
     .word 0x01b3f3b3  # and x7, x7, x27
     .word 0x0078c333  # xor x6, x17, x7
     .word 0x00229293  # slli x5, x5, 2
     .word 0x002282b3  # add x5, x5, x2
-    .word 0x0262a023  # sw x6, 32(x5)
+    .word 0x0662a023  # sw x6, 96(x5)
     .word 0x00148493  # addi x9, x9, 1
     .word 0x00d4b293  # sltiu x5, x9, 13
-    .word 0x82029ce3  # bne x5, x0, -1992
+    .word 0x88029ae3  # bne x5, x0, -1900
     .word 0xfff48493  # addi x9, x9, -1
     # the result
     .word 0x00000513  # addi x10, x0, 0

@@ -1,4 +1,4 @@
-# siphash24_blocks: made by factc function; 325 words, 144 bytes of stack, profile 1
+# siphash24_blocks: made by factc 1.0.0 function; 319 words, 144 bytes of stack, profile 1
     .option push
     .option norvc
     .option norelax
@@ -120,43 +120,37 @@ siphash24_blocks:
     .word 0x06c12283  # lw x5, 108(x2)
     .word 0x005332b3  # sltu x5, x6, x5
     .word 0x00029463  # bne x5, x0, 8
-    .word 0x2740006f  # jal x0, 628
+    .word 0x25c0006f  # jal x0, 604
     .word 0x00030913  # addi x18, x6, 0
     .word 0x00391993  # slli x19, x18, 3
     .word 0x002982b3  # add x5, x19, x2
     .word 0x0202c283  # lbu x5, 32(x5)
-    .word 0x00198313  # addi x6, x19, 1
-    .word 0x00230333  # add x6, x6, x2
-    .word 0x02034303  # lbu x6, 32(x6)
+    .word 0x00298333  # add x6, x19, x2
+    .word 0x02134303  # lbu x6, 33(x6)
     .word 0x00831313  # slli x6, x6, 8
     .word 0x0062e8b3  # or x17, x5, x6
-    .word 0x00298313  # addi x6, x19, 2
-    .word 0x00230333  # add x6, x6, x2
-    .word 0x02034303  # lbu x6, 32(x6)
+    .word 0x00298333  # add x6, x19, x2
+    .word 0x02234303  # lbu x6, 34(x6)
     .word 0x01031313  # slli x6, x6, 16
     .word 0x0068e2b3  # or x5, x17, x6
-    .word 0x00398313  # addi x6, x19, 3
-    .word 0x00230333  # add x6, x6, x2
-    .word 0x02034303  # lbu x6, 32(x6)
+    .word 0x00298333  # add x6, x19, x2
+    .word 0x02334303  # lbu x6, 35(x6)
     .word 0x01831313  # slli x6, x6, 24
     .word 0x0062ea33  # or x20, x5, x6
     .word 0x00391293  # slli x5, x18, 3
     .word 0x00428993  # addi x19, x5, 4
     .word 0x002982b3  # add x5, x19, x2
     .word 0x0202c283  # lbu x5, 32(x5)
-    .word 0x00198313  # addi x6, x19, 1
-    .word 0x00230333  # add x6, x6, x2
-    .word 0x02034303  # lbu x6, 32(x6)
+    .word 0x00298333  # add x6, x19, x2
+    .word 0x02134303  # lbu x6, 33(x6)
     .word 0x00831313  # slli x6, x6, 8
     .word 0x0062e8b3  # or x17, x5, x6
-    .word 0x00298313  # addi x6, x19, 2
-    .word 0x00230333  # add x6, x6, x2
-    .word 0x02034303  # lbu x6, 32(x6)
+    .word 0x00298333  # add x6, x19, x2
+    .word 0x02234303  # lbu x6, 34(x6)
     .word 0x01031313  # slli x6, x6, 16
     .word 0x0068e2b3  # or x5, x17, x6
-    .word 0x00398313  # addi x6, x19, 3
-    .word 0x00230333  # add x6, x6, x2
-    .word 0x02034303  # lbu x6, 32(x6)
+    .word 0x00298333  # add x6, x19, x2
+    .word 0x02334303  # lbu x6, 35(x6)
     .word 0x01831313  # slli x6, x6, 24
     .word 0x0062eab3  # or x21, x5, x6
     .word 0x0147c7b3  # xor x15, x15, x20
@@ -274,7 +268,7 @@ siphash24_blocks:
     .word 0x00190913  # addi x18, x18, 1
     .word 0x06c12283  # lw x5, 108(x2)
     .word 0x005932b3  # sltu x5, x18, x5
-    .word 0xda0290e3  # bne x5, x0, -608
+    .word 0xda029ce3  # bne x5, x0, -584
     .word 0xfff90913  # addi x18, x18, -1
     .word 0x0040006f  # jal x0, 4
     .word 0x00912023  # sw x9, 0(x2)

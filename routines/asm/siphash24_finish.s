@@ -1,4 +1,4 @@
-# siphash24_finish: made by factc function; 500 words, 96 bytes of stack, profile 1
+# siphash24_finish: made by factc 1.0.0 function; 500 words, 96 bytes of stack, profile 1
     .option push
     .option norvc
     .option norelax

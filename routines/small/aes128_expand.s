@@ -1,4 +1,4 @@
-# aes128_expand: made by factc function; 661 words, 624 bytes of stack, profile 1
+# aes128_expand: made by factc 1.0.0 function; 648 words, 624 bytes of stack, profile 1
     .option push
     .option norvc
     .option norelax
@@ -121,7 +121,7 @@ aes128_expand:
     .word 0x22412283  # lw x5, 548(x2)
     .word 0x005332b3  # sltu x5, x6, x5
     .word 0x00029463  # bne x5, x0, 8
-    .word 0x0740006f  # jal x0, 116
+    .word 0x0680006f  # jal x0, 104
     .word 0x18612823  # sw x6, 400(x2)
     .word 0x00130313  # addi x6, x6, 1
     .word 0x22612023  # sw x6, 544(x2)
@@ -130,26 +130,23 @@ aes128_expand:
     .word 0x00229513  # slli x10, x5, 2
     .word 0x002502b3  # add x5, x10, x2
     .word 0x0002c283  # lbu x5, 0(x5)
-    .word 0x00150313  # addi x6, x10, 1
-    .word 0x00230333  # add x6, x6, x2
-    .word 0x00034303  # lbu x6, 0(x6)
+    .word 0x00250333  # add x6, x10, x2
+    .word 0x00134303  # lbu x6, 1(x6)
     .word 0x00831313  # slli x6, x6, 8
     .word 0x0062ed33  # or x26, x5, x6
     .word 0x19012283  # lw x5, 400(x2)
-    .word 0x00250393  # addi x7, x10, 2
-    .word 0x002383b3  # add x7, x7, x2
-    .word 0x0003c383  # lbu x7, 0(x7)
+    .word 0x002503b3  # add x7, x10, x2
+    .word 0x0023c383  # lbu x7, 2(x7)
     .word 0x01039393  # slli x7, x7, 16
     .word 0x007d6333  # or x6, x26, x7
-    .word 0x00350393  # addi x7, x10, 3
-    .word 0x002383b3  # add x7, x7, x2
-    .word 0x0003c383  # lbu x7, 0(x7)
+    .word 0x002503b3  # add x7, x10, x2
+    .word 0x0033c383  # lbu x7, 3(x7)
     .word 0x01839393  # slli x7, x7, 24
     .word 0x00736333  # or x6, x6, x7
     .word 0x00229293  # slli x5, x5, 2
     .word 0x002282b3  # add x5, x5, x2
     .word 0x1662a823  # sw x6, 368(x5)
-    .word 0xf81ff06f  # jal x0, -128
+    .word 0xf8dff06f  # jal x0, -116
     .word 0x22012023  # sw x0, 544(x2)
     .word 0x00400293  # addi x5, x0, 4
     .word 0x22512223  # sw x5, 548(x2)
@@ -157,7 +154,7 @@ aes128_expand:
     .word 0x22412283  # lw x5, 548(x2)
     .word 0x005332b3  # sltu x5, x6, x5
     .word 0x00029463  # bne x5, x0, 8
-    .word 0x08c0006f  # jal x0, 140
+    .word 0x0800006f  # jal x0, 128
     .word 0x18612a23  # sw x6, 404(x2)
     .word 0x00130313  # addi x6, x6, 1
     .word 0x22612023  # sw x6, 544(x2)
@@ -167,22 +164,19 @@ aes128_expand:
     .word 0x002282b3  # add x5, x5, x2
     .word 0x1702a283  # lw x5, 368(x5)
     .word 0x0012d293  # srli x5, x5, 1
-    .word 0x00150313  # addi x6, x10, 1
-    .word 0x00231313  # slli x6, x6, 2
+    .word 0x00251313  # slli x6, x10, 2
     .word 0x00230333  # add x6, x6, x2
-    .word 0x17032303  # lw x6, 368(x6)
+    .word 0x17432303  # lw x6, 372(x6)
     .word 0x0062c2b3  # xor x5, x5, x6
     .word 0x20812303  # lw x6, 520(x2)
     .word 0x0062fd33  # and x26, x5, x6
-    .word 0x00150293  # addi x5, x10, 1
-    .word 0x00150313  # addi x6, x10, 1
-    .word 0x00231313  # slli x6, x6, 2
+    .word 0x00251313  # slli x6, x10, 2
     .word 0x00230333  # add x6, x6, x2
-    .word 0x17032303  # lw x6, 368(x6)
+    .word 0x17432303  # lw x6, 372(x6)
     .word 0x01a34333  # xor x6, x6, x26
-    .word 0x00229293  # slli x5, x5, 2
+    .word 0x00251293  # slli x5, x10, 2
     .word 0x002282b3  # add x5, x5, x2
-    .word 0x1662a823  # sw x6, 368(x5)
+    .word 0x1662aa23  # sw x6, 372(x5)
     .word 0x00251313  # slli x6, x10, 2
     .word 0x00230333  # add x6, x6, x2
     .word 0x17032303  # lw x6, 368(x6)
@@ -191,7 +185,7 @@ aes128_expand:
     .word 0x00251293  # slli x5, x10, 2
     .word 0x002282b3  # add x5, x5, x2
     .word 0x1662a823  # sw x6, 368(x5)
-    .word 0xf69ff06f  # jal x0, -152
+    .word 0xf75ff06f  # jal x0, -140
     .word 0x22012023  # sw x0, 544(x2)
     .word 0x00400293  # addi x5, x0, 4
     .word 0x22512223  # sw x5, 548(x2)
@@ -199,7 +193,7 @@ aes128_expand:
     .word 0x22412283  # lw x5, 548(x2)
     .word 0x005332b3  # sltu x5, x6, x5
     .word 0x00029463  # bne x5, x0, 8
-    .word 0x0940006f  # jal x0, 148
+    .word 0x0880006f  # jal x0, 136
     .word 0x18612c23  # sw x6, 408(x2)
     .word 0x00130313  # addi x6, x6, 1
     .word 0x22612023  # sw x6, 544(x2)
@@ -211,22 +205,19 @@ aes128_expand:
     .word 0x002282b3  # add x5, x5, x2
     .word 0x1702a283  # lw x5, 368(x5)
     .word 0x0022d293  # srli x5, x5, 2
-    .word 0x00250313  # addi x6, x10, 2
-    .word 0x00231313  # slli x6, x6, 2
+    .word 0x00251313  # slli x6, x10, 2
     .word 0x00230333  # add x6, x6, x2
-    .word 0x17032303  # lw x6, 368(x6)
+    .word 0x17832303  # lw x6, 376(x6)
     .word 0x0062c2b3  # xor x5, x5, x6
     .word 0x20c12303  # lw x6, 524(x2)
     .word 0x0062fd33  # and x26, x5, x6
-    .word 0x00250293  # addi x5, x10, 2
-    .word 0x00250313  # addi x6, x10, 2
-    .word 0x00231313  # slli x6, x6, 2
+    .word 0x00251313  # slli x6, x10, 2
     .word 0x00230333  # add x6, x6, x2
-    .word 0x17032303  # lw x6, 368(x6)
+    .word 0x17832303  # lw x6, 376(x6)
     .word 0x01a34333  # xor x6, x6, x26
-    .word 0x00229293  # slli x5, x5, 2
+    .word 0x00251293  # slli x5, x10, 2
     .word 0x002282b3  # add x5, x5, x2
-    .word 0x1662a823  # sw x6, 368(x5)
+    .word 0x1662ac23  # sw x6, 376(x5)
     .word 0x00251313  # slli x6, x10, 2
     .word 0x00230333  # add x6, x6, x2
     .word 0x17032303  # lw x6, 368(x6)
@@ -235,7 +226,7 @@ aes128_expand:
     .word 0x00251293  # slli x5, x10, 2
     .word 0x002282b3  # add x5, x5, x2
     .word 0x1662a823  # sw x6, 368(x5)
-    .word 0xf61ff06f  # jal x0, -160
+    .word 0xf6dff06f  # jal x0, -148
     .word 0x22012023  # sw x0, 544(x2)
     .word 0x00400293  # addi x5, x0, 4
     .word 0x22512223  # sw x5, 548(x2)
@@ -243,7 +234,7 @@ aes128_expand:
     .word 0x22412283  # lw x5, 548(x2)
     .word 0x005332b3  # sltu x5, x6, x5
     .word 0x00029463  # bne x5, x0, 8
-    .word 0x09c0006f  # jal x0, 156
+    .word 0x0900006f  # jal x0, 144
     .word 0x18612e23  # sw x6, 412(x2)
     .word 0x00130313  # addi x6, x6, 1
     .word 0x22612023  # sw x6, 544(x2)
@@ -253,24 +244,21 @@ aes128_expand:
     .word 0x1702a283  # lw x5, 368(x5)
     .word 0x0042d293  # srli x5, x5, 4
     .word 0x19c12303  # lw x6, 412(x2)
-    .word 0x00430313  # addi x6, x6, 4
     .word 0x00231313  # slli x6, x6, 2
     .word 0x00230333  # add x6, x6, x2
-    .word 0x17032303  # lw x6, 368(x6)
+    .word 0x18032303  # lw x6, 384(x6)
     .word 0x0062c2b3  # xor x5, x5, x6
     .word 0x21012303  # lw x6, 528(x2)
     .word 0x0062fd33  # and x26, x5, x6
     .word 0x19c12283  # lw x5, 412(x2)
-    .word 0x00428293  # addi x5, x5, 4
     .word 0x19c12303  # lw x6, 412(x2)
-    .word 0x00430313  # addi x6, x6, 4
     .word 0x00231313  # slli x6, x6, 2
     .word 0x00230333  # add x6, x6, x2
-    .word 0x17032303  # lw x6, 368(x6)
+    .word 0x18032303  # lw x6, 384(x6)
     .word 0x01a34333  # xor x6, x6, x26
     .word 0x00229293  # slli x5, x5, 2
     .word 0x002282b3  # add x5, x5, x2
-    .word 0x1662a823  # sw x6, 368(x5)
+    .word 0x1862a023  # sw x6, 384(x5)
     .word 0x19c12283  # lw x5, 412(x2)
     .word 0x19c12303  # lw x6, 412(x2)
     .word 0x00231313  # slli x6, x6, 2
@@ -281,7 +269,7 @@ aes128_expand:
     .word 0x00229293  # slli x5, x5, 2
     .word 0x002282b3  # add x5, x5, x2
     .word 0x1662a823  # sw x6, 368(x5)
-    .word 0xf59ff06f  # jal x0, -168
+    .word 0xf65ff06f  # jal x0, -156
     .word 0x22012023  # sw x0, 544(x2)
     .word 0x00800293  # addi x5, x0, 8
     .word 0x22512223  # sw x5, 548(x2)
@@ -591,20 +579,19 @@ aes128_expand:
     .word 0x006d4d33  # xor x26, x26, x6
     .word 0x00349293  # slli x5, x9, 3
     .word 0x019282b3  # add x5, x5, x25
-    .word 0x00828293  # addi x5, x5, 8
     .word 0x00229293  # slli x5, x5, 2
     .word 0x002282b3  # add x5, x5, x2
-    .word 0x01a2a823  # sw x26, 16(x5)
+    .word 0x03a2a823  # sw x26, 48(x5)
     .word 0x002c9293  # slli x5, x25, 2
     .word 0x002282b3  # add x5, x5, x2
     .word 0x17a2a823  # sw x26, 368(x5)
     .word 0x001c8c93  # addi x25, x25, 1
     .word 0x008cb293  # sltiu x5, x25, 8
-    .word 0xf60294e3  # bne x5, x0, -152
+    .word 0xf60296e3  # bne x5, x0, -148
     .word 0xfffc8c93  # addi x25, x25, -1
     .word 0x00148493  # addi x9, x9, 1
     .word 0x00a4b293  # sltiu x5, x9, 10
-    .word 0xb8029ee3  # bne x5, x0, -1124
+    .word 0xba0290e3  # bne x5, x0, -1120
     .word 0xfff48493  # addi x9, x9, -1
     # the result
     .word 0x00000513  # addi x10, x0, 0

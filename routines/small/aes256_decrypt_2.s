@@ -1,4 +1,4 @@
-# aes256_decrypt_2: made by factc function; 1094 words, 848 bytes of stack, profile 1
+# aes256_decrypt_2: made by factc 1.0.0 function; 1073 words, 848 bytes of stack, profile 1
     .option push
     .option norvc
     .option norelax
@@ -152,7 +152,7 @@ aes256_decrypt_2:
     .word 0x30412283  # lw x5, 772(x2)
     .word 0x005332b3  # sltu x5, x6, x5
     .word 0x00029463  # bne x5, x0, 8
-    .word 0x0840006f  # jal x0, 132
+    .word 0x0780006f  # jal x0, 120
     .word 0x22612023  # sw x6, 544(x2)
     .word 0x00130313  # addi x6, x6, 1
     .word 0x30612023  # sw x6, 768(x2)
@@ -165,26 +165,23 @@ aes256_decrypt_2:
     .word 0x00628bb3  # add x23, x5, x6
     .word 0x002b82b3  # add x5, x23, x2
     .word 0x1e02c283  # lbu x5, 480(x5)
-    .word 0x001b8313  # addi x6, x23, 1
-    .word 0x00230333  # add x6, x6, x2
-    .word 0x1e034303  # lbu x6, 480(x6)
+    .word 0x002b8333  # add x6, x23, x2
+    .word 0x1e134303  # lbu x6, 481(x6)
     .word 0x00831313  # slli x6, x6, 8
     .word 0x0062e533  # or x10, x5, x6
     .word 0x22012283  # lw x5, 544(x2)
-    .word 0x002b8393  # addi x7, x23, 2
-    .word 0x002383b3  # add x7, x7, x2
-    .word 0x1e03c383  # lbu x7, 480(x7)
+    .word 0x002b83b3  # add x7, x23, x2
+    .word 0x1e23c383  # lbu x7, 482(x7)
     .word 0x01039393  # slli x7, x7, 16
     .word 0x00756333  # or x6, x10, x7
-    .word 0x003b8393  # addi x7, x23, 3
-    .word 0x002383b3  # add x7, x7, x2
-    .word 0x1e03c383  # lbu x7, 480(x7)
+    .word 0x002b83b3  # add x7, x23, x2
+    .word 0x1e33c383  # lbu x7, 483(x7)
     .word 0x01839393  # slli x7, x7, 24
     .word 0x00736333  # or x6, x6, x7
     .word 0x00229293  # slli x5, x5, 2
     .word 0x002282b3  # add x5, x5, x2
     .word 0x2062a023  # sw x6, 512(x5)
-    .word 0xf71ff06f  # jal x0, -144
+    .word 0xf7dff06f  # jal x0, -132
     .word 0x30012023  # sw x0, 768(x2)
     .word 0x00400293  # addi x5, x0, 4
     .word 0x30512223  # sw x5, 772(x2)
@@ -192,7 +189,7 @@ aes256_decrypt_2:
     .word 0x30412283  # lw x5, 772(x2)
     .word 0x005332b3  # sltu x5, x6, x5
     .word 0x00029463  # bne x5, x0, 8
-    .word 0x08c0006f  # jal x0, 140
+    .word 0x0800006f  # jal x0, 128
     .word 0x22612223  # sw x6, 548(x2)
     .word 0x00130313  # addi x6, x6, 1
     .word 0x30612023  # sw x6, 768(x2)
@@ -202,22 +199,19 @@ aes256_decrypt_2:
     .word 0x002282b3  # add x5, x5, x2
     .word 0x2002a283  # lw x5, 512(x5)
     .word 0x0012d293  # srli x5, x5, 1
-    .word 0x001b8313  # addi x6, x23, 1
-    .word 0x00231313  # slli x6, x6, 2
+    .word 0x002b9313  # slli x6, x23, 2
     .word 0x00230333  # add x6, x6, x2
-    .word 0x20032303  # lw x6, 512(x6)
+    .word 0x20432303  # lw x6, 516(x6)
     .word 0x0062c2b3  # xor x5, x5, x6
     .word 0x2e812303  # lw x6, 744(x2)
     .word 0x0062f533  # and x10, x5, x6
-    .word 0x001b8293  # addi x5, x23, 1
-    .word 0x001b8313  # addi x6, x23, 1
-    .word 0x00231313  # slli x6, x6, 2
+    .word 0x002b9313  # slli x6, x23, 2
     .word 0x00230333  # add x6, x6, x2
-    .word 0x20032303  # lw x6, 512(x6)
+    .word 0x20432303  # lw x6, 516(x6)
     .word 0x00a34333  # xor x6, x6, x10
-    .word 0x00229293  # slli x5, x5, 2
+    .word 0x002b9293  # slli x5, x23, 2
     .word 0x002282b3  # add x5, x5, x2
-    .word 0x2062a023  # sw x6, 512(x5)
+    .word 0x2062a223  # sw x6, 516(x5)
     .word 0x002b9313  # slli x6, x23, 2
     .word 0x00230333  # add x6, x6, x2
     .word 0x20032303  # lw x6, 512(x6)
@@ -226,7 +220,7 @@ aes256_decrypt_2:
     .word 0x002b9293  # slli x5, x23, 2
     .word 0x002282b3  # add x5, x5, x2
     .word 0x2062a023  # sw x6, 512(x5)
-    .word 0xf69ff06f  # jal x0, -152
+    .word 0xf75ff06f  # jal x0, -140
     .word 0x30012023  # sw x0, 768(x2)
     .word 0x00400293  # addi x5, x0, 4
     .word 0x30512223  # sw x5, 772(x2)
@@ -234,7 +228,7 @@ aes256_decrypt_2:
     .word 0x30412283  # lw x5, 772(x2)
     .word 0x005332b3  # sltu x5, x6, x5
     .word 0x00029463  # bne x5, x0, 8
-    .word 0x0940006f  # jal x0, 148
+    .word 0x0880006f  # jal x0, 136
     .word 0x22612423  # sw x6, 552(x2)
     .word 0x00130313  # addi x6, x6, 1
     .word 0x30612023  # sw x6, 768(x2)
@@ -246,22 +240,19 @@ aes256_decrypt_2:
     .word 0x002282b3  # add x5, x5, x2
     .word 0x2002a283  # lw x5, 512(x5)
     .word 0x0022d293  # srli x5, x5, 2
-    .word 0x002b8313  # addi x6, x23, 2
-    .word 0x00231313  # slli x6, x6, 2
+    .word 0x002b9313  # slli x6, x23, 2
     .word 0x00230333  # add x6, x6, x2
-    .word 0x20032303  # lw x6, 512(x6)
+    .word 0x20832303  # lw x6, 520(x6)
     .word 0x0062c2b3  # xor x5, x5, x6
     .word 0x2ec12303  # lw x6, 748(x2)
     .word 0x0062f533  # and x10, x5, x6
-    .word 0x002b8293  # addi x5, x23, 2
-    .word 0x002b8313  # addi x6, x23, 2
-    .word 0x00231313  # slli x6, x6, 2
+    .word 0x002b9313  # slli x6, x23, 2
     .word 0x00230333  # add x6, x6, x2
-    .word 0x20032303  # lw x6, 512(x6)
+    .word 0x20832303  # lw x6, 520(x6)
     .word 0x00a34333  # xor x6, x6, x10
-    .word 0x00229293  # slli x5, x5, 2
+    .word 0x002b9293  # slli x5, x23, 2
     .word 0x002282b3  # add x5, x5, x2
-    .word 0x2062a023  # sw x6, 512(x5)
+    .word 0x2062a423  # sw x6, 520(x5)
     .word 0x002b9313  # slli x6, x23, 2
     .word 0x00230333  # add x6, x6, x2
     .word 0x20032303  # lw x6, 512(x6)
@@ -270,7 +261,7 @@ aes256_decrypt_2:
     .word 0x002b9293  # slli x5, x23, 2
     .word 0x002282b3  # add x5, x5, x2
     .word 0x2062a023  # sw x6, 512(x5)
-    .word 0xf61ff06f  # jal x0, -160
+    .word 0xf6dff06f  # jal x0, -148
     .word 0x30012023  # sw x0, 768(x2)
     .word 0x00400293  # addi x5, x0, 4
     .word 0x30512223  # sw x5, 772(x2)
@@ -278,7 +269,7 @@ aes256_decrypt_2:
     .word 0x30412283  # lw x5, 772(x2)
     .word 0x005332b3  # sltu x5, x6, x5
     .word 0x00029463  # bne x5, x0, 8
-    .word 0x09c0006f  # jal x0, 156
+    .word 0x0900006f  # jal x0, 144
     .word 0x22612623  # sw x6, 556(x2)
     .word 0x00130313  # addi x6, x6, 1
     .word 0x30612023  # sw x6, 768(x2)
@@ -288,24 +279,21 @@ aes256_decrypt_2:
     .word 0x2002a283  # lw x5, 512(x5)
     .word 0x0042d293  # srli x5, x5, 4
     .word 0x22c12303  # lw x6, 556(x2)
-    .word 0x00430313  # addi x6, x6, 4
     .word 0x00231313  # slli x6, x6, 2
     .word 0x00230333  # add x6, x6, x2
-    .word 0x20032303  # lw x6, 512(x6)
+    .word 0x21032303  # lw x6, 528(x6)
     .word 0x0062c2b3  # xor x5, x5, x6
     .word 0x2f012303  # lw x6, 752(x2)
     .word 0x0062f533  # and x10, x5, x6
     .word 0x22c12283  # lw x5, 556(x2)
-    .word 0x00428293  # addi x5, x5, 4
     .word 0x22c12303  # lw x6, 556(x2)
-    .word 0x00430313  # addi x6, x6, 4
     .word 0x00231313  # slli x6, x6, 2
     .word 0x00230333  # add x6, x6, x2
-    .word 0x20032303  # lw x6, 512(x6)
+    .word 0x21032303  # lw x6, 528(x6)
     .word 0x00a34333  # xor x6, x6, x10
     .word 0x00229293  # slli x5, x5, 2
     .word 0x002282b3  # add x5, x5, x2
-    .word 0x2062a023  # sw x6, 512(x5)
+    .word 0x2062a823  # sw x6, 528(x5)
     .word 0x22c12283  # lw x5, 556(x2)
     .word 0x22c12303  # lw x6, 556(x2)
     .word 0x00231313  # slli x6, x6, 2
@@ -316,7 +304,7 @@ aes256_decrypt_2:
     .word 0x00229293  # slli x5, x5, 2
     .word 0x002282b3  # add x5, x5, x2
     .word 0x2062a023  # sw x6, 512(x5)
-    .word 0xf59ff06f  # jal x0, -168
+    .word 0xf65ff06f  # jal x0, -156
     .word 0x30012023  # sw x0, 768(x2)
     .word 0x00800293  # addi x5, x0, 8
     .word 0x30512223  # sw x5, 772(x2)
@@ -883,7 +871,7 @@ aes256_decrypt_2:
     .word 0x30412283  # lw x5, 772(x2)
     .word 0x005332b3  # sltu x5, x6, x5
     .word 0x00029463  # bne x5, x0, 8
-    .word 0x08c0006f  # jal x0, 140
+    .word 0x0800006f  # jal x0, 128
     .word 0x2c612c23  # sw x6, 728(x2)
     .word 0x00130313  # addi x6, x6, 1
     .word 0x30612023  # sw x6, 768(x2)
@@ -893,22 +881,19 @@ aes256_decrypt_2:
     .word 0x002282b3  # add x5, x5, x2
     .word 0x2002a283  # lw x5, 512(x5)
     .word 0x0012d293  # srli x5, x5, 1
-    .word 0x001b8313  # addi x6, x23, 1
-    .word 0x00231313  # slli x6, x6, 2
+    .word 0x002b9313  # slli x6, x23, 2
     .word 0x00230333  # add x6, x6, x2
-    .word 0x20032303  # lw x6, 512(x6)
+    .word 0x20432303  # lw x6, 516(x6)
     .word 0x0062c2b3  # xor x5, x5, x6
     .word 0x2e812303  # lw x6, 744(x2)
     .word 0x0062f533  # and x10, x5, x6
-    .word 0x001b8293  # addi x5, x23, 1
-    .word 0x001b8313  # addi x6, x23, 1
-    .word 0x00231313  # slli x6, x6, 2
+    .word 0x002b9313  # slli x6, x23, 2
     .word 0x00230333  # add x6, x6, x2
-    .word 0x20032303  # lw x6, 512(x6)
+    .word 0x20432303  # lw x6, 516(x6)
     .word 0x00a34333  # xor x6, x6, x10
-    .word 0x00229293  # slli x5, x5, 2
+    .word 0x002b9293  # slli x5, x23, 2
     .word 0x002282b3  # add x5, x5, x2
-    .word 0x2062a023  # sw x6, 512(x5)
+    .word 0x2062a223  # sw x6, 516(x5)
     .word 0x002b9313  # slli x6, x23, 2
     .word 0x00230333  # add x6, x6, x2
     .word 0x20032303  # lw x6, 512(x6)
@@ -917,7 +902,7 @@ aes256_decrypt_2:
     .word 0x002b9293  # slli x5, x23, 2
     .word 0x002282b3  # add x5, x5, x2
     .word 0x2062a023  # sw x6, 512(x5)
-    .word 0xf69ff06f  # jal x0, -152
+    .word 0xf75ff06f  # jal x0, -140
     .word 0x30012023  # sw x0, 768(x2)
     .word 0x00400293  # addi x5, x0, 4
     .word 0x30512223  # sw x5, 772(x2)
@@ -925,7 +910,7 @@ aes256_decrypt_2:
     .word 0x30412283  # lw x5, 772(x2)
     .word 0x005332b3  # sltu x5, x6, x5
     .word 0x00029463  # bne x5, x0, 8
-    .word 0x0940006f  # jal x0, 148
+    .word 0x0880006f  # jal x0, 136
     .word 0x2c612e23  # sw x6, 732(x2)
     .word 0x00130313  # addi x6, x6, 1
     .word 0x30612023  # sw x6, 768(x2)
@@ -937,22 +922,19 @@ aes256_decrypt_2:
     .word 0x002282b3  # add x5, x5, x2
     .word 0x2002a283  # lw x5, 512(x5)
     .word 0x0022d293  # srli x5, x5, 2
-    .word 0x002b8313  # addi x6, x23, 2
-    .word 0x00231313  # slli x6, x6, 2
+    .word 0x002b9313  # slli x6, x23, 2
     .word 0x00230333  # add x6, x6, x2
-    .word 0x20032303  # lw x6, 512(x6)
+    .word 0x20832303  # lw x6, 520(x6)
     .word 0x0062c2b3  # xor x5, x5, x6
     .word 0x2ec12303  # lw x6, 748(x2)
     .word 0x0062f533  # and x10, x5, x6
-    .word 0x002b8293  # addi x5, x23, 2
-    .word 0x002b8313  # addi x6, x23, 2
-    .word 0x00231313  # slli x6, x6, 2
+    .word 0x002b9313  # slli x6, x23, 2
     .word 0x00230333  # add x6, x6, x2
-    .word 0x20032303  # lw x6, 512(x6)
+    .word 0x20832303  # lw x6, 520(x6)
     .word 0x00a34333  # xor x6, x6, x10
-    .word 0x00229293  # slli x5, x5, 2
+    .word 0x002b9293  # slli x5, x23, 2
     .word 0x002282b3  # add x5, x5, x2
-    .word 0x2062a023  # sw x6, 512(x5)
+    .word 0x2062a423  # sw x6, 520(x5)
     .word 0x002b9313  # slli x6, x23, 2
     .word 0x00230333  # add x6, x6, x2
     .word 0x20032303  # lw x6, 512(x6)
@@ -961,7 +943,7 @@ aes256_decrypt_2:
     .word 0x002b9293  # slli x5, x23, 2
     .word 0x002282b3  # add x5, x5, x2
     .word 0x2062a023  # sw x6, 512(x5)
-    .word 0xf61ff06f  # jal x0, -160
+    .word 0xf6dff06f  # jal x0, -148
     .word 0x30012023  # sw x0, 768(x2)
     .word 0x00400293  # addi x5, x0, 4
     .word 0x30512223  # sw x5, 772(x2)
@@ -969,7 +951,7 @@ aes256_decrypt_2:
     .word 0x30412283  # lw x5, 772(x2)
     .word 0x005332b3  # sltu x5, x6, x5
     .word 0x00029463  # bne x5, x0, 8
-    .word 0x09c0006f  # jal x0, 156
+    .word 0x0900006f  # jal x0, 144
     .word 0x2e612023  # sw x6, 736(x2)
     .word 0x00130313  # addi x6, x6, 1
     .word 0x30612023  # sw x6, 768(x2)
@@ -979,24 +961,21 @@ aes256_decrypt_2:
     .word 0x2002a283  # lw x5, 512(x5)
     .word 0x0042d293  # srli x5, x5, 4
     .word 0x2e012303  # lw x6, 736(x2)
-    .word 0x00430313  # addi x6, x6, 4
     .word 0x00231313  # slli x6, x6, 2
     .word 0x00230333  # add x6, x6, x2
-    .word 0x20032303  # lw x6, 512(x6)
+    .word 0x21032303  # lw x6, 528(x6)
     .word 0x0062c2b3  # xor x5, x5, x6
     .word 0x2f012303  # lw x6, 752(x2)
     .word 0x0062f533  # and x10, x5, x6
     .word 0x2e012283  # lw x5, 736(x2)
-    .word 0x00428293  # addi x5, x5, 4
     .word 0x2e012303  # lw x6, 736(x2)
-    .word 0x00430313  # addi x6, x6, 4
     .word 0x00231313  # slli x6, x6, 2
     .word 0x00230333  # add x6, x6, x2
-    .word 0x20032303  # lw x6, 512(x6)
+    .word 0x21032303  # lw x6, 528(x6)
     .word 0x00a34333  # xor x6, x6, x10
     .word 0x00229293  # slli x5, x5, 2
     .word 0x002282b3  # add x5, x5, x2
-    .word 0x2062a023  # sw x6, 512(x5)
+    .word 0x2062a823  # sw x6, 528(x5)
     .word 0x2e012283  # lw x5, 736(x2)
     .word 0x2e012303  # lw x6, 736(x2)
     .word 0x00231313  # slli x6, x6, 2
@@ -1007,7 +986,7 @@ aes256_decrypt_2:
     .word 0x00229293  # slli x5, x5, 2
     .word 0x002282b3  # add x5, x5, x2
     .word 0x2062a023  # sw x6, 512(x5)
-    .word 0xf59ff06f  # jal x0, -168
+    .word 0xf65ff06f  # jal x0, -156
     .word 0x30012023  # sw x0, 768(x2)
     .word 0x02000293  # addi x5, x0, 32
     .word 0x30512223  # sw x5, 772(x2)

@@ -1,4 +1,4 @@
-# aes256_encrypt_2: made by factc function; 936 words, 816 bytes of stack, profile 1
+# aes256_encrypt_2: made by factc 1.0.0 function; 915 words, 816 bytes of stack, profile 1
     .option push
     .option norvc
     .option norelax
@@ -152,7 +152,7 @@ aes256_encrypt_2:
     .word 0x2e012283  # lw x5, 736(x2)
     .word 0x005332b3  # sltu x5, x6, x5
     .word 0x00029463  # bne x5, x0, 8
-    .word 0x0840006f  # jal x0, 132
+    .word 0x0780006f  # jal x0, 120
     .word 0x22612023  # sw x6, 544(x2)
     .word 0x00130313  # addi x6, x6, 1
     .word 0x2c612e23  # sw x6, 732(x2)
@@ -165,26 +165,23 @@ aes256_encrypt_2:
     .word 0x00628d33  # add x26, x5, x6
     .word 0x002d02b3  # add x5, x26, x2
     .word 0x1e02c283  # lbu x5, 480(x5)
-    .word 0x001d0313  # addi x6, x26, 1
-    .word 0x00230333  # add x6, x6, x2
-    .word 0x1e034303  # lbu x6, 480(x6)
+    .word 0x002d0333  # add x6, x26, x2
+    .word 0x1e134303  # lbu x6, 481(x6)
     .word 0x00831313  # slli x6, x6, 8
     .word 0x0062eb33  # or x22, x5, x6
     .word 0x22012283  # lw x5, 544(x2)
-    .word 0x002d0393  # addi x7, x26, 2
-    .word 0x002383b3  # add x7, x7, x2
-    .word 0x1e03c383  # lbu x7, 480(x7)
+    .word 0x002d03b3  # add x7, x26, x2
+    .word 0x1e23c383  # lbu x7, 482(x7)
     .word 0x01039393  # slli x7, x7, 16
     .word 0x007b6333  # or x6, x22, x7
-    .word 0x003d0393  # addi x7, x26, 3
-    .word 0x002383b3  # add x7, x7, x2
-    .word 0x1e03c383  # lbu x7, 480(x7)
+    .word 0x002d03b3  # add x7, x26, x2
+    .word 0x1e33c383  # lbu x7, 483(x7)
     .word 0x01839393  # slli x7, x7, 24
     .word 0x00736333  # or x6, x6, x7
     .word 0x00229293  # slli x5, x5, 2
     .word 0x002282b3  # add x5, x5, x2
     .word 0x2062a023  # sw x6, 512(x5)
-    .word 0xf71ff06f  # jal x0, -144
+    .word 0xf7dff06f  # jal x0, -132
     .word 0x2c012e23  # sw x0, 732(x2)
     .word 0x00400293  # addi x5, x0, 4
     .word 0x2e512023  # sw x5, 736(x2)
@@ -192,7 +189,7 @@ aes256_encrypt_2:
     .word 0x2e012283  # lw x5, 736(x2)
     .word 0x005332b3  # sltu x5, x6, x5
     .word 0x00029463  # bne x5, x0, 8
-    .word 0x08c0006f  # jal x0, 140
+    .word 0x0800006f  # jal x0, 128
     .word 0x22612223  # sw x6, 548(x2)
     .word 0x00130313  # addi x6, x6, 1
     .word 0x2c612e23  # sw x6, 732(x2)
@@ -202,22 +199,19 @@ aes256_encrypt_2:
     .word 0x002282b3  # add x5, x5, x2
     .word 0x2002a283  # lw x5, 512(x5)
     .word 0x0012d293  # srli x5, x5, 1
-    .word 0x001d0313  # addi x6, x26, 1
-    .word 0x00231313  # slli x6, x6, 2
+    .word 0x002d1313  # slli x6, x26, 2
     .word 0x00230333  # add x6, x6, x2
-    .word 0x20032303  # lw x6, 512(x6)
+    .word 0x20432303  # lw x6, 516(x6)
     .word 0x0062c2b3  # xor x5, x5, x6
     .word 0x2c412303  # lw x6, 708(x2)
     .word 0x0062fb33  # and x22, x5, x6
-    .word 0x001d0293  # addi x5, x26, 1
-    .word 0x001d0313  # addi x6, x26, 1
-    .word 0x00231313  # slli x6, x6, 2
+    .word 0x002d1313  # slli x6, x26, 2
     .word 0x00230333  # add x6, x6, x2
-    .word 0x20032303  # lw x6, 512(x6)
+    .word 0x20432303  # lw x6, 516(x6)
     .word 0x01634333  # xor x6, x6, x22
-    .word 0x00229293  # slli x5, x5, 2
+    .word 0x002d1293  # slli x5, x26, 2
     .word 0x002282b3  # add x5, x5, x2
-    .word 0x2062a023  # sw x6, 512(x5)
+    .word 0x2062a223  # sw x6, 516(x5)
     .word 0x002d1313  # slli x6, x26, 2
     .word 0x00230333  # add x6, x6, x2
     .word 0x20032303  # lw x6, 512(x6)
@@ -226,7 +220,7 @@ aes256_encrypt_2:
     .word 0x002d1293  # slli x5, x26, 2
     .word 0x002282b3  # add x5, x5, x2
     .word 0x2062a023  # sw x6, 512(x5)
-    .word 0xf69ff06f  # jal x0, -152
+    .word 0xf75ff06f  # jal x0, -140
     .word 0x2c012e23  # sw x0, 732(x2)
     .word 0x00400293  # addi x5, x0, 4
     .word 0x2e512023  # sw x5, 736(x2)
@@ -234,7 +228,7 @@ aes256_encrypt_2:
     .word 0x2e012283  # lw x5, 736(x2)
     .word 0x005332b3  # sltu x5, x6, x5
     .word 0x00029463  # bne x5, x0, 8
-    .word 0x0940006f  # jal x0, 148
+    .word 0x0880006f  # jal x0, 136
     .word 0x22612423  # sw x6, 552(x2)
     .word 0x00130313  # addi x6, x6, 1
     .word 0x2c612e23  # sw x6, 732(x2)
@@ -246,22 +240,19 @@ aes256_encrypt_2:
     .word 0x002282b3  # add x5, x5, x2
     .word 0x2002a283  # lw x5, 512(x5)
     .word 0x0022d293  # srli x5, x5, 2
-    .word 0x002d0313  # addi x6, x26, 2
-    .word 0x00231313  # slli x6, x6, 2
+    .word 0x002d1313  # slli x6, x26, 2
     .word 0x00230333  # add x6, x6, x2
-    .word 0x20032303  # lw x6, 512(x6)
+    .word 0x20832303  # lw x6, 520(x6)
     .word 0x0062c2b3  # xor x5, x5, x6
     .word 0x2c812303  # lw x6, 712(x2)
     .word 0x0062fb33  # and x22, x5, x6
-    .word 0x002d0293  # addi x5, x26, 2
-    .word 0x002d0313  # addi x6, x26, 2
-    .word 0x00231313  # slli x6, x6, 2
+    .word 0x002d1313  # slli x6, x26, 2
     .word 0x00230333  # add x6, x6, x2
-    .word 0x20032303  # lw x6, 512(x6)
+    .word 0x20832303  # lw x6, 520(x6)
     .word 0x01634333  # xor x6, x6, x22
-    .word 0x00229293  # slli x5, x5, 2
+    .word 0x002d1293  # slli x5, x26, 2
     .word 0x002282b3  # add x5, x5, x2
-    .word 0x2062a023  # sw x6, 512(x5)
+    .word 0x2062a423  # sw x6, 520(x5)
     .word 0x002d1313  # slli x6, x26, 2
     .word 0x00230333  # add x6, x6, x2
     .word 0x20032303  # lw x6, 512(x6)
@@ -270,7 +261,7 @@ aes256_encrypt_2:
     .word 0x002d1293  # slli x5, x26, 2
     .word 0x002282b3  # add x5, x5, x2
     .word 0x2062a023  # sw x6, 512(x5)
-    .word 0xf61ff06f  # jal x0, -160
+    .word 0xf6dff06f  # jal x0, -148
     .word 0x2c012e23  # sw x0, 732(x2)
     .word 0x00400293  # addi x5, x0, 4
     .word 0x2e512023  # sw x5, 736(x2)
@@ -278,7 +269,7 @@ aes256_encrypt_2:
     .word 0x2e012283  # lw x5, 736(x2)
     .word 0x005332b3  # sltu x5, x6, x5
     .word 0x00029463  # bne x5, x0, 8
-    .word 0x09c0006f  # jal x0, 156
+    .word 0x0900006f  # jal x0, 144
     .word 0x22612623  # sw x6, 556(x2)
     .word 0x00130313  # addi x6, x6, 1
     .word 0x2c612e23  # sw x6, 732(x2)
@@ -288,24 +279,21 @@ aes256_encrypt_2:
     .word 0x2002a283  # lw x5, 512(x5)
     .word 0x0042d293  # srli x5, x5, 4
     .word 0x22c12303  # lw x6, 556(x2)
-    .word 0x00430313  # addi x6, x6, 4
     .word 0x00231313  # slli x6, x6, 2
     .word 0x00230333  # add x6, x6, x2
-    .word 0x20032303  # lw x6, 512(x6)
+    .word 0x21032303  # lw x6, 528(x6)
     .word 0x0062c2b3  # xor x5, x5, x6
     .word 0x2cc12303  # lw x6, 716(x2)
     .word 0x0062fb33  # and x22, x5, x6
     .word 0x22c12283  # lw x5, 556(x2)
-    .word 0x00428293  # addi x5, x5, 4
     .word 0x22c12303  # lw x6, 556(x2)
-    .word 0x00430313  # addi x6, x6, 4
     .word 0x00231313  # slli x6, x6, 2
     .word 0x00230333  # add x6, x6, x2
-    .word 0x20032303  # lw x6, 512(x6)
+    .word 0x21032303  # lw x6, 528(x6)
     .word 0x01634333  # xor x6, x6, x22
     .word 0x00229293  # slli x5, x5, 2
     .word 0x002282b3  # add x5, x5, x2
-    .word 0x2062a023  # sw x6, 512(x5)
+    .word 0x2062a823  # sw x6, 528(x5)
     .word 0x22c12283  # lw x5, 556(x2)
     .word 0x22c12303  # lw x6, 556(x2)
     .word 0x00231313  # slli x6, x6, 2
@@ -316,7 +304,7 @@ aes256_encrypt_2:
     .word 0x00229293  # slli x5, x5, 2
     .word 0x002282b3  # add x5, x5, x2
     .word 0x2062a023  # sw x6, 512(x5)
-    .word 0xf59ff06f  # jal x0, -168
+    .word 0xf65ff06f  # jal x0, -156
     .word 0x2c012e23  # sw x0, 732(x2)
     .word 0x00800293  # addi x5, x0, 8
     .word 0x2e512023  # sw x5, 736(x2)
@@ -717,7 +705,7 @@ aes256_encrypt_2:
     .word 0x2e012283  # lw x5, 736(x2)
     .word 0x005332b3  # sltu x5, x6, x5
     .word 0x00029463  # bne x5, x0, 8
-    .word 0x08c0006f  # jal x0, 140
+    .word 0x0800006f  # jal x0, 128
     .word 0x2a612a23  # sw x6, 692(x2)
     .word 0x00130313  # addi x6, x6, 1
     .word 0x2c612e23  # sw x6, 732(x2)
@@ -727,22 +715,19 @@ aes256_encrypt_2:
     .word 0x002282b3  # add x5, x5, x2
     .word 0x2002a283  # lw x5, 512(x5)
     .word 0x0012d293  # srli x5, x5, 1
-    .word 0x001d0313  # addi x6, x26, 1
-    .word 0x00231313  # slli x6, x6, 2
+    .word 0x002d1313  # slli x6, x26, 2
     .word 0x00230333  # add x6, x6, x2
-    .word 0x20032303  # lw x6, 512(x6)
+    .word 0x20432303  # lw x6, 516(x6)
     .word 0x0062c2b3  # xor x5, x5, x6
     .word 0x2c412303  # lw x6, 708(x2)
     .word 0x0062fb33  # and x22, x5, x6
-    .word 0x001d0293  # addi x5, x26, 1
-    .word 0x001d0313  # addi x6, x26, 1
-    .word 0x00231313  # slli x6, x6, 2
+    .word 0x002d1313  # slli x6, x26, 2
     .word 0x00230333  # add x6, x6, x2
-    .word 0x20032303  # lw x6, 512(x6)
+    .word 0x20432303  # lw x6, 516(x6)
     .word 0x01634333  # xor x6, x6, x22
-    .word 0x00229293  # slli x5, x5, 2
+    .word 0x002d1293  # slli x5, x26, 2
     .word 0x002282b3  # add x5, x5, x2
-    .word 0x2062a023  # sw x6, 512(x5)
+    .word 0x2062a223  # sw x6, 516(x5)
     .word 0x002d1313  # slli x6, x26, 2
     .word 0x00230333  # add x6, x6, x2
     .word 0x20032303  # lw x6, 512(x6)
@@ -751,7 +736,7 @@ aes256_encrypt_2:
     .word 0x002d1293  # slli x5, x26, 2
     .word 0x002282b3  # add x5, x5, x2
     .word 0x2062a023  # sw x6, 512(x5)
-    .word 0xf69ff06f  # jal x0, -152
+    .word 0xf75ff06f  # jal x0, -140
     .word 0x2c012e23  # sw x0, 732(x2)
     .word 0x00400293  # addi x5, x0, 4
     .word 0x2e512023  # sw x5, 736(x2)
@@ -759,7 +744,7 @@ aes256_encrypt_2:
     .word 0x2e012283  # lw x5, 736(x2)
     .word 0x005332b3  # sltu x5, x6, x5
     .word 0x00029463  # bne x5, x0, 8
-    .word 0x0940006f  # jal x0, 148
+    .word 0x0880006f  # jal x0, 136
     .word 0x2a612c23  # sw x6, 696(x2)
     .word 0x00130313  # addi x6, x6, 1
     .word 0x2c612e23  # sw x6, 732(x2)
@@ -771,22 +756,19 @@ aes256_encrypt_2:
     .word 0x002282b3  # add x5, x5, x2
     .word 0x2002a283  # lw x5, 512(x5)
     .word 0x0022d293  # srli x5, x5, 2
-    .word 0x002d0313  # addi x6, x26, 2
-    .word 0x00231313  # slli x6, x6, 2
+    .word 0x002d1313  # slli x6, x26, 2
     .word 0x00230333  # add x6, x6, x2
-    .word 0x20032303  # lw x6, 512(x6)
+    .word 0x20832303  # lw x6, 520(x6)
     .word 0x0062c2b3  # xor x5, x5, x6
     .word 0x2c812303  # lw x6, 712(x2)
     .word 0x0062fb33  # and x22, x5, x6
-    .word 0x002d0293  # addi x5, x26, 2
-    .word 0x002d0313  # addi x6, x26, 2
-    .word 0x00231313  # slli x6, x6, 2
+    .word 0x002d1313  # slli x6, x26, 2
     .word 0x00230333  # add x6, x6, x2
-    .word 0x20032303  # lw x6, 512(x6)
+    .word 0x20832303  # lw x6, 520(x6)
     .word 0x01634333  # xor x6, x6, x22
-    .word 0x00229293  # slli x5, x5, 2
+    .word 0x002d1293  # slli x5, x26, 2
     .word 0x002282b3  # add x5, x5, x2
-    .word 0x2062a023  # sw x6, 512(x5)
+    .word 0x2062a423  # sw x6, 520(x5)
     .word 0x002d1313  # slli x6, x26, 2
     .word 0x00230333  # add x6, x6, x2
     .word 0x20032303  # lw x6, 512(x6)
@@ -795,7 +777,7 @@ aes256_encrypt_2:
     .word 0x002d1293  # slli x5, x26, 2
     .word 0x002282b3  # add x5, x5, x2
     .word 0x2062a023  # sw x6, 512(x5)
-    .word 0xf61ff06f  # jal x0, -160
+    .word 0xf6dff06f  # jal x0, -148
     .word 0x2c012e23  # sw x0, 732(x2)
     .word 0x00400293  # addi x5, x0, 4
     .word 0x2e512023  # sw x5, 736(x2)
@@ -803,7 +785,7 @@ aes256_encrypt_2:
     .word 0x2e012283  # lw x5, 736(x2)
     .word 0x005332b3  # sltu x5, x6, x5
     .word 0x00029463  # bne x5, x0, 8
-    .word 0x09c0006f  # jal x0, 156
+    .word 0x0900006f  # jal x0, 144
     .word 0x2a612e23  # sw x6, 700(x2)
     .word 0x00130313  # addi x6, x6, 1
     .word 0x2c612e23  # sw x6, 732(x2)
@@ -813,24 +795,21 @@ aes256_encrypt_2:
     .word 0x2002a283  # lw x5, 512(x5)
     .word 0x0042d293  # srli x5, x5, 4
     .word 0x2bc12303  # lw x6, 700(x2)
-    .word 0x00430313  # addi x6, x6, 4
     .word 0x00231313  # slli x6, x6, 2
     .word 0x00230333  # add x6, x6, x2
-    .word 0x20032303  # lw x6, 512(x6)
+    .word 0x21032303  # lw x6, 528(x6)
     .word 0x0062c2b3  # xor x5, x5, x6
     .word 0x2cc12303  # lw x6, 716(x2)
     .word 0x0062fb33  # and x22, x5, x6
     .word 0x2bc12283  # lw x5, 700(x2)
-    .word 0x00428293  # addi x5, x5, 4
     .word 0x2bc12303  # lw x6, 700(x2)
-    .word 0x00430313  # addi x6, x6, 4
     .word 0x00231313  # slli x6, x6, 2
     .word 0x00230333  # add x6, x6, x2
-    .word 0x20032303  # lw x6, 512(x6)
+    .word 0x21032303  # lw x6, 528(x6)
     .word 0x01634333  # xor x6, x6, x22
     .word 0x00229293  # slli x5, x5, 2
     .word 0x002282b3  # add x5, x5, x2
-    .word 0x2062a023  # sw x6, 512(x5)
+    .word 0x2062a823  # sw x6, 528(x5)
     .word 0x2bc12283  # lw x5, 700(x2)
     .word 0x2bc12303  # lw x6, 700(x2)
     .word 0x00231313  # slli x6, x6, 2
@@ -841,7 +820,7 @@ aes256_encrypt_2:
     .word 0x00229293  # slli x5, x5, 2
     .word 0x002282b3  # add x5, x5, x2
     .word 0x2062a023  # sw x6, 512(x5)
-    .word 0xf59ff06f  # jal x0, -168
+    .word 0xf65ff06f  # jal x0, -156
     .word 0x2c012e23  # sw x0, 732(x2)
     .word 0x02000293  # addi x5, x0, 32
     .word 0x2e512023  # sw x5, 736(x2)

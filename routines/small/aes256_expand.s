@@ -1,4 +1,4 @@
-# aes256_expand: made by factc function; 684 words, 736 bytes of stack, profile 1
+# aes256_expand: made by factc 1.0.0 function; 670 words, 736 bytes of stack, profile 1
     .option push
     .option norvc
     .option norelax
@@ -132,19 +132,16 @@ aes256_expand:
     .word 0x00628633  # add x12, x5, x6
     .word 0x002602b3  # add x5, x12, x2
     .word 0x0002c283  # lbu x5, 0(x5)
-    .word 0x00160313  # addi x6, x12, 1
-    .word 0x00230333  # add x6, x6, x2
-    .word 0x00034303  # lbu x6, 0(x6)
+    .word 0x00260333  # add x6, x12, x2
+    .word 0x00134303  # lbu x6, 1(x6)
     .word 0x00831313  # slli x6, x6, 8
     .word 0x0062ed33  # or x26, x5, x6
-    .word 0x00260393  # addi x7, x12, 2
-    .word 0x002383b3  # add x7, x7, x2
-    .word 0x0003c383  # lbu x7, 0(x7)
+    .word 0x002603b3  # add x7, x12, x2
+    .word 0x0023c383  # lbu x7, 2(x7)
     .word 0x01039393  # slli x7, x7, 16
     .word 0x007d6333  # or x6, x26, x7
-    .word 0x00360393  # addi x7, x12, 3
-    .word 0x002383b3  # add x7, x7, x2
-    .word 0x0003c383  # lbu x7, 0(x7)
+    .word 0x002603b3  # add x7, x12, x2
+    .word 0x0033c383  # lbu x7, 3(x7)
     .word 0x01839393  # slli x7, x7, 24
     .word 0x00736333  # or x6, x6, x7
     .word 0x00251293  # slli x5, x10, 2
@@ -152,7 +149,7 @@ aes256_expand:
     .word 0x2062a023  # sw x6, 512(x5)
     .word 0x00150513  # addi x10, x10, 1
     .word 0x00853293  # sltiu x5, x10, 8
-    .word 0xf8029ce3  # bne x5, x0, -104
+    .word 0xfa0292e3  # bne x5, x0, -92
     .word 0xfff50513  # addi x10, x10, -1
     .word 0x00000593  # addi x11, x0, 0
     .word 0x00159613  # slli x12, x11, 1
@@ -160,22 +157,19 @@ aes256_expand:
     .word 0x002282b3  # add x5, x5, x2
     .word 0x2002a283  # lw x5, 512(x5)
     .word 0x0012d293  # srli x5, x5, 1
-    .word 0x00160313  # addi x6, x12, 1
-    .word 0x00231313  # slli x6, x6, 2
+    .word 0x00261313  # slli x6, x12, 2
     .word 0x00230333  # add x6, x6, x2
-    .word 0x20032303  # lw x6, 512(x6)
+    .word 0x20432303  # lw x6, 516(x6)
     .word 0x0062c2b3  # xor x5, x5, x6
     .word 0x27412303  # lw x6, 628(x2)
     .word 0x0062fd33  # and x26, x5, x6
-    .word 0x00160293  # addi x5, x12, 1
-    .word 0x00160313  # addi x6, x12, 1
-    .word 0x00231313  # slli x6, x6, 2
+    .word 0x00261313  # slli x6, x12, 2
     .word 0x00230333  # add x6, x6, x2
-    .word 0x20032303  # lw x6, 512(x6)
+    .word 0x20432303  # lw x6, 516(x6)
     .word 0x01a34333  # xor x6, x6, x26
-    .word 0x00229293  # slli x5, x5, 2
+    .word 0x00261293  # slli x5, x12, 2
     .word 0x002282b3  # add x5, x5, x2
-    .word 0x2062a023  # sw x6, 512(x5)
+    .word 0x2062a223  # sw x6, 516(x5)
     .word 0x00261313  # slli x6, x12, 2
     .word 0x00230333  # add x6, x6, x2
     .word 0x20032303  # lw x6, 512(x6)
@@ -186,7 +180,7 @@ aes256_expand:
     .word 0x2062a023  # sw x6, 512(x5)
     .word 0x00158593  # addi x11, x11, 1
     .word 0x0045b293  # sltiu x5, x11, 4
-    .word 0xf80292e3  # bne x5, x0, -124
+    .word 0xf80298e3  # bne x5, x0, -112
     .word 0xfff58593  # addi x11, x11, -1
     .word 0x00000693  # addi x13, x0, 0
     .word 0x0026f313  # andi x6, x13, 2
@@ -195,22 +189,19 @@ aes256_expand:
     .word 0x002282b3  # add x5, x5, x2
     .word 0x2002a283  # lw x5, 512(x5)
     .word 0x0022d293  # srli x5, x5, 2
-    .word 0x00260313  # addi x6, x12, 2
-    .word 0x00231313  # slli x6, x6, 2
+    .word 0x00261313  # slli x6, x12, 2
     .word 0x00230333  # add x6, x6, x2
-    .word 0x20032303  # lw x6, 512(x6)
+    .word 0x20832303  # lw x6, 520(x6)
     .word 0x0062c2b3  # xor x5, x5, x6
     .word 0x27812303  # lw x6, 632(x2)
     .word 0x0062fd33  # and x26, x5, x6
-    .word 0x00260293  # addi x5, x12, 2
-    .word 0x00260313  # addi x6, x12, 2
-    .word 0x00231313  # slli x6, x6, 2
+    .word 0x00261313  # slli x6, x12, 2
     .word 0x00230333  # add x6, x6, x2
-    .word 0x20032303  # lw x6, 512(x6)
+    .word 0x20832303  # lw x6, 520(x6)
     .word 0x01a34333  # xor x6, x6, x26
-    .word 0x00229293  # slli x5, x5, 2
+    .word 0x00261293  # slli x5, x12, 2
     .word 0x002282b3  # add x5, x5, x2
-    .word 0x2062a023  # sw x6, 512(x5)
+    .word 0x2062a423  # sw x6, 520(x5)
     .word 0x00261313  # slli x6, x12, 2
     .word 0x00230333  # add x6, x6, x2
     .word 0x20032303  # lw x6, 512(x6)
@@ -221,29 +212,26 @@ aes256_expand:
     .word 0x2062a023  # sw x6, 512(x5)
     .word 0x00168693  # addi x13, x13, 1
     .word 0x0046b293  # sltiu x5, x13, 4
-    .word 0xf80290e3  # bne x5, x0, -128
+    .word 0xf80296e3  # bne x5, x0, -116
     .word 0xfff68693  # addi x13, x13, -1
     .word 0x00000713  # addi x14, x0, 0
     .word 0x00271293  # slli x5, x14, 2
     .word 0x002282b3  # add x5, x5, x2
     .word 0x2002a283  # lw x5, 512(x5)
     .word 0x0042d293  # srli x5, x5, 4
-    .word 0x00470313  # addi x6, x14, 4
-    .word 0x00231313  # slli x6, x6, 2
+    .word 0x00271313  # slli x6, x14, 2
     .word 0x00230333  # add x6, x6, x2
-    .word 0x20032303  # lw x6, 512(x6)
+    .word 0x21032303  # lw x6, 528(x6)
     .word 0x0062c2b3  # xor x5, x5, x6
     .word 0x27c12303  # lw x6, 636(x2)
     .word 0x0062fd33  # and x26, x5, x6
-    .word 0x00470293  # addi x5, x14, 4
-    .word 0x00470313  # addi x6, x14, 4
-    .word 0x00231313  # slli x6, x6, 2
+    .word 0x00271313  # slli x6, x14, 2
     .word 0x00230333  # add x6, x6, x2
-    .word 0x20032303  # lw x6, 512(x6)
+    .word 0x21032303  # lw x6, 528(x6)
     .word 0x01a34333  # xor x6, x6, x26
-    .word 0x00229293  # slli x5, x5, 2
+    .word 0x00271293  # slli x5, x14, 2
     .word 0x002282b3  # add x5, x5, x2
-    .word 0x2062a023  # sw x6, 512(x5)
+    .word 0x2062a823  # sw x6, 528(x5)
     .word 0x00271313  # slli x6, x14, 2
     .word 0x00230333  # add x6, x6, x2
     .word 0x20032303  # lw x6, 512(x6)
@@ -254,7 +242,7 @@ aes256_expand:
     .word 0x2062a023  # sw x6, 512(x5)
     .word 0x00170713  # addi x14, x14, 1
     .word 0x00473293  # sltiu x5, x14, 4
-    .word 0xf80294e3  # bne x5, x0, -120
+    .word 0xf8029ae3  # bne x5, x0, -108
     .word 0xfff70713  # addi x14, x14, -1
     .word 0x00000793  # addi x15, x0, 0
     .word 0x00349293  # slli x5, x9, 3
@@ -271,16 +259,15 @@ aes256_expand:
     .word 0xfff78793  # addi x15, x15, -1
     .word 0x00148493  # addi x9, x9, 1
     .word 0x0024b293  # sltiu x5, x9, 2
-    .word 0xda029ce3  # bne x5, x0, -584
+    .word 0xde0294e3  # bne x5, x0, -536
     .word 0xfff48493  # addi x9, x9, -1
     .word 0x00000813  # addi x16, x0, 0
     .word 0x00000893  # addi x17, x0, 0
     .word 0x00381313  # slli x6, x16, 3
     .word 0x01130333  # add x6, x6, x17
-    .word 0x00830313  # addi x6, x6, 8
     .word 0x00231313  # slli x6, x6, 2
     .word 0x00230333  # add x6, x6, x2
-    .word 0x02032303  # lw x6, 32(x6)
+    .word 0x04032303  # lw x6, 64(x6)
     .word 0x00635313  # srli x6, x6, 6
     .word 0x01b37333  # and x6, x6, x27
     .word 0x00289293  # slli x5, x17, 2
@@ -288,7 +275,7 @@ aes256_expand:
     .word 0x2062a023  # sw x6, 512(x5)
     .word 0x00188893  # addi x17, x17, 1
     .word 0x0088b293  # sltiu x5, x17, 8
-    .word 0xfc0296e3  # bne x5, x0, -52
+    .word 0xfc0298e3  # bne x5, x0, -48
     .word 0xfff88893  # addi x17, x17, -1
     .word 0x21c12d03  # lw x26, 540(x2)
     .word 0x21812283  # lw x5, 536(x2)
@@ -617,21 +604,20 @@ aes256_expand:
     .word 0x006d4d33  # xor x26, x26, x6
     .word 0x00381293  # slli x5, x16, 3
     .word 0x019282b3  # add x5, x5, x25
-    .word 0x01028293  # addi x5, x5, 16
     .word 0x004d1393  # slli x7, x26, 4
     .word 0x28412403  # lw x8, 644(x2)
     .word 0x0083f3b3  # and x7, x7, x8
     .word 0x007d4333  # xor x6, x26, x7
     .word 0x00229293  # slli x5, x5, 2
     .word 0x002282b3  # add x5, x5, x2
-    .word 0x0262a023  # sw x6, 32(x5)
+    .word 0x0662a023  # sw x6, 96(x5)
     .word 0x001c8c93  # addi x25, x25, 1
     .word 0x008cb293  # sltiu x5, x25, 8
-    .word 0xf60296e3  # bne x5, x0, -148
+    .word 0xf60298e3  # bne x5, x0, -144
     .word 0xfffc8c93  # addi x25, x25, -1
     .word 0x00180813  # addi x16, x16, 1
     .word 0x00d83293  # sltiu x5, x16, 13
-    .word 0xa60296e3  # bne x5, x0, -1428
+    .word 0xa6029ae3  # bne x5, x0, -1420
     .word 0xfff80813  # addi x16, x16, -1
     # the result
     .word 0x00000513  # addi x10, x0, 0

@@ -1,4 +1,4 @@
-# siphash24_finish: made by factc function; 244 words, 96 bytes of stack, profile 1
+# siphash24_finish: made by factc 1.0.0 function; 243 words, 96 bytes of stack, profile 1
     .option push
     .option norvc
     .option norelax
@@ -183,14 +183,13 @@ siphash24_finish:
     .word 0x0078d333  # srl x6, x17, x7
     .word 0x002a82b3  # add x5, x21, x2
     .word 0x02628423  # sb x6, 40(x5)
-    .word 0x004a8293  # addi x5, x21, 4
     .word 0x003a9393  # slli x7, x21, 3
     .word 0x0077d333  # srl x6, x15, x7
-    .word 0x002282b3  # add x5, x5, x2
-    .word 0x02628423  # sb x6, 40(x5)
+    .word 0x002a82b3  # add x5, x21, x2
+    .word 0x02628623  # sb x6, 44(x5)
     .word 0x001a8a93  # addi x21, x21, 1
     .word 0x004ab293  # sltiu x5, x21, 4
-    .word 0xfc029ae3  # bne x5, x0, -44
+    .word 0xfc029ce3  # bne x5, x0, -40
     .word 0xfffa8a93  # addi x21, x21, -1
     # the result
     .word 0x00000513  # addi x10, x0, 0
