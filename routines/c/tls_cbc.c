@@ -99,6 +99,44 @@ static void decrypt(const uint8_t key[AES_KEY_BYTES], const uint8_t vector[16], 
     wiped(blocks, sizeof blocks);
 }
 
+/* A block needs the one before, so one of two blocks goes to waste. */
+static void encrypt(const uint8_t key[AES_KEY_BYTES], const uint8_t vector[16], uint8_t *bytes, uint32_t count) {
+    uint32_t keys[AES_READY_WORDS];
+    uint8_t blocks[32];
+    aes_expand(key, keys);
+    filled(blocks, 0, 32);
+    copied(blocks, vector, 16);
+    for (uint32_t at = 0; at < count; at += 16) {
+        added(blocks, bytes + at, 16);
+        aes_encrypt_2(keys, blocks);
+        copied(bytes + at, blocks, 16);
+    }
+    wiped(keys, sizeof keys);
+}
+
+/* What the MAC takes before the content. */
+static void make_first(const struct tls_record *record, uint32_t length, uint8_t first[13]) {
+    copied(first, record->head, 11);
+    first[11] = (uint8_t)(length >> 8);
+    first[12] = (uint8_t)length;
+}
+
+uint32_t tls_cbc_sealed_count(uint32_t content) {
+    return (content + TLS_MAC_BYTES) / 16 * 16 + 16;
+}
+
+uint32_t tls_cbc_seal(const uint8_t key[AES_KEY_BYTES], const uint8_t mac_key[TLS_MAC_BYTES], const struct tls_record *record,
+        uint8_t *bytes, uint32_t content) {
+    uint8_t first[13], mac[32];
+    uint32_t count = tls_cbc_sealed_count(content), padding = count - content - TLS_MAC_BYTES;
+    make_first(record, content, first);
+    make_mac(mac_key, first, bytes, 13 + content, 13 + content, mac);
+    copied(bytes + content, mac, TLS_MAC_BYTES);
+    filled(bytes + count - padding, (uint8_t)(padding - 1), padding);
+    encrypt(key, record->vector, bytes, count);
+    return count;
+}
+
 bool tls_cbc_check(const uint8_t key[AES_KEY_BYTES], const uint8_t mac_key[TLS_MAC_BYTES],
         const struct tls_record *record, uint8_t *bytes, uint32_t count, uint32_t *content) {
     uint8_t first[13], mac[32], ending[ENDING_BYTES];
@@ -111,9 +149,7 @@ bool tls_cbc_check(const uint8_t key[AES_KEY_BYTES], const uint8_t mac_key[TLS_M
     copied(ending + ENDING_BYTES - window, bytes + count - window, window);
     uint32_t padding = tls_padding(ending + ENDING_BYTES - 256, count, TLS_MAC_BYTES);
     uint32_t length = count - TLS_MAC_BYTES - padding;
-    copied(first, record->head, 11);
-    first[11] = (uint8_t)(length >> 8);
-    first[12] = (uint8_t)length;
+    make_first(record, length, first);
     make_mac(mac_key, first, bytes, 13 + length, 13 + count - TLS_MAC_BYTES, mac);
     bool right = mac_check(ending, padding, mac);
     wiped(ending, sizeof ending);

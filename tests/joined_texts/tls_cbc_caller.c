@@ -1,6 +1,16 @@
 #include "tls_cbc.h"
 #include "caller.h"
 
+/* What is wrong with sealing the content of a record with the least padding. */
+static const char *wrong_seal(const struct vector *vector, const struct tls_record *record, uint8_t *bytes) {
+    struct part sealed = vector->parts[4], content = vector->parts[5];
+    if (tls_cbc_sealed_count(content.count) != sealed.count)
+        return 0;
+    taken(bytes, content);
+    uint32_t count = tls_cbc_seal(vector->parts[0].bytes, vector->parts[1].bytes, record, bytes, content.count);
+    return count == sealed.count && same(bytes, sealed) ? 0 : "seal";
+}
+
 const char *wrong_with(const struct vector *vector) {
     static uint8_t bytes[MOST_BYTES];
     struct part sealed = vector->parts[4], content = vector->parts[5];
@@ -22,5 +32,6 @@ const char *wrong_with(const struct vector *vector) {
     record.head[7] ^= 1;
     if (tls_cbc_open(vector->parts[0].bytes, vector->parts[1].bytes, &record, bytes, sealed.count, &count))
         return "another_number";
-    return 0;
+    record.head[7] ^= 1;
+    return wrong_seal(vector, &record, bytes);
 }
