@@ -23,6 +23,7 @@ SLOW = (
     "p256_verify_scalars",
     "p256_invert",
     "f25519_invert",
+    "ed25519_decode",
     "modular_power_128",
 )
 # Those that take several blocks a call: which argument says how many, what it counts, the bytes of a block, and the most of it.

@@ -1,0 +1,21 @@
+/* ed25519_multiply_add: made by factc function.
+   Arrays are aligned by their elements, lie outside the stack below the caller, and no two that are not const overlap.
+   For an observer of profile 1: neither the instructions that it executes, nor the addresses of its loads and stores,
+   nor the operands of its divisions depend on secret arguments. Nothing is proved of time. */
+#ifndef FACT_ed25519_multiply_add_H
+#define FACT_ed25519_multiply_add_H
+#include <stdbool.h>
+#include <stdint.h>
+#define ed25519_multiply_add_STACK_BYTES 544
+#ifdef __cplusplus
+extern "C" {
+#endif
+void ed25519_multiply_add(
+    const uint8_t a[32] /* secret */,
+    const uint8_t b[32] /* secret */,
+    const uint8_t more[32] /* secret */,
+    uint8_t result[32] /* secret */);
+#ifdef __cplusplus
+}
+#endif
+#endif

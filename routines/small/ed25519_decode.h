@@ -1,0 +1,19 @@
+/* ed25519_decode: made by factc function.
+   Arrays are aligned by their elements, lie outside the stack below the caller, and no two that are not const overlap.
+   For an observer of profile 1: neither the instructions that it executes, nor the addresses of its loads and stores,
+   nor the operands of its divisions depend on secret arguments. Nothing is proved of time. */
+#ifndef FACT_ed25519_decode_H
+#define FACT_ed25519_decode_H
+#include <stdbool.h>
+#include <stdint.h>
+#define ed25519_decode_STACK_BYTES 1536
+#ifdef __cplusplus
+extern "C" {
+#endif
+bool /* secret */ ed25519_decode(
+    const uint8_t encoded[32] /* secret */,
+    uint8_t point[64] /* secret */);
+#ifdef __cplusplus
+}
+#endif
+#endif
