@@ -1,0 +1,19 @@
+/* mlkem_add: made by factc 1.0.0 function.
+   Arrays are aligned by their elements, lie outside the stack below the caller, and no two that are not const overlap.
+   For an observer of profile 1: neither the instructions that it executes, nor the addresses of its loads and stores,
+   nor the operands of its divisions depend on secret arguments. Nothing is proved of time. */
+#ifndef FACT_mlkem_add_H
+#define FACT_mlkem_add_H
+#include <stdbool.h>
+#include <stdint.h>
+#define mlkem_add_STACK_BYTES 1056
+#ifdef __cplusplus
+extern "C" {
+#endif
+void mlkem_add(
+    uint16_t f[256] /* secret */,
+    const uint16_t g[256] /* secret */);
+#ifdef __cplusplus
+}
+#endif
+#endif
