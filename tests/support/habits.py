@@ -18,7 +18,7 @@ ADVICE = {
     "type": "the types are `bool`, `uint8`, `uint16` and `uint32`, with a label before them: `secret uint32 x = 1;`",
     "no parameters": "a procedure without parameters is declared by `void f() { .. }`",
     "pointer": "there are no pointers: pass an array, which a `mut` parameter changes: `secret mut uint8[16] a`",
-    "global": "no variable stands outside procedures: declare it in the body that needs it, and pass it to others",
+    "global": "no variable stands outside procedures, and no result is an array: declare it in a body, and pass it on",
     "length": "the length stands behind the type: write `secret uint32[4] a`",
     "first value": "a word has a first value: write `secret mut uint32 x = 0;`",
     "one variable": "each variable has a declaration of its own: write two",
@@ -107,11 +107,15 @@ STATEMENTS = [
     ("if (x == 1) { } else y = 2;", 22, "braces"),
     ("for (uint32 i from 0 to 8) y = i;", 28, "braces"),
     ("if (y = 1) { }", 7, "equals"),
+    ("if (x == 1 && a[1] = 1) { }", 20, "equals"),
     ("y = x = 1;", 7, "equals"),
     ("if (x == 1) { };", 16, "semicolon"),
     (";", 1, "semicolon"),
     ("y = x 1;", 7, None),
     ("y = ;", 5, None),
+    ("secret uint32 = 3;", 15, None),
+    ("if (== x) { }", 5, None),
+    ("if (x == ) { }", 10, None),
 ]
 
 # The same outside procedures.
@@ -121,6 +125,7 @@ DECLARATIONS = [
     ("public uint32[4] k = { 1, 2, 3, 4 };", 14, "global"),
     ("public uint32 k[4] = { 1, 2, 3, 4 };", 16, "global"),
     ("public mut uint32 k = 3;", 8, "global"),
+    ("secret uint32[4] h() { }", 14, "global"),
     ("const uint32 k = 3;", 1, "qualifier"),
     ("uint32 k = 3;", 1, "label"),
     ("uint32 h(secret uint32 x) { return x; }", 1, "label"),

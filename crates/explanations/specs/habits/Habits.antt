@@ -114,7 +114,7 @@ habits =
     ([], [], [], codes "-", codes ">", [], POINTER.now) ∷
     -- `public uint32 k = 3;`
     (codes "outside", [], types, [], codes "= ; [ ,", [], GLOBAL.now) ∷
-    -- `public uint32[4] k = ..`
+    -- `public uint32[4] k = ..`, `public uint32[4] f()`
     (codes "outside", [], [], types, codes "[", [], GLOBAL.now) ∷
     -- `public mut uint32 k = 3;`
     (codes "outside", [], [], codes "public secret", codes "mut", [], GLOBAL.now) ∷
@@ -144,12 +144,16 @@ habits =
     ([], [], before_operands, [], codes "(", [], CALL.now) ∷
     -- `y = f(x) + 1;`
     (codes "body", [], [], codes ")", operators, [], CALL.now) ∷
-    -- `x < y < z`, `c = f(x) == 1;`
-    ([], [], [], [], comparisons, [], COMPARISON.now) ∷
+    -- `x < y < z`
+    ([], [], comparisons, [], comparisons, [], COMPARISON.now) ∷
+    -- `c = f(x) == 1;`
+    ([], [], [], codes ")", comparisons, [], COMPARISON.now) ∷
     -- `x = y = 1;`
-    (codes "body", [], [], [], codes "=", [], EQUALS.now) ∷
+    (codes "body", [], codes "=", [], codes "=", [], EQUALS.now) ∷
     -- `if (x = 1)`
-    (codes "brackets", codes "if else", [], [], codes "=", [], EQUALS.now) ∷
+    (codes "brackets", codes "if else", codes "( && || !", [], codes "=", [], EQUALS.now) ∷
+    -- `if (a[0] = 1)`
+    (codes "brackets", codes "if else", [], codes "]", codes "=", [], EQUALS.now) ∷
     -- `};`
     ([], [], [], statement_ends, codes ";", [], SEMICOLON.now) ∷
     []

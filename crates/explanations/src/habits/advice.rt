@@ -43,7 +43,7 @@ pub const POINTER: &str =
     "there are no pointers: pass an array, which a `mut` parameter changes: `secret mut uint8[16] a`";
 
 pub const GLOBAL: &str =
-    "no variable stands outside procedures: declare it in the body that needs it, and pass it to others";
+    "no variable stands outside procedures, and no result is an array: declare it in a body, and pass it on";
 
 pub const LENGTH: &str = "the length stands behind the type: write `secret uint32[4] a`";
 

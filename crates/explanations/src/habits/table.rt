@@ -50,7 +50,7 @@ const BEFORE_OPERANDS: &str =
 
 const COMPARISONS: &str = "== != < <= > >=";
 
-const HABITS: [Habit; 49] = [
+const HABITS: [Habit; 51] = [
     ("", "", "", "", "/", "*", COMMENT),
     ("", "", "", "/", "*", "", COMMENT),
     ("", "", "", "", "+", "+", STEP),
@@ -112,9 +112,11 @@ const HABITS: [Habit; 49] = [
     ("", "", "", "else", "", "", BRACES),
     ("", "", BEFORE_OPERANDS, "", "(", "", CALL),
     ("body", "", "", ")", OPERATORS, "", CALL),
-    ("", "", "", "", COMPARISONS, "", COMPARISON),
-    ("body", "", "", "", "=", "", EQUALS),
-    ("brackets", "if else", "", "", "=", "", EQUALS),
+    ("", "", COMPARISONS, "", COMPARISONS, "", COMPARISON),
+    ("", "", "", ")", COMPARISONS, "", COMPARISON),
+    ("body", "", "=", "", "=", "", EQUALS),
+    ("brackets", "if else", "( && || !", "", "=", "", EQUALS),
+    ("brackets", "if else", "", "]", "=", "", EQUALS),
     ("", "", "", STATEMENT_ENDS, ";", "", SEMICOLON),
 ];
 
