@@ -6,8 +6,8 @@ use Rattle.commands.specs.Costs.{HoldsOther, SaysFileCosts, RefusesCosts, of_ima
 use Rattle.commands.specs.Unread.{out_of_memory}
 use Rattle.commands.specs.declared.fault.Fault.TheVariants.{Image}
 use Rattle.commands.proofs.ImageLemmas.{all_read, image_held}
-use Rattle.commands.specs.Below.{BeginsOtherwise, Field, ImageFault, IsFaultOf, longest_image, Profile, SaysFields}
-use Rattle.commands.specs.Below.{source_limit}
+use Rattle.commands.specs.Below.{BeginsOtherwise, Field, ImageFault, IsFaultOf, longest_image, Optimisation, Profile}
+use Rattle.commands.specs.Below.{SaysFields, source_limit}
 use Rattle.image.specs.declared.fault.ImageFault.TheVariants.{Memory}
 
 -- the first bytes of a file, cut to what a text may have and one more, are the first so many of the file
@@ -18,10 +18,10 @@ cut_shorter whole bytes fewer begun cut =
     cut ∙ ap (λ (b : List ℕ). take (source_limit + 1) b) begun
     ∙ take-take (source_limit + 1) (longest_image + 1) whole (omega arith)
 
-pub image_costs : (profile : Profile) (files : Contents) (path bytes text : List ℕ)
+pub image_costs : (optimisation : Optimisation) (profile : Profile) (files : Contents) (path bytes text : List ℕ)
     → BeginsFile files path (longest_image + 1) bytes
-    → SaysFields bytes text → SaysFileCosts profile files path text
-image_costs profile files path bytes text begun said =
+    → SaysFields bytes text → SaysFileCosts optimisation profile files path text
+image_costs optimisation profile files path bytes text begun said =
     of_image said.image (image_held files path bytes said.image begun said.spelled said.allowed) said.printed
 
 pub other_held : (files : Contents) (path bytes : List ℕ) → BeginsFile files path (longest_image + 1) bytes

@@ -6,18 +6,20 @@ use Rattle.commands.specs.Judged.{IsRefused, SaysStatistics}
 use Rattle.commands.specs.Unread.{NotRead}
 use Rattle.commands.specs.declared.fault.Fault.{Fault}
 use Rattle.commands.specs.declared.fault.Fault.TheVariants.{Image}
-use Rattle.commands.specs.Below.{BeginsOtherwise, Field, Fields, ImageRule, Profile, reading}
+use Rattle.commands.specs.Below.{BeginsOtherwise, Field, Fields, ImageRule, Optimisation, Profile, reading}
 use Rattle.image_reports.specs.statistics.FieldsText.{fields_text}
 
 -- the file at a path does not begin as an image does
 abbrev pub HoldsOther : Contents → List ℕ → Type 0
 HoldsOther files path = (bytes : List ℕ) × (files path ≡ Some bytes) × BeginsOtherwise bytes
 
--- the text is what the file costs: of an image its fields, and of all else its source
-pub data SaysFileCosts (profile : Profile) (files : Contents) (path : List ℕ) (text : List ℕ) : Type 0 where
+-- the text is what the file costs: of an image its fields, and of all else its source, in plain or optimised code
+pub data SaysFileCosts (optimisation : Optimisation) (profile : Profile) (files : Contents) (path text : List ℕ) :
+    Type 0 where
   of_image : (image : Fields) → HoldsImage files path image → text ≡ fields_text image
-      → SaysFileCosts profile files path text
-  of_source : HoldsOther files path → SaysStatistics profile files path text → SaysFileCosts profile files path text
+      → SaysFileCosts optimisation profile files path text
+  of_source : HoldsOther files path → SaysStatistics optimisation profile files path text
+      → SaysFileCosts optimisation profile files path text
 
 -- why it has no such text: it was not read; or it begins as an image does, and has a first fault behind the magic; or
 -- its source is refused

@@ -51,8 +51,9 @@ pub record IsImageOf (optimisation : Optimisation) (profile : Profile) (files : 
   pub held : HoldsText files path text
   pub built : IsBuilt optimisation profile text bytes
 
--- the text is what the file's source costs
-pub record SaysStatistics (profile : Profile) (files : Contents) (path : List ℕ) (text : List ℕ) : Type 0 where
+-- the text is what the file's source costs, in plain or optimised code
+pub record SaysStatistics (optimisation : Optimisation) (profile : Profile) (files : Contents) (path text : List ℕ) :
+    Type 0 where
   pub source : List ℕ
   pub held : HoldsText files path source
-  pub said : SaysCosts profile source text
+  pub said : SaysCosts optimisation profile source text

@@ -35,7 +35,8 @@ abbrev pub Answers : Request → Contents → List ℕ → ℕ → Type 0
 Answers (requests.Check file profile explain) files text status = IsAccepted profile files file.now
     × (text ≡ codes "accepted\n") × (status ≡ 0)
 Answers (requests.Build file image options) files text status = (text ≡ []) × (status ≡ 0)
-Answers (requests.Stat file profile) files text status = SaysFileCosts profile files file.now text × (status ≡ 0)
+Answers (requests.Stat file profile optimisation) files text status =
+    SaysFileCosts optimisation profile files file.now text × (status ≡ 0)
 Answers (requests.Function file assembler header options) files text status = (text ≡ []) × (status ≡ 0)
 Answers (requests.Eval file arguments explain) files text status =
     SaysMeaning files file.now (map (λ word. word.now) arguments.now) text × (status ≡ 0)
@@ -52,8 +53,8 @@ Answers (requests.Picture image arguments) files text status =
 Answers (requests.List image) files text status = SaysList files image.now text × (status ≡ 0)
 Answers (requests.Wrap file code image frame steps profile) files text status = (text ≡ []) × (status ≡ 0)
 Answers (requests.Harts file) files text status = SaysHarts files file.now text status
-Answers (requests.Vectors file vectors profile) files text status =
-    SaysVectors profile files file.now vectors.now text status
+Answers (requests.Vectors file vectors profile optimisation) files text status =
+    SaysVectors optimisation profile files file.now vectors.now text status
 Answers (requests.Explain explanation) files text status = (text ≡ explanation_text explanation ++ codes "\n")
     × (status ≡ 0)
 Answers (requests.ElfCertify file words options) files text status =
@@ -68,7 +69,7 @@ abbrev pub Leaves : Request → Contents → Contents → Type 0
 Leaves (requests.Check file profile explain) before after = after ≡ before
 Leaves (requests.Build file image options) before after =
     WritesFile image.now (IsImageOf options.optimisation options.profile before file.now) before after
-Leaves (requests.Stat file profile) before after = after ≡ before
+Leaves (requests.Stat file profile optimisation) before after = after ≡ before
 Leaves (requests.Function file assembler header options) before after =
     WritesTwo assembler.now header.now (AreFunctionTexts options.optimisation options.profile before file.now)
     before after
@@ -83,7 +84,7 @@ Leaves (requests.Wrap file code image frame steps profile) before after =
     WritesFile image.now (IsImageOfCode (record { frame_bytes = frame; max_steps = steps; profile = profile }) before
     file.now code.now) before after
 Leaves (requests.Harts file) before after = after ≡ before
-Leaves (requests.Vectors file vectors profile) before after = after ≡ before
+Leaves (requests.Vectors file vectors profile optimisation) before after = after ≡ before
 Leaves (requests.Explain explanation) before after = after ≡ before
 Leaves (requests.ElfCertify file words options) before after = after ≡ before
 Leaves (requests.ElfLeak file words options) before after = after ≡ before
@@ -96,7 +97,7 @@ Refuses (requests.Check file profile explain) before after fault = IsRefusedSo e
 Refuses (requests.Build file image options) before after fault =
     FailsToWrite image.now (IsImageOf options.optimisation options.profile before file.now)
     (IsRefusedSo options.explain options.profile before file.now) before after fault
-Refuses (requests.Stat file profile) before after fault = RefusesCosts profile before file.now fault
+Refuses (requests.Stat file profile optimisation) before after fault = RefusesCosts profile before file.now fault
     × (after ≡ before)
 Refuses (requests.Function file assembler header options) before after fault =
     FailsToWriteTwo assembler.now header.now (AreFunctionTexts options.optimisation options.profile before file.now)
@@ -120,7 +121,7 @@ Refuses (requests.Wrap file code image frame steps profile) before after fault =
     FailsToWrite image.now (IsImageOfCode asked before file.now code.now) (RefusesCode asked before file.now code.now)
     before after fault
 Refuses (requests.Harts file) before after fault = RefusesHarts before file.now fault × (after ≡ before)
-Refuses (requests.Vectors file vectors profile) before after fault =
+Refuses (requests.Vectors file vectors profile optimisation) before after fault =
     RefusesVectors profile before file.now vectors.now fault × (after ≡ before)
 Refuses (requests.Explain explanation) before after fault = IsOutOfMemory fault × (after ≡ before)
 Refuses (requests.ElfCertify file words options) before after fault = RefusesFunctionRun before file.now words fault

@@ -6,7 +6,8 @@ use Rattle.commands.specs.FileTexts.{HoldsText, NoText, NoWholeText}
 use Rattle.commands.specs.Unread.{IsOutOfMemory}
 use Rattle.commands.specs.declared.fault.Fault.{Fault}
 use Rattle.commands.specs.declared.fault.Fault.TheVariants.{Text, Vectors}
-use Rattle.commands.specs.Below.{IsRefusalOf, IsReport, Line, NamedVector, Profile, Refusal, vectors_in}
+use Rattle.commands.specs.Below.{IsRefusalOf, IsReport, Line, NamedVector, Optimisation, Profile, Refusal}
+use Rattle.commands.specs.Below.{vectors_in}
 
 -- the exit status: 0 where none failed, else 1
 abbrev pub status_of_failures : ℕ → ℕ
@@ -20,13 +21,14 @@ pub record HoldVectors (files : Contents) (path list source : List ℕ) (vectors
   pub is_text : IsUtf8 lines
   pub said : vectors_in lines ≡ Ok vectors
 
--- what is printed of them, and the exit status
-pub record SaysVectors (profile : Profile) (files : Contents) (path list text : List ℕ) (status : ℕ) : Type 0 where
+-- what is printed of them, tried on the plain or the optimised image of the source, and the exit status
+pub record SaysVectors (optimisation : Optimisation) (profile : Profile) (files : Contents) (path list text : List ℕ)
+    (status : ℕ) : Type 0 where
   pub source : List ℕ
   pub vectors : List NamedVector
   pub failures : ℕ
   pub held : HoldVectors files path list source vectors
-  pub report : IsReport profile source vectors text failures
+  pub report : IsReport optimisation profile source vectors text failures
   pub ended : status ≡ status_of_failures failures
 
 -- why nothing is: the source is asked for first, then the vectors, and then whether the source is accepted

@@ -168,7 +168,11 @@ fn answer<'a, F: Files, O: Sink, E: Sink>(
             build_image(alloc, file, image, options, files)?;
             Ok(DONE)
         }
-        Request::Stat { file, profile } => print(out, measure_file(alloc, file, profile, files)),
+        Request::Stat {
+            file,
+            profile,
+            optimisation,
+        } => print(out, measure_file(alloc, file, profile, optimisation, files)),
         Request::Function {
             file,
             assembler,
@@ -234,7 +238,11 @@ fn answer<'a, F: Files, O: Sink, E: Sink>(
             file,
             vectors,
             profile,
-        } => print(out, try_file(alloc, file, vectors, profile, files)),
+            optimisation,
+        } => print(
+            out,
+            try_file(alloc, file, vectors, profile, optimisation, files),
+        ),
         Request::Explain { explanation } => print(out, lines_of(alloc, explanation)),
         Request::ElfCertify {
             file,

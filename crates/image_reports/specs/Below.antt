@@ -53,7 +53,6 @@ pub use Rattle.inline.specs.Numbering.{flattened}
 pub use Rattle.intervals.specs.Ranged.{RangedProgram}
 pub use Rattle.intervals.specs.Work.{cost_by, ranged}
 unfoldable pub use Rattle.branch_removal.specs.Exact.{straight_of}
-unfoldable pub use Rattle.codegen.specs.Exact.{fields_of}
 pub use Rattle.codegen.specs.Loaded.{array_in, arrays_in, code_at, loaded_at, numbers_at, params_of, results_in}
 pub use Rattle.codegen.specs.Loaded.{with_argument, with_arguments, with_numbers}
 pub use Rattle.codegen.specs.image_fields.Fields.{AreSlots, Fields, is_length, IsImage, slot_end}
@@ -61,6 +60,7 @@ pub use Rattle.codegen.specs.declared.image_fields.slot.Slot.{Slot}
 pub use Rattle.hepurita.specs.source_work.SourceWork.{work_cost}
 pub use Rattle.hepurita.specs.Bases.{code_base, frame_base}
 pub use Rattle.hepurita.specs.Built.{accepts, IsCompilation, Judges}
+pub use Rattle.hepurita.specs.Exact.{code_for}
 unfoldable pub use Rattle.hepurita.specs.Exact.{image_for}
 pub use Rattle.hepurita.specs.Frames.{HoldsSlot}
 pub use Rattle.hepurita.specs.Meant.{Means}
@@ -68,6 +68,6 @@ pub use Rattle.hepurita.specs.Paired.{compared, Observed, Paired}
 pub use Rattle.hepurita.specs.Told.{IsRefusalOf}
 pub use Rattle.hepurita.specs.declared.fault.RunFault.{RunFault}
 pub use Rattle.hepurita.specs.declared.fault.RunFault.TheVariants.{Argument, Memory, Stopped}
-pub use Rattle.hepurita.specs.declared.optimised.Optimisation.TheVariants.{Off}
+pub use Rattle.hepurita.specs.declared.optimised.Optimisation.{Optimisation}
 pub use Rattle.listing.specs.Code.{IsLineAt}
 pub use Rattle.listing.specs.Leaked.{IsLeak}

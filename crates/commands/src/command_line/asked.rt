@@ -134,6 +134,7 @@ fn stat<'a>(given: &'a ArgMatches<'_>) -> Request<'a>
     Request::Stat {
         file: text_of(given, "FILE"),
         profile: profile_of(given),
+        optimisation: optimisation_of(given),
     }
 }
 
@@ -168,6 +169,7 @@ fn vectors<'a>(given: &'a ArgMatches<'_>) -> Request<'a>
         file: text_of(given, "FILE"),
         vectors: text_of(given, "VECTORS"),
         profile: profile_of(given),
+        optimisation: optimisation_of(given),
     }
 }
 

@@ -114,6 +114,8 @@ pub(crate) static COMMANDS: [CommandRow; 15] = [
         words: &[
             CommandWord::Path("FILE", "The source, or the image"),
             CommandWord::Profile,
+            CommandWord::Optimisation,
+            CommandWord::SmallCode,
         ],
     },
     CommandRow {
@@ -242,6 +244,8 @@ pub(crate) static COMMANDS: [CommandRow; 15] = [
                  `mut` array; bytes may be written `hex:00ff..`",
             ),
             CommandWord::Profile,
+            CommandWord::Optimisation,
+            CommandWord::SmallCode,
         ],
     },
     CommandRow {

@@ -8,6 +8,7 @@ use clap::error::ErrorKind;
 use clap::{ArgMatches, Error};
 use elf_reports::AskedWords;
 use explanations::Explanation;
+use hepurita::Optimisation;
 use std::alloc::Global;
 use word::Profile;
 
@@ -26,6 +27,7 @@ pub enum Request<'a> {
     Stat {
         file: &'a str,
         profile: Profile,
+        optimisation: Optimisation,
     },
     Function {
         file: &'a str,
@@ -80,6 +82,7 @@ pub enum Request<'a> {
         file: &'a str,
         vectors: &'a str,
         profile: Profile,
+        optimisation: Optimisation,
     },
     Explain {
         explanation: Explanation,

@@ -8,7 +8,7 @@ use Rattle.std.proofs.lemmas.Bool.Decides.{nat_tests}
 use Rattle.std.proofs.lemmas.List.Elements.{All-from_recursion}
 use Rattle.image_reports.specs.Below.{AreSlots, AreWithin, Arg, array_in, arrays_in, ByteMap, element_bytes, Fields}
 use Rattle.image_reports.specs.Below.{FixedArray, Form, frame_base, is_length, IsImage, Memory, MutableArray}
-use Rattle.image_reports.specs.Below.{numbers_at, Observation, Off, params_of, ProcedureTree, Profile, ProgramTree}
+use Rattle.image_reports.specs.Below.{numbers_at, Observation, params_of, ProcedureTree, Profile, ProgramTree}
 use Rattle.image_reports.specs.Below.{Results, results_in, RunFault, SingleWord, Slot, slot_end, Stop, Stopped}
 use Rattle.hepurita.specs.Answers.{Builds, IsTheOutcome}
 use Rattle.hepurita.specs.Executed.{Executed, refused, out_of_memory, ran, answer_at}
@@ -33,9 +33,9 @@ pub meant : GivesMeaning
     (answer : Result Results RunFault) → IsImageOf program image → AreWithin (params_of image) args
     → Executed image args keeps list answer after → IsTheOutcome program args answer
 meant law program image args keeps list after answer is within executed =
-    let source = is.2 in
-    let built = spelled Off is.0 is.1 program source.before source.export image source.compilation in
-    law Off is.0 is.1 built.0 program source.before source.export image args keeps list after answer built.1 within
+    let source = is.3 in
+    let built = spelled is.0 is.1 is.2 program source.before source.export image source.compilation in
+    law is.0 is.1 is.2 built.0 program source.before source.export image args keeps list after answer built.1 within
     executed
 
 -- where the recorder does not refuse, a run fails when out of memory alone

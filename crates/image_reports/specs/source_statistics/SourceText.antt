@@ -2,7 +2,7 @@
 use Rattle.std.specs.Prelude.{◌≡◌, ℕ, List, [], ◌++◌, codes, Option, None, Some}
 use Rattle.std.specs.Fmt.{decimal}
 use Rattle.image_reports.specs.Below.{accepts, bodies_cost, bytes_cost, extents_of, Fields, flattened, image_for}
-use Rattle.image_reports.specs.Below.{Judges, nodes_cost, Off, ProcedureTree, Profile, ProgramTree, ranged}
+use Rattle.image_reports.specs.Below.{Judges, nodes_cost, Optimisation, ProcedureTree, Profile, ProgramTree, ranged}
 use Rattle.image_reports.specs.Below.{RangedProgram, work_cost}
 use Rattle.language.specs.declared.cost.Cost.{Cost}
 use Rattle.language.specs.declared.why.Share.{Share}
@@ -37,12 +37,13 @@ abbrev pub export_lines : Option (List ProcedureTree × ProcedureTree) → List 
 export_lines None = []
 export_lines (Some export) = size_lines export.0 export.1
 
--- the source is accepted, and the text has what its passes counted, the fields of its plain image and the sizes of
--- its export
-pub record SaysCosts (profile : Profile) (source text : List ℕ) : Type 0 where
+-- the source is accepted, and the text has what its passes counted, the fields of its image, plain or optimised, and
+-- the sizes of its export
+pub record SaysCosts (optimisation : Optimisation) (profile : Profile) (source text : List ℕ) : Type 0 where
   pub program : ProgramTree
   pub before : List ProcedureTree
   pub export : ProcedureTree
   pub judged : Judges profile source (accepts program before export)
-  pub printed : text ≡ costs_text (ranged (flattened profile before export)) (image_for Off profile before export)
+  pub printed : text
+      ≡ costs_text (ranged (flattened profile before export)) (image_for optimisation profile before export)
       ++ size_lines before export

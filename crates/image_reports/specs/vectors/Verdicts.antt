@@ -3,22 +3,25 @@
 use Rattle.std.specs.Prelude.{◌≡◌, ℕ, ◌+◌, List, [], ◌∷◌, ◌++◌, map, codes, Option, Some, None, Ok}
 use Rattle.std.specs.Fmt.{decimal}
 use Rattle.image_reports.specs.Below.{Arg, ArgumentFault, CertifiedEnd, fault_of_texts, fault_text, Fields, Hidden}
-use Rattle.image_reports.specs.Below.{IsCompilation, MayDiffer, Means, Off, params_of, ProcedureTree, Profile}
+use Rattle.image_reports.specs.Below.{IsCompilation, MayDiffer, Means, Optimisation, params_of, ProcedureTree, Profile}
 use Rattle.image_reports.specs.Below.{ProgramTree, Results, Same}
 use Rattle.image_reports.specs.certificates.Certified.{Certified}
 use Rattle.image_reports.specs.vectors.Lines.{NamedVector}
 use Rattle.image_reports.specs.vectors.Spelled.{TextsSpell, Spell, lists_of, publics}
 use Rattle.image_reports.specs.vectors.Texts.{plain, difference_text}
 
--- a source that is accepted for an observer: its program, and its plain image
-pub record IsSource (profile : Profile) (source : List ℕ) (program : ProgramTree) (image : Fields) : Type 0 where
+-- a source that is accepted for an observer: its program, and its image, plain or optimised
+pub record IsSource (optimisation : Optimisation) (profile : Profile) (source : List ℕ) (program : ProgramTree)
+    (image : Fields) : Type 0 where
   pub before : List ProcedureTree
   pub export : ProcedureTree
-  pub compilation : IsCompilation Off profile source program before export image
+  pub compilation : IsCompilation optimisation profile source program before export image
 
--- the same, whatever the source and the observer
+-- the same, whatever the source, the code and the observer
 abbrev pub IsImageOf : ProgramTree → Fields → Type 0
-IsImageOf program image = (profile : Profile) × (source : List ℕ) × IsSource profile source program image
+IsImageOf program image =
+    (optimisation : Optimisation) × (profile : Profile) × (source : List ℕ)
+    × IsSource optimisation profile source program image
 
 -- what is wrong with what an observer sees for all secrets
 abbrev pub wrong_in : CertifiedEnd → Option (List ℕ)
@@ -65,10 +68,10 @@ pub record IsTally (program : ProgramTree) (image : Fields) (vectors : List Name
   pub tried : Tried program image vectors passes failures lines
   pub printed : text ≡ lines ++ decimal passes ++ codes " passed, " ++ decimal failures ++ codes " failed\n"
 
--- the same of the vectors of a source
-pub record IsReport (profile : Profile) (source : List ℕ) (vectors : List NamedVector) (text : List ℕ)
-    (failures : ℕ) : Type 0 where
+-- the same of the vectors of a source, tried on its plain or optimised image
+pub record IsReport (optimisation : Optimisation) (profile : Profile) (source : List ℕ) (vectors : List NamedVector)
+    (text : List ℕ) (failures : ℕ) : Type 0 where
   pub program : ProgramTree
   pub image : Fields
-  pub is_source : IsSource profile source program image
+  pub is_source : IsSource optimisation profile source program image
   pub tally : IsTally program image vectors text failures

@@ -27,12 +27,18 @@ pub struct Report {
     pub failures: usize,
 }
 
-/// The image of a source that is accepted for an observer, or its refusal.
-fn image_of(alloc: Global, source: &str, profile: Profile) -> Result<Image, Refusal>
-    ensures image { IfOk result (λ image. (program : ProgramTree) × IsSource profile source.now program image) }
+/// The plain or the optimised image of a source that is accepted for an observer, or its refusal.
+fn image_of(
+    alloc: Global,
+    source: &str,
+    profile: Profile,
+    optimisation: Optimisation,
+) -> Result<Image, Refusal>
+    ensures image { IfOk result (λ image.
+        (program : ProgramTree) × IsSource optimisation profile source.now program image) }
     ensures refused { IfErr result (IsRefusalOf profile source.now) }
 {
-    let compiled = compile_with(alloc, source, profile, Optimisation::Off)?;
+    let compiled = compile_with(alloc, source, profile, optimisation)?;
     let Compiled { code, .. } = compiled;
     Ok(Image::from(code))
 }
@@ -100,17 +106,19 @@ fn try_all(alloc: Global, image: &Image, vectors: &[Vector<'_>]) -> Result<Repor
     Ok(Report { text, failures })
 }
 
-/// Tries vectors of a source that is accepted for an observer, or answers its refusal. The source is compiled once.
+/// Tries vectors of a source that is accepted for an observer on its plain or its optimised image, or answers the
+/// refusal. The source is compiled once.
 pub fn try_vectors(
     alloc: Global,
     source: &str,
     profile: Profile,
+    optimisation: Optimisation,
     vectors: &[Vector<'_>],
 ) -> Result<Report, Refusal>
     ensures report { IfOk result (λ report.
-        IsReport profile source.now (map named vectors.now) (string_bytes report.text) report.failures) }
+        IsReport optimisation profile source.now (map named vectors.now) (string_bytes report.text) report.failures) }
     ensures refused { IfErr result (IsRefusalOf profile source.now) }
 {
-    let image = image_of(alloc, source, profile)?;
+    let image = image_of(alloc, source, profile, optimisation)?;
     try_all(alloc, &image, vectors)
 }

@@ -34,8 +34,8 @@ returns-in-Some-clause-finds g c = λ tells.
     c.in_ok-lines.ensures.said in
     let said = subst (λ (b : List ℕ). SaysFields b lines) c.as_slice.ensures.value shown in
     finds_answer _ c.of_text.ensures.text c.of_text.ensures.status (
-      image_costs c.args.profile (g.F.Files.store c.args.files.now).contents c.args.file.now c.in_ok-bytes.bytes.items
-          lines (c.in_ok-bytes.ensures.begins tells) said,
+      image_costs c.args.optimisation c.args.profile (g.F.Files.store c.args.files.now).contents c.args.file.now
+          c.in_ok-bytes.bytes.items lines (c.in_ok-bytes.ensures.begins tells) said,
       refl,
     ) refl
 

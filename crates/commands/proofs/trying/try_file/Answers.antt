@@ -65,11 +65,12 @@ returns-clause-finds g c = λ tells.
           (rw c.in_ok-source.ensures.calm at (c.in_ok-lines.ensures.said tells))
           (IsUtf8-string_bytes c.in_ok-lines.lines) c.as_str.ensures.value c.in_ok-vectors.ensures.vectors;
       report =
-          subst (λ (shown : List ℕ). IsReport c.args.profile source (map named c.in_ok-vectors.vectors.items) shown
-          report.failures) (sym (ap (λ (v : Vec ℕ Global). v.items) c.into_bytes-text.ensures.value))
-          (subst (λ (t : List ℕ). IsReport c.args.profile t (map named c.in_ok-vectors.vectors.items)
-          (string_bytes report.text) report.failures) c.as_str-2.ensures.value
-          (subst (λ (vs : List NamedVector). IsReport c.args.profile c.as_str-2.result.now vs
+          subst (λ (shown : List ℕ). IsReport c.args.optimisation c.args.profile source
+          (map named c.in_ok-vectors.vectors.items) shown report.failures)
+          (sym (ap (λ (v : Vec ℕ Global). v.items) c.into_bytes-text.ensures.value))
+          (subst (λ (t : List ℕ). IsReport c.args.optimisation c.args.profile t
+          (map named c.in_ok-vectors.vectors.items) (string_bytes report.text) report.failures) c.as_str-2.ensures.value
+          (subst (λ (vs : List NamedVector). IsReport c.args.optimisation c.args.profile c.as_str-2.result.now vs
           (string_bytes report.text) report.failures) (ap (map named) c.as_slice.ensures.value)
           c.in_ok-report.ensures.report));
       ended = c.status_of-status.ensures.exact;

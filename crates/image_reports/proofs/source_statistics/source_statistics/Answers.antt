@@ -1,7 +1,7 @@
 use Rattle.std.proofs.Common.{ap, subst, ◌∙◌, ◌≡◌, List, [], ◌++◌, inl, IfOk, IfSome, Option, sym}
 use Rattle.std.proofs.lemmas.Result.{IfOk-weaker, IfErr-weaker}
 use Rattle.std.specs.String.{string_bytes}
-use Rattle.image_reports.specs.Below.{cost_by, exported, fields_of, flattened, image_for, ProcedureTree}
+use Rattle.image_reports.specs.Below.{code_for, cost_by, exported, flattened, image_for, ProcedureTree}
 use Rattle.image_reports.specs.Below.{program_tree, ranged, RangedProgram, straight_of, work_cost}
 use Rattle.language.proofs.Handed.{handed_on}
 use Rattle.image_reports.proofs.source_statistics_lemmas.Below.{grammatical_export, same_cost}
@@ -25,11 +25,11 @@ returns-clause-said c =
     let body = ranged (flattened c.args.profile is.before is.export) in
     let by_body =
     subst (λ (r : RangedProgram). IfOk c.costs.result
-    (λ text. string_bytes text ≡ costs_text r (fields_of (straight_of r))
+    (λ text. string_bytes text ≡ costs_text r (code_for c.args.optimisation (straight_of r))
     ++ export_lines (exported [] program.procedures))) counted.0 c.costs.ensures.said in
     let printed =
     subst (λ (o : Option (List ProcedureTree × ProcedureTree)).
-    IfOk c.costs.result (λ text. string_bytes text ≡ costs_text body (fields_of (straight_of body))
+    IfOk c.costs.result (λ text. string_bytes text ≡ costs_text body (code_for c.args.optimisation (straight_of body))
     ++ export_lines o)) is.small.well_formed.is_export by_body in
     IfOk-weaker c.costs.result _ _ (λ text exact. record {
       program = program;

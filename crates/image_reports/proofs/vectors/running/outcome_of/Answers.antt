@@ -37,5 +37,5 @@ returns-in_ok-lists_of-in-Ok-clause-means c =
 pub returns-in_ok-lists_of-in-Ok-clause-short : goal.returns-in_ok-lists_of-in-Ok-clause-short
 returns-in_ok-lists_of-in-Ok-clause-short c =
     let short = lists_short c.args.image.now c.args.args.now _ _ _ c.in-Ok.outcome
-    c.requires.source.1.2.compilation.allowed (c.in-Ok.ensures.executed) in
+    c.requires.source.1.3.compilation.allowed (c.in-Ok.ensures.executed) in
     rw (c.in_ok-lists_of-in-Ok.ensures) short

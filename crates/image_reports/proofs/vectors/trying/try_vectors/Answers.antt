@@ -10,4 +10,4 @@ returns-clause-report c =
       is_source = source.1;
       tally = tally;
     })
-    (c.try_all.ensures.tally source.0 (c.args.profile, c.args.source.now, source.1))
+    (c.try_all.ensures.tally source.0 (c.args.optimisation, c.args.profile, c.args.source.now, source.1))
