@@ -7,7 +7,7 @@ import struct
 
 from compressed import ROWS, addi, written
 from elf_files import PF_R, PF_X, STT_FUNC, Segment, Symbol
-from elf_programs import CODE, EBREAK, ECALL, RETURN, Case, auipc, beq, elf_of, jal, jalr, lbu
+from elf_programs import CODE, EBREAK, ECALL, RETURN, Case, auipc, beq, certified, elf_of, jal, jalr, lbu
 from machine_code import register_word
 
 EF_RISCV_RVC = 1
@@ -45,7 +45,7 @@ def elf_with(code, functions=None, flags=EF_RISCV_RVC, address=CODE, more=()):
 
 def same(what, code, request=(), stop="Return", **more):
     """It ends by this stop, whatever the secrets are."""
-    return Case(what, elf_with(code, **more).bytes(), ["f", *request], f"same\nstop {stop}\n", 0 if stop == "Return" else 5)
+    return Case(what, elf_with(code, **more).bytes(), ["f", *request], certified(stop), 0 if stop == "Return" else 5)
 
 
 def differs(what, code, request, entry, at, text, place=None, **more):

@@ -98,8 +98,13 @@ def elf_of(code, functions=None, global_pointer=True, code_flags=PF_R | PF_X, co
     return Elf(segments, symbols)
 
 
+def certified(stop):
+    """What is printed where all runs show the same and end by this stop: one that is no return comes first."""
+    return "same\nstop Return\n" if stop == "Return" else f"stop {stop}\nsame\n"
+
+
 def same(what, code, request=(), stop="Return", **more):
-    return Case(what, elf_of(code, **more).bytes(), ["f", *request], f"same\nstop {stop}\n", 0 if stop == "Return" else 5)
+    return Case(what, elf_of(code, **more).bytes(), ["f", *request], certified(stop), 0 if stop == "Return" else 5)
 
 
 def differs(what, code, request, entry, place, text, where=None, **more):

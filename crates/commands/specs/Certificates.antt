@@ -1,8 +1,9 @@
 -- What is printed of a certificate.
 use Rattle.std.specs.Prelude.{◌≡◌, ◌≢◌, ℕ, Bool, true, false, ◌++◌, List, Option, Some, None, Ok, Err, codes, ⊤}
 use Rattle.std.specs.Fmt.{decimal}
-use Rattle.commands.specs.Below.{Arg, Certified, CertifiedEnd, code_at, code_base, fault_of_given_texts, Fields, Hidden}
-use Rattle.commands.specs.Below.{IsLineAt, MayDiffer, params_of, RunFault, Same, Seen, Shifts, stop_line, word_at}
+use Rattle.commands.specs.Below.{Arg, Certified, CertifiedEnd, code_at, code_base, Ecall, fault_of_given_texts}
+use Rattle.commands.specs.Below.{Fields, Hidden, IsLineAt, MayDiffer, params_of, RunFault, Same, Seen, Shifts, Stop}
+use Rattle.commands.specs.Below.{stop_line, word_at}
 use Rattle.commands.specs.Contents.{Contents}
 use Rattle.commands.specs.ImageRefusals.{RefusesImage}
 use Rattle.commands.specs.Images.{HoldsImage}
@@ -11,9 +12,14 @@ use Rattle.commands.specs.Words.{AreGiven}
 use Rattle.commands.specs.declared.fault.Fault.{Fault}
 use Rattle.commands.specs.declared.fault.Fault.TheVariants.{Run}
 
--- `same` and the stop; or the entry that may differ, and the line of the word that stands where its step is made
+-- `same` and the stop where all runs end by ECALL; where they stop otherwise, that stop comes first
+abbrev pub same_text : Stop → List ℕ
+same_text Ecall = codes "same\n" ++ stop_line Ecall
+same_text stop = stop_line stop ++ codes "same\n"
+
+-- that text; or the entry that may differ, and the line of the word that stands where its step is made
 abbrev pub PrintsCertificate : Fields → CertifiedEnd → List ℕ → Type 0
-PrintsCertificate image (Same stop entries) text = text ≡ codes "same\n" ++ stop_line stop
+PrintsCertificate image (Same stop entries) text = text ≡ same_text stop
 PrintsCertificate image (MayDiffer entry pc) text =
     (line : List ℕ) × IsLineAt (code_at code_base image) pc (Some line)
     × (text ≡ codes "may differ at " ++ decimal entry ++ codes "\n" ++ line)

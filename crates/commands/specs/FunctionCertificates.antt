@@ -12,6 +12,7 @@ use Rattle.commands.specs.Executables.{HoldsExecutable}
 use Rattle.commands.specs.Stops.{function_stop_status}
 use Rattle.commands.specs.declared.command_line.options.FunctionOptions.{FunctionOptions}
 use Rattle.elf_runs.specs.declared.certifying.FunctionCertificate.TheVariants.{MayDiffer, Same}
+use Rattle.elf_runs.specs.declared.stops.FunctionStop.TheVariants.{Returned, Stopped}
 
 -- how the run is to be made, as the options say
 abbrev pub run_options : FunctionOptions → RunOptions
@@ -22,11 +23,16 @@ run_options options =
 abbrev pub function_stop_line : FunctionStop → List ℕ
 function_stop_line stop = codes "stop " ++ stop_name stop ++ codes "\n"
 
--- `same` and the stop; or the entry that may differ, the line of what begins where its step is made, and the line of
+-- `same` and the stop where all runs return; where they stop otherwise, that stop comes first
+abbrev pub function_same_text : FunctionStop → List ℕ
+function_same_text Returned = codes "same\n" ++ function_stop_line Returned
+function_same_text (Stopped stop) = function_stop_line (Stopped stop) ++ codes "same\n"
+
+-- that text; or the entry that may differ, the line of what begins where its step is made, and the line of
 -- that place, with the calls that lead there
 abbrev pub PrintsFunctionCertificate : Executable → AskedRun → RunOptions → FunctionCertificate → List ℕ → Type 0
 PrintsFunctionCertificate program asked options (Same stop entries) text =
-    text ≡ codes "same\n" ++ function_stop_line stop
+    text ≡ function_same_text stop
 PrintsFunctionCertificate program asked options (MayDiffer entry pc) text =
     (encoding : Encoding) × (line calls : List ℕ)
     × (encoding_at program pc ≡ Some encoding)

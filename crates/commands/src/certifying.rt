@@ -4,8 +4,9 @@ ghost use Rattle.std.specs.Prelude.{◌≡◌, ◌≢◌, ◌≤◌, ◌++◌, �
 ghost use Rattle.std.specs.Prelude.{OnErr};
 ghost use Rattle.std.specs.Fmt.{decimal};
 ghost use Rattle.commands.specs.Answered.{Finds, IsRead};
-ghost use Rattle.commands.specs.Below.{code_at, code_base, collected, HasLines, IsLineAt, Reaches, stop_line, word_at};
-ghost use Rattle.commands.specs.Certificates.{StandsInCode, PrintsCertificate, certificate_status, shifts_seen};
+ghost use Rattle.commands.specs.Below.{code_at, code_base, collected, HasLines, IsLineAt, Reaches, word_at};
+ghost use Rattle.commands.specs.Certificates.{StandsInCode, PrintsCertificate, certificate_status, same_text};
+ghost use Rattle.commands.specs.Certificates.{shifts_seen};
 ghost use Rattle.commands.specs.Progress.{FileCertificateTells};
 
 use crate::answer::{Answer, MAY_DIFFER};
@@ -82,12 +83,27 @@ pub fn text_of(
     }
 }
 
-/// `same`, and the line of the stop.
+/// `same` and the line of the stop; that of a stop other than ECALL comes first.
 fn same_text(alloc: Global, stop: Stop) -> Result<Vec<u8>, AllocError>
-    ensures { IfOk result (λ text. text.items ≡ codes "same\n" ++ stop_line stop) }
+    ensures { IfOk result (λ text. text.items ≡ same_text stop) }
 {
-    let mut text = Vec::from_slice(alloc, b"same\n")?;
-    text.extend_from_slice(stop_line(stop).as_slice())?;
+    match stop {
+        Stop::Ecall => joined(alloc, b"same\n", stop_line(stop).as_slice()),
+        Stop::Break
+        | Stop::Illegal
+        | Stop::AccessFault
+        | Stop::Misaligned
+        | Stop::Budget
+        | Stop::RecorderRefused => joined(alloc, stop_line(stop).as_slice(), b"same\n"),
+    }
+}
+
+/// One line, and then another.
+fn joined(alloc: Global, one: &[u8], other: &[u8]) -> Result<Vec<u8>, AllocError>
+    ensures { IfOk result (λ text. text.items ≡ one.now ++ other.now) }
+{
+    let mut text = Vec::from_slice(alloc, one)?;
+    text.extend_from_slice(other)?;
     Ok(text)
 }
 

@@ -3,7 +3,7 @@
 ghost use Rattle.std.specs.Prelude.{◌≡◌, ◌≤◌, ◌<◌, ◌^◌, ◌++◌, ◌⊎◌, codes, IsTrue, IfOk, IfErr, OnOk, OnErr};
 ghost use Rattle.commands.specs.Answered.{Finds, IsRead};
 ghost use Rattle.commands.specs.Below.{CertifiedFunction, collected, HasLines, needs, Reaches};
-ghost use Rattle.commands.specs.FunctionCertificates.{function_certificate_status, function_stop_line};
+ghost use Rattle.commands.specs.FunctionCertificates.{function_certificate_status, function_same_text};
 ghost use Rattle.commands.specs.FunctionCertificates.{PrintsFunctionCertificate, run_options, SaysCertificateOf};
 ghost use Rattle.commands.specs.FunctionCertificates.{StandsInProgram};
 ghost use Rattle.commands.specs.Progress.{FileFunctionTells, FunctionGoesOn, Tells};
@@ -137,12 +137,15 @@ fn text_of(
     }
 }
 
-/// `same`, and the line of the stop.
+/// `same` and the line of the stop; that of a stop other than a return comes first.
 fn same_text(alloc: Global, stop: FunctionStop) -> Result<Vec<u8>, AllocError>
-    ensures { IfOk result (λ text. text.items ≡ codes "same\n" ++ function_stop_line stop) }
+    ensures { IfOk result (λ text. text.items ≡ function_same_text stop) }
 {
     let name = stop.name();
-    let text = format!(in alloc; "same\nstop {name}\n")?;
+    let text = match stop {
+        FunctionStop::Returned => format!(in alloc; "same\nstop {name}\n")?,
+        FunctionStop::Stopped(_) => format!(in alloc; "stop {name}\nsame\n")?,
+    };
     Ok(text.into_bytes())
 }
 
