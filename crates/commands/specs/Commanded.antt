@@ -5,7 +5,7 @@ use Rattle.commands.specs.Contents.{Store}
 use Rattle.commands.specs.Leaks.{IsOutputFault}
 use Rattle.commands.specs.Requests.{Reports, Performs}
 use Rattle.commands.specs.Unread.{IsOutOfMemory}
-use Rattle.commands.specs.command_line.Words.{IsAskedBy}
+use Rattle.commands.specs.command_line.Words.{IsAskedBy, WritesNoneItReads}
 use Rattle.commands.specs.declared.command_line.words.Request.{Request}
 use Rattle.commands.specs.declared.fault.Fault.{Fault}
 use Rattle.commands.specs.Below.{Collected, IsPut, IsPutInPart, IsPutWhole}
@@ -20,9 +20,9 @@ pub data Says (out out' err err' : Collected) : ℕ → Type 0 where
   unsaid : {fault : Fault} {status : ℕ} → out' ≡ out → IsOutOfMemory fault → Reports fault err err' status
       → Says out out' err err' status
 
--- what comes of words, with which exit status
+-- what comes of words, with which exit status: no request is done that would write a file that it reads
 pub data Commands (words : List (List ℕ)) (before after : Store) (out out' err err' : Collected) : ℕ → Type 0 where
-  performed : {request : Request} {status : ℕ} → IsAskedBy words request
+  performed : {request : Request} {status : ℕ} → IsAskedBy words request → WritesNoneItReads request
       → Performs request before after out out' err err' status
       → Commands words before after out out' err err' status
   said : {status : ℕ} → after ≡ before → Says out out' err err' status

@@ -1,10 +1,11 @@
--- Which words of a command line are arguments, and which profile is named.
-use Rattle.std.specs.Prelude.{◌≡◌, ℕ, Bool, ◌||◌, if◌then◌else◌, List, [], ◌∷◌, drop, codes, Option, Some, None}
-use Rattle.std.specs.Prelude.{slice_index_or, map, IfSome}
+-- Which words of a command line are arguments, which profile is named, and which paths are apart.
+use Rattle.std.specs.Prelude.{◌≡◌, ◌≢◌, ℕ, Bool, ◌||◌, if◌then◌else◌, List, [], ◌∷◌, drop, codes, Option, Some, None}
+use Rattle.std.specs.Prelude.{slice_index_or, map, IfSome, ⊤}
 use Rattle.std.specs.Str.{bytes_eq}
 use Rattle.commands.specs.Below.{P1, P2, Profile}
 use Rattle.commands.specs.declared.command_line.words.Request.{Request}
-use Rattle.commands.specs.declared.command_line.words.Request.TheVariants.{Eval, Run, Leak, Pair, Certify, Picture}
+use Rattle.commands.specs.declared.command_line.words.Request.TheVariants.{Build, Certify, Eval, Function, Leak, Pair}
+use Rattle.commands.specs.declared.command_line.words.Request.TheVariants.{Picture, Run, Wrap}
 
 -- whether a word is a flag that may stand between a command that takes arguments and its path
 abbrev pub is_flag : List ℕ → Bool
@@ -38,6 +39,13 @@ arguments_of (Pair image arguments options) = Some (map (λ word. word.now) argu
 arguments_of (Certify image arguments shifts progress) = Some (map (λ word. word.now) arguments.now)
 arguments_of (Picture image arguments) = Some (map (λ word. word.now) arguments.now)
 arguments_of request = None
+
+-- no path that is written to is one that is read, as both are given
+abbrev pub WritesNoneItReads : Request → Type 0
+WritesNoneItReads (Build file image options) = image.now ≢ file.now
+WritesNoneItReads (Function file assembler header options) = (assembler.now ≢ file.now) × (header.now ≢ file.now)
+WritesNoneItReads (Wrap file code image frame steps profile) = (image.now ≢ file.now) × (image.now ≢ code.now)
+WritesNoneItReads request = ⊤
 
 -- a request may be what words ask for: its arguments, if it takes any, are the words behind a path
 abbrev pub IsAskedBy : List (List ℕ) → Request → Type 0

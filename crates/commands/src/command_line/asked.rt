@@ -2,7 +2,7 @@
 
 ghost use Rattle.std.specs.Prelude.{◌≡◌, None, Some, codes, map, IfOk, IfSome};
 ghost use Rattle.clap.specs.Matches.{first_value, found_of, one_text};
-ghost use Rattle.commands.specs.command_line.Words.{arguments_of, profile_named};
+ghost use Rattle.commands.specs.command_line.Words.{arguments_of, profile_named, WritesNoneItReads};
 
 use crate::command_line::on_executables::request_on_executable;
 use crate::command_line::options::{CompileOptions, PairOptions};
@@ -19,13 +19,19 @@ pub(super) const NO_COMMAND: (ErrorKind, &str) = (
     "a command is required",
 );
 
+/// What is wrong where a file that is read would be written.
+fn lost(text: &'static str) -> (ErrorKind, &'static str) {
+    (ErrorKind::ArgumentConflict, text)
+}
+
 /// What the words ask for, where these are the arguments behind a path; else the kind of what is wrong, and its text.
 pub(crate) fn request_of<'a>(
     matches: &'a ArgMatches<'_>,
     arguments: &'a [&'a str],
 ) -> Result<Request<'a>, (ErrorKind, &'static str)>
-    ensures { IfOk result (λ request.
+    ensures asked { IfOk result (λ request.
         IfSome (arguments_of request) (λ given. given ≡ map (λ word. word.now) arguments.now)) }
+    ensures apart { IfOk result WritesNoneItReads }
 {
     let Some((name, given)) = matches.subcommand() else {
         return Err(NO_COMMAND);
@@ -42,8 +48,9 @@ fn request_with<'a>(
     given: &'a ArgMatches<'_>,
     arguments: &'a [&'a str],
 ) -> Option<Request<'a>>
-    ensures { IfSome result (λ request.
+    ensures asked { IfSome result (λ request.
         IfSome (arguments_of request) (λ given. given ≡ map (λ word. word.now) arguments.now)) }
+    ensures apart { IfSome result WritesNoneItReads }
 {
     match name {
         "eval" => Some(Request::Eval {
@@ -87,17 +94,18 @@ fn request_without<'a>(
     name: &str,
     given: &'a ArgMatches<'_>,
 ) -> Result<Request<'a>, (ErrorKind, &'static str)>
-    ensures { IfOk result (λ request. arguments_of request ≡ None) }
+    ensures none { IfOk result (λ request. arguments_of request ≡ None) }
+    ensures apart { IfOk result WritesNoneItReads }
 {
     match name {
         "check" => Ok(check(given)),
-        "build" => Ok(build(given)),
+        "build" => build(given),
         "stat" => Ok(stat(given)),
-        "function" => Ok(function(given)),
+        "function" => function(given),
         "list" => Ok(Request::List {
             image: text_of(given, "IMAGE"),
         }),
-        "wrap" => Ok(wrap(given)),
+        "wrap" => wrap(given),
         "harts" => Ok(Request::Harts {
             file: text_of(given, "FILE"),
         }),
@@ -109,7 +117,8 @@ fn request_without<'a>(
 }
 
 fn check<'a>(given: &'a ArgMatches<'_>) -> Request<'a>
-    ensures { arguments_of result ≡ None }
+    ensures none { arguments_of result ≡ None }
+    ensures apart { WritesNoneItReads result }
 {
     Request::Check {
         file: text_of(given, "FILE"),
@@ -118,18 +127,25 @@ fn check<'a>(given: &'a ArgMatches<'_>) -> Request<'a>
     }
 }
 
-fn build<'a>(given: &'a ArgMatches<'_>) -> Request<'a>
-    ensures { arguments_of result ≡ None }
+fn build<'a>(given: &'a ArgMatches<'_>) -> Result<Request<'a>, (ErrorKind, &'static str)>
+    ensures none { IfOk result (λ request. arguments_of request ≡ None) }
+    ensures apart { IfOk result WritesNoneItReads }
 {
-    Request::Build {
-        file: text_of(given, "FILE"),
-        image: text_of(given, "IMAGE"),
-        options: options_of(given),
+    let file = text_of(given, "FILE");
+    let image = text_of(given, "IMAGE");
+    if image == file {
+        return Err(lost("IMAGE is the same path as FILE, which would be lost"));
     }
+    Ok(Request::Build {
+        file,
+        image,
+        options: options_of(given),
+    })
 }
 
 fn stat<'a>(given: &'a ArgMatches<'_>) -> Request<'a>
-    ensures { arguments_of result ≡ None }
+    ensures none { arguments_of result ≡ None }
+    ensures apart { WritesNoneItReads result }
 {
     Request::Stat {
         file: text_of(given, "FILE"),
@@ -138,32 +154,53 @@ fn stat<'a>(given: &'a ArgMatches<'_>) -> Request<'a>
     }
 }
 
-fn function<'a>(given: &'a ArgMatches<'_>) -> Request<'a>
-    ensures { arguments_of result ≡ None }
+fn function<'a>(given: &'a ArgMatches<'_>) -> Result<Request<'a>, (ErrorKind, &'static str)>
+    ensures none { IfOk result (λ request. arguments_of request ≡ None) }
+    ensures apart { IfOk result WritesNoneItReads }
 {
-    Request::Function {
-        file: text_of(given, "FILE"),
-        assembler: text_of(given, "ASM"),
-        header: text_of(given, "HEADER"),
-        options: options_of(given),
+    let file = text_of(given, "FILE");
+    let assembler = text_of(given, "ASM");
+    let header = text_of(given, "HEADER");
+    if assembler == file {
+        return Err(lost("ASM is the same path as FILE, which would be lost"));
     }
+    if header == file {
+        return Err(lost("HEADER is the same path as FILE, which would be lost"));
+    }
+    Ok(Request::Function {
+        file,
+        assembler,
+        header,
+        options: options_of(given),
+    })
 }
 
-fn wrap<'a>(given: &'a ArgMatches<'_>) -> Request<'a>
-    ensures { arguments_of result ≡ None }
+fn wrap<'a>(given: &'a ArgMatches<'_>) -> Result<Request<'a>, (ErrorKind, &'static str)>
+    ensures none { IfOk result (λ request. arguments_of request ≡ None) }
+    ensures apart { IfOk result WritesNoneItReads }
 {
-    Request::Wrap {
-        file: text_of(given, "FILE"),
-        code: text_of(given, "CODE"),
-        image: text_of(given, "IMAGE"),
+    let file = text_of(given, "FILE");
+    let code = text_of(given, "CODE");
+    let image = text_of(given, "IMAGE");
+    if image == file {
+        return Err(lost("IMAGE is the same path as FILE, which would be lost"));
+    }
+    if image == code {
+        return Err(lost("IMAGE is the same path as CODE, which would be lost"));
+    }
+    Ok(Request::Wrap {
+        file,
+        code,
+        image,
         frame: number_of(given, "frame"),
         steps: number_of(given, "steps"),
         profile: profile_of(given),
-    }
+    })
 }
 
 fn vectors<'a>(given: &'a ArgMatches<'_>) -> Request<'a>
-    ensures { arguments_of result ≡ None }
+    ensures none { arguments_of result ≡ None }
+    ensures apart { WritesNoneItReads result }
 {
     Request::Vectors {
         file: text_of(given, "FILE"),
@@ -174,7 +211,8 @@ fn vectors<'a>(given: &'a ArgMatches<'_>) -> Request<'a>
 }
 
 fn explain<'a>(given: &ArgMatches<'_>) -> Result<Request<'a>, (ErrorKind, &'static str)>
-    ensures { IfOk result (λ request. arguments_of request ≡ None) }
+    ensures none { IfOk result (λ request. arguments_of request ≡ None) }
+    ensures apart { IfOk result WritesNoneItReads }
 {
     match explanation(text_of(given, "CODE")) {
         Some(explanation) => Ok(Request::Explain { explanation }),

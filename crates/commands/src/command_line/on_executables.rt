@@ -3,7 +3,7 @@
 ghost use Rattle.std.specs.Prelude.{◌≡◌, ◌<◌, ◌^◌, [], None, map, IfOk};
 ghost use Rattle.std.specs.Option.{option_map_or};
 ghost use Rattle.clap.specs.Matches.{found_of, matched_of, raw_values};
-ghost use Rattle.commands.specs.command_line.Words.{arguments_of};
+ghost use Rattle.commands.specs.command_line.Words.{arguments_of, WritesNoneItReads};
 
 use crate::command_line::asked::{NO_COMMAND, profile_of, text_of};
 use crate::command_line::commands::MOST_STEPS;
@@ -17,7 +17,8 @@ use elf_reports::AskedWords;
 pub(super) fn request_on_executable<'a>(
     matches: &'a ArgMatches<'_>,
 ) -> Result<Request<'a>, (ErrorKind, &'static str)>
-    ensures { IfOk result (λ request. arguments_of request ≡ None) }
+    ensures none { IfOk result (λ request. arguments_of request ≡ None) }
+    ensures apart { IfOk result WritesNoneItReads }
 {
     let Some((name, given)) = matches.subcommand() else {
         return Err(NO_COMMAND);

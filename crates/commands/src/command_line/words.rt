@@ -1,5 +1,6 @@
 ghost use Rattle.std.specs.Prelude.{◌≡◌, map, IfOk};
 ghost use Rattle.commands.specs.command_line.Words.{is_flag, behind_flags, after_path, IsAskedBy};
+ghost use Rattle.commands.specs.command_line.Words.{WritesNoneItReads};
 
 use crate::command_line::asked::request_of;
 use crate::command_line::grammar::factc;
@@ -121,13 +122,14 @@ pub enum NoRequest {
 pub type Matched<'a> = Option<ArgMatches<'a>>;
 
 /// Reads the words, of which the first is the program's own name. The arguments of a request are the words behind its
-/// path, except of one on an executable.
+/// path, except of one on an executable. None is asked for where a path to write to is one to read.
 pub fn parse<'a, 'w>(
     alloc: Global,
     words: &'w [&'w str],
     matched: &'a mut Matched<'w>,
 ) -> Result<Request<'a>, NoRequest>
-    ensures { IfOk result (IsAskedBy (map (λ word. word.now) words.now)) }
+    ensures asked { IfOk result (IsAskedBy (map (λ word. word.now) words.now)) }
+    ensures apart { IfOk result WritesNoneItReads }
 {
     match asked(alloc, words, matched) {
         Ok(request) => Ok(request),
@@ -153,7 +155,8 @@ fn asked<'a, 'w>(
     words: &'w [&'w str],
     matched: &'a mut Matched<'w>,
 ) -> Result<Request<'a>, Error>
-    ensures { IfOk result (IsAskedBy (map (λ word. word.now) words.now)) }
+    ensures asked { IfOk result (IsAskedBy (map (λ word. word.now) words.now)) }
+    ensures apart { IfOk result WritesNoneItReads }
 {
     let mut command = factc(alloc)?;
     let matches = matched.insert(command.try_get_matches_from_mut(words)?);
