@@ -1,11 +1,20 @@
 -- One byte more than the longest code has decides what is said of code.
 use Rattle.std.proofs.Common.{◌≡◌, ℕ, zero, suc, ◌*◌, ◌-◌, ◌<◌, ◌≤◌, ◌/◌, ◌%◌, ◌==◌, ◌&&◌, Bool, true, false, cond}
-use Rattle.std.proofs.Common.{List, length, take, Option, Some, None, refl, sym, ap, ◌∙◌, subst, arith}
+use Rattle.std.proofs.Common.{[], ◌∷◌, List, length, take, Option, Some, None, refl, sym, ap, ◌∙◌, subst, arith}
 use Rattle.std.proofs.lemmas.Bool.Decides.{Decides-eqb, nat_tests}
 use Rattle.std.proofs.lemmas.List.{length-take-le, take_all}
 use Rattle.commands.specs.Below.{Asked, Breaks, broken_rule, CodeRule, is_code_length, is_frame_size, is_step_limit}
 use Rattle.commands.specs.Below.{is_word_count, IsWrapped, most_words}
+use Rattle.commands.specs.WrappedCode.{begins_as_elf}
 use Rattle.input_files.specs.declared.wrapping.fault.CodeRule.TheVariants.{Length, Frame, Steps}
+
+-- the first bytes of a file begin as all of them do
+pub elf_whole : (whole code : List ℕ) → code ≡ take 768257 whole → begins_as_elf code ≡ begins_as_elf whole
+elf_whole [] code is = ap begins_as_elf is
+elf_whole (a ∷ []) code is = ap begins_as_elf is
+elf_whole (a ∷ b ∷ []) code is = ap begins_as_elf is
+elf_whole (a ∷ b ∷ c ∷ []) code is = ap begins_as_elf is
+elf_whole (a ∷ b ∷ c ∷ d ∷ rest) code is = ap begins_as_elf is
 
 both : (a b : Bool) → (a && b) ≡ true → (a ≡ true) × (b ≡ true)
 both true b h = (refl, h)

@@ -12,7 +12,7 @@ use Rattle.commands.specs.Written.{IsWriteFault}
 use Rattle.commands.specs.declared.fault.Fault.{Fault}
 use Rattle.commands.specs.declared.fault.Fault.TheVariants.{Text, Explained, Image, Run, Eval, Plan, Harts, Vectors}
 use Rattle.commands.specs.declared.fault.Fault.TheVariants.{Code, Name, Elf, Unmet, File}
-use Rattle.commands.specs.declared.fault.FileFault.TheVariants.{CannotRead, CannotWrite, NotUtf8}
+use Rattle.commands.specs.declared.fault.FileFault.TheVariants.{CannotRead, CannotWrite, IsElf, NotUtf8}
 use Rattle.commands.specs.Below.{BuildFault, one_more, Read, Refusal, Refused}
 use Rattle.input_files.specs.declared.stream_build.fault.BuildFault.TheVariants.{Write}
 use Rattle.input_files.specs.declared.stream_build.fault.BuildFault.TheVariants as texts
@@ -76,6 +76,7 @@ counted_by (Unmet rule word) before after read = ap (λ (s : Store). s.failures)
 counted_by (File (CannotRead path)) before after read = ap (λ (s : Store). s.failures) read
 counted_by (File (CannotWrite path)) before after read = absurd read
 counted_by (File (NotUtf8 path)) before after read = ap (λ (s : Store). s.failures) read
+counted_by (File (IsElf path)) before after read = ap (λ (s : Store). s.failures) read
 
 -- and hold what they held
 pub kept_by : (fault : Fault) (before after : Store) → IsReadBy fault before after → after.contents ≡ before.contents
@@ -94,6 +95,7 @@ kept_by (Unmet rule word) before after read = ap (λ (s : Store). s.contents) re
 kept_by (File (CannotRead path)) before after read = ap (λ (s : Store). s.contents) read
 kept_by (File (CannotWrite path)) before after read = absurd read
 kept_by (File (NotUtf8 path)) before after read = ap (λ (s : Store). s.contents) read
+kept_by (File (IsElf path)) before after read = ap (λ (s : Store). s.contents) read
 
 -- which calls failed, where files were read, or standard output failed
 pub either_counts : (fault : Fault) {before after : Store} {printed printed' : ℕ}
@@ -116,6 +118,7 @@ pub write_counts : (path : List ℕ) (fault : Fault) (before : ℕ) → IsWriteF
 write_counts path fault before (CannotRead named, is, same) = absurd is
 write_counts path fault before (CannotWrite named, is, same) = rw same refl
 write_counts path fault before (NotUtf8 named, is, same) = absurd is
+write_counts path fault before (IsElf named, is, same) = absurd is
 
 -- a command that only reads files has no fault of standard output
 pub not_output : (fault : Fault) (before after : Store) → IsReadBy fault before after → IsOutputFault fault → ⊥
@@ -123,6 +126,7 @@ not_output fault before after read (CannotRead named, is, same) = is
 not_output fault before after read (CannotWrite named, is, same) =
     subst (λ (f : Fault). IsReadBy f before after) same read
 not_output fault before after read (NotUtf8 named, is, same) = is
+not_output fault before after read (IsElf named, is, same) = is
 
 output_status : (fault : Fault) {status : ℕ} → IsOutputFault fault → (status ≡ fault_status fault) ⊎ (status ≡ 4)
     → (status ≡ 3) ⊎ (status ≡ 4)
@@ -149,6 +153,7 @@ ends (Unmet rule word) (of_files is same) status = calm is same
 ends (File (CannotRead path)) (of_files is same) status = files_failed is same status
 ends (File (CannotWrite path)) (of_files is same) status = files_failed is same status
 ends (File (NotUtf8 path)) (of_files is same) status = calm is same
+ends (File (IsElf path)) (of_files is same) status = calm is same
 
 -- a file that could not be written, and two of which one could not
 pub write_failed : {T : Type 0} (answer : Result T Fault) (before after : ℕ)

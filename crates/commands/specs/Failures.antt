@@ -6,14 +6,16 @@ use Rattle.commands.specs.Leaks.{IsOutputFault}
 use Rattle.commands.specs.declared.fault.Fault.{Fault}
 use Rattle.commands.specs.declared.fault.Fault.TheVariants.{File}
 use Rattle.commands.specs.declared.fault.FileFault.{FileFault}
-use Rattle.commands.specs.declared.fault.FileFault.TheVariants.{CannotRead, CannotWrite, NotUtf8}
+use Rattle.commands.specs.declared.fault.FileFault.TheVariants.{CannotRead, CannotWrite, IsElf, NotUtf8}
 use Rattle.commands.specs.Below.{one_more}
 
--- how many calls of files have failed after a fault of one: one more, unless it was read and is no text
+-- how many calls of files have failed after a fault of one: one more, unless it was read and is no text, or is an
+-- executable
 abbrev pub file_failures : FileFault → ℕ → ℕ
 file_failures (CannotRead path) before = one_more before
 file_failures (CannotWrite path) before = one_more before
 file_failures (NotUtf8 path) before = before
+file_failures (IsElf path) before = before
 
 -- and after a fault of a command
 abbrev pub failures_by : Fault → ℕ → ℕ
@@ -25,6 +27,7 @@ abbrev pub IsReadByFile : FileFault → Store → Store → Type 0
 IsReadByFile (CannotRead path) before after = after ≡ failed before
 IsReadByFile (CannotWrite path) before after = ⊥
 IsReadByFile (NotUtf8 path) before after = after ≡ before
+IsReadByFile (IsElf path) before after = after ≡ before
 
 -- and by the fault of a command that writes no file
 abbrev pub IsReadBy : Fault → Store → Store → Type 0

@@ -7,7 +7,7 @@ use Rattle.commands.specs.declared.fault.Fault.{Fault}
 use Rattle.commands.specs.declared.fault.Fault.TheVariants.{Text, Explained, Image, Run, Eval, Plan, Harts, Vectors}
 use Rattle.commands.specs.declared.fault.Fault.TheVariants.{Code, Name, Elf, Unmet, File}
 use Rattle.commands.specs.declared.fault.FileFault.{FileFault}
-use Rattle.commands.specs.declared.fault.FileFault.TheVariants.{CannotRead, CannotWrite, NotUtf8}
+use Rattle.commands.specs.declared.fault.FileFault.TheVariants.{CannotRead, CannotWrite, IsElf, NotUtf8}
 use Rattle.elf.specs.RuleNames as elf_rules
 use Rattle.elf.specs.Text as executables
 use Rattle.elf.specs.declared.fault.ElfFault.TheVariants as elf_faults
@@ -38,6 +38,7 @@ abbrev pub file_fault_text : FileFault → List ℕ
 file_fault_text (CannotRead path) = codes "cannot read " ++ path.now
 file_fault_text (CannotWrite path) = codes "cannot write " ++ path.now
 file_fault_text (NotUtf8 path) = codes "not UTF-8 " ++ path.now
+file_fault_text (IsElf path) = codes "an ELF file, which elf certify takes: " ++ path.now
 
 -- why harts are not run, without the hart's number
 abbrev pub harts_fault_text : HartsFault → List ℕ

@@ -6,7 +6,7 @@ use Rattle.commands.specs.Unread.{NotRead}
 use Rattle.commands.specs.declared.fault.Fault.{Fault}
 use Rattle.commands.specs.declared.fault.Fault.TheVariants.{Text, File}
 use Rattle.commands.specs.declared.fault.FileFault.{FileFault}
-use Rattle.commands.specs.declared.fault.FileFault.TheVariants.{CannotRead, CannotWrite, NotUtf8}
+use Rattle.commands.specs.declared.fault.FileFault.TheVariants.{CannotRead, CannotWrite, IsElf, NotUtf8}
 use Rattle.commands.specs.Below.{IsText, IsTooLong, Refusal, source_limit}
 
 -- the bytes of the file at a path, all of them, are a text that is not too long
@@ -19,6 +19,7 @@ abbrev pub IsNotUtf8 : List ℕ → FileFault → Type 0
 IsNotUtf8 path (CannotRead named) = ⊥
 IsNotUtf8 path (CannotWrite named) = ⊥
 IsNotUtf8 path (NotUtf8 named) = named.now ≡ path
+IsNotUtf8 path (IsElf named) = ⊥
 
 -- why no text is had of the file at a path, where a text may have any length
 pub data NoWholeText (files : Contents) (path : List ℕ) : Fault → Type 0 where

@@ -4,7 +4,7 @@ use Rattle.commands.specs.declared.fault.Fault.{Fault}
 use Rattle.commands.specs.declared.fault.Fault.TheVariants.{Text, Explained, Image, Run, Eval, Plan, Harts, Vectors}
 use Rattle.commands.specs.declared.fault.Fault.TheVariants.{Code, Name, Elf, Unmet, File}
 use Rattle.commands.specs.declared.fault.FileFault.{FileFault}
-use Rattle.commands.specs.declared.fault.FileFault.TheVariants.{CannotRead, CannotWrite, NotUtf8}
+use Rattle.commands.specs.declared.fault.FileFault.TheVariants.{CannotRead, CannotWrite, IsElf, NotUtf8}
 use Rattle.elf.specs.declared.fault.ElfFault.TheVariants as elf_faults
 use Rattle.harts.specs.declared.fault.HartsFault.TheVariants as harts
 use Rattle.input_files.specs.declared.harts_file.fault.PlanFault.TheVariants as plans
@@ -35,12 +35,14 @@ abbrev pub IsUnread : List ℕ → FileFault → Type 0
 IsUnread path (CannotRead named) = named.now ≡ path
 IsUnread path (CannotWrite named) = ⊥
 IsUnread path (NotUtf8 named) = ⊥
+IsUnread path (IsElf named) = ⊥
 
 -- the file at a path cannot be written
 abbrev pub IsUnwritten : List ℕ → FileFault → Type 0
 IsUnwritten path (CannotRead named) = ⊥
 IsUnwritten path (CannotWrite named) = named.now ≡ path
 IsUnwritten path (NotUtf8 named) = ⊥
+IsUnwritten path (IsElf named) = ⊥
 
 -- why the bytes of the file at a path are not had
 pub data NotRead (path : List ℕ) : Fault → Type 0 where

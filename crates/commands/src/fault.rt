@@ -27,6 +27,8 @@ pub enum FileFault<'a> {
     CannotWrite(&'a str),
     #[error("not UTF-8 {0}")]
     NotUtf8(&'a str),
+    #[error("an ELF file, which elf certify takes: {0}")]
+    IsElf(&'a str),
 }
 
 /// Why a command was not done.
@@ -140,6 +142,9 @@ impl fmt::Display for Fault<'_> {
             Fault::File(FileFault::CannotRead(path)) => write!(f, "file: cannot read {path}"),
             Fault::File(FileFault::CannotWrite(path)) => write!(f, "file: cannot write {path}"),
             Fault::File(FileFault::NotUtf8(path)) => write!(f, "file: not UTF-8 {path}"),
+            Fault::File(FileFault::IsElf(path)) => {
+                write!(f, "file: an ELF file, which elf certify takes: {path}")
+            }
         }
     }
 }
