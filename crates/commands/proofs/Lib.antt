@@ -12,6 +12,8 @@ pub mod StreamCounts
 mod MeasuringLemmas
 mod PictureLemmas
 mod ProgressLemmas
+mod StepLemmas
+mod RunLines
 mod RequestLemmas
 mod AnswerLemmas
 mod MeaningLemmas

@@ -9,7 +9,7 @@ use Rattle.commands.specs.Contents.{Contents}
 use Rattle.commands.specs.Executables.{HoldsExecutable}
 use Rattle.commands.specs.Images.{HoldsImage}
 use Rattle.commands.specs.Progress.{RunGoesOn, PairGoesOn, CertificateGoesOn, FunctionGoesOn, Tells}
-use Rattle.commands.specs.Progress.{FileRunTells, FilePairTells, FileCertificateTells, FileFunctionTells}
+use Rattle.commands.specs.Progress.{FilePairTells, FileCertificateTells, FileFunctionTells}
 use Rattle.commands.specs.Words.{AreSpelled, AreBothSpelled, AreGiven}
 use Rattle.run_reports.proofs.progress_lemmas.Told.{reaches}
 
@@ -50,12 +50,6 @@ told_of_pair Has {code} {steps} {s} {s'} {before} {after} image one other code_i
 -- those of the image are those of its file
 module _ (Has : Counting) (before after : Collected) {files : Contents} {path : List ℕ} {words : List (List ℕ)}
     {image : Fields} (held : HoldsImage files path image) where
-  pub file_run_tells : {args : List Arg} (progress : Bool) → AreSpelled (params_of image) words args
-      → Tells Has progress (RunGoesOn image args) before after
-      → FileRunTells Has progress files path words before after
-  file_run_tells false spelled told = told
-  file_run_tells {args} true spelled told = (image, args, held, spelled, told)
-
   pub file_pair_tells : {one other : List Arg} (progress : Bool) → AreBothSpelled (params_of image) words one other
       → Tells Has progress (PairGoesOn image one other) before after
       → FilePairTells Has progress files path words before after
@@ -80,12 +74,6 @@ file_function_tells Has before after {program = program} {asked = asked} options
     (program, asked, held, as_said, told)
 
 -- all lines are some
-pub run_reaches : (files : Contents) (path : List ℕ) (words : List (List ℕ)) (before after : Collected)
-    (progress : Bool) → FileRunTells HasLines progress files path words before after
-    → FileRunTells Reaches progress files path words before after
-run_reaches files path words before after false told = told
-run_reaches files path words before after true told = (told.0, told.1, told.2, told.3, reaches told.4)
-
 pub pair_reaches : (files : Contents) (path : List ℕ) (words : List (List ℕ)) (before after : Collected)
     (progress : Bool) → FilePairTells HasLines progress files path words before after
     → FilePairTells Reaches progress files path words before after

@@ -4,10 +4,12 @@ pub use Rattle.word.specs.declared.profile.Profile.{Profile}
 pub use Rattle.word.specs.declared.profile.Profile.TheVariants.{P1, P2}
 pub use Rattle.rv_machine.specs.Harts.{state_of}
 pub use Rattle.rv_code.specs.declared.instructions.Instr.{Instr}
+pub use Rattle.rv_machine.specs.Leakage.{Halts, halts, halted, Leads, RunsWithin, spent, stays}
 pub use Rattle.rv_machine.specs.Machine.{MachineCode, State, word_at}
 pub use Rattle.rv_machine.specs.Paged.{paged_bytes}
 pub use Rattle.rv_machine.specs.Regions.{code_of}
 pub use Rattle.rv_machine.specs.declared.hart_recording.HartObservation.{HartObservation}
+pub use Rattle.rv_machine.specs.declared.observation.Observation.{Observation}
 pub use Rattle.rv_machine.specs.declared.pairing.Pairing.{Pairing}
 pub use Rattle.rv_machine.specs.declared.stops.Stop.{Stop}
 pub use Rattle.rv_machine.specs.declared.stops.Stop.TheVariants.{AccessFault, Break, Budget, Ecall, Illegal, Misaligned}

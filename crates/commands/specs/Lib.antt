@@ -7,8 +7,8 @@
 -- What a command prints: Judged of check, Costs of stat, Meanings of eval, Runs and OutcomeText of run, Leaks of leak,
 --   Pairs of pair, Certificates of certify, Pictures of picture, Harts and HartsText of harts, Vectors of vectors,
 --   FunctionCertificates of elf certify, FunctionLeaks of elf leak, FunctionWitnesses of elf witness; Stops has exit
---   statuses, Progress the lines of progress. What it writes: Written one file, TwoFiles two, FunctionFiles those of
---   function, WrappedCode the image of wrap.
+--   statuses, Progress the lines of progress, StepCounts that of steps. What it writes: Written one file, TwoFiles two,
+--   FunctionFiles those of function, WrappedCode the image of wrap.
 -- command_line: the words of a command line.
 pub mod command_line
 pub mod Contents
@@ -42,6 +42,7 @@ pub mod FunctionFiles
 pub mod FaultText
 pub mod Failures
 pub mod Vectors
+pub mod StepCounts
 pub mod Progress
 pub mod Requests
 pub mod Answered

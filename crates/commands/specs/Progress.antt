@@ -1,11 +1,12 @@
 -- What goes out on standard error while an image or a function runs, where that is asked for: a line behind each so
--- many steps after which the run goes on.
+-- many steps after which the run goes on; and of a run once it has stopped the line of its steps.
 use Rattle.std.specs.Prelude.{◌≡◌, ℕ, Bool, true, false, List, map, Option}
 use Rattle.image_reports.specs.certificates.KnownImage.{known_at}
 use Rattle.commands.specs.Below.{Arg, AskedRun, AskedWords, AsksFor, BothGoOn, code_at, code_base, Collected}
 use Rattle.commands.specs.Below.{Counting, Executable, Fields}
 use Rattle.commands.specs.Below.{frame_base, GoesOn, image_program, IsTold, known_at_start, loaded_at, machine_program}
 use Rattle.commands.specs.Below.{params_of, RunOptions, Shifts}
+use Rattle.commands.specs.declared.command_line.options.StepOptions.{StepOptions}
 use Rattle.commands.specs.declared.command_line.words.Request.{Request}
 use Rattle.commands.specs.declared.command_line.words.Request.TheVariants as requests
 use Rattle.commands.specs.Certificates.{shifts_seen}
@@ -13,6 +14,7 @@ use Rattle.commands.specs.Contents.{Contents}
 use Rattle.commands.specs.Executables.{HoldsExecutable}
 use Rattle.commands.specs.FunctionCertificates.{run_options}
 use Rattle.commands.specs.Images.{HoldsImage}
+use Rattle.commands.specs.StepCounts.{RunMakes, TellsSteps}
 use Rattle.commands.specs.Words.{AreSpelled, AreBothSpelled, AreGiven}
 use Rattle.run_reports.specs.progress.Certified.{GoesOnKnown}
 
@@ -43,12 +45,20 @@ abbrev pub Tells : Counting → Bool → (ℕ → Type 0) → Collected → Coll
 Tells Has false GoesOnAfter before after = after ≡ before
 Tells Has true GoesOnAfter before after = IsTold Has GoesOnAfter before after
 
+-- and of an image's run on arguments, and then the line of its steps, each where it is asked for
+abbrev pub RunTells : Counting → StepOptions → Fields → List Arg → Collected → Collected → Type 0
+RunTells Has options image args before after =
+    (told : Collected) × Tells Has options.progress (RunGoesOn image args) before told
+    × TellsSteps options.steps (RunMakes image args) told after
+
 -- the same of the run of the file's image on the arguments that the words spell
-abbrev pub FileRunTells : Counting → Bool → Contents → List ℕ → List (List ℕ) → Collected → Collected → Type 0
-FileRunTells Has false files path words before after = after ≡ before
-FileRunTells Has true files path words before after =
-    (image : Fields) × (args : List Arg) × HoldsImage files path image × AreSpelled (params_of image) words args
-    × IsTold Has (RunGoesOn image args) before after
+pub record FileRunTells (Has : Counting) (options : StepOptions) (files : Contents) (path : List ℕ)
+    (words : List (List ℕ)) (before after : Collected) : Type 0 where
+  pub image : Fields
+  pub args : List Arg
+  pub held : HoldsImage files path image
+  pub spelled : AreSpelled (params_of image) words args
+  pub told : RunTells Has options image args before after
 
 -- of its runs on the two lists that they spell
 abbrev pub FilePairTells : Counting → Bool → Contents → List ℕ → List (List ℕ) → Collected → Collected → Type 0
@@ -76,8 +86,8 @@ FileFunctionTells Has true options files path words before after =
 
 -- what goes out for a request, by what files hold
 abbrev pub RequestTells : Counting → Request → Contents → Collected → Collected → Type 0
-RequestTells Has (requests.Run image arguments progress) files before after =
-    FileRunTells Has progress files image.now (map (λ word. word.now) arguments.now) before after
+RequestTells Has (requests.Run image arguments options) files before after =
+    FileRunTells Has options files image.now (map (λ word. word.now) arguments.now) before after
 RequestTells Has (requests.Pair image arguments options) files before after =
     FilePairTells Has options.progress files image.now (map (λ word. word.now) arguments.now) before after
 RequestTells Has (requests.Certify image arguments shifts progress) files before after =

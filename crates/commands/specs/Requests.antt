@@ -40,7 +40,7 @@ Answers (requests.Stat file profile optimisation) files text status =
 Answers (requests.Function file assembler header options) files text status = (text ≡ []) × (status ≡ 0)
 Answers (requests.Eval file arguments explain) files text status =
     SaysMeaning files file.now (map (λ word. word.now) arguments.now) text × (status ≡ 0)
-Answers (requests.Run image arguments progress) files text status =
+Answers (requests.Run image arguments options) files text status =
     SaysFileRun files image.now (map (λ word. word.now) arguments.now) text × (status ≡ 0)
 Answers (requests.Leak image arguments) files text status =
     SaysLeak files image.now (map (λ word. word.now) arguments.now) status text
@@ -74,7 +74,7 @@ Leaves (requests.Function file assembler header options) before after =
     WritesTwo assembler.now header.now (AreFunctionTexts options.optimisation options.profile before file.now)
     before after
 Leaves (requests.Eval file arguments explain) before after = after ≡ before
-Leaves (requests.Run image arguments progress) before after = after ≡ before
+Leaves (requests.Run image arguments options) before after = after ≡ before
 Leaves (requests.Leak image arguments) before after = after ≡ before
 Leaves (requests.Pair image arguments options) before after = after ≡ before
 Leaves (requests.Certify image arguments shifts progress) before after = after ≡ before
@@ -104,7 +104,7 @@ Refuses (requests.Function file assembler header options) before after fault =
     (RefusesFunction options.explain options.profile before file.now) before after fault
 Refuses (requests.Eval file arguments explain) before after fault =
     RefusesMeaning explain before file.now (map (λ word. word.now) arguments.now) fault × (after ≡ before)
-Refuses (requests.Run image arguments progress) before after fault =
+Refuses (requests.Run image arguments options) before after fault =
     RefusesRun before image.now (map (λ word. word.now) arguments.now) fault × (after ≡ before)
 Refuses (requests.Leak image arguments) before after fault =
     RefusesLeak before image.now (map (λ word. word.now) arguments.now) fault × (after ≡ before)

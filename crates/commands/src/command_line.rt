@@ -7,5 +7,5 @@ mod on_executables;
 mod options;
 mod words;
 
-pub use options::{CompileOptions, FunctionOptions, ObservedOptions, PairOptions};
+pub use options::{CompileOptions, FunctionOptions, ObservedOptions, PairOptions, StepOptions};
 pub use words::{Matched, NoRequest, Request, parse};

@@ -16,7 +16,7 @@ ghost use Rattle.commands.specs.Stops.{status_of};
 ghost use Rattle.commands.specs.Words.{AreSpelled, AreBothSpelled, IsFaultOfWords, fault_of_both};
 
 use crate::answer::{Answer, DONE, STOPPED};
-use crate::command_line::{PairOptions, Request};
+use crate::command_line::{PairOptions, Request, StepOptions};
 use crate::fault::{Fault, FileFault};
 use crate::files::Files;
 use crate::outcome;
@@ -86,28 +86,29 @@ pub fn image_with_args<'a, F: Files>(
     Ok((image, params, args))
 }
 
-/// What an image gives on arguments, as lines. How many steps its run has made goes to `err`, where that is asked for.
+/// What an image gives on arguments, as lines. How many steps its run has made goes to `err`, while it runs and once it
+/// has stopped, where that is asked for.
 pub fn run_image<'a, F: Files, E: Sink>(
     alloc: Global,
     path: &'a str,
     arguments: &'a [&'a str],
-    progress: bool,
+    options: StepOptions,
     files: &mut F,
     err: &mut E,
 ) -> Result<Answer, Fault<'a>>
     ensures finds { IsTrue F.TELLS
-        → Finds (Request.Run path.entry arguments.entry progress) (F.store files.old).contents result }
+        → Finds (Request.Run path.entry arguments.entry options) (F.store files.old).contents result }
     ensures told { IsTrue F.TELLS → IsTrue E.TELLS
-        → OnOk result (FileRunTells HasLines progress (F.store files.old).contents path.now
+        → OnOk result (FileRunTells HasLines options (F.store files.old).contents path.now
         (map (λ word. word.now) arguments.now) (collected (E.taken err.old) (E.failures err.old))
         (collected (E.taken err.new) (E.failures err.new))) }
     ensures part { IsTrue F.TELLS → IsTrue E.TELLS → OnErr result ((err.new ≡ err.old)
-        ⊎ FileRunTells Reaches progress (F.store files.old).contents path.now (map (λ word. word.now) arguments.now)
+        ⊎ FileRunTells Reaches options (F.store files.old).contents path.now (map (λ word. word.now) arguments.now)
         (collected (E.taken err.old) (E.failures err.old)) (collected (E.taken err.new) (E.failures err.new))) }
     ensures read { IsRead result (F.store files.old) (F.store files.new) }
 {
     let (image, params, args) = image_with_args(alloc, path, arguments, files)?;
-    let outcome = outcome_of(alloc, &image, &args, progress, err)?;
+    let outcome = outcome_of(alloc, &image, &args, options, err)?;
     let text = outcome::text_of(alloc, params.as_slice(), &outcome)?;
     Ok(Answer::of_text(text))
 }

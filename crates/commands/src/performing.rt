@@ -64,7 +64,7 @@ pub fn command<'a, F: Files, O: Sink, E: Sink>(
 }
 
 /// Does what is asked for, prints what answers it, or why it is not done, and answers the exit status. Lines of
-/// progress go to `err` before that.
+/// progress and of steps go to `err` before that.
 pub fn perform<F: Files, O: Sink, E: Sink>(
     alloc: Global,
     request: Request<'_>,
@@ -190,11 +190,8 @@ fn answer<'a, F: Files, O: Sink, E: Sink>(
         Request::Run {
             image,
             arguments,
-            progress,
-        } => print(
-            out,
-            run_image(alloc, image, arguments, progress, files, err),
-        ),
+            options,
+        } => print(out, run_image(alloc, image, arguments, options, files, err)),
         Request::Leak { image, arguments } => leak_image(alloc, image, arguments, files, out),
         Request::Pair {
             image,

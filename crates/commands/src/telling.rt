@@ -1,9 +1,11 @@
 // Runs of an image that say on standard error how many steps they have made, where that is asked for.
 
-ghost use Rattle.std.specs.Prelude.{◌≡◌, ◌≢◌, false, [], Err, IsTrue, OnOk, OnErr};
+ghost use Rattle.std.specs.Prelude.{◌≡◌, ◌≢◌, ◌⊎◌, false, true, [], Err, IsTrue, OnOk, OnErr};
 ghost use Rattle.commands.specs.Below.{Certified, collected, Executed, HasLines, IsTold, Paired, Reaches};
-ghost use Rattle.commands.specs.Progress.{RunGoesOn, PairGoesOn, CertificateGoesOn, Tells};
+ghost use Rattle.commands.specs.Progress.{RunGoesOn, PairGoesOn, CertificateGoesOn, RunTells, Tells};
 
+use crate::command_line::StepOptions;
+use crate::step_counts::{put_steps, run_counting};
 use hepurita::{
     RunFault, answer, code, execute, fault_of_both, first_fault, load, pair, result_space,
 };
@@ -42,8 +44,9 @@ fn execute_telling<E: Sink>(
     answer(image, space, stop, &loaded.memory)
 }
 
-/// Runs an image on arguments, and says how many steps it has made where that is asked for.
-pub fn outcome_of<E: Sink>(
+/// The same, and once the run has stopped the line of its steps goes out. Lines of progress go out where they are asked
+/// for.
+fn execute_counting<E: Sink>(
     alloc: Global,
     image: &Image,
     args: &Args,
@@ -53,13 +56,44 @@ pub fn outcome_of<E: Sink>(
     ensures executed { Executed image.now args.now false [] result [] }
     ensures calm { result ≢ Err (RunFault.Stopped Stop.RecorderRefused) }
     ensures told { IsTrue E.TELLS
-        → OnOk result (Tells HasLines progress (RunGoesOn image.now args.now)
+        → OnOk result (RunTells HasLines (record { progress = progress; steps = true }) image.now args.now
         (collected (E.taken err.old) (E.failures err.old)) (collected (E.taken err.new) (E.failures err.new))) }
-    ensures part { IsTrue E.TELLS
-        → OnErr result (Tells Reaches progress (RunGoesOn image.now args.now)
+    ensures part { IsTrue E.TELLS → OnErr result ((err.new ≡ err.old)
+        ⊎ RunTells Reaches (record { progress = progress; steps = true }) image.now args.now
         (collected (E.taken err.old) (E.failures err.old)) (collected (E.taken err.new) (E.failures err.new))) }
 {
-    if progress {
+    if let Some(fault) = first_fault(image, args) {
+        return Err(RunFault::from(fault));
+    }
+    let code = code(alloc, image)?;
+    let space = result_space(alloc, image)?;
+    let mut loaded = load(alloc, image, args)?;
+    let budget = loaded.steps_left;
+    let stop = run_counting(&code, &mut loaded, progress, err);
+    put_steps(err, budget - loaded.steps_left);
+    answer(image, space, stop, &loaded.memory)
+}
+
+/// Runs an image on arguments, and says how many steps it has made where that is asked for.
+pub fn outcome_of<E: Sink>(
+    alloc: Global,
+    image: &Image,
+    args: &Args,
+    options: StepOptions,
+    err: &mut E,
+) -> Result<Outcome, RunFault>
+    ensures executed { Executed image.now args.now false [] result [] }
+    ensures calm { result ≢ Err (RunFault.Stopped Stop.RecorderRefused) }
+    ensures told { IsTrue E.TELLS
+        → OnOk result (RunTells HasLines options image.now args.now
+        (collected (E.taken err.old) (E.failures err.old)) (collected (E.taken err.new) (E.failures err.new))) }
+    ensures part { IsTrue E.TELLS → OnErr result ((err.new ≡ err.old)
+        ⊎ RunTells Reaches options image.now args.now
+        (collected (E.taken err.old) (E.failures err.old)) (collected (E.taken err.new) (E.failures err.new))) }
+{
+    if options.steps {
+        execute_counting(alloc, image, args, options.progress, err)
+    } else if options.progress {
         execute_telling(alloc, image, args, err)
     } else {
         execute(alloc, image, args, &mut NullRecorder)

@@ -11,6 +11,7 @@ use Rattle.commands.specs.declared.command_line.words.Request.TheVariants.{Pictu
 abbrev pub is_flag : List ℕ → Bool
 is_flag word =
     bytes_eq word (codes "--explain") || bytes_eq word (codes "--shifts") || bytes_eq word (codes "--progress")
+    || bytes_eq word (codes "--steps")
 
 -- the words from the first on that is no flag
 abbrev pub behind_flags : List (List ℕ) → List (List ℕ)
@@ -33,7 +34,7 @@ profile_named None = P1
 -- the arguments that are asked for
 abbrev pub arguments_of : Request → Option (List (List ℕ))
 arguments_of (Eval file arguments explain) = Some (map (λ word. word.now) arguments.now)
-arguments_of (Run image arguments progress) = Some (map (λ word. word.now) arguments.now)
+arguments_of (Run image arguments options) = Some (map (λ word. word.now) arguments.now)
 arguments_of (Leak image arguments) = Some (map (λ word. word.now) arguments.now)
 arguments_of (Pair image arguments options) = Some (map (λ word. word.now) arguments.now)
 arguments_of (Certify image arguments shifts progress) = Some (map (λ word. word.now) arguments.now)

@@ -5,7 +5,7 @@ ghost use Rattle.clap.specs.Matches.{first_value, found_of, one_text};
 ghost use Rattle.commands.specs.command_line.Words.{arguments_of, profile_named, WritesNoneItReads};
 
 use crate::command_line::on_executables::request_on_executable;
-use crate::command_line::options::{CompileOptions, PairOptions};
+use crate::command_line::options::{CompileOptions, PairOptions, StepOptions};
 use crate::command_line::words::Request;
 use clap::ArgMatches;
 use clap::error::ErrorKind;
@@ -61,7 +61,10 @@ fn request_with<'a>(
         "run" => Some(Request::Run {
             image: text_of(given, "IMAGE"),
             arguments,
-            progress: given.get_flag("progress"),
+            options: StepOptions {
+                progress: given.get_flag("progress"),
+                steps: given.get_flag("steps"),
+            },
         }),
         "leak" => Some(Request::Leak {
             image: text_of(given, "IMAGE"),

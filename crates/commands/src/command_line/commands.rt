@@ -133,6 +133,10 @@ pub(crate) static COMMANDS: [CommandRow; 15] = [
         words: &[
             CommandWord::Path("IMAGE", "An image that `build` or `wrap` wrote"),
             CommandWord::Flag("progress", PROGRESS),
+            CommandWord::Flag(
+                "steps",
+                "Prints to standard error how many steps the run has made, once it has stopped; must come before IMAGE",
+            ),
             CommandWord::Arguments(ARGUMENTS),
         ],
     },

@@ -1,4 +1,4 @@
-// How a source is to be compiled, and what is asked of a comparison and of runs of a function.
+// How a source is to be compiled, and what is asked of a run, of a comparison and of runs of a function.
 
 ghost use Rattle.std.specs.Prelude.{◌<◌, ◌^◌};
 
@@ -12,6 +12,13 @@ pub struct CompileOptions {
     pub profile: Profile,
     pub optimisation: Optimisation,
     pub explain: bool,
+}
+
+/// Whether a run says how far it is, and how many steps it has made once it has stopped.
+#[derive(Clone, Copy, Debug)]
+pub struct StepOptions {
+    pub progress: bool,
+    pub steps: bool,
 }
 
 /// Whether it is explained why two runs differ, and whether their comparison says how far it is.

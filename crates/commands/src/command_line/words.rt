@@ -4,7 +4,9 @@ ghost use Rattle.commands.specs.command_line.Words.{WritesNoneItReads};
 
 use crate::command_line::asked::request_of;
 use crate::command_line::grammar::factc;
-use crate::command_line::options::{CompileOptions, FunctionOptions, ObservedOptions, PairOptions};
+use crate::command_line::options::{
+    CompileOptions, FunctionOptions, ObservedOptions, PairOptions, StepOptions,
+};
 use clap::error::ErrorKind;
 use clap::{ArgMatches, Error};
 use elf_reports::AskedWords;
@@ -44,7 +46,7 @@ pub enum Request<'a> {
     Run {
         image: &'a str,
         arguments: &'a [&'a str],
-        progress: bool,
+        options: StepOptions,
     },
     Leak {
         image: &'a str,
@@ -199,5 +201,5 @@ fn behind_flags<'a>(words: &'a [&'a str]) -> &'a [&'a str]
 fn is_flag(word: &str) -> bool
     ensures { result ≡ is_flag word.now }
 {
-    word == "--explain" || word == "--shifts" || word == "--progress"
+    word == "--explain" || word == "--shifts" || word == "--progress" || word == "--steps"
 }

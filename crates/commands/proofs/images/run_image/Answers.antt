@@ -4,7 +4,8 @@ use Rattle.commands.specs.ImageRefusals.{no_answer, out_of_memory}
 use Rattle.commands.specs.OutcomeText.{outcome_text}
 use Rattle.commands.proofs.AnswerLemmas.{finds_answer, finds_fault, finds_converted, read_fault, read_memory}
 use Rattle.commands.proofs.ImageLemmas.{refused_anyway}
-use Rattle.commands.proofs.ProgressLemmas.{on_err, file_run_tells, run_reaches}
+use Rattle.commands.proofs.ProgressLemmas.{on_err}
+use Rattle.commands.proofs.RunLines.{file_run_part, file_run_tells, run_reaches}
 use Rattle.commands.proofs.images.run_image.Goals as goal
 
 pub returns-in_err-image-clause-finds : goal.returns-in_err-image-clause-finds
@@ -48,18 +49,18 @@ returns-clause-finds g c = λ tells.
 
 pub returns-in_err-outcome-clause-part : goal.returns-in_err-outcome-clause-part
 returns-in_err-outcome-clause-part g c = λ tells both.
-    on_err _ (inr (file_run_tells Reaches _ _ (c.in_ok-image.ensures.said tells) c.args.progress
-    c.in_ok-image.ensures.spelled (c.in_err-outcome.ensures.part both)))
+    on_err _ (file_run_part Reaches _ _ (c.in_ok-image.ensures.said tells) _ c.args.options
+    c.in_ok-image.ensures.spelled (c.in_err-outcome.ensures.part both))
 
 pub returns-in_err-text-clause-part : goal.returns-in_err-text-clause-part
 returns-in_err-text-clause-part g c = λ tells both.
-    on_err _ (inr (run_reaches _ _ _ _ _ c.args.progress
-    (file_run_tells HasLines _ _ (c.in_ok-image.ensures.said tells) c.args.progress c.in_ok-image.ensures.spelled
+    on_err _ (inr (run_reaches _ _ _ _ _ c.args.options
+    (file_run_tells HasLines _ _ (c.in_ok-image.ensures.said tells) c.args.options c.in_ok-image.ensures.spelled
     (c.in_ok-outcome.ensures.told both))))
 
 pub returns-clause-told : goal.returns-clause-told
 returns-clause-told g c = λ tells both.
-    file_run_tells HasLines _ _ (c.in_ok-image.ensures.said tells) c.args.progress c.in_ok-image.ensures.spelled
+    file_run_tells HasLines _ _ (c.in_ok-image.ensures.said tells) c.args.options c.in_ok-image.ensures.spelled
     (c.in_ok-outcome.ensures.told both)
 
 pub returns-in_err-image-clause-read : goal.returns-in_err-image-clause-read

@@ -1,7 +1,8 @@
 use Rattle.std.proofs.Common.{refl}
 use Rattle.commands.proofs.AnswerLemmas.{does_read, ends_read, does_fault, ends_fault, does_silently, told_after}
 use Rattle.commands.proofs.AnswerLemmas.{part_after}
-use Rattle.commands.proofs.ProgressLemmas.{run_reaches, pair_reaches, certificate_reaches, function_reaches}
+use Rattle.commands.proofs.ProgressLemmas.{pair_reaches, certificate_reaches, function_reaches}
+use Rattle.commands.proofs.RunLines.{run_reaches}
 use Rattle.commands.proofs.performing.answer.Goals as goal
 
 pub returns-in-Check-clause-does : goal.returns-in-Check-clause-does
@@ -147,7 +148,7 @@ pub returns-in-Run-clause-part : goal.returns-in-Run-clause-part
 returns-in-Run-clause-part g c = λ files err.
     part_after c.in-Run.is _ _ _ _ c.print-in-Run.ensures (c.run_image.ensures.part files err)
     (c.run_image.ensures.told files err)
-    (run_reaches _ _ _ _ _ c.in-Run.progress)
+    (run_reaches _ _ _ _ _ c.in-Run.options)
 
 pub returns-in-Pair-clause-told : goal.returns-in-Pair-clause-told
 returns-in-Pair-clause-told g c = λ files err.
