@@ -1,17 +1,18 @@
 -- Which faults say that a call of files failed, case by case.
-use Rattle.std.proofs.Common.{Result, Ok, Err, IfErr, OnErr}
+use Rattle.std.proofs.Common.{Result, Ok, Err, IfErr, OnErr, Option, Some, None}
 use Rattle.std.proofs.Common.{◌≡◌, ◌≢◌, ℕ, Bool, true, false, List, refl, sym, ap, ◌∙◌, inl, inr, ◌⊎◌, subst}
 use Rattle.commands.specs.Contents.{Store, failed, failed_times}
 use Rattle.commands.specs.FaultText.{fault_status}
 use Rattle.commands.specs.Failures.{IsReadBy, IsReadOrPrinted, failures_by, CountsFailures, of_files, of_output}
-use Rattle.commands.specs.Judged.{Tells, IsExplained}
+use Rattle.commands.specs.Judged.{Tells, IsExplained, IsExplainedIn, TellsIn, plainly, with_lines, without_memory}
+use Rattle.commands.specs.Sources.{IsToldIn, standing}
 use Rattle.commands.specs.Leaks.{IsOutputFault}
 use Rattle.commands.specs.Requests.{EndsByStatus, calm, files_failed, output_failed}
 use Rattle.commands.specs.Unread.{IsOutOfMemory}
 use Rattle.commands.specs.Written.{IsWriteFault}
 use Rattle.commands.specs.declared.fault.Fault.{Fault}
 use Rattle.commands.specs.declared.fault.Fault.TheVariants.{Text, Explained, Image, Run, Eval, Plan, Harts, Vectors}
-use Rattle.commands.specs.declared.fault.Fault.TheVariants.{Code, Name, Elf, Unmet, File}
+use Rattle.commands.specs.declared.fault.Fault.TheVariants.{Code, Name, Elf, Unmet, File, InLibrary, ExplainedInLibrary}
 use Rattle.commands.specs.declared.fault.FileFault.TheVariants.{CannotRead, CannotWrite, IsElf, NotUtf8}
 use Rattle.commands.specs.Below.{BuildFault, one_more, Read, Refusal, Refused}
 use Rattle.input_files.specs.declared.stream_build.fault.BuildFault.TheVariants.{Write}
@@ -22,6 +23,8 @@ pub memory_calm : (fault : Fault) {before after : Store} → IsOutOfMemory fault
     → IsReadBy fault before after
 memory_calm (Text refusal) memory same = same
 memory_calm (Explained refusal lines) memory same = same
+memory_calm (InLibrary path refusal) memory same = absurd memory
+memory_calm (ExplainedInLibrary path refusal lines) memory same = absurd memory
 memory_calm (Image why) memory same = same
 memory_calm (Run why) memory same = same
 memory_calm (Eval why) memory same = same
@@ -38,6 +41,8 @@ pub explained_calm : (source : List ℕ) (refusal : Refusal) (fault : Fault) {be
     → IsExplained source refusal fault → after ≡ before → IsReadBy fault before after
 explained_calm source refusal (Text told) is same = same
 explained_calm source refusal (Explained told lines) is same = same
+explained_calm source refusal (InLibrary path told) is same = absurd is
+explained_calm source refusal (ExplainedInLibrary path told lines) is same = absurd is
 explained_calm source refusal (Image why) is same = same
 explained_calm source refusal (Run why) is same = same
 explained_calm source refusal (Eval why) is same = same
@@ -58,11 +63,60 @@ told_calm false source refusal fault {before} {after} is same =
 told_calm true source refusal fault (inl memory) same = memory_calm fault memory same
 told_calm true source refusal fault (inr is) same = explained_calm source refusal fault is same
 
+-- and where the text of libraries and a file is refused
+pub in_calm : (library : Option (List ℕ)) (refusal : Refusal) (fault : Fault) {before after : Store}
+    → IsToldIn library refusal fault → after ≡ before → IsReadBy fault before after
+in_calm library refusal (Text told) is same = same
+in_calm library refusal (Explained told lines) is same = same
+in_calm library refusal (InLibrary path told) is same = same
+in_calm library refusal (ExplainedInLibrary path told lines) is same = same
+in_calm library refusal (Image why) is same = same
+in_calm library refusal (Run why) is same = same
+in_calm library refusal (Eval why) is same = same
+in_calm library refusal (Plan why) is same = same
+in_calm library refusal (Harts why) is same = same
+in_calm library refusal (Vectors why) is same = same
+in_calm library refusal (Code rule) is same = same
+in_calm library refusal (Name place) is same = same
+in_calm library refusal (Elf why) is same = same
+in_calm library refusal (Unmet rule word) is same = same
+in_calm None refusal (File file) is same = absurd is
+in_calm (Some path) refusal (File file) is same = absurd is
+
+explained_in_calm : (library : Option (List ℕ)) (refusal : Refusal) (below : List ℕ) (fault : Fault)
+    {before after : Store} → IsExplainedIn library refusal below fault → after ≡ before → IsReadBy fault before after
+explained_in_calm library refusal below (Text told) is same = same
+explained_in_calm library refusal below (Explained told lines) is same = same
+explained_in_calm library refusal below (InLibrary path told) is same = same
+explained_in_calm library refusal below (ExplainedInLibrary path told lines) is same = same
+explained_in_calm library refusal below (Image why) is same = same
+explained_in_calm library refusal below (Run why) is same = same
+explained_in_calm library refusal below (Eval why) is same = same
+explained_in_calm library refusal below (Plan why) is same = same
+explained_in_calm library refusal below (Harts why) is same = same
+explained_in_calm library refusal below (Vectors why) is same = same
+explained_in_calm library refusal below (Code rule) is same = same
+explained_in_calm library refusal below (Name place) is same = same
+explained_in_calm library refusal below (Elf why) is same = same
+explained_in_calm library refusal below (Unmet rule word) is same = same
+explained_in_calm None refusal below (File file) is same = absurd is
+explained_in_calm (Some path) refusal below (File file) is same = absurd is
+
+pub tells_in_calm : (text : List ℕ) (by_lines : List (List ℕ × ℕ)) (refusal : Refusal) (explain : Bool) (fault : Fault)
+    {before after : Store} → TellsIn text by_lines refusal explain fault → after ≡ before → IsReadBy fault before after
+tells_in_calm text by_lines refusal false fault (plainly told at is) same =
+    in_calm (standing by_lines refusal).0 told fault is same
+tells_in_calm text by_lines refusal true fault (with_lines told lines at explains is) same =
+    explained_in_calm (standing by_lines refusal).0 told lines fault is same
+tells_in_calm text by_lines refusal true fault (without_memory memory) same = memory_calm fault memory same
+
 -- files that were only read have as many failed calls as the fault says
 pub counted_by : (fault : Fault) (before after : Store) → IsReadBy fault before after
     → after.failures ≡ failures_by fault before.failures
 counted_by (Text refusal) before after read = ap (λ (s : Store). s.failures) read
 counted_by (Explained refusal lines) before after read = ap (λ (s : Store). s.failures) read
+counted_by (InLibrary path refusal) before after read = ap (λ (s : Store). s.failures) read
+counted_by (ExplainedInLibrary path refusal lines) before after read = ap (λ (s : Store). s.failures) read
 counted_by (Image why) before after read = ap (λ (s : Store). s.failures) read
 counted_by (Run why) before after read = ap (λ (s : Store). s.failures) read
 counted_by (Eval why) before after read = ap (λ (s : Store). s.failures) read
@@ -82,6 +136,8 @@ counted_by (File (IsElf path)) before after read = ap (λ (s : Store). s.failure
 pub kept_by : (fault : Fault) (before after : Store) → IsReadBy fault before after → after.contents ≡ before.contents
 kept_by (Text refusal) before after read = ap (λ (s : Store). s.contents) read
 kept_by (Explained refusal lines) before after read = ap (λ (s : Store). s.contents) read
+kept_by (InLibrary path refusal) before after read = ap (λ (s : Store). s.contents) read
+kept_by (ExplainedInLibrary path refusal lines) before after read = ap (λ (s : Store). s.contents) read
 kept_by (Image why) before after read = ap (λ (s : Store). s.contents) read
 kept_by (Run why) before after read = ap (λ (s : Store). s.contents) read
 kept_by (Eval why) before after read = ap (λ (s : Store). s.contents) read
@@ -140,6 +196,8 @@ pub ends : {before after printed printed' : ℕ} (fault : Fault) {status : ℕ}
 ends fault (of_output output same one) status = output_failed same one (output_status fault output status)
 ends (Text refusal) (of_files is same) status = calm is same
 ends (Explained refusal lines) (of_files is same) status = calm is same
+ends (InLibrary path refusal) (of_files is same) status = calm is same
+ends (ExplainedInLibrary path refusal lines) (of_files is same) status = calm is same
 ends (Image why) (of_files is same) status = calm is same
 ends (Run why) (of_files is same) status = calm is same
 ends (Eval why) (of_files is same) status = calm is same

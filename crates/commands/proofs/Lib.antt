@@ -15,6 +15,8 @@ mod ProgressLemmas
 mod StepLemmas
 mod RunLines
 mod RequestLemmas
+mod JoinedLines
+mod SourceLemmas
 mod AnswerLemmas
 mod MeaningLemmas
 mod HartLemmas

@@ -1,5 +1,6 @@
 -- What this crate takes from the specs of the crates below, in one place.
 pub use Rattle.word.specs.Counts.{one_more}
+pub use Rattle.word.specs.declared.place.Place.{Place}
 pub use Rattle.word.specs.declared.profile.Profile.{Profile}
 pub use Rattle.word.specs.declared.profile.Profile.TheVariants.{P1, P2}
 pub use Rattle.rv_machine.specs.Harts.{state_of}
@@ -30,6 +31,7 @@ pub use Rattle.language.specs.arguments.Texts.{fault_of_texts, numbers_of, rule_
 pub use Rattle.language.specs.arguments.Within.{AreWithin, words_of}
 pub use Rattle.language.specs.declared.arguments.fault.ArgumentFault.{ArgumentFault}
 pub use Rattle.language.specs.declared.refusal.Refusal.{Refusal}
+pub use Rattle.language.specs.declared.rule.Rule.TheVariants.{TextTooLong}
 pub use Rattle.language.specs.declared.signature.Param.{Param}
 pub use Rattle.language.specs.declared.values.Arg.{Arg}
 pub use Rattle.codegen.specs.Loaded.{code_at, loaded_at, params_of}

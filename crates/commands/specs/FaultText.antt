@@ -1,11 +1,11 @@
 -- The line and the exit status of each fault.
-use Rattle.std.specs.Prelude.{ℕ, List, ◌++◌, None, codes}
+use Rattle.std.specs.Prelude.{ℕ, List, ◌++◌, Option, Some, None, codes}
 use Rattle.std.specs.Fmt.{decimal}
 use Rattle.std.specs.String.{string_bytes}
 use Rattle.language.specs.arguments.Text as arguments
 use Rattle.commands.specs.declared.fault.Fault.{Fault}
 use Rattle.commands.specs.declared.fault.Fault.TheVariants.{Text, Explained, Image, Run, Eval, Plan, Harts, Vectors}
-use Rattle.commands.specs.declared.fault.Fault.TheVariants.{Code, Name, Elf, Unmet, File}
+use Rattle.commands.specs.declared.fault.Fault.TheVariants.{Code, Name, Elf, Unmet, File, InLibrary, ExplainedInLibrary}
 use Rattle.commands.specs.declared.fault.FileFault.{FileFault}
 use Rattle.commands.specs.declared.fault.FileFault.TheVariants.{CannotRead, CannotWrite, IsElf, NotUtf8}
 use Rattle.elf.specs.RuleNames as elf_rules
@@ -23,9 +23,11 @@ use Rattle.hepurita.specs.Text.{run_fault_text}
 use Rattle.hepurita.specs.declared.fault.RunFault.TheVariants as runs
 use Rattle.image.specs.Text as images
 use Rattle.image.specs.declared.fault.ImageFault.TheVariants as image_faults
-use Rattle.language.specs.Rules.{refusal_text}
+use Rattle.language.specs.Rules.{code_of, name_of, refusal_text}
 use Rattle.language.specs.declared.rule.Rule.{Rule}
 use Rattle.language.specs.declared.rule.Rule.TheVariants.{OutOfMemory}
+use Rattle.word.specs.Places.{place_text}
+use Rattle.word.specs.declared.place.Place.{Place}
 use Rattle.source_eval.specs.FaultText.{eval_fault_text}
 use Rattle.source_eval.specs.declared.fault.EvalFault.TheVariants as evaluations
 use Rattle.rv_machine.specs.Stops.{stop_name}
@@ -57,11 +59,20 @@ run_line (runs.Stopped stop) = codes "stopped: " ++ stop_name stop
 abbrev pub unmet_text : ElfRule → List ℕ → List ℕ
 unmet_text rule word = elf_rules.code_of rule ++ codes ": " ++ elf_rules.name_of rule ++ codes ": " ++ word
 
+-- a refusal in a library, whose path stands before the place
+abbrev pub library_text : List ℕ → Rule → Option Place → List ℕ
+library_text path rule (Some place) =
+    code_of rule ++ codes " at " ++ path ++ codes ":" ++ place_text place ++ codes ": " ++ name_of rule
+library_text path rule None = refusal_text rule None
+
 -- a fault's line, and those that explain it, without the last one's end
 abbrev pub fault_line : Fault → List ℕ
 fault_line (Text refusal) = codes "refused: " ++ refusal_text refusal.rule refusal.place
 fault_line (Explained refusal lines) = codes "refused: "
     ++ (refusal_text refusal.rule refusal.place ++ (codes "\n" ++ string_bytes lines))
+fault_line (InLibrary path refusal) = codes "refused: " ++ library_text path.now refusal.rule refusal.place
+fault_line (ExplainedInLibrary path refusal lines) = codes "refused: "
+    ++ (library_text path.now refusal.rule refusal.place ++ (codes "\n" ++ string_bytes lines))
 fault_line (Image fault) = codes "refused: " ++ images.fault_text fault
 fault_line (Run fault) = run_line fault
 fault_line (Eval fault) = codes "refused: " ++ eval_fault_text fault
@@ -116,6 +127,8 @@ elf_status elf_faults.Memory = 4
 abbrev pub fault_status : Fault → ℕ
 fault_status (Text refusal) = rule_status refusal.rule
 fault_status (Explained refusal lines) = rule_status refusal.rule
+fault_status (InLibrary path refusal) = rule_status refusal.rule
+fault_status (ExplainedInLibrary path refusal lines) = rule_status refusal.rule
 fault_status (Image fault) = image_status fault
 fault_status (Run fault) = run_status fault
 fault_status (Eval fault) = eval_status fault

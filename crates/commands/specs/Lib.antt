@@ -2,8 +2,8 @@
 -- Commanded: what a command line leads to; Requests: what each request prints and writes, and its exit status;
 --   Contents: what files hold, and how that changes; Answered, Failures, FaultText: what is printed, and which calls
 --   have failed.
--- Read from files: FileTexts a source, Images an image, Executables an executable, ImageArguments and Words arguments;
---   ImageRefusals, FunctionRunRefusals, Unread: why not.
+-- Read from files: FileTexts a source, Sources one of several, Images an image, Executables an executable,
+--   ImageArguments and Words arguments; ImageRefusals, FunctionRunRefusals, Unread: why not.
 -- What a command prints: Judged of check, Costs of stat, Meanings of eval, Runs and OutcomeText of run, Leaks of leak,
 --   Pairs of pair, Certificates of certify, Pictures of picture, Harts and HartsText of harts, Vectors of vectors,
 --   FunctionCertificates of elf certify, FunctionLeaks of elf leak, FunctionWitnesses of elf witness; Stops has exit
@@ -31,6 +31,7 @@ pub mod FunctionWitnesses
 pub mod FunctionRunRefusals
 pub mod Pictures
 pub mod FileTexts
+pub mod Sources
 pub mod Meanings
 pub mod HartsText
 pub mod Harts

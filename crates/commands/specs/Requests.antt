@@ -14,7 +14,7 @@ use Rattle.commands.specs.FunctionRunRefusals.{RefusesFunctionRun}
 use Rattle.commands.specs.FunctionWitnesses.{SaysFunctionWitness}
 use Rattle.commands.specs.Harts.{SaysHarts, RefusesHarts}
 use Rattle.commands.specs.Images.{NoImage}
-use Rattle.commands.specs.Judged.{IsAccepted, IsRefusedSo, IsImageOf}
+use Rattle.commands.specs.Judged.{IsAccepted, IsRefusedIn, IsImageOf}
 use Rattle.commands.specs.Leaks.{SaysLeak, RefusesLeak, IsOutputFault}
 use Rattle.commands.specs.Meanings.{SaysMeaning, RefusesMeaning}
 use Rattle.commands.specs.Pairs.{SaysPair, RefusesPair, SaysList}
@@ -32,9 +32,10 @@ use Rattle.commands.specs.Below.{Asked, Collected, HasLines, IsPut, IsPutInPart,
 
 -- the text that answers a request, and the exit status, by what files hold
 abbrev pub Answers : Request → Contents → List ℕ → ℕ → Type 0
-Answers (requests.Check file profile explain) files text status = IsAccepted profile files file.now
-    × (text ≡ codes "accepted\n") × (status ≡ 0)
-Answers (requests.Build file image options) files text status = (text ≡ []) × (status ≡ 0)
+Answers (requests.Check libraries file profile explain) files text status =
+    IsAccepted profile files (map (λ path. path.now) libraries.now) file.now × (text ≡ codes "accepted\n")
+    × (status ≡ 0)
+Answers (requests.Build libraries file image options) files text status = (text ≡ []) × (status ≡ 0)
 Answers (requests.Stat file profile optimisation) files text status =
     SaysFileCosts optimisation profile files file.now text × (status ≡ 0)
 Answers (requests.Function file assembler header options) files text status = (text ≡ []) × (status ≡ 0)
@@ -66,9 +67,10 @@ Answers (requests.ElfWitness file words options tries) files text status =
 
 -- what files hold once a request is done: an image or a function's texts that were written, and else what they held
 abbrev pub Leaves : Request → Contents → Contents → Type 0
-Leaves (requests.Check file profile explain) before after = after ≡ before
-Leaves (requests.Build file image options) before after =
-    WritesFile image.now (IsImageOf options.optimisation options.profile before file.now) before after
+Leaves (requests.Check libraries file profile explain) before after = after ≡ before
+Leaves (requests.Build libraries file image options) before after =
+    WritesFile image.now
+    (IsImageOf options.optimisation options.profile before (map (λ path. path.now) libraries.now) file.now) before after
 Leaves (requests.Stat file profile optimisation) before after = after ≡ before
 Leaves (requests.Function file assembler header options) before after =
     WritesTwo assembler.now header.now (AreFunctionTexts options.optimisation options.profile before file.now)
@@ -92,11 +94,13 @@ Leaves (requests.ElfWitness file words options tries) before after = after ≡ b
 
 -- why a request is not done, and what files hold then
 abbrev pub Refuses : Request → Contents → Contents → Fault → Type 0
-Refuses (requests.Check file profile explain) before after fault = IsRefusedSo explain profile before file.now fault
-    × (after ≡ before)
-Refuses (requests.Build file image options) before after fault =
-    FailsToWrite image.now (IsImageOf options.optimisation options.profile before file.now)
-    (IsRefusedSo options.explain options.profile before file.now) before after fault
+Refuses (requests.Check libraries file profile explain) before after fault =
+    IsRefusedIn explain profile before (map (λ path. path.now) libraries.now) file.now fault × (after ≡ before)
+Refuses (requests.Build libraries file image options) before after fault =
+    FailsToWrite image.now
+    (IsImageOf options.optimisation options.profile before (map (λ path. path.now) libraries.now) file.now)
+    (IsRefusedIn options.explain options.profile before (map (λ path. path.now) libraries.now) file.now) before after
+    fault
 Refuses (requests.Stat file profile optimisation) before after fault = RefusesCosts profile before file.now fault
     × (after ≡ before)
 Refuses (requests.Function file assembler header options) before after fault =

@@ -2,7 +2,7 @@
 use Rattle.std.specs.Prelude.{◌≡◌, ℕ, List}
 use Rattle.commands.specs.declared.fault.Fault.{Fault}
 use Rattle.commands.specs.declared.fault.Fault.TheVariants.{Text, Explained, Image, Run, Eval, Plan, Harts, Vectors}
-use Rattle.commands.specs.declared.fault.Fault.TheVariants.{Code, Name, Elf, Unmet, File}
+use Rattle.commands.specs.declared.fault.Fault.TheVariants.{Code, Name, Elf, Unmet, File, InLibrary, ExplainedInLibrary}
 use Rattle.commands.specs.declared.fault.FileFault.{FileFault}
 use Rattle.commands.specs.declared.fault.FileFault.TheVariants.{CannotRead, CannotWrite, IsElf, NotUtf8}
 use Rattle.elf.specs.declared.fault.ElfFault.TheVariants as elf_faults
@@ -18,6 +18,8 @@ use Rattle.image_reports.specs.declared.vectors.fault.VectorsFault.TheVariants a
 abbrev pub IsOutOfMemory : Fault → Type 0
 IsOutOfMemory (Text refusal) = IsWantOfMemory refusal.rule refusal.place
 IsOutOfMemory (Explained refusal lines) = ⊥
+IsOutOfMemory (InLibrary path refusal) = ⊥
+IsOutOfMemory (ExplainedInLibrary path refusal lines) = ⊥
 IsOutOfMemory (Image fault) = fault ≡ images.Memory
 IsOutOfMemory (Run fault) = fault ≡ runs.Memory
 IsOutOfMemory (Eval fault) = fault ≡ evaluations.Memory

@@ -37,6 +37,10 @@ pub enum Fault<'a> {
     Text(Refusal),
     /// A refusal with the lines that explain it, without the last one's end.
     Explained(Refusal, String),
+    /// A refusal of what stands in a library, with its path; the place is that in the library.
+    InLibrary(&'a str, Refusal),
+    /// The same with the lines that explain it.
+    ExplainedInLibrary(&'a str, Refusal, String),
     Image(ImageFault),
     Run(RunFault),
     Eval(EvalFault),
@@ -65,7 +69,10 @@ impl Fault<'_> {
         ensures high { result ≤ 5 }
     {
         match self {
-            Fault::Text(refusal) | Fault::Explained(refusal, _) => {
+            Fault::Text(refusal)
+            | Fault::Explained(refusal, _)
+            | Fault::InLibrary(_, refusal)
+            | Fault::ExplainedInLibrary(_, refusal, _) => {
                 if refusal.rule == Rule::OutOfMemory {
                     4
                 } else {
@@ -98,6 +105,31 @@ impl Fault<'_> {
     }
 }
 
+/// A refusal of what stands in a library.
+#[derive(Clone, Copy)]
+struct InLibrary<'a> {
+    path: &'a str,
+    refusal: &'a Refusal,
+}
+
+/// The refusal, with the path before the place.
+impl fmt::Display for InLibrary<'_> {
+    ghost use Rattle.std.specs.Prelude.{Some};
+    ghost use Rattle.commands.specs.FaultText.{library_text};
+
+    ghost output = { λ told. Some (library_text told.path.now told.refusal.now.rule told.refusal.now.place) };
+
+    fn fmt<W: fmt::Write>(&self, f: &mut fmt::Formatter<W>) -> fmt::Result {
+        let path = self.path;
+        let refusal = *self.refusal;
+        let (rule, name) = (refusal.rule, refusal.name);
+        match refusal.place {
+            Some(place) => write!(f, "{rule} at {path}:{place}: {name}"),
+            None => write!(f, "{refusal}"),
+        }
+    }
+}
+
 /// Its lines for standard error, without the last one's end. Those of a file's fault are written out here, since what
 /// is derived has no contract.
 impl fmt::Display for Fault<'_> {
@@ -110,6 +142,14 @@ impl fmt::Display for Fault<'_> {
         match self {
             Fault::Text(refusal) => write!(f, "refused: {refusal}"),
             Fault::Explained(refusal, lines) => write!(f, "refused: {refusal}\n{lines}"),
+            Fault::InLibrary(path, refusal) => {
+                let told = InLibrary { path, refusal };
+                write!(f, "refused: {told}")
+            }
+            Fault::ExplainedInLibrary(path, refusal, lines) => {
+                let told = InLibrary { path, refusal };
+                write!(f, "refused: {told}\n{lines}")
+            }
             Fault::Image(fault) => write!(f, "refused: {fault}"),
             Fault::Run(RunFault::Stopped(stop)) => write!(f, "stopped: {stop}"),
             Fault::Run(fault) => write!(f, "refused: {fault}"),

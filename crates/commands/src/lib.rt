@@ -24,6 +24,7 @@ mod performing;
 mod picturing;
 mod reading;
 mod side_by_side;
+mod sources;
 mod step_counts;
 mod telling;
 mod texts;

@@ -156,16 +156,21 @@ fn answer<'a, F: Files, O: Sink, E: Sink>(
 {
     match request {
         Request::Check {
+            libraries,
             file,
             profile,
             explain,
-        } => print(out, check_text(alloc, file, profile, explain, files)),
+        } => print(
+            out,
+            check_text(alloc, libraries, file, profile, explain, files),
+        ),
         Request::Build {
+            libraries,
             file,
             image,
             options,
         } => {
-            build_image(alloc, file, image, options, files)?;
+            build_image(alloc, libraries, file, image, options, files)?;
             Ok(DONE)
         }
         Request::Stat {

@@ -1,12 +1,12 @@
 // What is done with a source alone: it is judged, or compiled.
 
-ghost use Rattle.std.specs.Prelude.{◌≡◌, ◌≢◌, ℕ, List, Some, IsTrue, IfOk, IfErr, OnOk, OnErr};
+ghost use Rattle.std.specs.Prelude.{◌≡◌, ◌≢◌, ℕ, List, Some, map, IsTrue, IfOk, IfErr, OnOk, OnErr};
 ghost use Rattle.std.specs.String.{string_bytes};
 ghost use Rattle.commands.specs.Answered.{Finds, IsRead};
 ghost use Rattle.commands.specs.Contents.{Contents, Store, failed, IsWritten, IsCutOff};
 ghost use Rattle.commands.specs.Failures.{IsReadBy, failures_by};
 ghost use Rattle.commands.specs.FileTexts.{HoldsText, NoText};
-ghost use Rattle.commands.specs.Judged.{Tells, IsRefusedSo, IsImageOf};
+ghost use Rattle.commands.specs.Judged.{Tells, IsRefusedIn, IsImageOf};
 ghost use Rattle.commands.specs.Written.{IsWriteFault, WritesFile, FailsToWrite};
 ghost use Rattle.input_files.specs.stream_build.Faults as texts;
 ghost use Rattle.commands.specs.Below.{one_more};
@@ -15,12 +15,13 @@ use crate::answer::Answer;
 use crate::command_line::{CompileOptions, Request};
 use crate::fault::{Fault, FileFault};
 use crate::files::Files;
+use crate::sources::{joined_text, refused_in};
 use explanations::explained_refusals::explain_refusal;
-use hepurita::judge_as;
-use input_files::stream_build::{BuildFault, Unbuilt, build_stream_keeping, read_text};
+use hepurita::{build_with, judge_as};
+use input_files::stream_build::{BuildFault, read_text};
 use language::{Profile, Refusal};
 use std::alloc::Global;
-use streams::{ByteSink, put_all};
+use streams::put_all;
 
 /// Why the bytes of a file are no text.
 pub fn text_fault(file: &str, fault: BuildFault) -> Fault<'_>
@@ -95,64 +96,67 @@ pub fn refused(alloc: Global, source: &str, refusal: Refusal, explain: bool) -> 
     }
 }
 
-/// Judges the source of a file, for an observer, and explains a refusal where that is asked for.
+/// Judges the source of libraries and a file, for an observer, and explains a refusal where that is asked for.
 pub fn check_text<'a, F: Files>(
     alloc: Global,
+    libraries: &'a [&'a str],
     file: &'a str,
     profile: Profile,
     explain: bool,
     files: &mut F,
 ) -> Result<Answer, Fault<'a>>
     ensures finds { IsTrue F.TELLS
-        → Finds (Request.Check file.entry profile explain) (F.store files.old).contents result }
+        → Finds (Request.Check libraries.entry file.entry profile explain) (F.store files.old).contents result }
     ensures read { IsRead result (F.store files.old) (F.store files.new) }
 {
-    let text = text_of_file(alloc, file, files)?;
-    match judge_as(alloc, text.as_str(), profile) {
+    let joined = joined_text(alloc, libraries, file, files)?;
+    let text = joined.text.as_str();
+    match judge_as(alloc, text, profile) {
         Ok(_accepted) => {
             let line = String::from_str(alloc, "accepted\n")?;
             Ok(Answer::of_text(line))
         }
-        Err(refusal) => Err(refused(alloc, text.as_str(), refusal, explain)),
+        Err(refusal) => {
+            let read = joined.libraries.as_slice();
+            Err(refused_in(alloc, text, read, refusal, explain))
+        }
     }
 }
 
-/// The plain or the optimised image of the source of a file, for an observer. It is put into memory: where it goes to
-/// is opened only once the text was accepted. A refusal of the source is explained where that is asked for.
+/// The plain or the optimised image of the source of libraries and a file, for an observer. It is put into memory:
+/// where it goes to is opened only once the text was accepted. A refusal is explained where that is asked for.
 fn image_of_text<'a, F: Files>(
     alloc: Global,
+    libraries: &'a [&'a str],
     file: &'a str,
     options: CompileOptions,
     files: &mut F,
-) -> Result<ByteSink, Fault<'a>>
-    ensures said { IsTrue F.TELLS → IfOk result
-        (λ image. IsImageOf options.optimisation options.profile (F.store files.old).contents file.now image.bytes) }
+) -> Result<Vec<u8>, Fault<'a>>
+    ensures said { IsTrue F.TELLS
+        → IfOk result (λ image. IsImageOf options.optimisation options.profile (F.store files.old).contents
+        (map (λ path. path.now) libraries.now) file.now image.items) }
     ensures refused { IsTrue F.TELLS
-        → IfErr result (IsRefusedSo options.explain options.profile (F.store files.old).contents file.now) }
+        → IfErr result (IsRefusedIn options.explain options.profile (F.store files.old).contents
+        (map (λ path. path.now) libraries.now) file.now) }
     ensures calm { OnOk result (F.store files.new ≡ F.store files.old) }
     ensures counted { IfErr result (λ fault. IsReadBy fault (F.store files.old) (F.store files.new)) }
 {
-    let Ok(mut source) = files.open(file) else {
-        return Err(Fault::File(FileFault::CannotRead(file)));
-    };
-    let mut image = ByteSink::new(alloc);
-    let (profile, optimisation) = (options.profile, options.optimisation);
-    let built = build_stream_keeping(alloc, &mut source, &mut image, profile, optimisation);
-    files.close(source);
-    match built {
-        Ok(()) => Ok(image),
-        Err(Unbuilt::Unread(fault)) => Err(text_fault(file, fault)),
-        Err(Unbuilt::NotAccepted(refusal, text)) => {
-            Err(refused(alloc, text.as_str(), refusal, options.explain))
+    let joined = joined_text(alloc, libraries, file, files)?;
+    let text = joined.text.as_str();
+    match build_with(alloc, text, options.profile, options.optimisation) {
+        Ok(image) => Ok(image),
+        Err(refusal) => {
+            let read = joined.libraries.as_slice();
+            Err(refused_in(alloc, text, read, refusal, options.explain))
         }
-        Err(Unbuilt::Unwritten) => Err(Fault::Text(Refusal::memory())),
     }
 }
 
-/// Compiles the source of one file, for an observer, to the plain or the optimised image of another, which is created
-/// only once the text was accepted. A refusal does not depend on the optimisation.
+/// Compiles the source of libraries and a file, for an observer, to the plain or the optimised image of another file,
+/// which is created only once the text was accepted. A refusal does not depend on the optimisation.
 pub fn build_image<'a, F: Files>(
     alloc: Global,
+    libraries: &'a [&'a str],
     file: &'a str,
     image: &'a str,
     options: CompileOptions,
@@ -160,19 +164,21 @@ pub fn build_image<'a, F: Files>(
 ) -> Result<(), Fault<'a>>
     ensures said { IsTrue F.TELLS
         → OnOk result (WritesFile image.now
-        (IsImageOf options.optimisation options.profile (F.store files.old).contents file.now)
+        (IsImageOf options.optimisation options.profile (F.store files.old).contents
+        (map (λ path. path.now) libraries.now) file.now)
         (F.store files.old).contents (F.store files.new).contents) }
     ensures refused { IsTrue F.TELLS
         → IfErr result (FailsToWrite image.now
-        (IsImageOf options.optimisation options.profile (F.store files.old).contents file.now)
-        (IsRefusedSo options.explain options.profile (F.store files.old).contents file.now) (F.store files.old).contents
-        (F.store files.new).contents) }
+        (IsImageOf options.optimisation options.profile (F.store files.old).contents
+        (map (λ path. path.now) libraries.now) file.now)
+        (IsRefusedIn options.explain options.profile (F.store files.old).contents
+        (map (λ path. path.now) libraries.now) file.now) (F.store files.old).contents (F.store files.new).contents) }
     ensures untouched { IfErr result (λ fault. (IsWriteFault image.now fault → ⊥)
         → (F.store files.new).contents ≡ (F.store files.old).contents) }
     ensures calm { OnOk result ((F.store files.new).failures ≡ (F.store files.old).failures) }
     ensures counted { IfErr result (λ fault. (F.store files.new).failures
         ≡ failures_by fault (F.store files.old).failures) }
 {
-    let built = image_of_text(alloc, file, options, files)?;
+    let built = image_of_text(alloc, libraries, file, options, files)?;
     write_file(image, built.as_slice(), files)
 }

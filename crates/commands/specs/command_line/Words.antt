@@ -1,6 +1,7 @@
 -- Which words of a command line are arguments, which profile is named, and which paths are apart.
 use Rattle.std.specs.Prelude.{◌≡◌, ◌≢◌, ℕ, Bool, ◌||◌, if◌then◌else◌, List, [], ◌∷◌, drop, codes, Option, Some, None}
 use Rattle.std.specs.Prelude.{slice_index_or, map, IfSome, ⊤}
+use Rattle.std.specs.List.{All}
 use Rattle.std.specs.Str.{bytes_eq}
 use Rattle.commands.specs.Below.{P1, P2, Profile}
 use Rattle.commands.specs.declared.command_line.words.Request.{Request}
@@ -43,7 +44,8 @@ arguments_of request = None
 
 -- no path that is written to is one that is read, as both are given
 abbrev pub WritesNoneItReads : Request → Type 0
-WritesNoneItReads (Build file image options) = image.now ≢ file.now
+WritesNoneItReads (Build libraries file image options) = (image.now ≢ file.now)
+    × All (λ library. image.now ≢ library.now) libraries.now
 WritesNoneItReads (Function file assembler header options) = (assembler.now ≢ file.now) × (header.now ≢ file.now)
 WritesNoneItReads (Wrap file code image frame steps profile) = (image.now ≢ file.now) × (image.now ≢ code.now)
 WritesNoneItReads request = ⊤

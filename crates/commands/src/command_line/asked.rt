@@ -1,7 +1,9 @@
 // What each command asks for, by its words as `clap` matched them.
 
-ghost use Rattle.std.specs.Prelude.{◌≡◌, None, Some, codes, map, IfOk, IfSome};
-ghost use Rattle.clap.specs.Matches.{first_value, found_of, one_text};
+ghost use Rattle.std.specs.Prelude.{◌≡◌, ◌≢◌, [], None, Some, codes, map, IfOk, IfSome, IsTrue};
+ghost use Rattle.std.specs.List.{All};
+ghost use Rattle.std.specs.Option.{option_map_or};
+ghost use Rattle.clap.specs.Matches.{first_value, found_of, matched_of, one_text, raw_values};
 ghost use Rattle.commands.specs.command_line.Words.{arguments_of, profile_named, WritesNoneItReads};
 
 use crate::command_line::on_executables::request_on_executable;
@@ -124,6 +126,7 @@ fn check<'a>(given: &'a ArgMatches<'_>) -> Request<'a>
     ensures apart { WritesNoneItReads result }
 {
     Request::Check {
+        libraries: texts_of(given, "with"),
         file: text_of(given, "FILE"),
         profile: profile_of(given),
         explain: given.get_flag("explain"),
@@ -139,11 +142,23 @@ fn build<'a>(given: &'a ArgMatches<'_>) -> Result<Request<'a>, (ErrorKind, &'sta
     if image == file {
         return Err(lost("IMAGE is the same path as FILE, which would be lost"));
     }
+    let libraries = texts_of(given, "with");
+    if !is_apart(image, libraries) {
+        return Err(lost("IMAGE is the same path as a LIB, which would be lost"));
+    }
     Ok(Request::Build {
+        libraries,
         file,
         image,
         options: options_of(given),
     })
+}
+
+/// Whether a path is none of others.
+fn is_apart(path: &str, others: &[&str]) -> bool
+    ensures { IsTrue result → All (λ other. path.now ≢ other.now) others.now }
+{
+    others.iter().all(|other| *other != path)
 }
 
 fn stat<'a>(given: &'a ArgMatches<'_>) -> Request<'a>
@@ -229,6 +244,17 @@ pub(super) fn text_of<'a>(matches: &'a ArgMatches<'_>, id: &str) -> &'a str {
         Some(text) => text,
         None => "",
     }
+}
+
+/// All values of an argument, in their order.
+pub(super) fn texts_of<'a>(given: &'a ArgMatches<'_>, id: &str) -> &'a [&'a str]
+    ensures { map (λ text. text.now) result.now
+        ≡ option_map_or raw_values (matched_of (found_of given.now) id.now) [] }
+{
+    if let Some(texts) = given.get_strs(id) {
+        return texts;
+    }
+    &[]
 }
 
 /// The value of a required option that is a number.

@@ -56,6 +56,14 @@ const PROGRESS: &str =
 const PROGRESS_ANYWHERE: &str =
     "Prints a line to standard error after each 134217728 steps, as long as the run goes on";
 
+/// The libraries of a source.
+const LIBRARIES: CommandWord = CommandWord::Texts(
+    "with",
+    "LIB",
+    "A source that is read before FILE, as if FILE began with its text and a line feed; may be given several times; \
+     --explain numbers the lines of the whole text",
+);
+
 /// The most steps that a run of a function may be allowed.
 pub(crate) const MOST_STEPS: u64 = (1 << 62) - 1;
 
@@ -66,6 +74,7 @@ pub(crate) static COMMANDS: [CommandRow; 15] = [
         about: "Says whether a source is accepted, or names the first rule that it violates",
         words: &[
             CommandWord::Path("FILE", "The source to check"),
+            LIBRARIES,
             CommandWord::Profile,
             CommandWord::Flag("explain", EXPLAIN),
         ],
@@ -79,6 +88,7 @@ pub(crate) static COMMANDS: [CommandRow; 15] = [
                 "IMAGE",
                 "Where to write the image; it stays as it was if FILE is refused",
             ),
+            LIBRARIES,
             CommandWord::Profile,
             CommandWord::Optimisation,
             CommandWord::SmallCode,

@@ -1,11 +1,9 @@
 // What each command on executables asks for, by its words as `clap` matched them.
 
-ghost use Rattle.std.specs.Prelude.{◌≡◌, ◌<◌, ◌^◌, [], None, map, IfOk};
-ghost use Rattle.std.specs.Option.{option_map_or};
-ghost use Rattle.clap.specs.Matches.{found_of, matched_of, raw_values};
+ghost use Rattle.std.specs.Prelude.{◌≡◌, ◌<◌, ◌^◌, None, IfOk};
 ghost use Rattle.commands.specs.command_line.Words.{arguments_of, WritesNoneItReads};
 
-use crate::command_line::asked::{NO_COMMAND, profile_of, text_of};
+use crate::command_line::asked::{NO_COMMAND, profile_of, text_of, texts_of};
 use crate::command_line::commands::MOST_STEPS;
 use crate::command_line::options::{FunctionOptions, ObservedOptions};
 use crate::command_line::words::Request;
@@ -53,17 +51,6 @@ fn words_of<'a>(given: &'a ArgMatches<'_>) -> AskedWords<'a> {
         settings: texts_of(given, "set"),
         stack: given.get_one("stack").unwrap_or(0),
     }
-}
-
-/// All values of an argument, in their order.
-fn texts_of<'a>(given: &'a ArgMatches<'_>, id: &str) -> &'a [&'a str]
-    ensures { map (λ text. text.now) result.now
-        ≡ option_map_or raw_values (matched_of (found_of given.now) id.now) [] }
-{
-    if let Some(texts) = given.get_strs(id) {
-        return texts;
-    }
-    &[]
 }
 
 /// How the function is to be run for all that is not known.

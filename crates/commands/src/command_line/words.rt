@@ -18,11 +18,13 @@ use word::Profile;
 /// What the words ask for.
 pub enum Request<'a> {
     Check {
+        libraries: &'a [&'a str],
         file: &'a str,
         profile: Profile,
         explain: bool,
     },
     Build {
+        libraries: &'a [&'a str],
         file: &'a str,
         image: &'a str,
         options: CompileOptions,

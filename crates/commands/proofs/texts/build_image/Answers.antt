@@ -22,21 +22,21 @@ returns-in_err-built-clause-counted g c =
 
 pub returns-clause-said : goal.returns-clause-said
 returns-clause-said g c = λ tells.
-    let bytes = c.in_ok-built.built.bytes in
+    let bytes = c.in_ok-built.built.items in
     on_ok_weaker c.write_file.result
     (λ written. record { bytes = bytes; such = c.in_ok-built.ensures.said tells; written = written })
     (subst (λ (s : Store). OnOk c.write_file.result
     (IsWritten c.args.image.now bytes s.contents (g.F.Files.store c.write_file.new.files).contents))
     c.in_ok-built.ensures.calm
-    (rw c.as_slice.ensures at (c.write_file.ensures.written tells)))
+    (rw c.as_slice.ensures.value at (c.write_file.ensures.written tells)))
 
 pub returns-clause-refused : goal.returns-clause-refused
 returns-clause-refused g c = λ tells.
     err_both _ _ _ c.write_file.result
     (subst (λ (s : Store). OnErr c.write_file.result
-    (IsCutOff c.args.image.now c.in_ok-built.built.bytes s.contents (g.F.Files.store c.write_file.new.files).contents))
+    (IsCutOff c.args.image.now c.in_ok-built.built.items s.contents (g.F.Files.store c.write_file.new.files).contents))
     c.in_ok-built.ensures.calm
-    (rw c.as_slice.ensures at (c.write_file.ensures.cut_off tells))) c.write_file.ensures.fault
+    (rw c.as_slice.ensures.value at (c.write_file.ensures.cut_off tells))) c.write_file.ensures.fault
     (λ fault cut why. cut_off (c.in_ok-built.ensures.said tells) cut why)
 
 pub returns-clause-calm : goal.returns-clause-calm

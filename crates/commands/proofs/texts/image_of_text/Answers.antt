@@ -1,26 +1,40 @@
-use Rattle.std.proofs.Common.{ℕ, List, refl, ◌∙◌, subst}
-use Rattle.commands.specs.FileTexts.{not_read}
-use Rattle.commands.specs.Judged.{Tells, no_text, not_accepted}
-use Rattle.commands.specs.Unread.{unread, out_of_memory}
+use Rattle.std.proofs.Common.{List, ℕ, ◌∙◌, subst}
+use Rattle.commands.specs.Below.{IsBuilt, IsRefusalOf}
+use Rattle.commands.specs.Judged.{no_sources, refused_text}
+use Rattle.language.proofs.Handed.{handed_on}
+use Rattle.commands.proofs.Counting.{tells_in_calm}
+use Rattle.commands.proofs.SourceLemmas.{tells_of}
 use Rattle.commands.proofs.texts.image_of_text.Goals as goal
 
-pub returns-in_default-clause-refused : goal.returns-in_default-clause-refused
-returns-in_default-clause-refused g c = λ tells. no_text (not_read (unread refl))
+pub returns-in_err-joined-clause-refused : goal.returns-in_err-joined-clause-refused
+returns-in_err-joined-clause-refused g c = λ tells.
+    handed_on _ _ c.from_residual.ensures.1 (no_sources (c.in_err-joined.ensures.refused tells))
 
-pub returns-in-Err-Unread-clause-refused : goal.returns-in-Err-Unread-clause-refused
-returns-in-Err-Unread-clause-refused g c = λ tells.
-    let is = c.in-Err-Unread.field-0-is in
-    no_text ((rw is at c.text_fault.ensures.fault) (g.F.Files.store c.args.files.now).contents _
-    (c.in-Ok.ensures.opens tells) (rw is at (c.in-Err-Unread.ensures.fault (c.in-Ok.ensures.told tells))))
+pub returns-in_err-joined-clause-counted : goal.returns-in_err-joined-clause-counted
+returns-in_err-joined-clause-counted g c = handed_on _ _ c.from_residual.ensures.1 c.in_err-joined.ensures.counted
 
-pub returns-in-Err-NotAccepted-clause-refused : goal.returns-in-Err-NotAccepted-clause-refused
-returns-in-Err-NotAccepted-clause-refused g c = λ tells.
-    let is = c.in-Err-NotAccepted.field-0-is in
-    let refusal = c.in-Err-NotAccepted.refusal in
-    let why = rw is at (c.in-Err-NotAccepted.ensures.fault (c.in-Ok.ensures.told tells)) in
-    not_accepted refusal (record { held = c.in-Ok.ensures.opens tells; is_text = why.1 }) why.2
-    (subst (λ (source : List ℕ). Tells c.args.options.explain source refusal c.refused.result)
-    ((rw is at c.as_str.ensures.value) ∙ why.0) (rw is at c.refused.ensures))
+pub returns-in-Ok-clause-said : goal.returns-in-Ok-clause-said
+returns-in-Ok-clause-said g c = λ tells.
+    let read = c.in_ok-joined.ensures.said tells in
+    let options = c.args.options in
+    record {
+      libraries = read.libraries;
+      text = read.last;
+      held = read.holds;
+      built =
+          subst (λ (source : List ℕ). IsBuilt options.optimisation options.profile source c.in-Ok.image.items)
+          (c.as_str-text.ensures.value ∙ read.is) c.in-Ok.ensures.accepted;
+    }
 
 pub returns-clause-refused : goal.returns-clause-refused
-returns-clause-refused g c = λ tells. no_text (not_read (out_of_memory (c.memory.ensures.rule, c.memory.ensures.place)))
+returns-clause-refused g c = λ tells.
+    let read = c.in_ok-joined.ensures.said tells in
+    let refusal = c.in-Err.refusal in
+    refused_text refusal read.holds
+    (subst (λ (source : List ℕ). IsRefusalOf c.args.options.profile source refusal)
+    (c.as_str-text.ensures.value ∙ read.is) c.in-Err.ensures.refused)
+    (tells_of read c.as_str-text.ensures.value c.as_slice-read.ensures.value c.refused_in.ensures)
+
+pub returns-clause-counted : goal.returns-clause-counted
+returns-clause-counted g c =
+    tells_in_calm _ _ _ _ c.refused_in.result c.refused_in.ensures c.in_ok-joined.ensures.calm
