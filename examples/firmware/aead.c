@@ -1,7 +1,7 @@
 /* Seals and opens the message of RFC 8439, section 2.8.2, with ChaCha20-Poly1305, compares text and tag with those that the RFC
    prints, and finds a changed byte. Then does the same with a longer text, of which OpenSSL gave the tag. */
-#include "board.h"
 #include "chacha20_poly1305.h"
+#include "say.h"
 
 #define COUNT 114
 #define LONGER 600
@@ -24,31 +24,6 @@ static const uint8_t printed[COUNT + 16] = {
 };
 
 static const uint8_t longer_tag[16] = {0x40, 0x8e, 0x8d, 0xa0, 0x1f, 0x5f, 0x2d, 0x8f, 0xd2, 0xd0, 0x8c, 0xe6, 0x17, 0x14, 0x1d, 0x2e};
-
-static void say(const char *text) {
-    uint32_t count = 0;
-    while (text[count] != 0)
-        count++;
-    board_write(text, count);
-}
-
-static void say_bytes(const char *title, const uint8_t *bytes, int count) {
-    say(title);
-    for (int at = 0; at < count; at++) {
-        char digits[3] = {"0123456789abcdef"[bytes[at] >> 4], "0123456789abcdef"[bytes[at] & 15], 0};
-        say(at > 0 && at % 32 == 0 ? "\n        " : "");
-        say(digits);
-    }
-    say("\n");
-}
-
-static int same(const void *one, const void *other, int count) {
-    const uint8_t *a = one, *b = other;
-    int found = 0;
-    while (count--)
-        found |= *a++ ^ *b++;
-    return found == 0;
-}
 
 /* The bytes 0, 7, 14 and so on. */
 static void longer(struct associated data) {

@@ -17,12 +17,11 @@ void board_write(const char *bytes, uint32_t count) {
     asked(64, 1, (uint32_t)bytes, count);
 }
 
-void board_end(void) {
+void board_end(int status) {
     for (;;)
-        asked(93, 0, 0, 0);
+        asked(93, (uint32_t)status, 0, 0);
 }
 
 void _start(void) {
-    main();
-    board_end();
+    board_end(main());
 }
