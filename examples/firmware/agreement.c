@@ -1,9 +1,8 @@
 /* Agrees on a key with X25519 and derives a session's key from it with HKDF-SHA-256; a peer's key that makes zeros of it is refused. */
 #include "hkdf.h"
-#include "is_zero_32.h"
 #include "message.h"
+#include "routines.h"
 #include "say.h"
-#include "x25519.h"
 
 /* RFC 7748, section 6.1. */
 static const uint8_t alice[32] = {

@@ -10,6 +10,7 @@ from cases import TOP
 from riscv_tools import FREE, GCC, QEMU, TARGET, made
 
 LIBRARY = os.path.join(TOP, "routines")
+ALL = os.path.join(LIBRARY, "c", "routines.h")
 BOARD = os.path.join(TOP, "examples", "firmware")
 LINE = re.compile(r"^(\w+): (.*) = (.*)$")
 C = [*TARGET, *FREE, "-std=c99", "-O1", "-Wall", "-Wextra", "-Werror"]
@@ -43,6 +44,14 @@ MOST_SECONDS = 1_000
 def names():
     """The folders of the library that hold a routine of their own name."""
     return sorted(name for name in os.listdir(LIBRARY) if os.path.isfile(os.path.join(LIBRARY, name, name + ".fact")))
+
+
+def all_headers():
+    """The one header for all: those of the routines, and those of the C files around them, which have vectors."""
+    found = sorted(os.listdir(os.path.join(LIBRARY, "c")))
+    files = [name.removesuffix(".vectors") for name in found if name.endswith(".vectors")]
+    lines = ["/* All headers of the library: written by routines/make. */", "#ifndef HEPURITA_ROUTINES_H", "#define HEPURITA_ROUTINES_H"]
+    return "\n".join([*lines, *(f'#include "{name}.h"' for name in names() + files), "#endif", ""])
 
 
 def numbers(text):
