@@ -32,11 +32,11 @@ static void longer(struct associated data) {
     for (int at = 0; at < LONGER; at++)
         text[at] = (uint8_t)(7 * at);
     seal(key, nonce, data, text, LONGER, tag);
-    say(same(tag, longer_tag, 16) ? "600 bytes as OpenSSL seals them\n" : "600 bytes otherwise than OpenSSL seals them\n");
+    judge(same(tag, longer_tag, 16), "600 bytes as OpenSSL seals them");
     bool right = open_sealed(key, nonce, data, text, LONGER, tag);
     for (int at = 0; at < LONGER; at++)
         found |= text[at] ^ (uint8_t)(7 * at);
-    say(right && found == 0 ? "opened\n" : "not opened\n");
+    judge(right && found == 0, "opened");
 }
 
 int main(void) {
@@ -47,11 +47,11 @@ int main(void) {
     seal(key, nonce, data, text, COUNT, tag);
     say_bytes("sealed  ", text, COUNT);
     say_bytes("tag     ", tag, 16);
-    say(same(text, printed, COUNT) && same(tag, printed + COUNT, 16) ? "as RFC 8439 prints them\n" : "not what RFC 8439 prints\n");
+    judge(same(text, printed, COUNT) && same(tag, printed + COUNT, 16), "as RFC 8439 prints them");
     text[5] ^= 1;
-    say(open_sealed(key, nonce, data, text, COUNT, tag) ? "a changed byte is accepted\n" : "a changed byte is refused\n");
+    judge(!open_sealed(key, nonce, data, text, COUNT, tag), "a changed byte is refused");
     text[5] ^= 1;
-    say(open_sealed(key, nonce, data, text, COUNT, tag) && same(text, message, COUNT) ? "opened\n" : "not opened\n");
+    judge(open_sealed(key, nonce, data, text, COUNT, tag) && same(text, message, COUNT), "opened");
     longer(data);
-    return 0;
+    return status();
 }
