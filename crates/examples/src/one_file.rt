@@ -77,7 +77,7 @@ fn answers(rt: &(impl Abort + AllocGlobal), files: &mut OneFile, words: &[&str],
 const TEXT: &[u8] = b"export public uint32 f() { return 1; }";
 
 #[test]
-fn an_image_takes_the_place_of_its_text(rt: HostRuntime) -> Result<(), Fail> {
+fn a_text_stays_where_its_image_would_take_its_place(rt: HostRuntime) -> Result<(), Fail> {
     let mut files = OneFile {
         alloc: rt.alloc(),
         path: String::from_str(rt.alloc(), "it")?,
@@ -86,9 +86,10 @@ fn an_image_takes_the_place_of_its_text(rt: HostRuntime) -> Result<(), Fail> {
     };
     assert!(&rt; put_all(&mut files.file, TEXT).is_ok());
     answers(&rt, &mut files, &["factc", "build", "it", "other"], 3);
+    answers(&rt, &mut files, &["factc", "build", "it", "it"], 2);
     assert_eq!(rt; files.file.as_slice(), TEXT);
-    answers(&rt, &mut files, &["factc", "build", "it", "it"], 0);
-    answers(&rt, &mut files, &["factc", "run", "it"], 0);
+    answers(&rt, &mut files, &["factc", "eval", "it"], 0);
+    answers(&rt, &mut files, &["factc", "run", "it"], 1);
     answers(&rt, &mut files, &["factc", "run", "other"], 3);
     Ok(())
 }
